@@ -1,0 +1,41 @@
+-- When a joiner fires.
+use Rattle.std.specs.Prelude.{◌≡◌, ℕ, ◌||◌, Bool, true, false, is_ok, is_err, List, [], ◌∷◌, nat_le, count_by, ℤ, pos, ◌+ℤ◌, int_le, Ok, Err}
+use Rattle.std.specs.List.{list_any}
+use Rattle.scope_model.specs.declared.types.values.Done.{Done}
+use Rattle.scope_model.specs.declared.types.values.Value.TheVariants.{Num, Text}
+use Rattle.scope_model.specs.declared.types.joiners.Rule.{Rule}
+use Rattle.scope_model.specs.declared.types.joiners.Rule.TheVariants.{FailuresAtLeast, SuccessesAtLeast, SumAtLeast}
+use Rattle.scope_model.specs.declared.types.joiners.Policy.{Policy}
+use Rattle.scope_model.specs.declared.types.joiners.Policy.TheVariants.{All, Any, AwaitAll, AwaitOk, Until}
+use Rattle.scope_model.specs.Ends.{EndValue}
+
+abbrev pub has_failed : Done → Bool
+has_failed d = is_err d.end
+
+abbrev pub has_succeeded : Done → Bool
+has_succeeded d = is_ok d.end
+
+-- what a completion adds to the sum: its number, where it succeeded with one
+abbrev pub number_of_end : EndValue → ℤ
+number_of_end (Ok (Num n)) = n
+number_of_end (Ok (Text t)) = pos 0
+number_of_end (Err f) = pos 0
+
+-- the exact sum of the number values of successes
+unfoldable pub total_of : List Done → ℤ
+total_of [] = pos 0
+total_of (d ∷ ds) = number_of_end d.end +ℤ total_of ds
+
+-- the list of completions meets the rule
+unfoldable pub meets : Rule → List Done → Bool
+meets (FailuresAtLeast n) ds = nat_le n (count_by has_failed ds)
+meets (SuccessesAtLeast n) ds = nat_le n (count_by has_succeeded ds)
+meets (SumAtLeast n) ds = int_le n (total_of ds)
+
+-- the joiner fires at the last of these completions
+unfoldable pub fires : Policy → List Done → Bool
+fires All ds = list_any has_failed ds
+fires Any ds = list_any has_succeeded ds
+fires AwaitAll ds = false
+fires AwaitOk ds = list_any has_failed ds
+fires (Until rule) ds = meets rule ds

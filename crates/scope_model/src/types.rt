@@ -1,0 +1,12 @@
+//! The types that calls, events and answers are made of.
+
+pub mod answers;
+pub mod bases;
+pub mod capacity;
+pub mod catalogs;
+pub mod events;
+pub mod joiners;
+pub mod names;
+pub mod outcomes;
+pub mod refusals;
+pub mod values;

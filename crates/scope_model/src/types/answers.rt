@@ -1,0 +1,88 @@
+use crate::types::values::{Fault, ScopeId, TaskId, Value};
+
+/// How far a task has come.
+#[derive(Clone, Copy, Debug, PartialEq, Eq)]
+pub enum Stage {
+    /// It gets no thread: its scope was cancelled before the fork, or no thread was had.
+    Never,
+    /// Its thread is still to come.
+    Waiting,
+    Running,
+    Finished,
+}
+
+/// What can be read of a task (JEP 505, `Subtask.State`).
+#[derive(Clone, Copy, Debug, PartialEq, Eq)]
+pub enum State {
+    /// It has not ended, or ended after its scope was cancelled.
+    Unavailable,
+    Success(Value),
+    Failed(Fault),
+}
+
+/// What made the own cancel of a scope.
+#[derive(Clone, Copy, Debug, PartialEq, Eq)]
+pub enum CauseKind {
+    /// A cancel call on it.
+    Call,
+    /// A close that began and covers it.
+    Close,
+    /// Its joiner fired.
+    Joiner,
+    /// Its deadline passed.
+    Deadline,
+}
+
+/// Why a scope is cancelled: the scope whose own cancel reached it, and what made that.
+#[derive(Clone, Copy, Debug, PartialEq, Eq)]
+pub struct Cause {
+    pub scope: ScopeId,
+    pub kind: CauseKind,
+}
+
+/// How many tasks of a scope are at each stage.
+#[derive(Clone, Copy, Debug, PartialEq, Eq)]
+pub struct Counts {
+    pub never: u32,
+    pub waiting: u32,
+    pub running: u32,
+    pub finished: u32,
+}
+
+/// What a cancel or the beginning of a close did.
+#[derive(Clone, Copy, Debug, PartialEq, Eq)]
+pub enum Cancelling {
+    /// The event was recorded.
+    Recorded,
+    /// It was so already, and nothing was recorded.
+    Already,
+}
+
+/// How a scope was closed.
+#[derive(Clone, Copy, Debug, PartialEq, Eq)]
+pub enum Verdict {
+    Plain,
+    /// Tasks were forked in it, and it was never joined.
+    NotJoined,
+    /// Its close covered another scope: it was not closed in reverse order of opening.
+    Violated,
+}
+
+/// The earliest deadline in effect for a scope (Trio, `current_effective_deadline`).
+#[derive(Clone, Copy, Debug, PartialEq, Eq)]
+pub enum Effective {
+    /// The scope is cancelled.
+    Past,
+    /// This moment, in milliseconds.
+    At(u64),
+    Never,
+}
+
+/// What a fork gave: the task's number, and whether it gets a thread.
+#[derive(Clone, Copy, Debug, PartialEq, Eq)]
+pub enum ForkReply {
+    /// The task waits for its thread.
+    Thread(TaskId),
+    /// The scope is cancelled, and the task gets no thread.
+    Never(TaskId),
+}
