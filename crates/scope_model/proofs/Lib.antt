@@ -1,1 +1,17 @@
 pub mod NameLemmas
+pub mod Searching
+pub mod Prefixes
+pub mod Openings
+pub mod Missing
+pub mod Accepted
+pub mod Keeping
+pub mod Pushing
+pub mod Growing
+pub mod Causes
+pub mod Nesting
+pub mod Staying
+pub mod Joined
+pub mod Stacks
+pub mod Numbers
+pub mod Chains
+pub mod Completions

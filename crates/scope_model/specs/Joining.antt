@@ -1,5 +1,5 @@
 -- When a joiner fires.
-use Rattle.std.specs.Prelude.{◌≡◌, ℕ, ◌||◌, Bool, true, false, is_ok, is_err, List, [], ◌∷◌, nat_le, count_by, ℤ, pos, ◌+ℤ◌, int_le, Ok, Err}
+use Rattle.std.specs.Prelude.{Bool, false, is_ok, is_err, List, [], ◌∷◌, nat_le, count_by, ℤ, pos, ◌+ℤ◌, int_le, Ok, Err}
 use Rattle.std.specs.List.{list_any}
 use Rattle.scope_model.specs.declared.types.values.Done.{Done}
 use Rattle.scope_model.specs.declared.types.values.Value.TheVariants.{Num, Text}

@@ -6,3 +6,15 @@ pub mod Capacity
 pub mod Origin
 pub mod Fitting
 pub mod Joining
+pub mod Search
+pub mod History
+pub mod Scopes
+pub mod Cancels
+pub mod Tasks
+pub mod Outcomes
+pub mod Bindings
+pub mod Verdicts
+pub mod Checks
+pub mod Replies
+pub mod Legal
+pub mod Laws

@@ -1,5 +1,5 @@
 -- The numbers, words and lines of refusals.
-use Rattle.std.specs.Prelude.{ℕ, List, ◌++◌, ◌∷◌, codes}
+use Rattle.std.specs.Prelude.{ℕ, List, ◌++◌, codes}
 use Rattle.std.specs.Fmt.{decimal}
 use Rattle.scope_model.specs.declared.types.refusals.Refusal.{Refusal}
 use Rattle.scope_model.specs.declared.types.refusals.Refusal.TheVariants.{NoScope, NotOwner, Closed, AlreadyJoined, NotJoined, Structure, NoTask, WrongStage, ClockBack, TooMany, NotReady, NotBound, Unavailable, NotSuccess, NotFailed, Rejected, Memory, BadWord, TooDeep, Retired}

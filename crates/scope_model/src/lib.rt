@@ -2,8 +2,14 @@
 //! evaluator that answers each question by scanning that list.
 #![tactic(auto)]
 
+pub mod laws;
+pub mod plain;
+pub mod scan;
+#[cfg(test)]
+mod tests;
 pub mod types;
 
+pub use plain::evaluator::Plain;
 pub use types::answers::{
     Cancelling, Cause, CauseKind, Counts, Effective, ForkReply, Stage, State, Verdict,
 };

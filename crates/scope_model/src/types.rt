@@ -8,5 +8,6 @@ pub mod events;
 pub mod joiners;
 pub mod names;
 pub mod outcomes;
+pub mod records;
 pub mod refusals;
 pub mod values;

@@ -17,7 +17,7 @@ pub struct Name {
 }
 
 impl Name {
-    ghost use Rattle.scope_model.specs.Names.{text_of};
+    ghost use Rattle.scope_model.specs.Names.{text_of, same_name};
 
     /// The name with this text, if it may be one.
     pub fn new(text: &[u8]) -> Option<Name>
@@ -47,7 +47,8 @@ impl Name {
 
     /// Whether the two names are one.
     pub fn is_same(&self, other: &Name) -> bool
-        ensures { IsTrue result ↔ (self.now ≡ other.now) }
+        ensures tested { result ≡ same_name self.now other.now }
+        ensures same { IsTrue result ↔ (self.now ≡ other.now) }
     {
         self.as_bytes() == other.as_bytes()
     }

@@ -1,8 +1,8 @@
 -- Each byte is copied to its place, and what is copied is a name.
-use Rattle.std.proofs.Common.{◌≡◌, ℕ, suc, ◌+◌, ◌-◌, ◌<◌, ◌++◌, [], ◌∷◌, List, length, take, drop, set, replicate, get_or, refl, ap, sym, ◌∙◌, add-one, arith, IsTrue, true}
+use Rattle.std.proofs.Common.{◌≡◌, ℕ, ◌+◌, ◌-◌, ◌<◌, ◌++◌, [], ◌∷◌, List, length, take, drop, set, replicate, get_or, ap, sym, ◌∙◌, add-one, arith, true}
 use Rattle.std.proofs.lemmas.List.{length-set, drop-set-lt, drop-drop, drop-replicate, take_all}
 use Rattle.std.proofs.Math.Seq.{take-suc-set, take-suc}
-use Rattle.scope_model.specs.NameText.{StoredText, IsStored, is_name}
+use Rattle.scope_model.specs.NameText.{IsStored, is_name}
 use Rattle.scope_model.proofs.types.names.Name.new.Goals as goal
 
 step_copied : (bytes text : List ℕ) (i : ℕ) → i < length bytes → i < length text → take i bytes ≡ take i text

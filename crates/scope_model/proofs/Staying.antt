@@ -1,0 +1,203 @@
+-- A cancelled scope of a legal history stays cancelled, with its cause.
+use Rattle.std.proofs.Common.{◌≡◌, ℕ, zero, suc, ◌+◌, ◌<◌, ◌≤◌, Bool, true, false, cond, Option, Some, None, option_map, is_some, List, [], ◌∷◌, length, slice_get, nat_le, refl, ap, sym, subst, ◌∙◌, arith, inl, inr, ◌⊎◌}
+use Rattle.std.proofs.lemmas.Bool.{leb-true, le-leb}
+use Rattle.std.proofs.lemmas.Option.{slice_get_within}
+use Rattle.std.specs.Option.{option_and_then, option_or, option_map_or}
+use Rattle.scope_model.specs.declared.types.capacity.Limits.{Limits}
+use Rattle.scope_model.specs.declared.types.answers.Cause.{Cause}
+use Rattle.scope_model.specs.declared.types.answers.CauseKind.{CauseKind}
+use Rattle.scope_model.specs.declared.types.events.Event.{Event}
+use Rattle.scope_model.specs.declared.types.records.OwnCancel.{OwnCancel}
+use Rattle.scope_model.specs.declared.types.records.Opening.{Opening}
+use Rattle.scope_model.specs.declared.types.records.Cut.{Cut}
+use Rattle.scope_model.specs.History.{History, before, followed, opening, is_open, opening_of}
+use Rattle.scope_model.specs.Scopes.{surrounding, outer, chain_within, chain}
+use Rattle.scope_model.specs.Cancels.{own, own_at, kind_by, own_cut, nearer, cut_along, cut, cause}
+use Rattle.scope_model.specs.Legal.{Legal}
+use Rattle.scope_model.proofs.Searching.{earliest_where}
+use Rattle.scope_model.proofs.Openings.{and_then_some, if_some}
+use Rattle.scope_model.proofs.Pushing.{before_push}
+use Rattle.scope_model.proofs.Growing.{own_grows, opening_stays, numbered_entry, opening_place}
+use Rattle.scope_model.proofs.Causes.{cut_of}
+use Rattle.scope_model.proofs.Nesting.{IsOpened, outer_opened, opened_before, opened_some, same_outwards}
+
+-- how a cut goes on: what there is stays, and what is new comes at place n or later
+record Grows (n : ℕ) (o p : Option Cut) : Type 0 where
+  kept : (c : Cut) → o ≡ Some c → (p ≡ Some c) × (c.place < n)
+  fresh : (c : Cut) → o ≡ None → p ≡ Some c → n ≤ c.place
+
+cond_cut : (b : Bool) (x y c : Cut) → cond b (Some x) (Some y) ≡ Some c → (x ≡ c) ⊎ (y ≡ c)
+cond_cut true x y c is = inl cc
+cond_cut false x y c is = inr cc
+
+cond_none : (b : Bool) (x y : Cut) → cond b (Some x) (Some y) ≡ None → ⊥
+cond_none true x y is = absurd cc
+cond_none false x y is = absurd cc
+
+lower_place : (n : ℕ) (x c : Cut) → x ≡ c → x.place < n → c.place < n
+lower_place n x c same low = subst (λ (y : Cut). y.place < n) same low
+
+higher_place : (n : ℕ) (x c : Cut) → x ≡ c → n ≤ x.place → n ≤ c.place
+higher_place n x c same high = subst (λ (y : Cut). n ≤ y.place) same high
+
+both : (n : ℕ) (x y : Cut) → x.place < n → y.place < n → Grows n (nearer (Some x) (Some y)) (nearer (Some x) (Some y))
+both n x y first second = record {
+  kept = λ c is. (is, elim (cond_cut (nat_le x.place y.place) x y c is) [ inl same ↦ lower_place n x c same first | inr same ↦ lower_place n y c same second ]);
+  fresh = λ c none is. absurd (cond_none (nat_le x.place y.place) x y none);
+}
+
+near_stays : (n : ℕ) (x : Cut) (far : Option Cut) → x.place < n → ((c : Cut) → far ≡ Some c → n ≤ c.place) → nearer (Some x) far ≡ Some x
+near_stays n x None low high = refl
+near_stays n x (Some y) low high =
+    let less : nat_le x.place y.place ≡ true = le-leb x.place y.place (omega (arith, low, high y refl)) in
+    ap (λ b. cond b (Some x) (Some y)) less
+
+far_by : (b : Bool) (x y : Cut) → b ≡ false → cond b (Some x) (Some y) ≡ Some y
+far_by true x y is = absurd cc
+far_by false x y is = refl
+
+above : (m n : ℕ) (b : Bool) → nat_le m n ≡ b → n < m → b ≡ false
+above m n true is more = absurd (omega (arith, leb-true m n is, more))
+above m n false is more = refl
+
+far_stays : (n : ℕ) (y : Cut) (near : Option Cut) → y.place < n → ((c : Cut) → near ≡ Some c → n ≤ c.place) → nearer near (Some y) ≡ Some y
+far_stays n y None low high = refl
+far_stays n y (Some x) low high = far_by (nat_le x.place y.place) x y (above x.place y.place (nat_le x.place y.place) refl (omega (arith, low, high x refl)))
+
+new_only : (n : ℕ) (a b : Option Cut) (c : Cut) → ((x : Cut) → a ≡ Some x → n ≤ x.place) → ((x : Cut) → b ≡ Some x → n ≤ x.place) → nearer a b ≡ Some c → n ≤ c.place
+new_only n None b c first second is = second c is
+new_only n (Some x) None c first second is = first c is
+new_only n (Some x) (Some y) c first second is =
+    elim (cond_cut (nat_le x.place y.place) x y c is) [ inl same ↦ higher_place n x c same (first x refl) | inr same ↦ higher_place n y c same (second y refl) ]
+
+-- the nearer of two goes on as they do
+nearer_grows : (n : ℕ) (a b a' b' : Option Cut) → Grows n a a' → Grows n b b' → Grows n (nearer a b) (nearer a' b')
+nearer_grows n None None a' b' first second = record {
+  kept = λ c is. absurd cc;
+  fresh = λ c none is. new_only n a' b' c (λ x it. first.fresh x refl it) (λ x it. second.fresh x refl it) is;
+}
+nearer_grows n (Some x) None a' b' first second =
+    let stays = first.kept x refl in
+    record {
+      kept = λ c is. (
+        ap (λ o. nearer o b') stays.0 ∙ (near_stays n x b' stays.1 (λ y it. second.fresh y refl it) ∙ is),
+        lower_place n x c (cc) stays.1,
+      );
+      fresh = λ c none is. absurd cc;
+    }
+nearer_grows n None (Some y) a' b' first second =
+    let stays = second.kept y refl in
+    record {
+      kept = λ c is. (
+        ap (nearer a') stays.0 ∙ (far_stays n y a' stays.1 (λ x it. first.fresh x refl it) ∙ is),
+        lower_place n y c (cc) stays.1,
+      );
+      fresh = λ c none is. absurd cc;
+    }
+nearer_grows n (Some x) (Some y) a' b' first second =
+    let near = first.kept x refl in
+    let far = second.kept y refl in
+    rw near.0 (rw far.0 (both n x y near.1 far.1))
+
+placed : (i : ℕ) (k : Option CauseKind) (w : OwnCancel) → option_map (λ (x : CauseKind). record { place = i; kind = x }) k ≡ Some w → w.place ≡ i
+placed i None w is = absurd cc
+placed i (Some x) w is = let same : record { place = i; kind = x } ≡ w = cc in sym (ap (λ (y : OwnCancel). y.place) same)
+
+-- an own cancel stands at its place, in a scope that was opened by then
+own_at_place : (h : History) (s i : ℕ) (w : OwnCancel) → own_at h s i ≡ Some w → (w.place ≡ i) × (is_some (opening (before h (i + 1)) s) ≡ true)
+unfolding own_at
+own_at_place h s i w is =
+    let test = if_some (is_some (opening (before h (i + 1)) s)) (option_and_then (λ e. option_map (λ (k : CauseKind). record { place = i; kind = k }) (kind_by h s i e)) (slice_get h.events i)) w is in
+    let entry = and_then_some (λ (e : Event). option_map (λ (k : CauseKind). record { place = i; kind = k }) (kind_by h s i e)) (slice_get h.events i) w test.1 in
+    (placed i (kind_by h s i entry.0) w entry.2, test.0)
+
+own_place : (h : History) (s : ℕ) (w : OwnCancel) → own h s ≡ Some w → (w.place < length h.events) × IsOpened h s
+unfolding own
+own_place h s w is =
+    let there = earliest_where (own_at h s) w (length h.events) is in
+    let at = own_at_place h s there.0 w there.2 in
+    (omega (arith, there.1, at.0), opened_before h (there.0 + 1) s (opened_some (before h (there.0 + 1)) s (opening (before h (there.0 + 1)) s) refl at.1))
+
+cut_place : (h : History) (s : ℕ) (o : Option OwnCancel) (c : Cut) → own h s ≡ o → option_map (cut_of s) o ≡ Some c → (w : OwnCancel) × (own h s ≡ Some w) × (cut_of s w ≡ c)
+cut_place h s None c is found = absurd cc
+cut_place h s (Some w) c is found = (w, is, cc)
+
+own_none : (h : History) (s : ℕ) (o : Option OwnCancel) → own h s ≡ o → option_map (cut_of s) o ≡ None → own h s ≡ None
+own_none h s None is none = is
+own_none h s (Some w) is none = absurd cc
+
+-- the own cancel of a scope goes on so
+own_cut_grows : (h : History) (e : Event) (s : ℕ) → Grows (length h.events) (own_cut h s) (own_cut (followed h e) s)
+own_cut_grows h e s = record {
+  kept = λ c is.
+      let it = cut_place h s (own h s) c refl is in
+      let stays : own (followed h e) s ≡ Some it.0 = own_grows h e s ∙ ap (λ o. option_or o (own_at (followed h e) s (length h.events))) it.1 in
+      (ap (option_map (cut_of s)) stays ∙ ap Some it.2, lower_place (length h.events) (cut_of s it.0) c it.2 (own_place h s it.0 it.1).0);
+  fresh = λ c none is.
+      let it = cut_place (followed h e) s (own (followed h e) s) c refl is in
+      let here : own_at (followed h e) s (length h.events) ≡ Some it.0 = sym (ap (λ o. option_or o (own_at (followed h e) s (length h.events))) (own_none h s (own h s) refl none)) ∙ (sym (own_grows h e s) ∙ it.1) in
+      higher_place (length h.events) (cut_of s it.0) c it.2 (omega (arith, (own_at_place (followed h e) s (length h.events) it.0 here).0));
+}
+
+cut_along_grows : (h : History) (e : Event) (ss : List ℕ) → Grows (length h.events) (cut_along h ss) (cut_along (followed h e) ss)
+unfolding cut_along
+cut_along_grows h e [] = record { kept = λ c is. absurd cc; fresh = λ c none is. absurd cc }
+cut_along_grows h e (s ∷ ss) = nearer_grows (length h.events) (own_cut h s) (cut_along h ss) (own_cut (followed h e) s) (cut_along (followed h e) ss) (own_cut_grows h e s) (cut_along_grows h e ss)
+
+opening_within : (h : History) (s : ℕ) (o : Opening) → opening h s ≡ Some o → o.place < length h.events
+unfolding opening
+opening_within h s o is =
+    let it = numbered_entry is_open opening_of h.base.scopes s h.events o is in
+    let at = opening_place it.0 it.1 o it.3 in
+    omega (arith, at, slice_get_within h.events it.0 it.1 it.2)
+
+outer_stays : (h : History) (e : Event) (s : ℕ) → IsOpened h s → outer (followed h e) s ≡ outer h s
+unfolding outer
+outer_stays h e s it =
+    let o = it.opened in
+    let same : before (followed h e) o.place ≡ before h o.place = before_push h e o.place (omega (arith, opening_within h s o it.is)) in
+    rw (opening_stays h e s o it.is) (rw it.is (ap (λ (g : History). cond o.options.shield None (surrounding g o.actor)) same))
+
+chain_stays : (L : Limits) (h : History) (e : Event) (n s : ℕ) → Legal L h → IsOpened h s → chain_within (followed h e) n s ≡ chain_within h n s
+unfolding chain_within
+chain_stays L h e zero s legal it = refl
+chain_stays L h e (suc n) s legal it =
+    ap (λ xs. s ∷ xs) (ap (λ o. option_map_or (chain_within (followed h e) n) o []) (outer_stays h e s it)
+    ∙ same_outwards (chain_within (followed h e) n) (chain_within h n) (outer h s) (λ p is. chain_stays L h e n p legal (outer_opened L h s p legal is).0))
+
+-- a scope that was never opened isn't cancelled
+own_unopened : (h : History) (s : ℕ) (o : Option OwnCancel) → opening h s ≡ None → own h s ≡ o → o ≡ None
+own_unopened h s None none is = refl
+own_unopened h s (Some w) none is = let it = (own_place h s w is).1 in absurd (cc (it.is, none))
+
+chain_unopened : (h : History) (n s : ℕ) → opening h s ≡ None → chain_within h n s ≡ s ∷ []
+unfolding chain_within outer
+chain_unopened h zero s none = refl
+chain_unopened h (suc n) s none = rw none refl
+
+cut_opened : (h : History) (s : ℕ) (c : Cut) (o : Option Opening) → cut h s ≡ Some c → opening h s ≡ o → IsOpened h s
+unfolding cut chain cut_along
+cut_opened h s c (Some o) found is = record { opened = o; is = is }
+cut_opened h s c None found is =
+    let alone : cut_along h (chain_within h s s) ≡ cut_along h (s ∷ []) = ap (cut_along h) (chain_unopened h s s is) in
+    let none : own h s ≡ None = own_unopened h s (own h s) is refl in
+    let uncut : nearer (own_cut h s) None ≡ None = ap (λ o. nearer (option_map (cut_of s) o) None) none in
+    absurd (cc (alone, uncut, found))
+
+cut_stays : (L : Limits) (h : History) (e : Event) (s : ℕ) (c : Cut) → Legal L h → cut h s ≡ Some c → cut (followed h e) s ≡ Some c
+unfolding cut chain
+cut_stays L h e s c legal found =
+    let it = cut_opened h s c (opening h s) found refl in
+    ap (cut_along (followed h e)) (chain_stays L h e s s legal it)
+    ∙ ((cut_along_grows h e (chain_within h s s)).kept c found).0
+
+cause_cut : (o : Option Cut) (c : Cause) → option_map (λ (x : Cut). x.cause) o ≡ Some c → (d : Cut) × (o ≡ Some d) × (d.cause ≡ c)
+cause_cut None c is = absurd cc
+cause_cut (Some d) c is = (d, refl, cc)
+
+-- a cancelled scope stays cancelled, with its cause
+pub cause_stays : (L : Limits) (h : History) (e : Event) (s : ℕ) (c : Cause) → Legal L h → cause h s ≡ Some c → cause (followed h e) s ≡ Some c
+unfolding cause
+cause_stays L h e s c legal is =
+    let it = cause_cut (cut h s) c is in
+    ap (option_map (λ (x : Cut). x.cause)) (cut_stays L h e s it.0 legal it.1) ∙ ap Some it.2

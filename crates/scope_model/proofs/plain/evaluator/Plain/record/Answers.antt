@@ -1,0 +1,17 @@
+-- There is room for the event, and it keeps what is kept.
+use Rattle.std.proofs.Common.{sym, subst, arith}
+use Rattle.scope_model.specs.Replies.{Realm}
+use Rattle.scope_model.specs.Legal.{Accepts}
+use Rattle.scope_model.proofs.Pushing.{kept_push, kept_room}
+use Rattle.scope_model.proofs.plain.evaluator.Plain.record.Goals as goal
+
+pub push_reserved-requires : goal.push_reserved-requires
+push_reserved-requires c =
+    let ok = subst (λ (r : Realm). Accepts r.limits r.history c.args.event) (sym c.self.view_is) c.requires.accepted in
+    omega (arith, kept_room _ _ c.args.event _ c.self.invariant ok c.requires.free, c.self.inside.events.ok.0)
+
+pub invariant_of-self : goal.invariant_of-self
+invariant_of-self c =
+    let ok = subst (λ (r : Realm). Accepts r.limits r.history c.args.event) (sym c.self.view_is) c.requires.accepted in
+    rw (c.push_reserved.ensures.items, c.push_reserved.ensures.capacity)
+    (kept_push _ _ c.args.event _ _ c.self.invariant ok (omega (arith, c.self.invariant.room, c.requires.free)))

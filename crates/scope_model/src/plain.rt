@@ -1,0 +1,5 @@
+//! The plain evaluator: it keeps the base and the events, and nothing else.
+
+pub mod commands;
+pub mod evaluator;
+pub mod queries;

@@ -1,0 +1,224 @@
+ghost use Rattle.std.specs.Prelude.{◌≡◌, ◌+◌, Ok};
+ghost use Rattle.scope_model.specs.Checks.{open_check, fork_check, waiting_check, finish_check, move_check, tick_check, bind_check, unbind_check, join_check, own_scope_check, end_close_check, retire_check};
+ghost use Rattle.scope_model.specs.Verdicts.{verdict};
+ghost use Rattle.scope_model.specs.Replies.{Answers, AnswersOrMemory, after, after_recording, after_retiring, next_scope, fork_reply, whole_cancel_check, cancel_reply, begin_close_reply, base_of};
+
+use crate::plain::evaluator::Plain;
+use crate::types::answers::{Cancelling, ForkReply, Verdict};
+use crate::types::bases::Base;
+use crate::types::events::{Binding, Event, Options};
+use crate::types::joiners::Policy;
+use crate::types::names::Name;
+use crate::types::refusals::Refusal;
+use crate::types::values::{Actor, End, Label, ScopeId, TaskId, Value};
+
+/// The commands. Each tries its checks in their order, and answers the first refusal; an accepted one
+/// adds exactly its event to the history and answers its reply; a refused one changes nothing. Those
+/// that make room for an event may be refused it, by `Memory`, once every check has passed.
+impl Plain {
+    /// Opens a scope for the actor, inside what lies around it (JEP 505, `open`). Refused where the
+    /// actor is no running task or main, where its innermost scope is closing (`Closed`), past level
+    /// 16 (`TooDeep`), and where a limit is met (`TooMany`).
+    pub fn open(
+        &mut self,
+        actor: Actor,
+        policy: Policy,
+        options: Options,
+    ) -> Result<ScopeId, Refusal>
+        ensures answer { AnswersOrMemory (open_check self.old.limits self.old.history actor) (next_scope self.old.history) result }
+        ensures history { self.new ≡ after self.old (Event.Open actor policy options) result }
+    {
+        let past = self.past();
+        past.open_check(&self.limits(), actor)?;
+        let scope = past.scopes() + 1;
+        self.try_append(Event::Open {
+            actor,
+            policy,
+            options,
+        })?;
+        Ok(scope)
+    }
+
+    /// Forks the next task in the actor's scope (JEP 505, `fork`). In a cancelled scope the task gets no
+    /// thread. Refused where the actor is no running task or main, for a scope that is unknown
+    /// (`NoScope`, `Retired`), another's (`NotOwner`), closing or closed (`Closed`) or joined
+    /// (`AlreadyJoined`), while the actor's bindings are not those at the scope's opening (`Structure`;
+    /// JEP 506), and where a limit is met (`TooMany`).
+    pub fn fork(&mut self, actor: Actor, scope: ScopeId, label: Label) -> Result<ForkReply, Refusal>
+        ensures answer { AnswersOrMemory (fork_check self.old.limits self.old.history actor scope) (fork_reply self.old.history scope) result }
+        ensures history { self.new ≡ after self.old (Event.Fork actor scope label) result }
+    {
+        let past = self.past();
+        past.fork_check(&self.limits(), actor, scope)?;
+        let task = past.tasks() + 1;
+        let reply = if past.is_cancelled(scope) {
+            ForkReply::Never(task)
+        } else {
+            ForkReply::Thread(task)
+        };
+        self.try_append(Event::Fork {
+            actor,
+            scope,
+            label,
+        })?;
+        Ok(reply)
+    }
+
+    /// Records that no thread was had for a task. Refused where the task does not wait (`WrongStage`),
+    /// or is unknown (`NoTask`, `Retired`).
+    pub fn reject(&mut self, task: TaskId) -> Result<(), Refusal>
+        ensures answer { Answers (waiting_check self.old.history task) tt result }
+        ensures history { self.new ≡ after self.old (Event.Reject task) result }
+    {
+        self.past().waiting_check(task)?;
+        self.record(Event::Reject { task });
+        Ok(())
+    }
+
+    /// Starts a task whose thread has come. Refused where the task does not wait (`WrongStage`), or is
+    /// unknown (`NoTask`, `Retired`).
+    pub fn start(&mut self, task: TaskId) -> Result<(), Refusal>
+        ensures answer { Answers (waiting_check self.old.history task) tt result }
+        ensures history { self.new ≡ after self.old (Event.Start task) result }
+    {
+        self.past().waiting_check(task)?;
+        self.record(Event::Start { task });
+        Ok(())
+    }
+
+    /// Records the end of a running task. Refused where the task does not run (`WrongStage`), is
+    /// unknown (`NoTask`, `Retired`), or has a scope that is not closed (`Structure`).
+    pub fn finish(&mut self, task: TaskId, end: End) -> Result<(), Refusal>
+        ensures answer { Answers (finish_check self.old.history task) tt result }
+        ensures history { self.new ≡ after self.old (Event.Finish task end) result }
+    {
+        self.past().finish_check(task)?;
+        self.record(Event::Finish { task, end });
+        Ok(())
+    }
+
+    /// Cancels the scope and all that it reaches (Trio, `cancel`). A scope that is cancelled already
+    /// stays as it is. Refused for a scope that is unknown (`NoScope`, `Retired`), or closing or closed
+    /// (`Closed`), and where the limit of load is met (`TooMany`).
+    pub fn cancel(&mut self, scope: ScopeId) -> Result<Cancelling, Refusal>
+        ensures answer { AnswersOrMemory (whole_cancel_check self.old.limits self.old.history scope) (cancel_reply self.old.history scope) result }
+        ensures already { cancel_reply self.old.history scope ≡ Cancelling.Already → Answers (whole_cancel_check self.old.limits self.old.history scope) Cancelling.Already result }
+        ensures history { self.new ≡ after_recording self.old (Event.Cancel scope) result }
+    {
+        let past = self.past();
+        past.whole_cancel_check(&self.limits(), scope)?;
+        if past.is_cancelled(scope) {
+            return Ok(Cancelling::Already);
+        }
+        self.try_append(Event::Cancel { scope })?;
+        Ok(Cancelling::Recorded)
+    }
+
+    /// Sets the deadline of the scope anew, in milliseconds, or takes it away (Trio: a cancel scope's
+    /// deadline may be moved). Refused for a scope that is unknown (`NoScope`, `Retired`), closing or
+    /// closed (`Closed`) or joined (`AlreadyJoined`), and where the limit of load is met (`TooMany`).
+    pub fn move_deadline(&mut self, scope: ScopeId, deadline: Option<u64>) -> Result<(), Refusal>
+        ensures answer { AnswersOrMemory (move_check self.old.limits self.old.history scope) tt result }
+        ensures history { self.new ≡ after self.old (Event.Move scope deadline) result }
+    {
+        self.past().move_check(&self.limits(), scope)?;
+        self.try_append(Event::Move { scope, deadline })
+    }
+
+    /// Sets the moment, in milliseconds. Refused for a moment before the present one (`ClockBack`), and
+    /// where the limit of load is met (`TooMany`).
+    pub fn tick(&mut self, now: u64) -> Result<(), Refusal>
+        ensures answer { AnswersOrMemory (tick_check self.old.limits self.old.history now) tt result }
+        ensures history { self.new ≡ after self.old (Event.Tick now) result }
+    {
+        self.past().tick_check(&self.limits(), now)?;
+        self.try_append(Event::Tick { now })
+    }
+
+    /// Binds the key above the actor's other bindings (JEP 506, `where`). Refused where the actor is no
+    /// running task or main, and where the limit of load is met (`TooMany`).
+    pub fn bind(&mut self, actor: Actor, key: Name, value: Value) -> Result<(), Refusal>
+        ensures answer { AnswersOrMemory (bind_check self.old.limits self.old.history actor) tt result }
+        ensures history { self.new ≡ after self.old (Event.Bind actor (record { key = key; value = value })) result }
+    {
+        self.past().bind_check(&self.limits(), actor)?;
+        self.try_append(Event::Bind {
+            actor,
+            binding: Binding { key, value },
+        })
+    }
+
+    /// Takes away the actor's last own binding. Refused where the actor is no running task or main, has
+    /// no own binding (`NotBound`), or has a scope open or closing that was opened while the binding
+    /// stood (`Structure`), and where the limit of load is met (`TooMany`).
+    pub fn unbind(&mut self, actor: Actor) -> Result<(), Refusal>
+        ensures answer { AnswersOrMemory (unbind_check self.old.limits self.old.history actor) tt result }
+        ensures history { self.new ≡ after self.old (Event.Unbind actor) result }
+    {
+        self.past().unbind_check(&self.limits(), actor)?;
+        self.try_append(Event::Unbind { actor })
+    }
+
+    /// Joins the actor's scope (JEP 505, `join`); what it answers is read by `outcome`. Refused where
+    /// the actor is no running task or main, for a scope that is unknown (`NoScope`, `Retired`),
+    /// another's (`NotOwner`), closing or closed (`Closed`) or joined (`AlreadyJoined`), and while it is
+    /// neither cancelled nor all its tasks have ended (`NotReady`).
+    pub fn join_now(&mut self, actor: Actor, scope: ScopeId) -> Result<(), Refusal>
+        ensures answer { Answers (join_check self.old.history actor scope) tt result }
+        ensures history { self.new ≡ after self.old (Event.Join actor scope) result }
+    {
+        self.past().join_check(actor, scope)?;
+        self.record(Event::Join { actor, scope });
+        Ok(())
+    }
+
+    /// Begins to close the actor's scope, and with it each scope that the actor opened later and has not
+    /// closed (JEP 505, `close` cancels first). A scope that is closing or closed stays as it is.
+    /// Refused where the actor is no running task or main, and for a scope that is unknown (`NoScope`,
+    /// `Retired`) or another's (`NotOwner`).
+    pub fn begin_close(&mut self, actor: Actor, scope: ScopeId) -> Result<Cancelling, Refusal>
+        ensures answer { Answers (own_scope_check self.old.history actor scope) (begin_close_reply self.old.history scope) result }
+        ensures history { self.new ≡ after_recording self.old (Event.BeginClose actor scope) result }
+    {
+        let past = self.past();
+        past.own_scope_check(actor, scope)?;
+        if past.closing(scope) {
+            return Ok(Cancelling::Already);
+        }
+        self.record(Event::BeginClose { actor, scope });
+        Ok(Cancelling::Recorded)
+    }
+
+    /// Closes the actor's scope. Refused where the actor is no running task or main, for a scope that is
+    /// unknown (`NoScope`, `Retired`), another's (`NotOwner`), not closing (`WrongStage`) or closed
+    /// (`Closed`), while the actor has a later scope that is not closed (`Structure`), and while a task
+    /// of the scope waits or runs (`NotReady`).
+    pub fn end_close(&mut self, actor: Actor, scope: ScopeId) -> Result<Verdict, Refusal>
+        ensures answer { Answers (end_close_check self.old.history actor scope) (verdict self.old.history scope) result }
+        ensures history { self.new ≡ after self.old (Event.EndClose actor scope) result }
+    {
+        let past = self.past();
+        past.end_close_check(actor, scope)?;
+        let verdict = past.verdict(scope);
+        self.record(Event::EndClose { actor, scope });
+        Ok(verdict)
+    }
+
+    /// Takes the events out and leaves a base, once main's outermost scope is closed; what is left goes
+    /// on, with numbers after the base's. It is no event. Refused where the actor is no running task or
+    /// main, is not main (`NotOwner`), while main has a scope that is not closed (`Structure`), and where
+    /// memory is refused (`Memory`).
+    pub fn retire(&mut self, actor: Actor) -> Result<Base, Refusal>
+        ensures answer { AnswersOrMemory (retire_check self.old.history actor) (base_of self.old.history) result }
+        ensures history { self.new ≡ after_retiring self.old result }
+    {
+        let past = self.past();
+        past.retire_check(actor)?;
+        let alloc = self.allocator();
+        let (Ok(answered), Ok(kept)) = (past.base_after(alloc), past.base_after(alloc)) else {
+            return Err(Refusal::Memory);
+        };
+        self.restart(kept);
+        Ok(answered)
+    }
+}

@@ -1,0 +1,280 @@
+ghost use Rattle.std.specs.Prelude.{◌≡◌, ◌<◌, ◌≤◌, ◌+◌, length, Some, IfSome};
+ghost use Rattle.scope_model.specs.Search.{last_of, earliest};
+ghost use Rattle.scope_model.specs.Cancels.{move_of, deadline, overdue, direct_kind, kind_by, own_at, own, own_cut, nearer, cut_within, cut, cause, is_cancelled, first, cancelled_before, counting_deadline, lesser, least_within, effective};
+
+use crate::scan::past::Past;
+use crate::types::answers::{Cause, CauseKind, Effective};
+use crate::types::events::Event;
+use crate::types::records::{Cut, OwnCancel};
+use crate::types::values::ScopeId;
+
+impl<'a> Past<'a> {
+    /// The deadline that the scope's last move set.
+    #[tactic(auto, unfolding(crate::specs::Search::last_of))]
+    fn last_move(&self, scope: ScopeId) -> Option<Option<u64>>
+        ensures { result ≡ last_of (move_of scope) self.now.events }
+    {
+        let mut last = None;
+        for place in 0..self.len() {
+            last = move_of(scope, self.event(place)).or(last);
+        }
+        last
+    }
+
+    /// The deadline of the scope: that of its last move, or else of its opening.
+    #[tactic(auto, unfolding(crate::specs::Cancels::deadline))]
+    pub fn deadline(&self, scope: ScopeId) -> Option<u64>
+        ensures { result ≡ deadline self.now scope }
+    {
+        match self.last_move(scope) {
+            Some(moved) => moved,
+            None => match self.opening(scope) {
+                Some(opening) => opening.options.deadline,
+                None => None,
+            },
+        }
+    }
+
+    /// Whether the scope isn't joined and its deadline has come.
+    #[tactic(auto, unfolding(crate::specs::Cancels::overdue))]
+    fn overdue(&self, scope: ScopeId) -> bool
+        ensures { result ≡ overdue self.now scope }
+    {
+        if self.joined(scope) {
+            return false;
+        }
+        match self.deadline(scope) {
+            Some(deadline) => deadline <= self.moment(),
+            None => false,
+        }
+    }
+
+    /// What the event, next, does to the scope by itself.
+    fn direct_kind(&self, scope: ScopeId, event: &Event) -> Option<CauseKind>
+        ensures { result ≡ direct_kind self.now scope event.now }
+    {
+        match *event {
+            Event::Cancel { scope: cancelled } => {
+                if cancelled == scope {
+                    Some(CauseKind::Call)
+                } else {
+                    None
+                }
+            }
+            Event::BeginClose {
+                actor: _,
+                scope: closing,
+            } => {
+                if self.covers(closing, scope) {
+                    Some(CauseKind::Close)
+                } else {
+                    None
+                }
+            }
+            _ => None,
+        }
+    }
+
+    /// What gives the scope its own cancel at the place.
+    fn kind_by(&self, scope: ScopeId, place: usize, event: &Event) -> Option<CauseKind>
+        requires { place < length self.now.events }
+        ensures { result ≡ kind_by self.now scope place event.now }
+    {
+        if let Some(kind) = self.before(place).direct_kind(scope, event) {
+            return Some(kind);
+        }
+        let with_it = self.through(place);
+        if with_it.joiner_fires(scope, event) {
+            return Some(CauseKind::Joiner);
+        }
+        if with_it.overdue(scope) {
+            return Some(CauseKind::Deadline);
+        }
+        None
+    }
+
+    /// The scope's own cancel, if the event at the place gives it one.
+    #[tactic(auto, unfolding(crate::specs::Cancels::own_at))]
+    fn own_at(&self, scope: ScopeId, place: usize) -> Option<OwnCancel>
+        requires { place < length self.now.events }
+        ensures { result ≡ own_at self.now scope place }
+    {
+        if self.through(place).opening(scope).is_none() {
+            return None;
+        }
+        let kind = self.kind_by(scope, place, self.event(place))?;
+        Some(OwnCancel { place, kind })
+    }
+
+    /// The scope's own cancel: at the first event, not before its opening, that gives it one.
+    #[tactic(auto, using(crate::proofs::Searching::earliest_found, crate::proofs::Searching::earliest_none_step), unfolding(crate::specs::Cancels::own, crate::specs::Search::earliest))]
+    pub fn own(&self, scope: ScopeId) -> Option<OwnCancel>
+        ensures { result ≡ own self.now scope }
+    {
+        for place in 0..self.len() {
+            let own = self.own_at(scope, place);
+            if own.is_some() {
+                return own;
+            }
+        }
+        None
+    }
+
+    /// The scope's own cancel, as a cause.
+    fn own_cut(&self, scope: ScopeId) -> Option<Cut>
+        ensures { result ≡ own_cut self.now scope }
+    {
+        let own = self.own(scope)?;
+        Some(Cut {
+            place: own.place,
+            cause: Cause {
+                scope,
+                kind: own.kind,
+            },
+        })
+    }
+
+    /// The earliest own cancel of what lies at most so many scopes outwards of the scope, the nearest
+    /// on a tie.
+    #[tactic(auto, using(crate::proofs::Chains::nearer_none), unfolding(crate::specs::Cancels::cut_along, crate::specs::Scopes::chain_within))]
+    fn cut_within(&self, outwards: u32, scope: ScopeId) -> Option<Cut>
+        ensures { result ≡ cut_within self.now outwards scope }
+    {
+        let own = self.own_cut(scope);
+        if outwards == 0 {
+            return own;
+        }
+        match self.outer(scope) {
+            Some(outer) => nearer(own, self.cut_within(outwards - 1, outer)),
+            None => own,
+        }
+    }
+
+    /// Why the scope is cancelled, with the place of the event that did it: the earliest own cancel
+    /// on its chain, the nearest on a tie.
+    #[tactic(auto, unfolding(crate::specs::Cancels::cut, crate::specs::Scopes::chain))]
+    pub fn cut(&self, scope: ScopeId) -> Option<Cut>
+        ensures { result ≡ cut self.now scope }
+    {
+        self.cut_within(scope, scope)
+    }
+
+    /// Why the scope is cancelled.
+    #[tactic(auto, unfolding(crate::specs::Cancels::cause))]
+    pub fn cause(&self, scope: ScopeId) -> Option<Cause>
+        ensures { result ≡ cause self.now scope }
+    {
+        let cut = self.cut(scope)?;
+        Some(cut.cause)
+    }
+
+    /// Whether the scope is cancelled.
+    #[tactic(auto, unfolding(crate::specs::Cancels::is_cancelled))]
+    pub fn is_cancelled(&self, scope: ScopeId) -> bool
+        ensures { result ≡ is_cancelled self.now scope }
+    {
+        self.cut(scope).is_some()
+    }
+
+    /// The place of the event by which the scope became cancelled, not before its opening.
+    #[tactic(auto, unfolding(crate::specs::Cancels::first))]
+    pub fn first(&self, scope: ScopeId) -> Option<usize>
+        ensures { result ≡ first self.now scope }
+    {
+        let opening = self.opening(scope)?;
+        let cut = self.cut(scope)?;
+        Some(opening.place.max(cut.place))
+    }
+
+    /// Whether the scope became cancelled before the place.
+    #[tactic(auto, unfolding(crate::specs::Cancels::cancelled_before))]
+    pub fn cancelled_before(&self, scope: ScopeId, place: usize) -> bool
+        ensures { result ≡ cancelled_before self.now scope place }
+    {
+        match self.first(scope) {
+            Some(first) => first < place,
+            None => false,
+        }
+    }
+
+    /// The scope's deadline, while it counts: until the scope is joined.
+    #[tactic(auto, unfolding(crate::specs::Cancels::counting_deadline))]
+    fn counting_deadline(&self, scope: ScopeId) -> Option<u64>
+        ensures { result ≡ counting_deadline self.now scope }
+    {
+        if self.joined(scope) {
+            return None;
+        }
+        self.deadline(scope)
+    }
+
+    /// The least deadline that counts, of what lies at most so many scopes outwards of the scope.
+    #[tactic(auto, using(crate::proofs::Chains::lesser_none), unfolding(crate::specs::Cancels::least_deadline, crate::specs::Scopes::chain_within))]
+    fn least_within(&self, outwards: u32, scope: ScopeId) -> Option<u64>
+        ensures { result ≡ least_within self.now outwards scope }
+    {
+        let own = self.counting_deadline(scope);
+        if outwards == 0 {
+            return own;
+        }
+        match self.outer(scope) {
+            Some(outer) => lesser(own, self.least_within(outwards - 1, outer)),
+            None => own,
+        }
+    }
+
+    /// The earliest deadline in effect for the scope (Trio, `current_effective_deadline`).
+    #[tactic(auto, unfolding(crate::specs::Cancels::effective, crate::specs::Scopes::chain))]
+    pub fn effective(&self, scope: ScopeId) -> Effective
+        ensures { result ≡ effective self.now scope }
+    {
+        if self.is_cancelled(scope) {
+            return Effective::Past;
+        }
+        match self.least_within(scope, scope) {
+            Some(deadline) => Effective::At(deadline),
+            None => Effective::Never,
+        }
+    }
+}
+
+/// The deadline that the event sets for the scope, if it is a move of it.
+fn move_of(scope: ScopeId, event: &Event) -> Option<Option<u64>>
+    ensures { result ≡ move_of scope event.now }
+{
+    match *event {
+        Event::Move {
+            scope: moved,
+            deadline,
+        } => { if moved == scope { Some(deadline) } else { None } }
+        _ => None,
+    }
+}
+
+/// The earlier of the two; the near one on a tie.
+fn nearer(near: Option<Cut>, far: Option<Cut>) -> Option<Cut>
+    ensures { result ≡ nearer near far }
+{
+    match (near, far) {
+        (None, far) => far,
+        (Some(near), None) => Some(near),
+        (Some(near), Some(far)) => {
+            if near.place <= far.place {
+                Some(near)
+            } else {
+                Some(far)
+            }
+        }
+    }
+}
+
+/// The lesser of the two.
+fn lesser(one: Option<u64>, other: Option<u64>) -> Option<u64>
+    ensures { result ≡ lesser one other }
+{
+    match (one, other) {
+        (None, other) => other,
+        (Some(one), None) => Some(one),
+        (Some(one), Some(other)) => Some(one.min(other)),
+    }
+}

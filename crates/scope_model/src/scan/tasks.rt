@@ -1,0 +1,241 @@
+ghost use Rattle.std.specs.Prelude.{◌≡◌, ◌<◌, ◌≤◌, ◌+◌, ◌^◌, length, Some, IfSome, count_by};
+ghost use Rattle.std.specs.List.{list_all, range_with_len};
+ghost use Rattle.scope_model.specs.History.{forked_count};
+ghost use Rattle.scope_model.specs.Cancels.{is_task_of};
+ghost use Rattle.scope_model.specs.Tasks.{rejects, rejected, starts, started, finishes, finished, ending_of, ending_at, ending, stage_of, stage, is_never, is_waiting, is_running, is_finished, is_settled, state_by_end, state_of, state, task_numbers, is_at, is_stage, counts, is_unsettled, settled, ready};
+
+use crate::scan::past::Past;
+use crate::types::answers::{Counts, Stage, State};
+use crate::types::events::Event;
+use crate::types::records::{Ending, Forking};
+use crate::types::values::{End, ScopeId, TaskId};
+
+impl<'a> Past<'a> {
+    /// Whether the task was rejected.
+    #[tactic(auto, unfolding(crate::specs::Tasks::rejected))]
+    fn rejected(&self, task: TaskId) -> bool
+        ensures { result ≡ rejected self.now task }
+    {
+        self.events().iter().any(|event| rejects(task, event))
+    }
+
+    /// Whether the task was started.
+    #[tactic(auto, unfolding(crate::specs::Tasks::started))]
+    fn started(&self, task: TaskId) -> bool
+        ensures { result ≡ started self.now task }
+    {
+        self.events().iter().any(|event| starts(task, event))
+    }
+
+    /// Whether the task has ended.
+    #[tactic(auto, unfolding(crate::specs::Tasks::finished))]
+    fn finished(&self, task: TaskId) -> bool
+        ensures { result ≡ finished self.now task }
+    {
+        self.events().iter().any(|event| finishes(task, event))
+    }
+
+    /// The end of the task, if the event at the place is it.
+    fn ending_at(&self, task: TaskId, place: usize) -> Option<Ending>
+        requires { place < length self.now.events }
+        ensures { result ≡ ending_at self.now task place }
+    {
+        ending_of(task, place, self.event(place))
+    }
+
+    /// The end of the task, with its place.
+    #[tactic(auto, using(crate::proofs::Searching::earliest_found, crate::proofs::Searching::earliest_none_step), unfolding(crate::specs::Tasks::ending, crate::specs::Search::earliest))]
+    fn ending(&self, task: TaskId) -> Option<Ending>
+        ensures { result ≡ ending self.now task }
+    {
+        for place in 0..self.len() {
+            let ending = self.ending_at(task, place);
+            if ending.is_some() {
+                return ending;
+            }
+        }
+        None
+    }
+
+    /// The stage of the task that was forked so.
+    #[tactic(auto, unfolding(crate::specs::Tasks::stage_of))]
+    fn stage_of(&self, task: TaskId, forking: &Forking) -> Stage
+        ensures { result ≡ stage_of self.now task forking.now }
+    {
+        if self.cancelled_before(forking.scope, forking.place) || self.rejected(task) {
+            Stage::Never
+        } else if self.finished(task) {
+            Stage::Finished
+        } else if self.started(task) {
+            Stage::Running
+        } else {
+            Stage::Waiting
+        }
+    }
+
+    /// The stage of the task.
+    #[tactic(auto, unfolding(crate::specs::Tasks::stage))]
+    pub fn stage(&self, task: TaskId) -> Stage
+        ensures { result ≡ stage self.now task }
+    {
+        match self.forking(task) {
+            Some(forking) => self.stage_of(task, &forking),
+            None => Stage::Never,
+        }
+    }
+
+    /// What can be read of the task: its end, unless that came after its scope's cancel (JEP 505,
+    /// `Subtask.state`).
+    #[tactic(auto, unfolding(crate::specs::Tasks::state))]
+    pub fn state(&self, task: TaskId) -> State
+        ensures { result ≡ state self.now task }
+    {
+        let (Some(forking), Some(ending)) = (self.forking(task), self.ending(task)) else {
+            return State::Unavailable;
+        };
+        if self.cancelled_before(forking.scope, ending.place) {
+            return State::Unavailable;
+        }
+        state_by_end(&ending.end)
+    }
+
+    /// Whether the task is one of the scope, at the stage.
+    fn is_at(&self, scope: ScopeId, stage: Stage, task: TaskId) -> bool
+        ensures { result ≡ is_at self.now scope stage task }
+    {
+        self.is_task_of(scope, task) && is_stage(stage, self.stage(task))
+    }
+
+    /// How many tasks of the scope are at the stage.
+    #[tactic(auto, using(crate::proofs::Numbers::count_by_range))]
+    fn count_at(&self, scope: ScopeId, stage: Stage) -> u32
+        ensures { result ≡ count_by (is_at self.now scope stage) (task_numbers self.now) }
+    {
+        let mut count = 0;
+        for before in 0..self.forked_count() {
+            count += u32::from(self.is_at(scope, stage, self.task_after(before)));
+        }
+        count
+    }
+
+    /// How many tasks of the scope are at each stage.
+    #[tactic(auto, unfolding(crate::specs::Tasks::counts))]
+    pub fn counts(&self, scope: ScopeId) -> Counts
+        ensures { result ≡ counts self.now scope }
+    {
+        Counts {
+            never: self.count_at(scope, Stage::Never),
+            waiting: self.count_at(scope, Stage::Waiting),
+            running: self.count_at(scope, Stage::Running),
+            finished: self.count_at(scope, Stage::Finished),
+        }
+    }
+
+    /// Whether the task is one of the scope that waits or runs.
+    fn is_unsettled(&self, scope: ScopeId, task: TaskId) -> bool
+        ensures { result ≡ is_unsettled self.now scope task }
+    {
+        self.is_task_of(scope, task) && !is_settled(self.stage(task))
+    }
+
+    /// Whether no task of the scope waits or runs.
+    #[tactic(auto, using(crate::proofs::Numbers::list_any_range), unfolding(crate::specs::Tasks::settled))]
+    pub fn settled(&self, scope: ScopeId) -> bool
+        ensures { result ≡ settled self.now scope }
+    {
+        let mut unsettled = false;
+        for before in 0..self.forked_count() {
+            unsettled |= self.is_unsettled(scope, self.task_after(before));
+        }
+        !unsettled
+    }
+
+    /// Whether the scope may be joined: it is cancelled, or all its tasks are settled.
+    #[tactic(auto, unfolding(crate::specs::Tasks::ready))]
+    pub fn ready(&self, scope: ScopeId) -> bool
+        ensures { result ≡ ready self.now scope }
+    {
+        self.is_cancelled(scope) || self.settled(scope)
+    }
+}
+
+/// Whether the event rejects the task.
+fn rejects(task: TaskId, event: &Event) -> bool
+    ensures { result ≡ rejects task event.now }
+{
+    match *event {
+        Event::Reject { task: rejected } => rejected == task,
+        _ => false,
+    }
+}
+
+/// Whether the event starts the task.
+fn starts(task: TaskId, event: &Event) -> bool
+    ensures { result ≡ starts task event.now }
+{
+    match *event {
+        Event::Start { task: started } => started == task,
+        _ => false,
+    }
+}
+
+/// Whether the event ends the task.
+fn finishes(task: TaskId, event: &Event) -> bool
+    ensures { result ≡ finishes task event.now }
+{
+    match *event {
+        Event::Finish {
+            task: finished,
+            end: _,
+        } => finished == task,
+        _ => false,
+    }
+}
+
+/// The end of the task that the event at the place is, if it is one.
+fn ending_of(task: TaskId, place: usize, event: &Event) -> Option<Ending>
+    ensures { result ≡ ending_of task place event.now }
+{
+    match *event {
+        Event::Finish {
+            task: finished,
+            end,
+        } => {
+            if finished == task {
+                Some(Ending { place, end })
+            } else {
+                None
+            }
+        }
+        _ => None,
+    }
+}
+
+/// The state that the end shows.
+fn state_by_end(end: &End) -> State
+    ensures { result ≡ state_by_end end.now }
+{
+    match *end {
+        Ok(value) => State::Success(value),
+        Err(fault) => State::Failed(fault),
+    }
+}
+
+/// Whether the two stages are one.
+fn is_stage(stage: Stage, other: Stage) -> bool
+    ensures { result ≡ is_stage stage other }
+{
+    match stage {
+        Stage::Never => matches!(other, Stage::Never),
+        Stage::Waiting => matches!(other, Stage::Waiting),
+        Stage::Running => matches!(other, Stage::Running),
+        Stage::Finished => matches!(other, Stage::Finished),
+    }
+}
+
+/// Whether a task at the stage will change no more.
+fn is_settled(stage: Stage) -> bool
+    ensures { result ≡ is_settled stage }
+{
+    matches!(stage, Stage::Never | Stage::Finished)
+}
