@@ -1,0 +1,2 @@
+pub mod LastBound
+pub mod Layers

@@ -1,0 +1,153 @@
+ghost use Rattle.std.specs.Prelude.{◌≡◌, ◌↔◌, ◌++◌, ◌∷◌, [], IfOk, OnOk, OnErr, IfErr, IsErr, IfSome, IsNone, length};
+ghost use Rattle.scope_model.specs.Bindings.{bound_to};
+ghost use Rattle.scoped_env.specs.LastBound.{HasNone, IsLastBound};
+
+use crate::shared::SharedPairs;
+use scope_model::{Binding, Name, Refusal, Value};
+use std::alloc::{AllocError, Global};
+use std::marker::Model;
+
+/// The bindings that an actor sees: the pairs that it inherited at its fork, then its own stack.
+/// The last pair with a key wins. An inherited pair is never taken away, and never changes when the
+/// actor that it came from binds or unbinds, as JEP 506 has it of scoped values.
+#[derive(Debug, Drop)]
+pub struct Env {
+    inherited: SharedPairs,
+    own: Vec<Binding>,
+    // All pairs, made by the last `inherit` and kept for the next; `None` once they changed.
+    snapshot: Option<SharedPairs>,
+}
+
+impl Model for Env {
+    ghost use Rattle.std.specs.Prelude.{◌≡◌, ◌++◌, IfSome};
+    ghost use Rattle.scoped_env.specs.Layers.{Layers};
+
+    ghost Value = { Layers };
+
+    ghost view = { λ e. record { inherited = e.inherited; own = e.own.items } };
+
+    ghost invariant = { λ e. IfSome e.snapshot (λ all. all ≡ e.inherited ++ e.own.items) };
+}
+
+impl Env {
+    ghost use Rattle.scoped_env.specs.Layers.{all_pairs, no_pairs, with_own, without_last_own, inheriting};
+
+    /// The environment in which nothing is bound. Its pairs will stand in memory of `alloc`.
+    pub fn new(alloc: Global) -> Env
+        ensures { result ≡ no_pairs }
+    {
+        Env::above(SharedPairs::empty(), alloc)
+    }
+
+    /// The environment of an actor that has bound nothing itself.
+    fn above(inherited: SharedPairs, alloc: Global) -> Env
+        ensures { result ≡ record { inherited = inherited; own = [] } }
+    {
+        Env {
+            inherited,
+            own: Vec::new(alloc),
+            snapshot: None,
+        }
+    }
+
+    /// Binds the key to the value, above all other pairs. It is refused for memory alone, and then
+    /// changes nothing.
+    pub fn bind(&mut self, key: Name, value: Value) -> Result<(), AllocError>
+        ensures ok { OnOk result (self.new ≡ with_own self.old (record { key = key; value = value })) }
+        ensures err { OnErr result (self.new ≡ self.old) }
+    {
+        self.own.push(Binding { key, value })?;
+        self.snapshot = None;
+        Ok(())
+    }
+
+    /// Takes away the last pair of the own stack. It is refused `NotBound` exactly where that is
+    /// empty: an inherited pair stays. It takes no memory.
+    pub fn unbind(&mut self) -> Result<(), Refusal>
+        ensures ok { OnOk result (self.new ≡ without_last_own self.old) }
+        ensures empty { IsErr result ↔ (self.old.own ≡ []) }
+        ensures refusal { IfErr result (λ refusal. refusal ≡ Refusal.NotBound) }
+        ensures err { OnErr result (self.new ≡ self.old) }
+    {
+        match self.own.pop() {
+            Some(_) => {
+                self.snapshot = None;
+                Ok(())
+            }
+            None => Err(Refusal::NotBound),
+        }
+    }
+
+    /// The value of the last pair with the key, own or inherited, where there is one. It takes no
+    /// memory.
+    pub fn get(&self, key: Name) -> Option<Value>
+        ensures value { result ≡ bound_to key (all_pairs self.now) }
+        ensures last { IfSome result (IsLastBound (all_pairs self.now) key) }
+        ensures none { IsNone result ↔ HasNone (all_pairs self.now) key }
+    {
+        last_value(&self.own, &key).or_else(|| last_value(self.inherited.as_slice(), &key))
+    }
+
+    /// The environment of a task that this one's actor forks now: all pairs of this one are its
+    /// inherited pairs, and its own stack is empty. The pairs here stay as they are. Called again
+    /// before they change, it copies none of them. It is refused for memory, or where std's count
+    /// of holders is full.
+    pub fn inherit(&mut self) -> Result<Env, AllocError>
+        ensures ok { IfOk result (λ env. env ≡ inheriting self.old) }
+        ensures unchanged { self.new ≡ self.old }
+    {
+        let alloc = *self.own.allocator();
+        let inherited = self.share_all()?;
+        Ok(Env::above(inherited, alloc))
+    }
+
+    /// All pairs, in the list that the last call made where they are the same still.
+    fn share_all(&mut self) -> Result<SharedPairs, AllocError>
+        ensures ok { IfOk result (λ all. all ≡ all_pairs self.old) }
+        ensures unchanged { self.new ≡ self.old }
+    {
+        if self.own.is_empty() {
+            return self.inherited.share();
+        }
+        if let Some(all) = &self.snapshot {
+            return all.share();
+        }
+        let all = SharedPairs::joined(*self.own.allocator(), self.inherited.as_slice(), &self.own)?;
+        let shared = all.share()?;
+        self.snapshot = Some(all);
+        Ok(shared)
+    }
+
+    /// How many pairs there are, inherited and own.
+    pub fn depth(&self) -> usize
+        ensures { result ≡ length (all_pairs self.now) }
+    {
+        self.inherited.as_slice().len() + self.own.len()
+    }
+
+    /// How many own pairs there are. By this number a caller tells whether the bindings are those
+    /// of an earlier moment, where no pair of that moment was taken away since.
+    pub fn own_len(&self) -> usize
+        ensures { result ≡ length self.now.own }
+    {
+        self.own.len()
+    }
+
+    /// The own pairs, the latest last.
+    pub fn own(&self) -> &[Binding]
+        ensures { result.now ≡ self.now.own }
+    {
+        &self.own
+    }
+}
+
+/// The value of the last of the pairs with the key.
+fn last_value(pairs: &[Binding], key: &Name) -> Option<Value>
+    ensures { result ≡ bound_to key.now pairs.now }
+{
+    pairs
+        .iter()
+        .rev()
+        .find(|pair| pair.key.is_same(key))
+        .map(|pair| pair.value)
+}
