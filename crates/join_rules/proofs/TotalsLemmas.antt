@@ -1,0 +1,60 @@
+-- The totals of a list say when a joiner fires, and grow with each completion.
+use Rattle.std.proofs.Common.{◌≡◌, ◌+◌, ◌||◌, Bool, true, false, cond, List, [], ◌∷◌, ◌++◌, length, ◌+ℤ◌, count_by, nat_lt, refl, ap, ◌∙◌, arith}
+use Rattle.std.specs.List.{list_any}
+use Rattle.std.proofs.lemmas.List.Sums.{sum_by_push, sum_by-cons}
+use Rattle.std.proofs.lemmas.List.Folds.{find-append}
+use Rattle.std.proofs.lemmas.List.{length_push}
+use Rattle.std.proofs.lemmas.Int.{ints}
+use Rattle.std.proofs.lemmas.Bool.Decides.{nat_tests}
+use Rattle.scope_model.specs.declared.types.values.Done.{Done}
+use Rattle.scope_model.specs.declared.types.joiners.Rule.{Rule}
+use Rattle.scope_model.specs.declared.types.joiners.Rule.TheVariants.{FailuresAtLeast, SuccessesAtLeast, SumAtLeast}
+use Rattle.scope_model.specs.declared.types.joiners.Policy.{Policy}
+use Rattle.scope_model.specs.declared.types.joiners.Policy.TheVariants.{All, Any, AwaitAll, AwaitOk, Until}
+use Rattle.scope_model.specs.Joining.{has_failed, has_succeeded, number_of_end, total_of, meets, fires}
+use Rattle.join_rules.specs.Totals.{totals_of, counted, totals_meet, totals_fire}
+
+-- some element passes where at least one does
+any_counted : {X : Type 0} (p : X → Bool) (xs : List X) → list_any p xs ≡ nat_lt 0 (count_by p xs)
+any_counted p [] = refl
+any_counted p (x ∷ xs) =
+    rw (sum_by-cons (λ y. cond (p y) 1 0) x xs)
+    (elim (p x) as (λ b. (b || list_any p xs) ≡ nat_lt 0 (cond b 1 0 + count_by p xs)) [
+      | true ↦ grind (arith, nat_tests)
+      | false ↦ any_counted p xs ∙ ap (nat_lt 0) (omega arith)
+    ])
+
+total-append : (xs : List Done) (d : Done) → total_of (xs ++ d ∷ []) ≡ total_of xs +ℤ number_of_end d.end
+unfolding total_of
+total-append [] d = omega (arith, ints)
+total-append (x ∷ xs) d = omega (arith, ints, total-append xs d)
+
+count-push : (p : Done → Bool) (xs : List Done) (d : Done) → count_by p (xs ++ d ∷ []) ≡ cond (p d) (count_by p xs + 1) (count_by p xs)
+count-push p xs d =
+    sum_by_push (λ y. cond (p y) 1 0) xs d
+    ∙ elim (p d) as (λ b. count_by p xs + cond b 1 0 ≡ cond b (count_by p xs + 1) (count_by p xs)) [ true ↦ refl | false ↦ omega arith ]
+
+pub meets_by_totals : (rule : Rule) (xs : List Done) → meets rule xs ≡ totals_meet rule (totals_of xs)
+unfolding meets totals_meet totals_of
+meets_by_totals (FailuresAtLeast n) xs = refl
+meets_by_totals (SuccessesAtLeast n) xs = refl
+meets_by_totals (SumAtLeast n) xs = refl
+
+pub fires_by_totals : (policy : Policy) (xs : List Done) → fires policy xs ≡ totals_fire policy (totals_of xs)
+unfolding fires totals_fire totals_of
+fires_by_totals All xs = any_counted has_failed xs
+fires_by_totals Any xs = any_counted has_succeeded xs
+fires_by_totals AwaitAll xs = refl
+fires_by_totals AwaitOk xs = any_counted has_failed xs
+fires_by_totals (Until rule) xs = meets_by_totals rule xs
+
+pub totals-push : (xs : List Done) (d : Done) → totals_of (xs ++ d ∷ []) ≡ counted (totals_of xs) d
+unfolding totals_of counted
+totals-push xs d =
+    let completions : length (xs ++ d ∷ []) ≡ length xs + 1 = length_push xs d in
+    let failures = count-push has_failed xs d in
+    let successes = count-push has_succeeded xs d in
+    let first_failure = find-append has_failed xs (d ∷ []) in
+    let first_success = find-append has_succeeded xs (d ∷ []) in
+    let sum = total-append xs d in
+    cc

@@ -1,0 +1,69 @@
+ghost use Rattle.std.specs.Prelude.{◌≡◌, true, false};
+ghost use Rattle.scope_model.specs.Joining.{meets};
+ghost use Rattle.join_rules.specs.Entries.{MayBeAsked, AgreesWith};
+
+use scope_model::{Done, Rule};
+
+/// A caller's closure over all completions so far, the latest last. The caller makes the box.
+pub type CompletionTest = Box<dyn Fn(&[Done]) -> bool + Send>;
+
+/// A caller's closure, with the rule that it agrees with.
+#[derive(Drop)]
+pub struct StoredTest {
+    rule: Rule,
+    test: CompletionTest,
+    ghost callable: { CompletionTest.IsAlwaysCallable test },
+    ghost agrees: { AgreesWith rule (CompletionTest.post test) },
+}
+
+impl StoredTest {
+    /// What the closure answers of these completions.
+    pub(crate) fn ask(&self, completions: &[Done]) -> bool
+        requires { MayBeAsked completions.now }
+        ensures { result ≡ meets self.now.rule completions.now }
+    {
+        (self.test)(completions)
+    }
+}
+
+/// The test of a joiner that waits until a rule is met (JEP 505, `Joiner.allUntil`).
+#[derive(Drop)]
+pub enum UntilTest {
+    /// The rule itself, which is told by counts.
+    Plain(Rule),
+    /// A caller's closure that agrees with a rule. It is shown all completions.
+    Closure(StoredTest),
+}
+
+impl UntilTest {
+    ghost use Rattle.join_rules.specs.Joiners.{rule_of, has_closure};
+
+    /// The test that asks the rule itself.
+    pub fn plain(rule: Rule) -> UntilTest
+        ensures rule { rule_of result ≡ rule }
+        ensures closure { has_closure result ≡ false }
+    {
+        UntilTest::Plain(rule)
+    }
+
+    /// The test that asks the closure. At every list of at most 65,536 completions the closure has
+    /// to answer whether the list meets the rule, the empty list too.
+    pub fn new(rule: Rule, test: CompletionTest) -> UntilTest
+        requires callable { CompletionTest.IsAlwaysCallable test }
+        requires agrees { AgreesWith rule (CompletionTest.post test) }
+        ensures rule { rule_of result ≡ rule }
+        ensures closure { has_closure result ≡ true }
+    {
+        UntilTest::Closure(StoredTest { rule, test })
+    }
+
+    /// The rule that the test agrees with.
+    pub fn rule(&self) -> Rule
+        ensures { result ≡ rule_of self.now }
+    {
+        match self {
+            Self::Plain(rule) => *rule,
+            Self::Closure(stored) => stored.rule,
+        }
+    }
+}
