@@ -1,0 +1,4 @@
+pub mod Views
+pub mod Listing
+pub mod First
+pub mod Due

@@ -1,0 +1,16 @@
+-- Each turn removes the next scope that is due.
+use Rattle.std.proofs.Common.{ap, ◌∙◌, cond, eqb, None}
+use Rattle.std.specs.List.{list_any}
+use Rattle.std.specs.FinMap as map
+use Rattle.std.proofs.lemmas.List.{take_all}
+use Rattle.deadline_core.proofs.Due.{left_of_due, one_less}
+use Rattle.deadline_core.proofs.deadlines.Deadlines.expire.Goals as goal
+
+pub loop-scope-preserved : goal.loop-scope-preserved
+loop-scope-preserved c = λ q. ap (λ m. map.get m q) c.remove.ensures ∙ one_less c.args.self.now c.loop-scope.self c.deref-scope-items.result.now c.loop-scope.scope-index q c.loop-scope-test.true (c.loop-scope.invariant q)
+
+pub returns-clause-left : goal.returns-clause-left
+returns-clause-left c =
+    let all = take_all c.loop-scope.scope-index c.deref-scope-items.result.now c.loop-scope-test.false ∙ c.deref-scope-items.ensures.value in
+    left_of_due c.args.self.now c.loop-scope.self c.args.now c.in_ok-due.due.items c.in_ok-due.ensures
+    (λ q. c.loop-scope.invariant q ∙ ap (λ xs. cond (list_any (eqb q) xs) None (map.get c.args.self.now q)) all)

@@ -1,0 +1,155 @@
+ghost use Rattle.std.specs.Prelude.{◌≡◌, ℕ, false, not, IsTrue, IfOk, IfSome, IfNone, OnOk, OnErr};
+ghost use Rattle.std.specs.FinMap as map;
+ghost use Rattle.std.specs.BTreeSet.{IsOrdered};
+ghost use Rattle.deadline_core.specs.Ordered.{pair_cmp, scopes_up_to};
+ghost use Rattle.deadline_core.specs.Moments.{IsFirst, IsFirstDue, IsDueInOrder, is_due};
+
+use scope_model::ScopeId;
+use std::alloc::{AllocError, Global};
+use std::collections::{BTreeMap, BTreeSet};
+use std::marker::Model;
+
+/// The deadlines of scopes: a finite map from scopes to moments, in milliseconds.
+/// Each call takes time logarithmic in how many deadlines there are, for each scope that it answers.
+#[derive(Drop)]
+pub struct Deadlines {
+    moments: BTreeMap<ScopeId, u64>,
+    order: BTreeSet<(u64, ScopeId)>,
+    alloc: Global,
+}
+
+impl Model for Deadlines {
+    ghost use Rattle.std.specs.Prelude.{ℕ};
+    ghost use Rattle.std.specs.Ordering.{nat_cmp};
+    ghost use Rattle.std.specs.FinMap as map;
+    ghost use Rattle.std.specs.Coded.{coded_ℕ};
+    ghost use Rattle.deadline_core.specs.Ordered.{IsListedInOrder};
+
+    ghost Value = { map.FinMap nat_cmp ℕ };
+
+    ghost coded = { map.code coded_ℕ coded_ℕ };
+
+    ghost view = { λ a. map.from_entries a.moments.entries };
+
+    ghost invariant = { λ a. IsListedInOrder a.moments a.order };
+}
+
+impl Deadlines {
+    /// No deadlines. The memory of later calls comes from `alloc`.
+    pub fn new(alloc: Global) -> Deadlines
+        ensures { result ≡ map.empty }
+    {
+        Deadlines {
+            moments: BTreeMap::new(alloc),
+            order: BTreeSet::new(alloc),
+            alloc,
+        }
+    }
+
+    /// The scope's deadline, if it has one.
+    pub fn get(&self, scope: ScopeId) -> Option<u64>
+        ensures { result ≡ map.get self.now scope }
+    {
+        self.moments.get(&scope).copied()
+    }
+
+    /// Gives the scope this deadline, in place of the one that it had.
+    ///
+    /// # Errors
+    ///
+    /// If memory is refused. Then nothing has changed.
+    pub fn set(&mut self, scope: ScopeId, deadline: u64) -> Result<(), AllocError>
+        ensures set { OnOk result (self.new ≡ map.insert self.old scope deadline) }
+        ensures unchanged { OnErr result (self.new ≡ self.old) }
+    {
+        if self.get(scope) == Some(deadline) {
+            return Ok(());
+        }
+        self.order.insert((deadline, scope))?;
+        match self.moments.insert(scope, deadline) {
+            Ok(Some(before)) => {
+                self.order.remove(&(before, scope));
+                Ok(())
+            }
+            Ok(None) => Ok(()),
+            Err(_) => {
+                self.order.remove(&(deadline, scope));
+                Err(AllocError)
+            }
+        }
+    }
+
+    /// Takes the scope's deadline away, if it has one. Takes no memory.
+    pub fn remove(&mut self, scope: ScopeId)
+        ensures { self.new ≡ map.remove self.old scope }
+    {
+        if let Some(moment) = self.moments.remove(&scope) {
+            self.order.remove(&(moment, scope));
+        }
+    }
+
+    /// The earliest deadline and its scope; of equal deadlines that of the scope with the least number.
+    pub fn earliest(&self) -> Option<(u64, ScopeId)>
+        ensures none { IfNone result (self.now ≡ map.empty) }
+        ensures first { IfSome result (λ p. IsFirst self.now p.0 p.1) }
+    {
+        self.order.first().copied()
+    }
+
+    /// Takes out the earliest deadline, if it is at or before `now`, and answers its scope.
+    /// Takes no memory.
+    pub fn pop_expired(&mut self, now: u64) -> Option<ScopeId>
+        ensures none { IfNone result ((scope : ℕ) → is_due self.old now scope ≡ false) }
+        ensures unchanged { IfNone result (self.new ≡ self.old) }
+        ensures first { IfSome result (λ scope. IsFirstDue self.old now scope) }
+        ensures removed { IfSome result (λ scope. self.new ≡ map.remove self.old scope) }
+    {
+        let (deadline, scope) = self.earliest()?;
+        if deadline > now {
+            return None;
+        }
+        self.remove(scope);
+        Some(scope)
+    }
+
+    /// Takes out each deadline at or before `now`, and answers their scopes, by deadline and then by
+    /// number.
+    ///
+    /// # Errors
+    ///
+    /// If memory is refused. Then nothing has changed.
+    pub fn expire(&mut self, now: u64) -> Result<Vec<ScopeId>, AllocError>
+        ensures due { IfOk result (λ scopes. IsDueInOrder self.old now scopes.items) }
+        ensures left { OnOk result (self.new ≡ map.retain_keys self.old (λ scope. not (is_due self.old now scope))) }
+        ensures unchanged { OnErr result (self.new ≡ self.old) }
+    {
+        let due = self.due(now)?;
+        for scope in &due {
+            self.remove(*scope);
+        }
+        Ok(due)
+    }
+
+    /// The scopes whose deadlines are at or before `now`, by deadline and then by number.
+    fn due(&self, now: u64) -> Result<Vec<ScopeId>, AllocError>
+        ensures { IfOk result (λ scopes. IsDueInOrder self.now now scopes.items) }
+    {
+        scopes_up_to(&self.order, now, self.alloc)
+    }
+}
+
+/// The scopes that are listed up to the moment, in their order.
+fn scopes_up_to(
+    order: &BTreeSet<(u64, ScopeId)>,
+    now: u64,
+    alloc: Global,
+) -> Result<Vec<ScopeId>, AllocError>
+    ensures listed { IfOk result (λ scopes. scopes.items ≡ scopes_up_to now order.now.keys) }
+    ensures ordered { IsOrdered pair_cmp order.now }
+{
+    order
+        .iter()
+        .take_while(|(deadline, _)| *deadline <= now)
+        .map(|(_, scope)| *scope)
+        .collect(alloc)
+}
