@@ -1,0 +1,349 @@
+-- What is kept stays right when a scope is added.
+use Rattle.std.proofs.Common.{◌≡◌, ◌⊎◌, ℕ, zero, suc, ◌+◌, ◌-◌, ◌<◌, ◌≤◌, Bool, true, false, cond, Option, Some, None, List, [], ◌∷◌, ◌++◌, length, get_or, slice_get, set, refl, ap, sym, ◌∙◌, subst, inl, inr, arith}
+use Rattle.std.specs.Option.{option_and_then, IfSome}
+use Rattle.std.proofs.lemmas.Bool.{ne_eqb, eq-eqb, cases_eq, cases_lt}
+use Rattle.std.proofs.lemmas.Option.{same_Some, slice_get-get_or, slice_get_within, slice_get_past}
+use Rattle.std.proofs.Math.ListN.{length-set}
+use Rattle.cancel_tree.specs.declared.rows.Cut.{Cut}
+use Rattle.cancel_tree.specs.declared.rows.Told.{Told}
+use Rattle.cancel_tree.specs.declared.rows.Links.{Links}
+use Rattle.cancel_tree.specs.Chains.{onward, chain, nearer}
+use Rattle.cancel_tree.specs.Rows.{row, IsAdded, outer, new_row, parent_of, outer_of, own_of, cut_of, level_of, level_in}
+use Rattle.cancel_tree.specs.Reach.{is_scope, last_inner}
+use Rattle.cancel_tree.specs.Kept.{IsInward, IsKept}
+use Rattle.cancel_tree.proofs.ChainLaws.{first_cut_law, first_cut_kept, chain_law, chain_kept}
+use Rattle.cancel_tree.proofs.ReachLaws.{last_inner_found}
+use Rattle.cancel_tree.proofs.SpreadLaws.{slice_get-set}
+use Rattle.cancel_tree.proofs.RowLaws.{outer_inward}
+
+some_none : {A : Type 0} (x : A) → None ≡ Some x → ⊥
+some_none x e = cc
+
+-- ---- one more at the end
+
+push_before : {A : Type 0} (xs : List A) (x : A) (i : ℕ) → i < length xs → slice_get (xs ++ x ∷ []) i ≡ slice_get xs i
+push_before [] x i h = absurd (omega arith)
+push_before (y ∷ xs) x zero h = refl
+push_before (y ∷ xs) x (suc i) h = push_before xs x i (omega arith)
+
+push_here : {A : Type 0} (xs : List A) (x : A) → slice_get (xs ++ x ∷ []) (length xs) ≡ Some x
+push_here [] x = refl
+push_here (y ∷ xs) x = push_here xs x
+
+push_length : {A : Type 0} (xs : List A) (x : A) → length (xs ++ x ∷ []) ≡ suc (length xs)
+push_length [] x = refl
+push_length (y ∷ xs) x = ap suc (push_length xs x)
+
+push_cases : {A : Type 0} (xs : List A) (x : A) (i : ℕ) (y : A) → slice_get (xs ++ x ∷ []) i ≡ Some y → ((i ≡ length xs) × (y ≡ x)) ⊎ ((i < length xs) × (slice_get xs i ≡ Some y))
+push_cases xs x i y e =
+    elim (cases_lt i (length xs)) [
+      | inl lt ↦ inr (lt, sym (push_before xs x i lt) ∙ e)
+      | inr ge ↦ (let k : i < length (xs ++ x ∷ []) = slice_get_within (xs ++ x ∷ []) i y e in
+          let is : i ≡ length xs = omega (arith, push_length xs x) in
+          inl (is, same_Some y x (sym e ∙ ap (slice_get (xs ++ x ∷ [])) is ∙ push_here xs x)))
+    ]
+
+get_or_before : {A : Type 0} (xs : List A) (x : A) (i : ℕ) (d : A) → i < length xs → get_or (xs ++ x ∷ []) i d ≡ get_or xs i d
+get_or_before [] x i d h = absurd (omega arith)
+get_or_before (y ∷ xs) x zero d h = refl
+get_or_before (y ∷ xs) x (suc i) d h = get_or_before xs x i d (omega arith)
+
+-- ---- the links with a new one, to which the scope outside leads
+
+abbrev pub relinked : Option ℕ → List Links → Links → Links → List Links
+relinked None links link d = links ++ link ∷ []
+relinked (Some p) links link d = set (links ++ link ∷ []) (p - 1) (record (get_or (links ++ link ∷ []) (p - 1) d) { first_inner = Some (suc (length links)) })
+
+pub relinked_length : (o : Option ℕ) (links : List Links) (link d : Links) → length (relinked o links link d) ≡ suc (length links)
+relinked_length None links link d = push_length links link
+relinked_length (Some p) links link d = length-set _ _ _ ∙ push_length links link
+
+record IsOldLink (o : Option ℕ) (links : List Links) (i : ℕ) (l : Links) : Type 0 where
+  old : Links
+  within : i < length links
+  at : slice_get links i ≡ Some old
+  level : l.level ≡ old.level
+  next : l.next_inner ≡ old.next_inner
+  first : l.first_inner ≡ cond (is_scope o (suc i)) (Some (suc (length links))) old.first_inner
+
+links_cases : (o : Option ℕ) (links : List Links) (link d : Links) → IfSome o (λ p. (1 ≤ p) × (p ≤ length links)) → (i : ℕ) (l : Links) → slice_get (relinked o links link d) i ≡ Some l
+    → ((i ≡ length links) × (l ≡ link)) ⊎ IsOldLink o links i l
+links_cases None links link d h i l e =
+    elim (push_cases links link i l e) [
+      | inl new ↦ inl new
+      | inr was ↦ inr (record { old = l; within = was.0; at = was.1; level = refl; next = refl; first = refl })
+    ]
+links_cases (Some p) links link d h i l e =
+    let x : Links = record (get_or (links ++ link ∷ []) (p - 1) d) { first_inner = Some (suc (length links)) } in
+    let put = slice_get-set (links ++ link ∷ []) (p - 1) i x (omega (arith, push_length links link, h.0, h.1)) in
+    elim (cases_eq i (p - 1)) [
+      | inl at ↦ (let lt : i < length links = omega (arith, h.0, h.1) in
+          let is : x ≡ l = same_Some x l (sym (put ∙ ap (λ b. cond b (Some x) (slice_get (links ++ link ∷ []) i)) (eq-eqb i (p - 1) at)) ∙ e) in
+          let old : Links = get_or links i d in
+          let read : get_or (links ++ link ∷ []) (p - 1) d ≡ old = ap (λ j. get_or (links ++ link ∷ []) j d) (sym at) ∙ get_or_before links link i d lt in
+          inr (record {
+            old = old;
+            within = lt;
+            at = slice_get-get_or links i d lt;
+            level = sym (ap (λ (k : Links). k.level) is) ∙ ap (λ (k : Links). k.level) read;
+            next = sym (ap (λ (k : Links). k.next_inner) is) ∙ ap (λ (k : Links). k.next_inner) read;
+            first = sym (ap (λ (k : Links). k.first_inner) is) ∙ sym (ap (λ b. cond b (Some (suc (length links))) old.first_inner) (eq-eqb p (suc i) (omega (arith, h.0))));
+          }))
+      | inr ne ↦ (let there = sym (put ∙ ap (λ b. cond b (Some x) (slice_get (links ++ link ∷ []) i)) (ne_eqb i (p - 1) ne)) ∙ e in
+          elim (push_cases links link i l there) [
+            | inl new ↦ inl new
+            | inr was ↦ inr (record {
+              old = l;
+              within = was.0;
+              at = was.1;
+              level = refl;
+              next = refl;
+              first = sym (ap (λ b. cond b (Some (suc (length links))) l.first_inner) (ne_eqb p (suc i) (λ q. ne (omega arith))));
+            })
+          ])
+    ]
+
+-- ---- the last inner scope, once there is one more scope
+
+last_inner_kept : (outer new : ℕ → Option ℕ) (n : ℕ) → ((t : ℕ) → t ≤ n → new t ≡ outer t) → (s i : ℕ) → i ≤ n → last_inner new s i ≡ last_inner outer s i
+last_inner_kept outer new n same s zero h = refl
+last_inner_kept outer new n same s (suc i) h =
+    (λ j. cond (is_scope (same (suc i) h j) s) (Some (suc i)) (last_inner_kept outer new n same s i (omega arith) j))
+
+no_inner : (outer : ℕ → Option ℕ) → IsInward outer → (s n : ℕ) → n ≤ s → (o : Option ℕ) → last_inner outer s n ≡ o → o ≡ None
+no_inner outer inward s n h None e = refl
+no_inner outer inward s n h (Some c) e = absurd (let f = last_inner_found outer s n c e in let i = inward c s f.0 in omega (arith, f.2, i.1))
+
+-- ---- the tree
+
+module _ (told : List Told) (links : List Links) (cuts : List (Option Cut)) (kept : IsKept told links cuts) (parent : Option ℕ) (shield : Bool) (there : IfSome parent (IsAdded told)) (d : Links) where
+  abbrev r : Told
+  r = new_row parent shield
+
+  abbrev pub new : List Told
+  new = told ++ r ∷ []
+
+  abbrev n : ℕ
+  n = length told
+
+  abbrev pub link : Links
+  link = record { level = level_in told parent; first_inner = None; next_inner = option_and_then (λ s. last_inner (outer_of told) s n) (outer r) }
+
+  abbrev pub cut : Option Cut
+  cut = option_and_then (cut_of told) (outer r)
+
+  row_before : (t : ℕ) → t ≤ n → row new t ≡ row told t
+  row_before zero h = refl
+  row_before (suc i) h = push_before told r i (omega arith)
+
+  row_here : row new (suc n) ≡ Some r
+  row_here = push_here told r
+
+  outers : (t : ℕ) → t ≤ n → outer_of new t ≡ outer_of told t
+  outers t h = ap (option_and_then outer) (row_before t h)
+
+  parents : (t : ℕ) → t ≤ n → parent_of new t ≡ parent_of told t
+  parents t h = ap (option_and_then (λ (t : Told). t.parent)) (row_before t h)
+
+  owns : (t : ℕ) → t ≤ n → own_of new t ≡ own_of told t
+  owns t h = ap (option_and_then (λ (t : Told). t.own)) (row_before t h)
+
+  parent_here : parent_of new (suc n) ≡ parent
+  parent_here = ap (option_and_then (λ (t : Told). t.parent)) row_here
+
+  outer_here : outer_of new (suc n) ≡ outer r
+  outer_here = ap (option_and_then outer) row_here
+
+  own_here : own_of new (suc n) ≡ None
+  own_here = ap (option_and_then (λ (t : Told). t.own)) row_here
+
+  added_parent : (p : ℕ) (o : Option ℕ) → IfSome o (IsAdded told) → o ≡ Some p → IsAdded told p
+  added_parent p None h e = absurd (some_none p e)
+  added_parent p (Some q) h e = subst (IsAdded told) (same_Some q p e) h
+
+  inward_new : IsInward (parent_of new)
+  inward_new zero p e = absurd (some_none p e)
+  inward_new (suc i) p e =
+      elim (cases_lt i n) [
+        | inl lt ↦ kept.inward (suc i) p (sym (parents (suc i) (omega arith)) ∙ e)
+        | inr ge ↦ elim (cases_eq i n) [
+          | inl at ↦ (let a = added_parent p parent there (sym parent_here ∙ ap (λ j. parent_of new (suc j)) (sym at) ∙ e) in (a.0, omega (arith, a.1)))
+          | inr ne ↦ absurd (past i (slice_get new i) refl p e (omega arith))
+        ]
+      ]
+    where
+      past : (i : ℕ) (o : Option Told) → slice_get new i ≡ o → (p : ℕ) → option_and_then (λ (t : Told). t.parent) (slice_get new i) ≡ Some p → n < i → ⊥
+      past i None at p e h = some_none p (sym (ap (option_and_then (λ (t : Told). t.parent)) at) ∙ e)
+      past i (Some t) at p e h = let lt : i < length new = slice_get_within new i t at in let l : length new ≡ suc n = push_length told r in omega arith
+
+  added_outer : (b : Bool) (o : Option ℕ) → IfSome o (IsAdded told) → IfSome (cond b None o) (IsAdded told)
+  added_outer true o h = tt
+  added_outer false o h = h
+
+  abbrev pub new_links : List Links
+  new_links = relinked (outer r) links link d
+
+  length_links : length new_links ≡ suc n
+  length_links = relinked_length (outer r) links link d ∙ ap suc kept.rows
+
+  outer_within : (o : Option ℕ) → IfSome o (IsAdded told) → IfSome o (λ p. (1 ≤ p) × (p ≤ length links))
+  outer_within None h = tt
+  outer_within (Some p) h = (h.0, omega (arith, h.1, kept.rows))
+
+  cases : (i : ℕ) (l : Links) → slice_get new_links i ≡ Some l → ((i ≡ length links) × (l ≡ link)) ⊎ IsOldLink (outer r) links i l
+  cases = links_cases (outer r) links link d (outer_within (outer r) (added_outer shield parent there))
+
+  inwards : IsInward (outer_of told)
+  inwards = outer_inward told kept.inward
+
+  -- the last inner scope of each, with the new one
+  last_new : (s : ℕ) → last_inner (outer_of new) s (suc n) ≡ cond (is_scope (outer r) s) (Some (suc n)) (last_inner (outer_of told) s n)
+  last_new s = λ j. cond (is_scope (outer_here j) s) (Some (suc n)) (last_inner_kept (outer_of told) (outer_of new) n outers s n (omega arith) j)
+
+  not_its_own : (o : Option ℕ) → IfSome o (IsAdded told) → is_scope o (suc n) ≡ false
+  not_its_own None h = refl
+  not_its_own (Some p) h = ne_eqb p (suc n) (λ e. omega (arith, h.1))
+
+  first_new : (i : ℕ) (l : Links) → slice_get new_links i ≡ Some l → l.first_inner ≡ last_inner (outer_of new) (suc i) (length new_links)
+  first_new i l e =
+      elim (cases i l e) [
+        | inl new_one ↦ (let at : i ≡ n = new_one.0 ∙ kept.rows in
+            ap (λ (k : Links). k.first_inner) new_one.1
+            ∙ sym (ap (λ b. cond b (Some (suc n)) (last_inner (outer_of told) (suc n) n)) (not_its_own (outer r) (added_outer shield parent there)) ∙ no_inner (outer_of told) inwards (suc n) n (omega arith) _ refl)
+            ∙ sym (last_new (suc n)) ∙ (λ j. last_inner (outer_of new) (suc (sym at j)) (sym length_links j)))
+        | inr old ↦ old.first
+            ∙ (λ j. cond (is_scope (outer r) (suc i)) (Some (suc (kept.rows j))) ((kept.linked.first i old.old old.at ∙ ap (last_inner (outer_of told) (suc i)) kept.rows) j))
+            ∙ sym (last_new (suc i)) ∙ ap (last_inner (outer_of new) (suc i)) (sym length_links)
+      ]
+
+  next_new : (i : ℕ) (l : Links) (s : ℕ) → slice_get new_links i ≡ Some l → outer_of new (suc i) ≡ Some s → l.next_inner ≡ last_inner (outer_of new) s i
+  next_new i l s e is =
+      elim (cases i l e) [
+        | inl new_one ↦ (let at : i ≡ n = new_one.0 ∙ kept.rows in
+            ap (λ (k : Links). k.next_inner) new_one.1
+            ∙ ap (option_and_then (λ s. last_inner (outer_of told) s n)) (sym outer_here ∙ ap (λ j. outer_of new (suc j)) (sym at) ∙ is)
+            ∙ sym (last_inner_kept (outer_of told) (outer_of new) n outers s n (omega arith)) ∙ ap (last_inner (outer_of new) s) (sym at))
+        | inr old ↦ (let le : suc i ≤ n = omega (arith, old.within, kept.rows) in
+            old.next ∙ kept.linked.next i old.old s old.at (sym (outers (suc i) le) ∙ is) ∙ sym (last_inner_kept (outer_of told) (outer_of new) n outers s i (omega arith)))
+      ]
+
+  level_here : level_of new (suc n) ≡ level_in told parent
+  level_here = ap length (chain_law (parent_of new) inward_new (suc n) (omega arith)) ∙ ap (λ o. suc (length (onward o (chain (parent_of new))))) parent_here ∙ by parent there
+    where
+      by : (o : Option ℕ) → IfSome o (IsAdded told) → suc (length (onward o (chain (parent_of new)))) ≡ level_in told o
+      by None h = refl
+      by (Some p) h = (let e : length (chain (parent_of new) p) ≡ length (chain (parent_of told) p) = ap length (chain_kept (parent_of told) (parent_of new) kept.inward n parents inward_new p h.0 h.1) in omega arith)
+
+  levels_new : (i : ℕ) (l : Links) → slice_get new_links i ≡ Some l → l.level ≡ level_of new (suc i)
+  levels_new i l e =
+      elim (cases i l e) [
+        | inl new_one ↦ (let at : i ≡ n = new_one.0 ∙ kept.rows in
+            ap (λ (k : Links). k.level) new_one.1 ∙ sym level_here ∙ ap (λ j. level_of new (suc j)) (sym at))
+        | inr old ↦ (let le : suc i ≤ n = omega (arith, old.within, kept.rows) in
+            old.level ∙ kept.levels i old.old old.at ∙ sym (ap length (chain_kept (parent_of told) (parent_of new) kept.inward n parents inward_new (suc i) (omega arith) le)))
+      ]
+
+  cut_before : (t : ℕ) → 1 ≤ t → t ≤ n → cut_of new t ≡ cut_of told t
+  cut_before t h k = first_cut_kept (outer_of told) (outer_of new) inwards n outers (outer_inward new inward_new) (own_of told) (own_of new) owns t h k
+
+  cut_here : cut_of new (suc n) ≡ cut
+  cut_here =
+      first_cut_law (outer_of new) (outer_inward new inward_new) (own_of new) (suc n) (omega arith)
+      ∙ ap (λ o. nearer o (option_and_then (cut_of new) (outer_of new (suc n)))) own_here
+      ∙ ap (option_and_then (cut_of new)) outer_here
+      ∙ by (outer r) (added_outer shield parent there)
+    where
+      by : (o : Option ℕ) → IfSome o (IsAdded told) → option_and_then (cut_of new) o ≡ option_and_then (cut_of told) o
+      by None h = refl
+      by (Some p) h = cut_before p h.0 h.1
+
+  cuts_new : (i : ℕ) → i < length new → slice_get (cuts ++ cut ∷ []) i ≡ Some (cut_of new (suc i))
+  cuts_new i lt =
+      elim (cases_lt i n) [
+        | inl l ↦ push_before cuts cut i (omega (arith, kept.columns)) ∙ kept.cut i l ∙ ap Some (sym (cut_before (suc i) (omega arith) (omega arith)))
+        | inr g ↦ (let at : i ≡ n = omega (arith, push_length told r) in
+            ap (slice_get (cuts ++ cut ∷ [])) (at ∙ sym kept.columns) ∙ push_here cuts cut ∙ ap Some (sym cut_here) ∙ ap (λ j. Some (cut_of new (suc j))) (sym at))
+      ]
+
+  named_new : (s : ℕ) (c : Cut) → own_of new s ≡ Some c → c.cause.scope ≡ s
+  named_new s c e =
+      elim (cases_lt n s) [
+        | inr le ↦ kept.named s c (sym (owns s le) ∙ e)
+        | inl past ↦ absurd (owned_past s (row new s) refl past c e)
+      ]
+    where
+      owned_past : (s : ℕ) (o : Option Told) → row new s ≡ o → n < s → (c : Cut) → option_and_then (λ (t : Told). t.own) (row new s) ≡ Some c → ⊥
+      owned_past zero o at h c e = omega arith
+      owned_past (suc i) o at h c e =
+          elim (cases_eq i n) [
+            | inl is ↦ some_none c (sym own_here ∙ ap (λ j. own_of new (suc j)) (sym is) ∙ e)
+            | inr ne ↦ some_none c (sym (ap (option_and_then (λ (t : Told). t.own)) (slice_get_past new i (let l : length new ≡ suc n = push_length told r in omega arith))) ∙ e)
+          ]
+
+  pub kept_add : IsKept new new_links (cuts ++ cut ∷ [])
+  kept_add = record {
+    inward = inward_new;
+    rows = length_links ∙ sym (push_length told r);
+    columns = push_length cuts cut ∙ ap suc kept.columns ∙ sym (push_length told r);
+    linked = record { first = first_new; next = next_new };
+    levels = levels_new;
+    named = named_new;
+    cut = cuts_new;
+  }
+
+-- the link from the scope outside, as it is written
+pub put_linked : (links links_new : List Links) (added x : Links) (p scope : ℕ) → links_new ≡ links ++ added ∷ [] → x ≡ get_or links_new (p - 1) x → scope ≡ suc (length links)
+    → set links_new (p - 1) (record x { first_inner = Some scope }) ≡ relinked (Some p) links added x
+put_linked links links_new added x p scope same at is =
+    λ i. set (same i) (p - 1) (record ((at ∙ ap (λ ls. get_or ls (p - 1) x) same) i) { first_inner = Some (is i) })
+
+pub link_is : (told : List Told) (parent : Option ℕ) (shield : Bool) (around : ℕ) (next o : Option ℕ) → around + 1 ≡ level_in told parent → o ≡ outer (new_row parent shield)
+    → next ≡ option_and_then (λ s. last_inner (outer_of told) s (length told)) o
+    → (let l : Links = record { level = around + 1; first_inner = None; next_inner = next } in l) ≡ record { level = level_in told parent; first_inner = None; next_inner = option_and_then (λ s. last_inner (outer_of told) s (length told)) (outer (new_row parent shield)) }
+link_is told parent shield around next o level is at =
+    λ i. record { level = level i; first_inner = None; next_inner = (at ∙ ap (option_and_then (λ s. last_inner (outer_of told) s (length told))) is) i }
+
+-- the columns with the new row, as they are written
+module _ (ts told told_new : List Told) (links links_new : List Links) (cuts cuts_new : List (Option Cut)) (is : told ≡ ts) (kept : IsKept told links cuts) (parent : Option ℕ) (shield : Bool) (there : IfSome parent (IsAdded ts))
+    (around : ℕ) (next o : Option ℕ) (k : Option Cut) (b : Bool) (done : b ≡ true)
+    (a : told_new ≡ cond b (told ++ new_row parent shield ∷ []) told)
+    (l : links_new ≡ cond b (links ++ (let x : Links = record { level = around + 1; first_inner = None; next_inner = next } in x) ∷ []) links)
+    (u : cuts_new ≡ cond b (cuts ++ k ∷ []) cuts)
+    (level : around + 1 ≡ level_in ts parent) (at : o ≡ outer (new_row parent shield)) (after : next ≡ option_and_then (λ s. last_inner (outer_of ts) s (length ts)) o) (cut_is : k ≡ option_and_then (cut_of ts) o) where
+  there_told : IfSome parent (IsAdded told)
+  there_told = subst (λ xs. IfSome parent (IsAdded xs)) (sym is) there
+
+  abbrev the_link : Links
+  the_link = record { level = level_in told parent; first_inner = None; next_inner = option_and_then (λ s. last_inner (outer_of told) s (length told)) (outer (new_row parent shield)) }
+
+  abbrev the_cut : Option Cut
+  the_cut = option_and_then (cut_of told) (outer (new_row parent shield))
+
+  told_is : told_new ≡ told ++ new_row parent shield ∷ []
+  told_is = a ∙ ap (λ c. cond c (told ++ new_row parent shield ∷ []) told) done
+
+  links_are : links_new ≡ links ++ the_link ∷ []
+  links_are =
+      l ∙ ap (λ c. cond c (links ++ (let x : Links = record { level = around + 1; first_inner = None; next_inner = next } in x) ∷ []) links) done
+      ∙ ap (λ x. links ++ x ∷ []) (link_is told parent shield around next o (level ∙ ap (λ xs. level_in xs parent) (sym is)) at (after ∙ ap (λ xs. option_and_then (λ s. last_inner (outer_of xs) s (length xs)) o) (sym is)))
+
+  cuts_are : cuts_new ≡ cuts ++ the_cut ∷ []
+  cuts_are = u ∙ ap (λ c. cond c (cuts ++ k ∷ []) cuts) done ∙ ap (λ x. cuts ++ x ∷ []) (cut_is ∙ ap (λ xs. option_and_then (cut_of xs) o) (sym is) ∙ ap (option_and_then (cut_of told)) at)
+
+  kept_at : (d : Links) → IsKept (told ++ new_row parent shield ∷ []) (relinked (outer (new_row parent shield)) links the_link d) (cuts ++ the_cut ∷ [])
+  kept_at d = kept_add told links cuts kept parent shield there_told d
+
+  kept_columns : (ls : List Links) (d : Links) → ls ≡ relinked (outer (new_row parent shield)) links the_link d → IsKept told_new ls cuts_new
+  kept_columns ls d e =
+      subst (λ xs. IsKept xs ls cuts_new) (sym told_is)
+      (subst (λ xs. IsKept (told ++ new_row parent shield ∷ []) ls xs) (sym cuts_are)
+      (subst (λ xs. IsKept (told ++ new_row parent shield ∷ []) xs (cuts ++ the_cut ∷ [])) (sym e) (kept_at d)))
+
+  pub kept_alone : Links → o ≡ None → IsKept told_new links_new cuts_new
+  kept_alone d none = kept_columns links_new d (links_are ∙ ap (λ x. relinked x links the_link d) (sym none ∙ at))
+
+  pub kept_inside : (p scope : ℕ) (x : Links) → o ≡ Some p → x ≡ get_or links_new (p - 1) x → scope ≡ length ts + 1 → IsKept told_new (set links_new (p - 1) (record x { first_inner = Some scope })) cuts_new
+  kept_inside p scope x some read number =
+      let count : scope ≡ suc (length links) = number ∙ ap (λ xs. length xs + 1) (sym is) ∙ ap (λ n. n + 1) (sym kept.rows) ∙ omega arith in
+      kept_columns (set links_new (p - 1) (record x { first_inner = Some scope })) x
+      (put_linked links links_new the_link x p scope links_are read count ∙ ap (λ o. relinked o links the_link x) (sym some ∙ at))

@@ -1,0 +1,10 @@
+pub mod ChainLaws
+pub mod ReachLaws
+pub mod SpreadLaws
+pub mod RowLaws
+pub mod CutLaws
+pub mod KeptLaws
+pub mod AddLaws
+pub mod LeastLaws
+pub mod LatestLaws
+pub mod EarliestLaws

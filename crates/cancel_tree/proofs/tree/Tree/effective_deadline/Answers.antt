@@ -1,0 +1,10 @@
+-- Outer scopes have lower numbers.
+use Rattle.std.proofs.Common.{sym, subst}
+use Rattle.cancel_tree.specs.Rows.{outer_of}
+use Rattle.cancel_tree.specs.Kept.{IsInward}
+use Rattle.cancel_tree.proofs.RowLaws.{outer_inward}
+use Rattle.cancel_tree.proofs.tree.Tree.effective_deadline.Goals as goal
+
+pub least_deadline-requires-clause-inward : goal.least_deadline-requires-clause-inward
+least_deadline-requires-clause-inward c =
+    subst (λ ts. IsInward (outer_of ts)) (sym c.deref.ensures.value) (outer_inward c.self.inside.told.items c.self.invariant.inward)

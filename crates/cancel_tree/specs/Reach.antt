@@ -1,0 +1,35 @@
+-- Which scopes a cancel reaches, and in which order its walk visits them.
+use Rattle.std.specs.Prelude.{◌≡◌, ◌<◌, length, slice_get, ℕ, zero, suc, Bool, true, false, cond, ◌&&◌, ◌||◌, ◌==◌, nat_le, is_none, Option, Some, None, List, [], ◌∷◌}
+use Rattle.cancel_tree.specs.declared.rows.Cut.{Cut}
+use Rattle.cancel_tree.specs.Chains.{chain}
+
+abbrev pub head_is : ℕ → List ℕ → Bool
+head_is s [] = false
+head_is s (p ∷ ps) = p == s
+
+-- on the way along the scopes to s none has an own cancel, and the last before s has the number k or a greater one
+abbrev pub leads : (ℕ → Option Cut) → ℕ → ℕ → List ℕ → Bool
+leads own s k [] = false
+leads own s k (t ∷ ts) = (t == s) || (is_none (own t) && cond (head_is s ts) (nat_le k t) (leads own s k ts))
+
+-- t is s, or lies within s, by way of the inner scopes of s from number k on, and no scope on the way has an own cancel
+unfoldable pub reached : (ℕ → Option ℕ) → (ℕ → Option Cut) → ℕ → ℕ → ℕ → Bool
+reached outer own s k t = leads own s k (chain outer t)
+
+abbrev pub is_scope : Option ℕ → ℕ → Bool
+is_scope None s = false
+is_scope (Some p) s = p == s
+
+-- the inner scope of s with the greatest number up to n
+abbrev pub last_inner : (ℕ → Option ℕ) → ℕ → ℕ → Option ℕ
+last_inner outer s zero = None
+last_inner outer s (suc n) = cond (is_scope (outer (suc n)) s) (Some (suc n)) (last_inner outer s n)
+
+-- the cut is put where the test says so, and nothing else is changed
+abbrev pub IsSpread : (ℕ → Bool) → Cut → List (Option Cut) → List (Option Cut) → Type 0
+IsSpread test cut old new = (i : ℕ) → i < length old → slice_get new i ≡ cond (test (suc i)) (Some (Some cut)) (slice_get old i)
+
+-- whether the position is at or before that of the cut, or there is none
+abbrev pub is_at_or_before : ℕ → Option Cut → Bool
+is_at_or_before number None = true
+is_at_or_before number (Some cut) = nat_le number cut.number

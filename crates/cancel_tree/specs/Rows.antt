@@ -1,0 +1,98 @@
+-- What a tree was told: a row for each scope, in order of their numbers, which count from 1.
+use Rattle.std.specs.Prelude.{◌≡◌, ℕ, zero, suc, ◌+◌, ◌-◌, ◌≤◌, Bool, cond, is_some, Option, Some, None, List, [], ◌∷◌, length, slice_get}
+use Rattle.std.specs.Option.{option_and_then, option_map, option_or}
+use Rattle.scope_model.specs.declared.types.answers.Cause.{Cause}
+use Rattle.scope_model.specs.declared.types.answers.CauseKind.{CauseKind}
+use Rattle.scope_model.specs.declared.types.answers.Effective.{Effective}
+use Rattle.scope_model.specs.declared.types.answers.Effective.TheVariants.{Past, At, Never}
+use Rattle.cancel_tree.specs.declared.rows.Cut.{Cut}
+use Rattle.cancel_tree.specs.declared.rows.Told.{Told}
+use Rattle.cancel_tree.specs.Chains.{chain, first_cut, least_on}
+
+-- the row of the scope
+abbrev pub row : List Told → ℕ → Option Told
+row told zero = None
+row told (suc i) = slice_get told i
+
+-- the scope is one of the tree's
+abbrev pub IsAdded : List Told → ℕ → Type 0
+IsAdded told s = (1 ≤ s) × (s ≤ length told)
+
+-- the scope around a scope, shielded or not
+abbrev pub parent_of : List Told → ℕ → Option ℕ
+parent_of told s = option_and_then (λ t. t.parent) (row told s)
+
+-- the scope whose cancels reach it: the parent of one that is not shielded
+abbrev pub outer : Told → Option ℕ
+outer t = cond t.shield None t.parent
+
+abbrev pub outer_of : List Told → ℕ → Option ℕ
+outer_of told s = option_and_then outer (row told s)
+
+-- its own cancel
+abbrev pub own_of : List Told → ℕ → Option Cut
+own_of told s = option_and_then (λ t. t.own) (row told s)
+
+-- its own deadline
+abbrev pub deadline_of : List Told → ℕ → Option ℕ
+deadline_of told s = option_and_then (λ t. t.deadline) (row told s)
+
+-- how many scopes lie around one another from it outwards, itself included
+abbrev pub level_of : List Told → ℕ → ℕ
+level_of told s = length (chain (parent_of told) s)
+
+-- the level of a scope with this parent
+abbrev pub level_in : List Told → Option ℕ → ℕ
+level_in told None = 1
+level_in told (Some p) = level_of told p + 1
+
+-- the earliest own cancel on its chain, the nearest on a tie
+abbrev pub cut_of : List Told → ℕ → Option Cut
+cut_of told s = first_cut (outer_of told) (own_of told) s
+
+-- the scope whose own cancel that is, and its kind
+abbrev pub cause_of : List Told → ℕ → Option Cause
+cause_of told s = option_map (λ c. c.cause) (cut_of told s)
+
+-- the position of that own cancel
+abbrev pub number_of : List Told → ℕ → Option ℕ
+number_of told s = option_map (λ c. c.number) (cut_of told s)
+
+abbrev pub at_moment : Option ℕ → Effective
+at_moment None = Never
+at_moment (Some d) = At d
+
+-- past, if it is cancelled, and else the least deadline on its chain
+abbrev pub effective_of : List Told → ℕ → Effective
+effective_of told s = cond (is_some (cut_of told s)) Past (at_moment (least_on (deadline_of told) (chain (outer_of told) s)))
+
+-- no own cancel has a greater number
+abbrev pub IsLatest : List Told → ℕ → Type 0
+IsLatest told number = (s : ℕ) (c : Cut) → own_of told s ≡ Some c → c.number ≤ number
+
+-- ---- what the calls make of the rows
+
+-- a scope that nothing was told of but where it is
+abbrev pub new_row : Option ℕ → Bool → Told
+new_row parent shield = record { parent = parent; shield = shield; own = None; deadline = None }
+
+-- a cancel of the scope, at this position
+abbrev pub cut_at : ℕ → ℕ → CauseKind → Cut
+cut_at number scope kind = record { number = number; cause = record { scope = scope; kind = kind } }
+
+-- an own cancel stays once it stands
+abbrev pub with_own : Cut → Told → Told
+with_own cut t = record t { own = option_or t.own (Some cut) }
+
+abbrev pub with_deadline : Option ℕ → Told → Told
+with_deadline deadline t = record t { deadline = deadline }
+
+-- the rows with the i-th, from 0, changed
+abbrev pub altered : (Told → Told) → List Told → ℕ → List Told
+altered f [] i = []
+altered f (t ∷ ts) zero = f t ∷ ts
+altered f (t ∷ ts) (suc i) = t ∷ altered f ts i
+
+-- the rows with that of the scope changed
+abbrev pub changed : List Told → ℕ → (Told → Told) → List Told
+changed told s f = altered f told (s - 1)

@@ -1,0 +1,316 @@
+ghost use Rattle.std.specs.Prelude.{◌≡◌, ℕ, ◌+◌, ◌<◌, ◌≤◌, ◌++◌, ◌∷◌, [], length, is_some, is_ok, IfSome, IfOk, IfErr, OnOk, OnErr, Some, None, if◌then◌else◌, nat_lt};
+ghost use Rattle.scope_model.specs.declared.types.refusals.Refusal.TheVariants.{TooDeep, Memory};
+ghost use Rattle.std.specs.List.{Contains};
+ghost use Rattle.std.specs.Option.{option_and_then};
+ghost use Rattle.cancel_tree.specs.Chains.{chain, least_on, nearer, onward, sooner};
+ghost use Rattle.cancel_tree.specs.Earliest.{IsEarliest};
+ghost use Rattle.cancel_tree.specs.Kept.{IsInward};
+ghost use Rattle.cancel_tree.specs.Reach.{is_at_or_before, last_inner};
+ghost use Rattle.cancel_tree.specs.Rows.{IsAdded, IsLatest, cause_of, number_of, cut_of, own_of, outer_of, deadline_of, effective_of, level_in, new_row, with_own, with_deadline, changed, cut_at};
+
+use crate::rows::{Cut, Links, Told};
+use crate::spread::spread;
+use scope_model::types::capacity::LEVEL_LIMIT;
+use scope_model::{Cause, CauseKind, Effective, Refusal, ScopeId};
+use std::alloc::{AllocError, Global};
+use std::marker::Model;
+
+/// The tree of a realm's scopes, which are numbered from 1 in order of opening.
+/// Its calls take constant time, but for `cancel`, which takes time by the scopes that it reaches, and
+/// `effective_deadline`, which goes outwards along the chain.
+#[derive(Drop)]
+pub struct Tree {
+    told: Vec<Told>,
+    links: Vec<Links>,
+    cuts: Vec<Option<Cut>>,
+}
+
+impl Model for Tree {
+    ghost use Rattle.std.specs.Prelude.{List};
+    ghost use Rattle.cancel_tree.specs.declared.rows.Told.{Told as Row};
+    ghost use Rattle.cancel_tree.specs.Kept.{IsKept};
+
+    ghost Value = { List Row };
+
+    ghost view = { λ a. a.told.items };
+
+    ghost invariant = { λ a. IsKept a.told.items a.links.items a.cuts.items };
+}
+
+impl Tree {
+    /// No scopes. The memory of later calls comes from `alloc`.
+    pub fn new(alloc: Global) -> Tree
+        ensures { result ≡ [] }
+    {
+        Tree {
+            told: Vec::new(alloc),
+            links: Vec::new(alloc),
+            cuts: Vec::new(alloc),
+        }
+    }
+
+    /// Adds the scope, which has the next number, inside `parent`, or outside all others. Where the
+    /// parent is cancelled and no shield is in the way, it is cancelled from the start.
+    ///
+    /// # Errors
+    ///
+    /// `TooDeep` where it would lie more than 16 levels deep; else `Memory` where memory is refused.
+    /// Then nothing has changed.
+    pub fn add(
+        &mut self,
+        scope: ScopeId,
+        parent: Option<ScopeId>,
+        shield: bool,
+    ) -> Result<(), Refusal>
+        requires next { scope ≡ length self.old + 1 }
+        requires there { IfSome parent (IsAdded self.old) }
+        ensures added { OnOk result (self.new ≡ self.old ++ new_row parent shield ∷ []) }
+        ensures level { OnOk result (level_in self.old parent ≤ 16) }
+        ensures refused { IfErr result (λ refusal. refusal ≡ (if nat_lt 16 (level_in self.old parent) then TooDeep else Memory)) }
+        ensures unchanged { OnErr result (self.new ≡ self.old) }
+    {
+        let around = self.level_around(parent);
+        if around >= LEVEL_LIMIT {
+            return Err(Refusal::TooDeep);
+        }
+        let told = Told {
+            parent,
+            shield,
+            own: None,
+            deadline: None,
+        };
+        let outer = told.outer();
+        let links = Links {
+            level: around + 1,
+            first_inner: None,
+            next_inner: self.last_inner(outer),
+        };
+        let cut = self.cut_from(outer);
+        if append(
+            &mut self.told,
+            &mut self.links,
+            &mut self.cuts,
+            told,
+            links,
+            cut,
+        )
+        .is_err()
+        {
+            return Err(Refusal::Memory);
+        }
+        if let Some(outer) = outer {
+            self.links[(outer - 1) as usize].first_inner = Some(scope);
+        }
+        Ok(())
+    }
+
+    /// How many scopes there are: the number of the last one.
+    pub fn len(&self) -> usize
+        ensures { result ≡ length self.now }
+    {
+        self.told.len()
+    }
+
+    /// How many scopes lie around one another down to the parent, itself included.
+    fn level_around(&self, parent: Option<ScopeId>) -> u32
+        requires { IfSome parent (IsAdded self.now) }
+        ensures { result + 1 ≡ level_in self.now parent }
+    {
+        match parent {
+            Some(parent) => self.links[(parent - 1) as usize].level,
+            None => 0,
+        }
+    }
+
+    /// The scope that was last added inside it, shielded ones aside.
+    fn last_inner(&self, outer: Option<ScopeId>) -> Option<ScopeId>
+        requires { IfSome outer (IsAdded self.now) }
+        ensures { result ≡ option_and_then (λ s. last_inner (outer_of self.now) s (length self.now)) outer }
+    {
+        match outer {
+            Some(outer) => self.links[(outer - 1) as usize].first_inner,
+            None => None,
+        }
+    }
+
+    /// The cut of the scope outside.
+    fn cut_from(&self, outer: Option<ScopeId>) -> Option<Cut>
+        requires { IfSome outer (IsAdded self.now) }
+        ensures { result ≡ option_and_then (cut_of self.now) outer }
+    {
+        match outer {
+            Some(outer) => self.cuts[(outer - 1) as usize],
+            None => None,
+        }
+    }
+
+    /// Whether the scope is cancelled: by its own cancel, or by that of a scope on its chain.
+    pub fn is_cancelled(&self, scope: ScopeId) -> bool
+        requires { IsAdded self.now scope }
+        ensures { result ≡ is_some (cut_of self.now scope) }
+    {
+        self.cuts[(scope - 1) as usize].is_some()
+    }
+
+    /// The scope on the chain whose own cancel is the earliest, the nearest on a tie, with its kind.
+    pub fn cause(&self, scope: ScopeId) -> Option<Cause>
+        requires { IsAdded self.now scope }
+        ensures { result ≡ cause_of self.now scope }
+    {
+        self.cuts[(scope - 1) as usize].map(|cut| cut.cause)
+    }
+
+    /// The position of the cause.
+    pub fn number(&self, scope: ScopeId) -> Option<u64>
+        requires { IsAdded self.now scope }
+        ensures { result ≡ number_of self.now scope }
+    {
+        self.cuts[(scope - 1) as usize].map(|cut| cut.number)
+    }
+
+    /// The earliest deadline in effect for the scope (Trio, `current_effective_deadline`): past where it
+    /// is cancelled, and else the least deadline on its chain.
+    pub fn effective_deadline(&self, scope: ScopeId) -> Effective
+        requires { IsAdded self.now scope }
+        ensures { result ≡ effective_of self.now scope }
+    {
+        if self.is_cancelled(scope) {
+            return Effective::Past;
+        }
+        match least_deadline(&self.told, scope) {
+            Some(deadline) => Effective::At(deadline),
+            None => Effective::Never,
+        }
+    }
+
+    /// Gives the scope this deadline, in place of the one that it had. Takes no memory.
+    pub fn set_deadline(&mut self, scope: ScopeId, deadline: u64)
+        requires { IsAdded self.old scope }
+        ensures { self.new ≡ changed self.old scope (with_deadline (Some deadline)) }
+    {
+        self.told[(scope - 1) as usize].deadline = Some(deadline);
+    }
+
+    /// Takes the scope's deadline away. Takes no memory.
+    pub fn clear_deadline(&mut self, scope: ScopeId)
+        requires { IsAdded self.old scope }
+        ensures { self.new ≡ changed self.old scope (with_deadline None) }
+    {
+        self.told[(scope - 1) as usize].deadline = None;
+    }
+
+    /// Cancels the scope: it keeps the first own cancel that it is given. The cancel reaches all inside
+    /// it that no shield is in the way of, and is the cause where none was earlier; of two at one
+    /// position the nearer is. The position never falls from one call to the next. Takes no memory.
+    pub fn cancel(&mut self, scope: ScopeId, kind: CauseKind, number: u64)
+        requires added { IsAdded self.old scope }
+        requires latest { IsLatest self.old number }
+        ensures { self.new ≡ changed self.old scope (with_own (cut_at number scope kind)) }
+    {
+        let place = (scope - 1) as usize;
+        if self.told[place].own.is_some() {
+            return;
+        }
+        let cut = Cut {
+            number,
+            cause: Cause { scope, kind },
+        };
+        let is_cause = is_at_or_before(number, self.cuts[place]);
+        self.told[place].own = Some(cut);
+        if is_cause {
+            spread(&self.told, &self.links, &mut self.cuts, scope, cut);
+        }
+    }
+}
+
+/// Puts a row at the end of each column.
+fn append(
+    told: &mut Vec<Told>,
+    links: &mut Vec<Links>,
+    cuts: &mut Vec<Option<Cut>>,
+    row: Told,
+    link: Links,
+    cut: Option<Cut>,
+) -> Result<(), AllocError>
+    ensures told { told.new.items ≡ (if is_ok result then told.old.items ++ row ∷ [] else told.old.items) }
+    ensures links { links.new.items ≡ (if is_ok result then links.old.items ++ link ∷ [] else links.old.items) }
+    ensures cuts { cuts.new.items ≡ (if is_ok result then cuts.old.items ++ cut ∷ [] else cuts.old.items) }
+{
+    links.reserve(1)?;
+    cuts.reserve(1)?;
+    told.push(row)?;
+    links.push(link)?;
+    cuts.push(cut)?;
+    Ok(())
+}
+
+/// The least deadline on the chain of the scope.
+fn least_deadline(told: &[Told], scope: ScopeId) -> Option<u64>
+    requires added { IsAdded told.now scope }
+    requires inward { IsInward (outer_of told.now) }
+    ensures { result ≡ least_on (deadline_of told.now) (chain (outer_of told.now) scope) }
+{
+    let mut least = None;
+    let mut next = Some(scope);
+    while let Some(here) = next {
+        let row = &told[(here - 1) as usize];
+        least = sooner(least, row.deadline);
+        next = row.outer();
+    }
+    least
+}
+
+/// The lesser of two deadlines, where they are set.
+fn sooner(one: Option<u64>, other: Option<u64>) -> Option<u64>
+    ensures { result ≡ sooner one other }
+{
+    match (one, other) {
+        (Some(one), Some(other)) => Some(one.min(other)),
+        (Some(one), None) => Some(one),
+        (None, other) => other,
+    }
+}
+
+/// Whether the position is at or before that of the cut, or there is none.
+fn is_at_or_before(number: u64, cut: Option<Cut>) -> bool
+    ensures { result ≡ is_at_or_before number cut }
+{
+    match cut {
+        Some(cut) => number <= cut.number,
+        None => true,
+    }
+}
+
+/// Laws of the definitions that the contracts cite. None of them does anything.
+impl Tree {
+    /// The chain of a scope is the scope, then the chain of the scope outside it.
+    pub fn chain_goes_outwards(&self, scope: ScopeId)
+        requires { IsAdded self.now scope }
+        ensures { chain (outer_of self.now) scope ≡ scope ∷ onward (outer_of self.now scope) (chain (outer_of self.now)) }
+    {
+        let _told = &self.told;
+    }
+
+    /// The first cut of a scope is the nearer of its own cancel and the first cut of the scope outside.
+    pub fn first_cut_is_own_or_outer(&self, scope: ScopeId)
+        requires { IsAdded self.now scope }
+        ensures { cut_of self.now scope ≡ nearer (own_of self.now scope) (option_and_then (cut_of self.now) (outer_of self.now scope)) }
+    {
+        let _told = &self.told;
+    }
+
+    /// The first cut of a scope is the own cancel of a scope on its chain, none on the chain has an
+    /// earlier one, and none nearer has one as early.
+    pub fn first_cut_is_the_earliest(&self, scope: ScopeId)
+        ensures { IsEarliest (own_of self.now) (chain (outer_of self.now) scope) (cut_of self.now scope) }
+    {
+        let _told = &self.told;
+    }
+
+    /// The cause of a scope is a scope on its chain.
+    pub fn cause_is_on_the_chain(&self, scope: ScopeId)
+        ensures { IfSome (cause_of self.now scope) (λ cause. Contains (chain (outer_of self.now) scope) cause.scope) }
+    {
+        let _told = &self.told;
+    }
+}
