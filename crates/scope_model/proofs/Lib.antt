@@ -15,3 +15,4 @@ pub mod Stacks
 pub mod Numbers
 pub mod Chains
 pub mod Completions
+pub mod StoredNames

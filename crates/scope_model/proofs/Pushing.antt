@@ -14,12 +14,13 @@ use Rattle.scope_model.specs.Checks.{load, weight, over_load, over_scopes, over_
 use Rattle.scope_model.specs.Replies.{whole_cancel_check, recording_check, base_of}
 use Rattle.scope_model.specs.Legal.{Accepts, Legal, owed, missing, Kept, join_mark, begin_mark, end_mark, take_mark, finish_mark}
 use Rattle.scope_model.specs.declared.types.events.Binding.{Binding}
-use Rattle.scope_model.specs.Bindings.{stacked, first_stack, own_stack, height_after}
+use Rattle.scope_model.specs.Bindings.{stacked, first_stack, own_stack}
+use Rattle.scope_model.specs.StackSteps.{height_after}
 use Rattle.scope_model.proofs.Stacks.{length_stacked, cond_bound}
 use Rattle.scope_model.proofs.Accepted.{checks_at, not_refused, or_left, or_right}
 use Rattle.scope_model.proofs.Keeping.{owed_event, count_push, recorded_if}
 
-entry_of_push : (es : List Event) (e x : Event) (i : ℕ) → slice_get (es ++ e ∷ []) i ≡ Some x → ((i < length es) × (slice_get es i ≡ Some x)) ⊎ ((i ≡ length es) × (x ≡ e))
+pub entry_of_push : (es : List Event) (e x : Event) (i : ℕ) → slice_get (es ++ e ∷ []) i ≡ Some x → ((i < length es) × (slice_get es i ≡ Some x)) ⊎ ((i ≡ length es) × (x ≡ e))
 entry_of_push [] e x zero at = inr (refl, cc)
 entry_of_push [] e x (suc i) at = absurd cc
 entry_of_push (y ∷ es) e x zero at = inl (omega arith, at)

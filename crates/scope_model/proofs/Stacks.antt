@@ -12,7 +12,8 @@ use Rattle.scope_model.specs.declared.types.events.Binding.{Binding}
 use Rattle.scope_model.specs.declared.types.events.Event.{Event}
 use Rattle.scope_model.specs.declared.types.events.Event.TheVariants.{Bind, Unbind}
 use Rattle.scope_model.specs.History.{History, before}
-use Rattle.scope_model.specs.Bindings.{stacked, first_stack, own_stack, without_last, height_after, pair_after, bound_to, value_under}
+use Rattle.scope_model.specs.Bindings.{stacked, first_stack, own_stack, without_last, bound_to, value_under}
+use Rattle.scope_model.specs.StackSteps.{height_after, pair_after}
 use Rattle.scope_model.proofs.Prefixes.{take_at, option_or-none, option_or-assoc}
 
 fold-push : {A B : Type 0} (f : B → A → B) (z : B) (xs : List A) (x : A) → fold f z (xs ++ x ∷ []) ≡ f (fold f z xs) x

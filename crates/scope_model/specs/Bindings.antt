@@ -2,16 +2,15 @@
 use Rattle.std.specs.Prelude.{ℕ, zero, suc, ◌+◌, ◌-◌, ◌==◌, ◌&&◌, Bool, false, not, nat_le, Option, Some, None, List, [], ◌∷◌, ◌++◌, length, take, slice_get, fold, if◌then◌else◌}
 use Rattle.std.specs.Option.{option_map_or, option_or}
 use Rattle.std.specs.List.{list_any, range_with_len}
-use Rattle.std.specs.Ordering.{int_eq}
 use Rattle.scope_model.specs.Search.{some_below}
 use Rattle.scope_model.specs.declared.types.names.Name.{Name}
 use Rattle.scope_model.specs.declared.types.values.Value.{Value}
-use Rattle.scope_model.specs.declared.types.values.Value.TheVariants.{Num, Text}
 use Rattle.scope_model.specs.declared.types.events.Binding.{Binding}
 use Rattle.scope_model.specs.declared.types.events.Event.{Event}
 use Rattle.scope_model.specs.declared.types.events.Event.TheVariants.{Bind, Unbind}
 use Rattle.scope_model.specs.declared.types.records.Opening.{Opening}
 use Rattle.scope_model.specs.Names.{same_name}
+use Rattle.scope_model.specs.Values.{same_value}
 use Rattle.scope_model.specs.History.{History, before, opening, forking, opened_count}
 use Rattle.scope_model.specs.Scopes.{closed}
 
@@ -32,18 +31,6 @@ first_stack h actor = if actor == 0 then h.base.binds else []
 unfoldable pub own_stack : History → ℕ → List Binding
 own_stack h actor = fold (stacked actor) (first_stack h actor) h.events
 
--- how many own pairs the actor has after the event, where it had n
-abbrev pub height_after : ℕ → ℕ → Event → ℕ
-height_after actor n (Bind by pair) = if by == actor then n + 1 else n
-height_after actor n (Unbind by) = if by == actor then n - 1 else n
-height_after actor n _ = n
-
--- the actor's own pair at place j after the event, where it had n pairs
-abbrev pub pair_after : ℕ → ℕ → ℕ → Option Binding → Event → Option Binding
-pair_after actor j n pair (Bind by new) = if by == actor then (if n == j then Some new else pair) else pair
-pair_after actor j n pair (Unbind by) = if by == actor then (if nat_le (n - 1) j then None else pair) else pair
-pair_after actor j n pair _ = pair
-
 -- the value of the pair, if it has the key
 abbrev pub value_under : Name → Option Binding → Option Value
 value_under key None = None
@@ -63,12 +50,6 @@ bindings h actor = bindings_within h actor actor
 unfoldable pub bound_to : Name → List Binding → Option Value
 bound_to key [] = None
 bound_to key (b ∷ bs) = option_or (bound_to key bs) (if same_name b.key key then Some b.value else None)
-
--- values are told apart by numbers and texts
-abbrev pub same_value : Value → Value → Bool
-same_value (Num m) (Num n) = int_eq m n
-same_value (Text a) (Text b) = same_name a b
-same_value _ _ = false
 
 abbrev pub same_pair : Option Binding → Option Binding → Bool
 same_pair (Some a) (Some b) = same_name a.key b.key && same_value a.value b.value

@@ -1,5 +1,6 @@
 pub mod NameText
 pub mod Names
+pub mod Values
 pub mod Ends
 pub mod Refusals
 pub mod Capacity
@@ -13,6 +14,7 @@ pub mod Cancels
 pub mod Tasks
 pub mod Outcomes
 pub mod Bindings
+pub mod StackSteps
 pub mod Verdicts
 pub mod Checks
 pub mod Replies

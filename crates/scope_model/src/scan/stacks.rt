@@ -2,7 +2,8 @@ ghost use Rattle.std.specs.Prelude.{◌≡◌, ◌<◌, ◌≤◌, ◌+◌, ◌^
 ghost use Rattle.std.specs.List.{cons_option};
 ghost use Rattle.scope_model.specs.Replies.{base_of};
 ghost use Rattle.scope_model.specs.Search.{some_below};
-ghost use Rattle.scope_model.specs.Bindings.{first_stack, own_stack, height_after, pair_after, bindings_within, bindings, bound_to, value_under, same_value, same_pair, differ_at, same_pairs, bound_as_at, bound_as_opened, opened_above, scope_numbers, holds_last};
+ghost use Rattle.scope_model.specs.Bindings.{first_stack, own_stack, bindings_within, bindings, bound_to, value_under, same_pair, differ_at, same_pairs, bound_as_at, bound_as_opened, opened_above, scope_numbers, holds_last};
+ghost use Rattle.scope_model.specs.StackSteps.{height_after, pair_after};
 
 use crate::scan::past::Past;
 use crate::types::bases::Base;
@@ -231,19 +232,8 @@ fn is_same_pair(one: Option<Binding>, other: Option<Binding>) -> bool
 {
     match (one, other) {
         (Some(one), Some(other)) => {
-            one.key.is_same(&other.key) && is_same_value(&one.value, &other.value)
+            one.key.is_same(&other.key) && one.value.is_same(&other.value)
         }
-        _ => false,
-    }
-}
-
-/// Whether the two values are one.
-fn is_same_value(one: &Value, other: &Value) -> bool
-    ensures { result ≡ same_value one.now other.now }
-{
-    match (one, other) {
-        (Value::Num(one), Value::Num(other)) => one == other,
-        (Value::Text(one), Value::Text(other)) => one.is_same(other),
         _ => false,
     }
 }

@@ -1,4 +1,5 @@
 ghost use Rattle.std.specs.Prelude.{◌≡◌, ◌↔◌, IsTrue, Some};
+ghost use Rattle.scope_model.specs.Values.{same_value};
 
 use crate::types::names::Name;
 
@@ -24,7 +25,8 @@ pub enum Value {
 impl Value {
     /// Whether the two values are one.
     pub fn is_same(&self, other: &Value) -> bool
-        ensures { IsTrue result ↔ (self.now ≡ other.now) }
+        ensures tested { result ≡ same_value self.now other.now }
+        ensures same { IsTrue result ↔ (self.now ≡ other.now) }
     {
         match (self, other) {
             (Value::Num(number), Value::Num(other)) => number == other,
