@@ -1,0 +1,9 @@
+//! The sequential realm: a book of scopes and tasks that is told each command and answers each
+//! question. It is the replay of its legal history, in which every end fits its task's label.
+#![tactic(auto)]
+
+pub mod state;
+#[cfg(test)]
+mod tests;
+
+pub use state::book::BookState;

@@ -1,0 +1,58 @@
+ghost use Rattle.std.specs.Prelude.{◌≡◌};
+ghost use Rattle.scope_model.specs.Legal.{Legal};
+ghost use Rattle.scope_model.specs.Origin.{the_start};
+ghost use Rattle.scope_model.specs.Replies.{starting, base_check, AnswersOrMemory};
+ghost use Rattle.scope_book.specs.Fits.{Fitting};
+
+use crate::state::ledger::Ledger;
+use scope_model::{Base, Catalog, Limits, Plain, Refusal};
+use std::alloc::Global;
+use std::marker::PhantomData;
+
+/// The book of a realm: it is told each command, and answers each question by the rules. It is the
+/// replay of its history, which is legal, within the limits, and fitting by the catalog `C`.
+#[derive(Drop)]
+pub struct BookState<C: Catalog> {
+    pub(crate) ledger: Ledger<C>,
+}
+
+impl<C: Catalog> BookState<C> {
+    ghost use Rattle.scope_book.specs.Books.{realm_of, limits_of, history_of, realm_given};
+
+    /// The book of a fresh realm. It takes no memory.
+    #[tactic(auto, using(crate::proofs::Growing::fitting_at_start))]
+    pub fn new(alloc: Global, limits: Limits) -> BookState<C>
+        ensures { realm_of result ≡ starting limits the_start }
+    {
+        BookState {
+            ledger: Ledger {
+                plain: Plain::new(alloc, limits),
+                catalog: PhantomData,
+            },
+        }
+    }
+
+    /// The book of a realm that begins with the base, as a retirement leaves it. Refused where the base
+    /// has more pairs than the limit of load (`TooMany`), and where memory is refused (`Memory`).
+    #[tactic(auto, using(crate::proofs::Growing::fitting_at_start))]
+    pub fn with_base(alloc: Global, limits: Limits, base: Base) -> Result<BookState<C>, Refusal>
+        ensures { AnswersOrMemory (base_check limits base) (starting limits base) (realm_given result) }
+    {
+        let plain = Plain::with_base(alloc, limits, base)?;
+        Ok(BookState {
+            ledger: Ledger {
+                plain,
+                catalog: PhantomData,
+            },
+        })
+    }
+
+    /// The realm's limits. It also says of the history that it is legal and fitting.
+    pub fn limits(&self) -> Limits
+        ensures limits { result ≡ limits_of self.now }
+        ensures legal { Legal (limits_of self.now) (history_of self.now) }
+        ensures fitting { Fitting C.fitting (history_of self.now) }
+    {
+        self.ledger.plain.limits()
+    }
+}

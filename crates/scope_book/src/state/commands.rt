@@ -1,0 +1,172 @@
+ghost use Rattle.std.specs.Prelude.{◌≡◌, Ok, OnErr, IfErr};
+ghost use Rattle.scope_model.specs.Checks.{open_check, fork_check, waiting_check, finish_check, move_check, tick_check, bind_check, unbind_check, join_check, own_scope_check, end_close_check, retire_check};
+ghost use Rattle.scope_model.specs.Verdicts.{verdict};
+ghost use Rattle.scope_model.specs.Replies.{Answers, AnswersOrMemory, after, after_recording, after_retiring, next_scope, fork_reply, whole_cancel_check, cancel_reply, begin_close_reply, base_of};
+ghost use Rattle.join_rules.specs.Joiners.{policy_of};
+ghost use Rattle.scope_book.specs.Books.{realm_of, limits_of, history_of, refusal_alone};
+ghost use Rattle.scope_book.specs.Fits.{FitsTask};
+
+use crate::state::book::BookState;
+use join_rules::Joiner;
+use scope_model::{
+    Actor, Base, Cancelling, Catalog, End, Event, ForkReply, Label, Name, Options, Refusal,
+    ScopeId, TaskId, Value, Verdict,
+};
+
+/// The commands. Each tries its checks in their order, and answers the first refusal; an accepted one
+/// adds exactly its event to the history and answers its reply; a refused one changes nothing. Those
+/// that make room for an event may be refused it, by `Memory`, once every check has passed.
+impl<C: Catalog> BookState<C> {
+    /// Opens a scope for the actor, inside what lies around it (JEP 505, `open`). Refused where the
+    /// actor is no running task or main, where its innermost scope is closing (`Closed`), past level
+    /// 16 (`TooDeep`), and where a limit is met (`TooMany`).
+    pub fn open(
+        &mut self,
+        actor: Actor,
+        joiner: Joiner,
+        options: Options,
+    ) -> Result<ScopeId, (Refusal, Joiner)>
+        ensures answer { AnswersOrMemory (open_check (limits_of self.old) (history_of self.old) actor) (next_scope (history_of self.old)) (refusal_alone result) }
+        ensures history { realm_of self.new ≡ after (realm_of self.old) (Event.Open actor (policy_of joiner) options) (refusal_alone result) }
+        ensures handed_back { IfErr result (λ e. e.1 ≡ joiner) }
+    {
+        match self.ledger.plain.open(actor, joiner.policy(), options) {
+            Ok(scope) => Ok(scope),
+            Err(refusal) => Err((refusal, joiner)),
+        }
+    }
+
+    /// Forks the next task in the actor's scope (JEP 505, `fork`). In a cancelled scope the task gets no
+    /// thread. Refused where the actor is no running task or main, for a scope that is unknown
+    /// (`NoScope`, `Retired`), another's (`NotOwner`), closing or closed (`Closed`) or joined
+    /// (`AlreadyJoined`), while the actor's bindings are not those at the scope's opening (`Structure`;
+    /// JEP 506), and where a limit is met (`TooMany`).
+    pub fn fork(&mut self, actor: Actor, scope: ScopeId, label: Label) -> Result<ForkReply, Refusal>
+        ensures answer { AnswersOrMemory (fork_check (limits_of self.old) (history_of self.old) actor scope) (fork_reply (history_of self.old) scope) result }
+        ensures history { realm_of self.new ≡ after (realm_of self.old) (Event.Fork actor scope label) result }
+    {
+        self.ledger.plain.fork(actor, scope, label)
+    }
+
+    /// Records that no thread was had for a task. Refused where the task does not wait (`WrongStage`),
+    /// or is unknown (`NoTask`, `Retired`).
+    pub fn reject(&mut self, task: TaskId) -> Result<(), Refusal>
+        ensures answer { Answers (waiting_check (history_of self.old) task) tt result }
+        ensures history { realm_of self.new ≡ after (realm_of self.old) (Event.Reject task) result }
+    {
+        self.ledger.plain.reject(task)
+    }
+
+    /// Starts a task whose thread has come. Refused where the task does not wait (`WrongStage`), or is
+    /// unknown (`NoTask`, `Retired`).
+    pub fn start(&mut self, task: TaskId) -> Result<(), Refusal>
+        ensures answer { Answers (waiting_check (history_of self.old) task) tt result }
+        ensures history { realm_of self.new ≡ after (realm_of self.old) (Event.Start task) result }
+    {
+        self.ledger.plain.start(task)
+    }
+
+    /// Records the end of a running task. Refused where the task does not run (`WrongStage`), is
+    /// unknown (`NoTask`, `Retired`), or has a scope that is not closed (`Structure`).
+    pub fn finish(&mut self, task: TaskId, end: End) -> Result<(), Refusal>
+        requires { FitsTask C.fitting (history_of self.old) task end }
+        ensures answer { Answers (finish_check (history_of self.old) task) tt result }
+        ensures history { realm_of self.new ≡ after (realm_of self.old) (Event.Finish task end) result }
+    {
+        self.ledger.plain.finish(task, end)
+    }
+
+    /// Cancels the scope and all that it reaches (Trio, `cancel`). A scope that is cancelled already
+    /// stays as it is. Refused for a scope that is unknown (`NoScope`, `Retired`), or closing or closed
+    /// (`Closed`), and where the limit of load is met (`TooMany`).
+    pub fn cancel(&mut self, scope: ScopeId) -> Result<Cancelling, Refusal>
+        ensures answer { AnswersOrMemory (whole_cancel_check (limits_of self.old) (history_of self.old) scope) (cancel_reply (history_of self.old) scope) result }
+        ensures already { cancel_reply (history_of self.old) scope ≡ Cancelling.Already → Answers (whole_cancel_check (limits_of self.old) (history_of self.old) scope) Cancelling.Already result }
+        ensures history { realm_of self.new ≡ after_recording (realm_of self.old) (Event.Cancel scope) result }
+    {
+        self.ledger.plain.cancel(scope)
+    }
+
+    /// Sets the deadline of the scope anew, in milliseconds, or takes it away (Trio: a cancel scope's
+    /// deadline may be moved). Refused for a scope that is unknown (`NoScope`, `Retired`), closing or
+    /// closed (`Closed`) or joined (`AlreadyJoined`), and where the limit of load is met (`TooMany`).
+    pub fn move_deadline(&mut self, scope: ScopeId, deadline: Option<u64>) -> Result<(), Refusal>
+        ensures answer { AnswersOrMemory (move_check (limits_of self.old) (history_of self.old) scope) tt result }
+        ensures history { realm_of self.new ≡ after (realm_of self.old) (Event.Move scope deadline) result }
+    {
+        self.ledger.plain.move_deadline(scope, deadline)
+    }
+
+    /// Sets the moment, in milliseconds. Refused for a moment before the present one (`ClockBack`), and
+    /// where the limit of load is met (`TooMany`).
+    pub fn tick(&mut self, now: u64) -> Result<(), Refusal>
+        ensures answer { AnswersOrMemory (tick_check (limits_of self.old) (history_of self.old) now) tt result }
+        ensures history { realm_of self.new ≡ after (realm_of self.old) (Event.Tick now) result }
+    {
+        self.ledger.plain.tick(now)
+    }
+
+    /// Binds the key above the actor's other bindings (JEP 506, `where`). Refused where the actor is no
+    /// running task or main, and where the limit of load is met (`TooMany`).
+    pub fn bind(&mut self, actor: Actor, key: Name, value: Value) -> Result<(), Refusal>
+        ensures answer { AnswersOrMemory (bind_check (limits_of self.old) (history_of self.old) actor) tt result }
+        ensures history { realm_of self.new ≡ after (realm_of self.old) (Event.Bind actor (record { key = key; value = value })) result }
+    {
+        self.ledger.plain.bind(actor, key, value)
+    }
+
+    /// Takes away the actor's last own binding. Refused where the actor is no running task or main, has
+    /// no own binding (`NotBound`), or has a scope open or closing that was opened while the binding
+    /// stood (`Structure`), and where the limit of load is met (`TooMany`).
+    pub fn unbind(&mut self, actor: Actor) -> Result<(), Refusal>
+        ensures answer { AnswersOrMemory (unbind_check (limits_of self.old) (history_of self.old) actor) tt result }
+        ensures history { realm_of self.new ≡ after (realm_of self.old) (Event.Unbind actor) result }
+    {
+        self.ledger.plain.unbind(actor)
+    }
+
+    /// Joins the actor's scope (JEP 505, `join`); what it answers is read by `outcome`. Refused where
+    /// the actor is no running task or main, for a scope that is unknown (`NoScope`, `Retired`),
+    /// another's (`NotOwner`), closing or closed (`Closed`) or joined (`AlreadyJoined`), and while it is
+    /// neither cancelled nor all its tasks have ended (`NotReady`).
+    pub fn join_now(&mut self, actor: Actor, scope: ScopeId) -> Result<(), Refusal>
+        ensures answer { Answers (join_check (history_of self.old) actor scope) tt result }
+        ensures history { realm_of self.new ≡ after (realm_of self.old) (Event.Join actor scope) result }
+    {
+        self.ledger.plain.join_now(actor, scope)
+    }
+
+    /// Begins to close the actor's scope, and with it each scope that the actor opened later and has not
+    /// closed (JEP 505, `close` cancels first). A scope that is closing or closed stays as it is.
+    /// Refused where the actor is no running task or main, and for a scope that is unknown (`NoScope`,
+    /// `Retired`) or another's (`NotOwner`).
+    pub fn begin_close(&mut self, actor: Actor, scope: ScopeId) -> Result<Cancelling, Refusal>
+        ensures answer { Answers (own_scope_check (history_of self.old) actor scope) (begin_close_reply (history_of self.old) scope) result }
+        ensures history { realm_of self.new ≡ after_recording (realm_of self.old) (Event.BeginClose actor scope) result }
+    {
+        self.ledger.plain.begin_close(actor, scope)
+    }
+
+    /// Closes the actor's scope. Refused where the actor is no running task or main, for a scope that is
+    /// unknown (`NoScope`, `Retired`), another's (`NotOwner`), not closing (`WrongStage`) or closed
+    /// (`Closed`), while the actor has a later scope that is not closed (`Structure`), and while a task
+    /// of the scope waits or runs (`NotReady`).
+    pub fn end_close(&mut self, actor: Actor, scope: ScopeId) -> Result<Verdict, Refusal>
+        ensures answer { Answers (end_close_check (history_of self.old) actor scope) (verdict (history_of self.old) scope) result }
+        ensures history { realm_of self.new ≡ after (realm_of self.old) (Event.EndClose actor scope) result }
+    {
+        self.ledger.plain.end_close(actor, scope)
+    }
+
+    /// Takes the events out and leaves a base, once main's outermost scope is closed; what is left goes
+    /// on, with numbers after the base's. It is no event. Refused where the actor is no running task or
+    /// main, is not main (`NotOwner`), while main has a scope that is not closed (`Structure`), and where
+    /// memory is refused (`Memory`).
+    #[tactic(auto, using(crate::proofs::Growing::fitting_after_retiring))]
+    pub fn retire(&mut self, actor: Actor) -> Result<Base, Refusal>
+        ensures answer { AnswersOrMemory (retire_check (history_of self.old) actor) (base_of (history_of self.old)) result }
+        ensures history { realm_of self.new ≡ after_retiring (realm_of self.old) result }
+    {
+        self.ledger.plain.retire(actor)
+    }
+}
