@@ -1,0 +1,116 @@
+-- How a run comes on: what it has read, written and left behind.
+use Rattle.std.proofs.Common.{◌≡◌, ℕ, Option, List, [], ◌∷◌, ◌++◌, refl, ap, sym, ◌∙◌, subst, append_assoc, append-nil, take}
+use Rattle.std.specs.Io.KnownBytes.{Appends, Consumes, IsAtEnd, Keeps}
+use Rattle.std.proofs.KnownBytes.{Appends-trans, Appends-nil, Consumes-trans, Consumes-nil, Consumes-kept}
+use Rattle.scope_model.specs.declared.types.capacity.Limits.{Limits}
+use Rattle.scope_model.specs.Replies.{Realm}
+use Rattle.scope_script.specs.declared.session.run.Mode.{Mode}
+use Rattle.scope_script.specs.Streams.{AppendsPart}
+use Rattle.scope_script.specs.Texts.{GrowsByPart}
+use Rattle.scope_script.specs.Sessions.{Session, the_beginning, after_bytes, bytes_reply, end_reply, shown, replies_of, realm_of_script}
+use Rattle.scope_script.specs.Running.{RunsToEnd, RunsPartly, UnderWay}
+use Rattle.scope_script.proofs.Scripts.{shown_append, after_append, reply_append, after_none, shown_nothing, reply_none}
+use Rattle.scope_script.proofs.Kept.{script_replies, script_leaves}
+
+-- a beginning of a beginning is a beginning
+pub part_of_part : (old new : Option (List ℕ)) (bs part rest : List ℕ) → bs ≡ part ++ rest → AppendsPart old new part → AppendsPart old new bs
+part_of_part old new bs part rest is done = record {
+  part = done.part;
+  rest = done.rest ++ rest;
+  whole = is ∙ (ap (λ p. p ++ rest) done.whole ∙ append_assoc done.part done.rest rest);
+  appended = done.appended;
+}
+
+pub part_of_all : (old new : Option (List ℕ)) (bs part rest : List ℕ) → bs ≡ part ++ rest → Appends old new part → AppendsPart old new bs
+part_of_all old new bs part rest is done = record { part = part; rest = rest; whole = is; appended = done }
+
+-- what is written after some bytes is a beginning of what goes on after them
+part_after : (a b c : Option (List ℕ)) (xs ys : List ℕ) → Appends a b xs → AppendsPart b c ys → AppendsPart a c (xs ++ ys)
+part_after a b c xs ys first then_part = record {
+  part = xs ++ then_part.part;
+  rest = then_part.rest;
+  whole = ap (λ y. xs ++ y) then_part.whole ∙ sym (append_assoc xs then_part.part then_part.rest);
+  appended = Appends-trans a b c xs then_part.part first then_part.appended;
+}
+
+-- a run begins
+pub begins_run : (a x : Option (List ℕ)) (mode : Mode) (L : Limits) (s : Session) → s ≡ the_beginning L → UnderWay a a x x mode L s
+begins_run a x mode L s is = record {
+  script = [];
+  read = Consumes-nil a;
+  replied = subst (Appends x x) (reply_none mode (the_beginning L) []) (Appends-nil x);
+  session = is ∙ after_none (the_beginning L);
+}
+
+-- it goes on by a piece
+pub goes_on : (a b c x y z : Option (List ℕ)) (mode : Mode) (L : Limits) (s t : Session) (piece : List ℕ) → UnderWay a b x y mode L s → Consumes b c piece → Appends y z (shown mode (bytes_reply s piece)) → t ≡ after_bytes s piece → UnderWay a c x z mode L t
+goes_on a b c x y z mode L s t piece run read written is =
+    let start = the_beginning L in
+    let told = shown mode (bytes_reply start run.script) in
+    let more = ap (λ (u : Session). told ++ shown mode (bytes_reply u piece)) run.session ∙ (sym (shown_append mode (bytes_reply start run.script) (bytes_reply (after_bytes start run.script) piece)) ∙ ap (shown mode) (sym (reply_append start run.script piece))) in
+    record {
+      script = run.script ++ piece;
+      read = Consumes-trans a b c run.script piece run.read read;
+      replied = subst (Appends x z) more (Appends-trans x y z told (shown mode (bytes_reply s piece)) run.replied written);
+      session = is ∙ (ap (λ (u : Session). after_bytes u piece) run.session ∙ sym (after_append start run.script piece));
+    }
+
+-- all that is answered to a script is what its bytes are and what its end is
+all_shown : (mode : Mode) (L : Limits) (script : List ℕ) → shown mode (bytes_reply (the_beginning L) script) ++ shown mode (end_reply (after_bytes (the_beginning L) script)) ≡ shown mode (replies_of L script)
+all_shown mode L script = sym (shown_append mode (bytes_reply (the_beginning L) script) (end_reply (after_bytes (the_beginning L) script))) ∙ ap (shown mode) (sym (script_replies L script))
+
+-- it ends
+pub ends_run : (a b x y z : Option (List ℕ)) (mode : Mode) (L : Limits) (s : Session) (realm : Realm) → UnderWay a b x y mode L s → IsAtEnd b → Appends y z (shown mode (end_reply s)) → realm ≡ s.realm → RunsToEnd a b x z mode L realm
+ends_run a b x y z mode L s realm run end written is =
+    let told = shown mode (bytes_reply (the_beginning L) run.script) in
+    let whole = ap (λ (u : Session). told ++ shown mode (end_reply u)) run.session ∙ all_shown mode L run.script in
+    record {
+      script = run.script;
+      read = run.read;
+      all = end;
+      replied = subst (Appends x z) whole (Appends-trans x y z told (shown mode (end_reply s)) run.replied written);
+      left = is ∙ (ap (λ (u : Session). u.realm) run.session ∙ script_leaves L run.script);
+    }
+
+-- it stops where a read fails
+pub stops_reading : (a b c x y : Option (List ℕ)) (mode : Mode) (L : Limits) (s : Session) → UnderWay a b x y mode L s → Keeps b c → RunsPartly a c x y mode L
+stops_reading a b c x y mode L s run same = record {
+  script = run.script;
+  read = Consumes-kept a b c run.script run.read same;
+  replied = part_of_all x y _ _ _ (sym (all_shown mode L run.script)) run.replied;
+}
+
+-- it stops at the end of the script
+pub stops_ending : (a b x y z : Option (List ℕ)) (mode : Mode) (L : Limits) (s : Session) → UnderWay a b x y mode L s → AppendsPart y z (shown mode (end_reply s)) → RunsPartly a b x z mode L
+stops_ending a b x y z mode L s run written =
+    let told = shown mode (bytes_reply (the_beginning L) run.script) in
+    let whole = ap (λ (u : Session). told ++ shown mode (end_reply u)) run.session ∙ all_shown mode L run.script in
+    record {
+      script = run.script;
+      read = run.read;
+      replied = subst (AppendsPart x z) whole (part_after x y z told (shown mode (end_reply s)) run.replied written);
+    }
+
+-- it stops within a piece
+pub stops_within : (a b c x y z : Option (List ℕ)) (mode : Mode) (L : Limits) (s : Session) (piece : List ℕ) → UnderWay a b x y mode L s → Consumes b c piece → AppendsPart y z (shown mode (bytes_reply s piece)) → RunsPartly a c x z mode L
+stops_within a b c x y z mode L s piece run read written =
+    let start = the_beginning L in
+    let told = shown mode (bytes_reply start run.script) in
+    let more = ap (λ (u : Session). told ++ shown mode (bytes_reply u piece)) run.session ∙ (sym (shown_append mode (bytes_reply start run.script) (bytes_reply (after_bytes start run.script) piece)) ∙ ap (shown mode) (sym (reply_append start run.script piece))) in
+    let some = subst (AppendsPart x z) more (part_after x y z told (shown mode (bytes_reply s piece)) run.replied written) in
+    record {
+      script = run.script ++ piece;
+      read = Consumes-trans a b c run.script piece run.read read;
+      replied = part_of_part x z _ _ _ (sym (all_shown mode L (run.script ++ piece))) some;
+    }
+
+-- a read of nothing
+pub reads_none : (a b c x y : Option (List ℕ)) (mode : Mode) (L : Limits) (s : Session) (piece : List ℕ) (n : ℕ) → n ≡ 0 → UnderWay a b x y mode L s → Consumes b c (take n piece) → UnderWay a c x y mode L s
+reads_none a b c x y mode L s piece n none run read =
+    let nothing : run.script ++ take n piece ≡ run.script = rw none (append-nil run.script) in
+    record {
+      script = run.script;
+      read = subst (Consumes a c) nothing (Consumes-trans a b c run.script (take n piece) run.read read);
+      replied = run.replied;
+      session = run.session;
+    }

@@ -1,0 +1,30 @@
+-- What a run of a script has read, written and left behind.
+use Rattle.std.specs.Prelude.{◌≡◌, ℕ, Option, List}
+use Rattle.std.specs.Io.KnownBytes.{Appends, Consumes, IsAtEnd}
+use Rattle.scope_model.specs.declared.types.capacity.Limits.{Limits}
+use Rattle.scope_model.specs.Replies.{Realm}
+use Rattle.scope_script.specs.declared.session.run.Mode.{Mode}
+use Rattle.scope_script.specs.Streams.{AppendsPart}
+use Rattle.scope_script.specs.Sessions.{Session, the_beginning, after_bytes, bytes_reply, shown, replies_of, realm_of_script}
+
+-- the run came to the end of its script: it read all bytes, wrote exactly the replies to them, and
+-- left the realm that they leave
+pub record RunsToEnd (unread unread_new written written_new : Option (List ℕ)) (mode : Mode) (L : Limits) (realm : Realm) : Type 0 where
+  pub script : List ℕ
+  pub read : Consumes unread unread_new script
+  pub all : IsAtEnd unread_new
+  pub replied : Appends written written_new (shown mode (replies_of L script))
+  pub left : realm ≡ realm_of_script L script
+
+-- a fault ended the run: it wrote a beginning of the replies to what it read
+pub record RunsPartly (unread unread_new written written_new : Option (List ℕ)) (mode : Mode) (L : Limits) : Type 0 where
+  pub script : List ℕ
+  pub read : Consumes unread unread_new script
+  pub replied : AppendsPart written written_new (shown mode (replies_of L script))
+
+-- the run is under way: it answered all that it read so far
+pub record UnderWay (unread unread_now written written_now : Option (List ℕ)) (mode : Mode) (L : Limits) (now : Session) : Type 0 where
+  pub script : List ℕ
+  pub read : Consumes unread unread_now script
+  pub replied : Appends written written_now (shown mode (bytes_reply (the_beginning L) script))
+  pub session : now ≡ after_bytes (the_beginning L) script

@@ -1,0 +1,10 @@
+-- What is written of some bytes where a write may fail.
+use Rattle.std.specs.Prelude.{◌≡◌, ℕ, Option, List, ◌++◌}
+use Rattle.std.specs.Io.KnownBytes.{Appends}
+
+-- known bytes grew by a beginning of bs
+pub record AppendsPart (old new : Option (List ℕ)) (bs : List ℕ) : Type 0 where
+  pub part : List ℕ
+  pub rest : List ℕ
+  pub whole : bs ≡ part ++ rest
+  pub appended : Appends old new part

@@ -1,0 +1,4 @@
+//! How a command is performed on a book.
+
+mod answers;
+pub mod commands;

@@ -1,0 +1,131 @@
+ghost use Rattle.std.specs.Prelude.{◌≡◌, [], true, false, IfOk, OnOk, OnErr, IsErrOf, vec_len};
+ghost use Rattle.std.specs.Io.KnownBytes.{Appends};
+ghost use Rattle.scope_book.specs.Books.{realm_of};
+ghost use Rattle.scope_script.specs.Books.{session_of};
+ghost use Rattle.scope_script.specs.Sessions.{after_bytes, bytes_reply, end_reply, shown};
+ghost use Rattle.scope_script.specs.Streams.{AppendsPart};
+ghost use Rattle.scope_script.specs.Running.{RunsToEnd, RunsPartly};
+
+use crate::session::script::Script;
+use crate::streams::watched::Watched;
+use scope_book::BookState;
+use scope_model::{AnyEnd, Limits};
+use std::alloc::Global;
+use std::io::{Read, Write};
+
+/// How many bytes are read at a time, and for how many of reply there is room from the beginning.
+pub const PIECE: usize = 4096;
+
+/// Whether a run writes its replies.
+#[derive(Clone, Copy, Debug, PartialEq, Eq)]
+pub enum Mode {
+    /// One line of reply a command.
+    Replies,
+    /// Nothing.
+    Quiet,
+}
+
+/// Why a run ended before its script did.
+#[derive(Clone, Copy, Debug, PartialEq, Eq)]
+pub enum ScriptFault {
+    /// The reader failed, or was given up after 2^64 - 1 reads.
+    Read,
+    /// The writer failed.
+    Write,
+    /// Memory was refused.
+    Memory,
+}
+
+/// Runs a script on a fresh realm of these limits: performs the command of each line, and writes the
+/// line of each reply, or nothing in `Quiet`. Where it answers Ok, all bytes were read and exactly the
+/// reply text of them was written, and the book is that of their run. After a fault, what was written
+/// is a beginning of the reply text of what was read.
+///
+/// The replies to what was read are written before more is read. `Read` and `Write` are answered only
+/// where that stream failed in this call.
+pub fn run<R: Read + Drop, W: Write + Drop>(
+    alloc: Global,
+    reader: &mut Watched<R>,
+    writer: &mut Watched<W>,
+    limits: Limits,
+    mode: Mode,
+) -> Result<BookState<AnyEnd>, ScriptFault>
+    requires reader { reader.old.failed ≡ false }
+    requires writer { writer.old.failed ≡ false }
+    ensures ok { IfOk result (λ book. RunsToEnd (R.remaining reader.old.inner) (R.remaining reader.new.inner) (W.contents writer.old.inner) (W.contents writer.new.inner) mode limits (realm_of book)) }
+    ensures fault { OnErr result (RunsPartly (R.remaining reader.old.inner) (R.remaining reader.new.inner) (W.contents writer.old.inner) (W.contents writer.new.inner) mode limits) }
+    ensures read { IsErrOf result ScriptFault.Read → reader.new.failed ≡ true }
+    ensures write { IsErrOf result ScriptFault.Write → writer.new.failed ≡ true }
+{
+    let mut script = Script::new(alloc, limits);
+    let Ok(mut replies) = Vec::with_capacity(alloc, PIECE) else {
+        return Err(ScriptFault::Memory);
+    };
+    let mut piece = [0; PIECE];
+    for _ in 0..u64::MAX {
+        let Ok(count) = reader.read_piece(&mut piece) else {
+            return Err(ScriptFault::Read);
+        };
+        if count == 0 {
+            return match finish(&script, writer, mode, &mut replies) {
+                Ok(()) => Ok(script.into_book()),
+                Err(fault) => Err(fault),
+            };
+        }
+        match step(&mut script, writer, mode, &piece[..count], &mut replies) {
+            Ok(()) => {}
+            Err(fault) => return Err(fault),
+        }
+    }
+    reader.give_up();
+    Err(ScriptFault::Read)
+}
+
+/// Takes a piece of the script, and writes what it is answered. After a fault, a beginning of that was
+/// written.
+fn step<W: Write + Drop>(
+    script: &mut Script,
+    writer: &mut Watched<W>,
+    mode: Mode,
+    piece: &[u8],
+    replies: &mut Vec<u8>,
+) -> Result<(), ScriptFault>
+    requires { replies.old.items ≡ [] }
+    ensures script { OnOk result (session_of script.new ≡ after_bytes (session_of script.old) piece.now) }
+    ensures ok { OnOk result (Appends (W.contents writer.old.inner) (W.contents writer.new.inner) (shown mode (bytes_reply (session_of script.old) piece.now))) }
+    ensures sent { OnOk result ((replies.new.items ≡ []) × (writer.new.failed ≡ writer.old.failed)) }
+    ensures err { OnErr result (AppendsPart (W.contents writer.old.inner) (W.contents writer.new.inner) (shown mode (bytes_reply (session_of script.old) piece.now))) }
+    ensures write { IsErrOf result ScriptFault.Write → writer.new.failed ≡ true }
+    ensures read { IsErrOf result ScriptFault.Read → ⊥ }
+{
+    let taken = script.take(mode, piece, replies);
+    let sent = writer.write_bytes(replies);
+    replies.clear();
+    match (taken, sent) {
+        (Err(_), _) => Err(ScriptFault::Memory),
+        (Ok(()), Err(_)) => Err(ScriptFault::Write),
+        (Ok(()), Ok(())) => Ok(()),
+    }
+}
+
+/// Ends the script, and writes what its end is answered.
+fn finish<W: Write + Drop>(
+    script: &Script,
+    writer: &mut Watched<W>,
+    mode: Mode,
+    replies: &mut Vec<u8>,
+) -> Result<(), ScriptFault>
+    requires { replies.old.items ≡ [] }
+    ensures ok { OnOk result (Appends (W.contents writer.old.inner) (W.contents writer.new.inner) (shown mode (end_reply (session_of script.now)))) }
+    ensures err { OnErr result (AppendsPart (W.contents writer.old.inner) (W.contents writer.new.inner) (shown mode (end_reply (session_of script.now)))) }
+    ensures write { IsErrOf result ScriptFault.Write → writer.new.failed ≡ true }
+    ensures read { IsErrOf result ScriptFault.Read → ⊥ }
+{
+    if script.end(mode, replies).is_err() {
+        return Err(ScriptFault::Memory);
+    }
+    match writer.write_bytes(replies) {
+        Ok(()) => Ok(()),
+        Err(_) => Err(ScriptFault::Write),
+    }
+}

@@ -1,0 +1,118 @@
+ghost use Rattle.std.specs.Prelude.{◌≡◌, ◌++◌, ◌∷◌, [], OnOk, OnErr};
+ghost use Rattle.scope_book.specs.Books.{realm_of};
+ghost use Rattle.scope_script.specs.ReplyText.{reply_text};
+ghost use Rattle.scope_script.specs.Sessions.{line_reply, realm_after_line, after_byte, byte_reply, after_bytes, bytes_reply, end_reply, shown, the_beginning};
+ghost use Rattle.scope_script.specs.Books.{session_of};
+ghost use Rattle.scope_script.specs.Texts.{GrowsByPart};
+
+use crate::commands::Line;
+use crate::performing::commands::perform;
+use crate::replies::lines::append_line;
+use crate::replies::reply::Reply;
+use crate::session::begun::BegunLine;
+use crate::session::run::Mode;
+use scope_book::BookState;
+use scope_model::{AnyEnd, Limits, Refusal};
+use std::alloc::{AllocError, Global};
+
+/// A script under way: the book that its commands are performed on, and the line that is begun.
+#[derive(Drop)]
+pub(crate) struct Script {
+    book: BookState<AnyEnd>,
+    begun: BegunLine,
+}
+
+impl Script {
+    /// A script that begins, on a fresh realm of these limits.
+    pub(crate) fn new(alloc: Global, limits: Limits) -> Script
+        ensures { session_of result ≡ the_beginning limits }
+    {
+        Script {
+            book: BookState::new(alloc, limits),
+            begun: BegunLine::new(),
+        }
+    }
+
+    /// The script goes on by the bytes; what they are answered goes to the end of `replies`. Where
+    /// memory is refused, a beginning of it went there.
+    pub(crate) fn take(
+        &mut self,
+        mode: Mode,
+        bytes: &[u8],
+        replies: &mut Vec<u8>,
+    ) -> Result<(), AllocError>
+        ensures script { OnOk result (session_of self.new ≡ after_bytes (session_of self.old) bytes.now) }
+        ensures ok { OnOk result (replies.new.items ≡ replies.old.items ++ shown mode (bytes_reply (session_of self.old) bytes.now)) }
+        ensures err { OnErr result (GrowsByPart replies.old.items replies.new.items (shown mode (bytes_reply (session_of self.old) bytes.now))) }
+    {
+        for byte in bytes {
+            match self.take_byte(mode, *byte, replies) {
+                Ok(()) => {}
+                Err(error) => return Err(error),
+            }
+        }
+        Ok(())
+    }
+
+    /// The script goes on by a byte. Where memory is refused, `replies` stays as it is.
+    #[tactic(auto, unfolding(crate::specs::Sessions::after_byte, crate::specs::Sessions::byte_reply))]
+    fn take_byte(&mut self, mode: Mode, byte: u8, replies: &mut Vec<u8>) -> Result<(), AllocError>
+        ensures script { OnOk result (session_of self.new ≡ after_byte (session_of self.old) byte) }
+        ensures ok { OnOk result (replies.new.items ≡ replies.old.items ++ shown mode (byte_reply (session_of self.old) byte)) }
+        ensures err { OnErr result (replies.new.items ≡ replies.old.items) }
+    {
+        if byte != b'\n' {
+            self.begun.push(byte);
+            return Ok(());
+        }
+        let line = self.begun.end();
+        self.answer(mode, line, replies)
+    }
+
+    /// Answers a line. Where memory is refused, `replies` stays as it is.
+    #[tactic(auto, unfolding(crate::specs::Sessions::line_reply, crate::specs::Sessions::realm_after_line))]
+    fn answer(&mut self, mode: Mode, line: Line, replies: &mut Vec<u8>) -> Result<(), AllocError>
+        ensures realm { OnOk result (realm_of self.new.book ≡ realm_after_line (realm_of self.old.book) line) }
+        ensures begun { self.new.begun ≡ self.old.begun }
+        ensures ok { OnOk result (replies.new.items ≡ replies.old.items ++ shown mode (line_reply (realm_of self.old.book) line)) }
+        ensures err { OnErr result (replies.new.items ≡ replies.old.items) }
+    {
+        match line {
+            Line::Silent => Ok(()),
+            Line::BadWord => tell(mode, &Reply::Refused(Refusal::BadWord), replies),
+            Line::Command(command) => {
+                let reply = perform(&mut self.book, command)?;
+                tell(mode, &reply, replies)
+            }
+        }
+    }
+
+    /// The book, at the end of the script.
+    pub(crate) fn into_book(self) -> BookState<AnyEnd>
+        ensures { realm_of result ≡ (session_of self).realm }
+    {
+        self.book
+    }
+
+    /// Answers the end of the script: a line that is begun then is a bad word.
+    pub(crate) fn end(&self, mode: Mode, replies: &mut Vec<u8>) -> Result<(), AllocError>
+        ensures ok { OnOk result (replies.new.items ≡ replies.old.items ++ shown mode (end_reply (session_of self.now))) }
+        ensures err { OnErr result (replies.new.items ≡ replies.old.items) }
+    {
+        if self.begun.is_empty() {
+            return Ok(());
+        }
+        tell(mode, &Reply::Refused(Refusal::BadWord), replies)
+    }
+}
+
+/// Appends the line of the reply, where replies are asked for.
+fn tell(mode: Mode, reply: &Reply, replies: &mut Vec<u8>) -> Result<(), AllocError>
+    ensures ok { OnOk result (replies.new.items ≡ replies.old.items ++ shown mode (reply_text reply.now ++ 10 ∷ [])) }
+    ensures err { OnErr result (replies.new.items ≡ replies.old.items) }
+{
+    match mode {
+        Mode::Replies => append_line(replies, reply),
+        Mode::Quiet => Ok(()),
+    }
+}
