@@ -1,0 +1,65 @@
+-- Which fault a parse that failed comes to.
+use Rattle.std.proofs.Common.{◌≡◌, ◌⊎◌, inl, inr, subst, ◌∙◌, List, [], Option, Some, None, refl}
+use Rattle.clap.specs.Faults.{fault_of}
+use Rattle.clap.specs.Kinds.{IsAmong, Kinds}
+use Rattle.std.specs.Prelude.{option_map}
+use Rattle.std.specs.Box.{box_value}
+use Rattle.clap.specs.Walk.{Row, Text, rows_of}
+use Rattle.clap.specs.Matches.{found_of, subcommand_name_of}
+use Rattle.clap.specs.Simple.{subcommand_rows_of}
+use Rattle.clap.specs.declared.parser.matches.ArgMatches.{ArgMatches}
+use Rattle.clap.specs.declared.parser.matches.ArgMatches.TheViews.{out-ArgMatches, out-SubCommand}
+use Rattle.clap.specs.declared.error.kind.ErrorKind.{ErrorKind}
+use Rattle.clap.specs.declared.error.kind.ErrorKind.TheVariants as kind
+use Rattle.scopectl.proofs.Clearing.{said_clear}
+use Rattle.scopectl.specs.Application.{scopectl}
+use Rattle.scopectl.specs.CommandLine.{replay_said}
+use Rattle.scopectl.specs.Settings.{Numbers}
+use Rattle.scopectl.specs.Faults.{Answers, IsUsageOrMemory, TellsKind}
+use Rattle.scopectl.specs.declared.command_line.faults.LineFault.{LineFault}
+use Rattle.scopectl.specs.declared.command_line.faults.LineFault.TheVariants.{Help, Version, Usage, Memory}
+
+first_parts : {X : Type 0} (o : Option X) (f : X → Text) (g : X → List Row) → option_map f o ≡ option_map (λ (p : Text × List Row). p.0) (option_map (λ x. (f x, g x)) o)
+first_parts None f g = refl
+first_parts (Some x) f g = refl
+
+-- the name of the subcommand stands beside its rows
+pub name_in_rows : (m : ArgMatches) → subcommand_name_of m ≡ option_map (λ (p : Text × List Row). p.0) (subcommand_rows_of m)
+name_in_rows m = first_parts (out-ArgMatches m).subcommand (λ b. (out-SubCommand (box_value b)).name.now) (λ b. rows_of (found_of (out-SubCommand (box_value b)).matches))
+
+among : (k asked : ErrorKind) (kinds given : Kinds) → k ≡ asked → kinds ≡ given → IsAmong k kinds → IsAmong asked given
+among k asked kinds given is same h = subst (IsAmong asked) same (subst (λ (x : ErrorKind). IsAmong x kinds) is h)
+
+pub answers_of : (words : List Text) (fault : LineFault) (k : ErrorKind) (kinds : Kinds) → TellsKind k fault → (k ≡ kind.OutOfMemory) ⊎ IsAmong k kinds
+    → kinds ≡ fault_of scopectl words → Answers words fault
+answers_of words (Help text) k kinds told h same =
+    elim h [ inl memory ↦ absurd (cc) | inr asked ↦ among k kind.DisplayHelp kinds (fault_of scopectl words) told same asked ]
+answers_of words (Version text) k kinds told h same =
+    elim h [ inl memory ↦ absurd (cc) | inr asked ↦ among k kind.DisplayVersion kinds (fault_of scopectl words) told same asked ]
+answers_of words (Usage text) k kinds told h same =
+    elim h [ inl memory ↦ absurd (told.2 memory) | inr asked ↦ inr (k, subst (λ (ks : Kinds). IsAmong k ks) same asked, told.0, told.1) ]
+answers_of words Memory k kinds told h same = tt
+
+-- where the parse took the words, help and the version are not answered
+pub taken_answers : (words : List Text) (fault : LineFault) → IsUsageOrMemory fault → fault_of scopectl words ≡ [] → Answers words fault
+taken_answers words (Help text) told clear = absurd told
+taken_answers words (Version text) told clear = absurd told
+taken_answers words (Usage text) told clear = inl clear
+taken_answers words Memory told clear = tt
+
+memory_is : (fault : LineFault) (k : ErrorKind) → TellsKind k fault → k ≡ kind.OutOfMemory → fault ≡ Memory
+memory_is (Help text) k told is = absurd (cc)
+memory_is (Version text) k told is = absurd (cc)
+memory_is (Usage text) k told is = absurd (told.2 is)
+memory_is Memory k told is = refl
+
+-- a parse fails for want of memory alone where the words say a command
+pub refused_of : (words : List Text) (fault : LineFault) (k : ErrorKind) (kinds : Kinds) → TellsKind k fault → (k ≡ kind.OutOfMemory) ⊎ IsAmong k kinds
+    → kinds ≡ fault_of scopectl words → (fault ≡ Memory) ⊎ (replay_said words ≡ None)
+refused_of words fault k kinds told h same = go (replay_said words) refl
+  where
+    go : (o : Option Numbers) → replay_said words ≡ o → (fault ≡ Memory) ⊎ (replay_said words ≡ None)
+    go None is = inr is
+    go (Some numbers) is =
+        let none : kinds ≡ [] = same ∙ said_clear words numbers is in
+        elim h [ inl memory ↦ inl (memory_is fault k told memory) | inr asked ↦ absurd (subst (λ (ks : Kinds). IsAmong k ks) none asked) ]

@@ -1,0 +1,9 @@
+mod Answering
+mod BuiltReplay
+mod Clearing
+mod Levels
+mod Numbers
+mod Passing
+mod Saying
+mod TopLevel
+mod Walking

@@ -1,0 +1,20 @@
+use Rattle.std.proofs.Common.{◌≡◌, ◌∙◌, ap, ap₂, rules, codes, true}
+use Rattle.std.proofs.lemmas.Result.{IfOk-weaker}
+use Rattle.clap.specs.Simple.{on_top}
+use Rattle.clap.specs.Words.{App, app_of, new_app, with_subcommand}
+use Rattle.scopectl.specs.Application.{scopectl}
+use Rattle.scopectl.proofs.command_line.application.application.Goals as goal
+
+abbrev alone : App
+alone = on_top (λ top. record top {
+  has_version = true;
+  subcommand_required = true;
+  disable_help_subcommand = true;
+}) (new_app (codes "scopectl"))
+
+pub returns : goal.returns
+unfolding scopectl
+returns c =
+    let start_is : app_of c.disable_help_subcommand.result ≡ alone = search rules in
+    IfOk-weaker c.subcommand.result _ _ (λ m h. h.shape c.in_ok-replay.ensures.local
+    ∙ ap₂ with_subcommand start_is (ap (λ (a : App). a.top) c.in_ok-replay.ensures.app)) c.subcommand.ensures

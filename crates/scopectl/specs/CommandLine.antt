@@ -1,0 +1,71 @@
+-- What the words of a command line say.
+use Rattle.std.specs.Prelude.{◌≡◌, ℕ, Bool, List, [], ◌∷◌, ◌++◌, Option, Some, None, ◌&&◌, ◌||◌, not, codes, find, if◌then◌else◌}
+use Rattle.std.specs.Prelude.{option_map, option_and_then}
+use Rattle.std.specs.List.{list_any}
+use Rattle.std.specs.Str.{bytes_eq}
+use Rattle.clap.specs.Lexer.{long_of}
+use Rattle.scopectl.specs.Settings.{Numbers, name_of, numbers_by, numbers_of}
+use Rattle.scopectl.specs.declared.command_line.CommandLine.{CommandLine}
+use Rattle.scopectl.specs.declared.command_line.Job.TheVariants.{Replay}
+use Rattle.scopectl.specs.declared.command_line.settings.Setting.TheVariants.{Scopes, Tasks, Load}
+
+-- the name and the text of each option that was given, in order
+abbrev pub Given : Type 0
+Given = List (List ℕ × List ℕ)
+
+abbrev pub is_name : List ℕ → Bool
+is_name name = bytes_eq (name_of Scopes) name
+    || (bytes_eq (name_of Tasks) name || bytes_eq (name_of Load) name)
+
+abbrev pub is_given : Given → List ℕ → Bool
+is_given given name = list_any (λ option. bytes_eq option.0 name) given
+
+-- the text that an option was given with
+abbrev pub text_given : Given → List ℕ → Option (List ℕ)
+text_given given name = option_map (λ option. option.1) (find (λ option. bytes_eq option.0 name) given)
+
+-- one more option is given: it is one of `replay`, and was not given before
+abbrev pub with_option : Given → List ℕ → List ℕ → Option Given
+with_option given name text =
+    if is_name name && not (is_given given name) then Some (given ++ (name, text) ∷ []) else None
+
+-- `--name=text`, which stands in one word, gives an option; what `next` says comes after it
+abbrev pub attached : (Given → Option Given) → Given → List ℕ → Option (List ℕ) → Option Given
+attached next given name (Some text) = option_and_then next (with_option given name text)
+attached next given name None = None
+
+-- the same, or `--name` with its text in the word after it
+abbrev pub attached_or_apart : (Given → Option Given) → (Given → Option Given) → Given → List ℕ
+    → List ℕ → Option (List ℕ) → Option Given
+attached_or_apart next past given after name (Some text) =
+    option_and_then next (with_option given name text)
+attached_or_apart next past given after name None =
+    option_and_then past (with_option given name after)
+
+-- the options that are given, and then those that the words give, if they are such options and no
+-- more; `--` may stand last
+unfoldable pub options_said : Given → List (List ℕ) → Option Given
+options_said given [] = Some given
+options_said given (word ∷ []) = if bytes_eq word (codes "--") then Some given
+    else option_and_then (λ long. attached (λ g. Some g) given long.0 long.1) (long_of word)
+options_said given (word ∷ after ∷ rest) = option_and_then (λ long.
+    attached_or_apart (λ g. options_said g (after ∷ rest)) (λ g. options_said g rest) given after
+    long.0 long.1) (long_of word)
+
+-- the numbers of the options that are given
+abbrev pub numbers_given : Given → Option Numbers
+numbers_given given = numbers_by (λ setting. text_given given (name_of setting))
+
+-- the program's name, `replay` and its options
+unfoldable pub replay_said : List (List ℕ) → Option Numbers
+replay_said (program ∷ command ∷ options) = if bytes_eq (codes "replay") command
+    then option_and_then numbers_given (options_said [] options) else None
+replay_said _ = None
+
+-- the words say the command
+abbrev pub Says : List (List ℕ) → CommandLine → Type 0
+Says words command = (command.job ≡ Replay) × (replay_said words ≡ Some (numbers_of command.limits))
+
+-- the words say no command
+abbrev pub SaysNone : List (List ℕ) → Type 0
+SaysNone words = replay_said words ≡ None

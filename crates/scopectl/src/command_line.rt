@@ -1,0 +1,59 @@
+//! The command line: from the program's words to the command that they say.
+ghost use Rattle.std.specs.Prelude.{◌≡◌, ◌⊎◌, IfOk, IfErr, map};
+ghost use Rattle.scopectl.specs.CommandLine.{Says, SaysNone};
+ghost use Rattle.scopectl.specs.Faults.{Answers};
+
+mod application;
+mod faults;
+mod help;
+mod settings;
+#[cfg(test)]
+mod tests;
+
+pub use faults::LineFault;
+use scope_model::Limits;
+use std::alloc::Global;
+
+/// What a command line tells the program to do.
+#[derive(Clone, Copy)]
+pub struct CommandLine {
+    pub job: Job,
+    /// The limits of the realm that the job runs in.
+    pub limits: Limits,
+}
+
+/// The kinds of work.
+#[derive(Clone, Copy, Debug, PartialEq, Eq)]
+pub enum Job {
+    /// Replays the script on standard input, and writes the replies.
+    Replay,
+}
+
+/// The command that the words say, of which the first is the program's name. An option that is not
+/// given is the greatest value that it can have.
+///
+/// # Errors
+/// `Help` and `Version` where the words ask for them, `Usage` where the words are not understood,
+/// `Memory` where memory was refused.
+pub fn line<'a>(alloc: Global, words: &'a [&'a str]) -> Result<CommandLine, LineFault>
+    ensures said { IfOk result (Says (map (λ word. word.now) words.entry.now)) }
+    ensures refused { IfErr result (λ fault. (fault ≡ LineFault.Memory)
+        ⊎ SaysNone (map (λ word. word.now) words.entry.now)) }
+    ensures answers { IfErr result (Answers (map (λ word. word.now) words.entry.now)) }
+{
+    let application = application::application(alloc)?;
+    let matches = match application.try_get_matches_from(words) {
+        Ok(matches) => matches,
+        Err(error) => return Err(LineFault::of_parse(alloc, &error)),
+    };
+    match matches.subcommand_matches("replay") {
+        Some(replay) => {
+            let limits = settings::limits(alloc, replay)?;
+            Ok(CommandLine {
+                job: Job::Replay,
+                limits,
+            })
+        }
+        None => unreachable!(),
+    }
+}

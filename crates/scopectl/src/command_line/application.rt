@@ -1,0 +1,51 @@
+//! The application as `clap` knows it: its commands, their options and its texts.
+ghost use Rattle.std.specs.Prelude.{◌≡◌, IfOk, false};
+ghost use Rattle.clap.specs.Words.{app_of, rule_of};
+ghost use Rattle.clap.specs.declared.builder.command.Command.TheViews.{out-Command as fields_of};
+ghost use Rattle.scopectl.specs.Application.{option_rule, replay, scopectl};
+
+use super::help;
+use super::settings::Setting;
+use clap::{Arg, Command};
+use std::alloc::{AllocError, Global};
+
+/// The program with its commands.
+///
+/// # Errors
+/// Where memory was refused.
+pub fn application<'a>(alloc: Global) -> Result<Command<'a>, AllocError>
+    ensures { IfOk result (λ command. app_of command ≡ scopectl) }
+{
+    let replay = replay(alloc)?;
+    Command::new(alloc, "scopectl")
+        .version("0.1.0")
+        .about(help::ABOUT)
+        .after_help(help::STATUSES)
+        .subcommand_required(true)
+        .disable_help_subcommand(true)
+        .subcommand(replay)
+}
+
+// The command `replay` with its options.
+fn replay<'a>(alloc: Global) -> Result<Command<'a>, AllocError>
+    ensures app { IfOk result (λ command. app_of command ≡ replay) }
+    ensures local { IfOk result (λ command. (fields_of command).has_globals ≡ false) }
+{
+    let scopes: &'a str = Setting::Scopes.name();
+    let tasks: &'a str = Setting::Tasks.name();
+    let load: &'a str = Setting::Load.name();
+    Command::new(alloc, "replay")
+        .about(help::REPLAY)
+        .after_help(help::REPLAY_EXAMPLE)
+        .arg(option(alloc, scopes, help::SCOPES))?
+        .arg(option(alloc, tasks, help::TASKS))?
+        .arg(option(alloc, load, help::LOAD))
+}
+
+// The option `--NAME N`.
+fn option<'a>(alloc: Global, name: &'a str, text: &'a str) -> Arg<'a>
+    ensures rule { rule_of result ≡ option_rule name.now }
+    ensures local { result.global ≡ false }
+{
+    Arg::new(alloc, name).long(name).value_name("N").help(text)
+}
