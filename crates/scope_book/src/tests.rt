@@ -1,14 +1,16 @@
 //! Each call of the book once with ample memory, and what its catalog and its joiners ask.
 
+ghost use Rattle.std.specs.Prelude.{◌≡◌, IfOk};
+ghost use Rattle.scope_model.specs.Joining.{meets};
+
 use crate::BookState;
-use join_rules::{Joiner, UntilTest};
+use join_rules::{CompletionTest, Done, Joiner, UntilTest};
 use scope_model::{
-    Actor, AnyEnd, Base, Cancelling, Catalog, Cause, CauseKind, Counts, Due, Effective, End,
-    Expiry, Fault, ForkReply, Label, Limits, Name, Options, Outcome, Policy, Refusal, Rule,
-    ScopeId, Stage, State, TaskId, Value, Verdict,
+    Actor, AnyEnd, Cancelling, Catalog, Cause, CauseKind, Counts, Due, Effective, End, Expiry,
+    Fault, ForkReply, Label, Limits, Name, Options, Outcome, Policy, Refusal, Rule, ScopeId, Stage,
+    State, Value, Verdict,
 };
-use std::alloc::Global;
-use std::process::Abort;
+use std::alloc::{AllocError, Global};
 use std::test::Fail;
 
 fn name(text: &[u8]) -> Result<Name, Fail> {
@@ -146,4 +148,54 @@ fn an_end_that_is_due_is_recorded(rt: HostRuntime) -> Result<(), Fail> {
     let forked = book.fork(0, scope, offer);
     assert_eq!(rt; forked, Ok(ForkReply::Thread(1)));
     Ok(())
+}
+
+/// The value in a box. A growth that is refused is tried again.
+fn boxed<F: Drop>(alloc: Global, value: F) -> Result<Box<F>, AllocError>
+    ensures { IfOk result (λ made. made.value ≡ value) }
+{
+    match Box::new(alloc, value) {
+        Ok(made) => Ok(made),
+        Err(refused) => Ok(Box::new(alloc, refused.value)?),
+    }
+}
+
+/// Whether the list has two successes.
+#[tactic(auto, unfolding(scope_model::specs::Joining::meets))]
+fn has_two_successes(list: &[Done]) -> bool
+    ensures { result ≡ meets (Rule.SuccessesAtLeast 2) list.now }
+{
+    list.iter().filter(|done| done.end.is_ok()).count() >= 2
+}
+
+#[test]
+fn a_callers_closure_decides_as_its_rule(rt: HostRuntime) -> Result<(), Fail> {
+    let mut book: BookState<AnyEnd> = BookState::new(rt.alloc(), Limits::GREATEST);
+    let test: CompletionTest = boxed(rt.alloc(), |list: &[Done]| has_two_successes(list))?;
+    let joiner = Joiner::Until(UntilTest::new(Rule::SuccessesAtLeast(2), test));
+    let scope = open(&mut book, 0, joiner, PLAIN)?;
+    for task in 1..4u32 {
+        accepted(book.fork(0, scope, label(b"a")?))?;
+        accepted(book.start(task))?;
+    }
+    accepted(book.finish(2, Ok(Value::Num(2))))?;
+    assert_eq!(rt; book.cause(scope), Ok(None));
+    accepted(book.finish(1, Ok(Value::Num(1))))?;
+    let cause = Cause {
+        scope,
+        kind: CauseKind::Joiner,
+    };
+    assert_eq!(rt; book.cause(scope), Ok(Some(cause)));
+    accepted(book.join_now(0, scope))?;
+    match accepted(book.outcome(scope))? {
+        Outcome::List(tasks) => {
+            let states = tasks.as_slice();
+            assert_eq!(rt; states.len(), 3);
+            assert_eq!(rt; states[0].state, State::Success(Value::Num(1)));
+            assert_eq!(rt; states[1].state, State::Success(Value::Num(2)));
+            assert_eq!(rt; states[2].state, State::Unavailable);
+            Ok(())
+        }
+        _ => Err(Fail::from("until answers all tasks")),
+    }
 }
