@@ -6,6 +6,11 @@ use Rattle.scope_script.specs.declared.session.run.Mode.TheVariants.{Replies}
 use Rattle.scope_script.specs.Running.{RunsToEnd, RunsPartly}
 use Rattle.scopectl.specs.declared.command_line.CommandLine.{CommandLine}
 use Rattle.scopectl.specs.CommandLine.{Says}
+use Rattle.scopectl.specs.Faults.{AsksHelp, AsksVersion}
+
+-- the words ask for the help or the version
+abbrev pub AsksText : List (List ℕ) → Type 0
+AsksText words = AsksHelp words ⊎ AsksVersion words
 
 -- it did all that the words say: it read all bytes, and wrote exactly the replies to them
 pub record DidAsSaid (words : List (List ℕ)) (unread unread_new written written_new : Option (List ℕ)) : Type 0 where

@@ -3,7 +3,7 @@ ghost use Rattle.std.specs.Prelude.{◌≡◌, ◌≢◌, ◌≤◌, ◌⊎◌, 
 ghost use Rattle.scope_model.specs.Replies.{Realm};
 ghost use Rattle.scope_script.specs.Running.{RunsToEnd, RunsPartly};
 ghost use Rattle.scopectl.specs.CommandLine.{Says, SaysNone};
-ghost use Rattle.scopectl.specs.Program.{DidAsSaid, StoppedShort};
+ghost use Rattle.scopectl.specs.Program.{AsksText, DidAsSaid, StoppedShort};
 
 use crate::command_line::{LineFault, line};
 use scope_model::Limits;
@@ -39,9 +39,9 @@ pub enum ProgramFault {
 /// What is read comes from `reader`, what is written goes to `writer`, and what is said of faults to
 /// `errors`, whose own failing is passed over.
 ///
-/// With status 0 and words that say a replay, all bytes were read and exactly the reply text of them
-/// was written, in a realm of the limits that stand in the words. With status 1 what was written is a
-/// beginning of that. With status 2 the words say nothing.
+/// With status 0 the words ask for help or the version, or they say a replay: then all bytes were read
+/// and exactly the reply text of them was written, in a realm of the limits that stand in the words.
+/// With status 1 what was written is a beginning of that. With status 2 the words say nothing.
 pub fn act<'a, R: Read + Drop, W: Write + Drop, E: Write>(
     alloc: Global,
     words: &'a [&'a str],
@@ -52,13 +52,14 @@ pub fn act<'a, R: Read + Drop, W: Write + Drop, E: Write>(
     requires reader { reader.old.failed ≡ false }
     requires writer { writer.old.failed ≡ false }
     ensures status { result ≤ 2 }
-    ensures done { result ≡ 0 → SaysNone (map (λ word. word.now) words.now) ⊎ DidAsSaid (map (λ word. word.now) words.now) (R.remaining reader.old.inner) (R.remaining reader.new.inner) (W.contents writer.old.inner) (W.contents writer.new.inner) }
+    ensures done { result ≡ 0 → AsksText (map (λ word. word.now) words.now) ⊎ DidAsSaid (map (λ word. word.now) words.now) (R.remaining reader.old.inner) (R.remaining reader.new.inner) (W.contents writer.old.inner) (W.contents writer.new.inner) }
     ensures fault { result ≡ 1 → SaysNone (map (λ word. word.now) words.now) ⊎ StoppedShort (map (λ word. word.now) words.now) (R.remaining reader.old.inner) (R.remaining reader.new.inner) (W.contents writer.old.inner) (W.contents writer.new.inner) }
     ensures not_understood { result ≡ 2 → SaysNone (map (λ word. word.now) words.now) }
 {
     match line(alloc, words) {
         Ok(command) => replay(alloc, command.limits, reader, writer, errors),
-        Err(LineFault::Help(text) | LineFault::Version(text)) => tell(&text, writer, errors),
+        Err(LineFault::Help(text)) => tell(&text, writer, errors),
+        Err(LineFault::Version(text)) => tell(&text, writer, errors),
         Err(LineFault::Usage(text)) => {
             let _told = errors.write_all(text.as_bytes());
             NOT_UNDERSTOOD
