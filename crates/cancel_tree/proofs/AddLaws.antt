@@ -4,27 +4,21 @@ use Rattle.std.specs.Option.{option_and_then, IfSome}
 use Rattle.std.proofs.lemmas.Bool.{ne_eqb, eq-eqb, cases_eq, cases_lt}
 use Rattle.std.proofs.lemmas.Option.{same_Some, slice_get-get_or, slice_get_within, slice_get_past}
 use Rattle.std.proofs.Math.ListN.{length-set}
-use Rattle.cancel_tree.specs.declared.rows.Cut.{Cut}
+use Rattle.scope_rules.specs.declared.types.records.Cut.{Cut}
 use Rattle.cancel_tree.specs.declared.rows.Told.{Told}
 use Rattle.cancel_tree.specs.declared.rows.Links.{Links}
-use Rattle.cancel_tree.specs.Chains.{onward, chain, nearer}
+use Rattle.scope_rules.specs.Chains.{IsInward, onward, chain_by, nearer}
 use Rattle.cancel_tree.specs.Rows.{row, IsAdded, outer, new_row, parent_of, outer_of, own_of, cut_of, level_of, level_in}
 use Rattle.cancel_tree.specs.Reach.{is_scope, last_inner}
-use Rattle.cancel_tree.specs.Kept.{IsInward, IsKept}
-use Rattle.cancel_tree.proofs.ChainLaws.{first_cut_law, first_cut_kept, chain_law, chain_kept}
+use Rattle.cancel_tree.specs.Columns.{AreColumns}
+use Rattle.scope_rules.proofs.ChainLaws.{cut_law, cut_kept, chain_law, chain_kept}
 use Rattle.cancel_tree.proofs.ReachLaws.{last_inner_found}
 use Rattle.cancel_tree.proofs.SpreadLaws.{slice_get-set}
 use Rattle.cancel_tree.proofs.RowLaws.{outer_inward}
-
-some_none : {A : Type 0} (x : A) → None ≡ Some x → ⊥
-some_none x e = cc
+use Rattle.scope_rules.proofs.EarliestLaws.{some_none}
+use Rattle.scope_rules.proofs.Prefixes.{get_push}
 
 -- ---- one more at the end
-
-push_before : {A : Type 0} (xs : List A) (x : A) (i : ℕ) → i < length xs → slice_get (xs ++ x ∷ []) i ≡ slice_get xs i
-push_before [] x i h = absurd (omega arith)
-push_before (y ∷ xs) x zero h = refl
-push_before (y ∷ xs) x (suc i) h = push_before xs x i (omega arith)
 
 push_here : {A : Type 0} (xs : List A) (x : A) → slice_get (xs ++ x ∷ []) (length xs) ≡ Some x
 push_here [] x = refl
@@ -37,7 +31,7 @@ push_length (y ∷ xs) x = ap suc (push_length xs x)
 push_cases : {A : Type 0} (xs : List A) (x : A) (i : ℕ) (y : A) → slice_get (xs ++ x ∷ []) i ≡ Some y → ((i ≡ length xs) × (y ≡ x)) ⊎ ((i < length xs) × (slice_get xs i ≡ Some y))
 push_cases xs x i y e =
     elim (cases_lt i (length xs)) [
-      | inl lt ↦ inr (lt, sym (push_before xs x i lt) ∙ e)
+      | inl lt ↦ inr (lt, sym (get_push xs x i lt) ∙ e)
       | inr ge ↦ (let k : i < length (xs ++ x ∷ []) = slice_get_within (xs ++ x ∷ []) i y e in
           let is : i ≡ length xs = omega (arith, push_length xs x) in
           inl (is, same_Some y x (sym e ∙ ap (slice_get (xs ++ x ∷ [])) is ∙ push_here xs x)))
@@ -116,7 +110,7 @@ no_inner outer inward s n h (Some c) e = absurd (let f = last_inner_found outer 
 
 -- ---- the tree
 
-module _ (told : List Told) (links : List Links) (cuts : List (Option Cut)) (kept : IsKept told links cuts) (parent : Option ℕ) (shield : Bool) (there : IfSome parent (IsAdded told)) (d : Links) where
+module _ (told : List Told) (links : List Links) (cuts : List (Option Cut)) (kept : AreColumns told links cuts) (parent : Option ℕ) (shield : Bool) (there : IfSome parent (IsAdded told)) (d : Links) where
   abbrev r : Told
   r = new_row parent shield
 
@@ -134,7 +128,7 @@ module _ (told : List Told) (links : List Links) (cuts : List (Option Cut)) (kep
 
   row_before : (t : ℕ) → t ≤ n → row new t ≡ row told t
   row_before zero h = refl
-  row_before (suc i) h = push_before told r i (omega arith)
+  row_before (suc i) h = get_push told r i (omega arith)
 
   row_here : row new (suc n) ≡ Some r
   row_here = push_here told r
@@ -228,11 +222,11 @@ module _ (told : List Told) (links : List Links) (cuts : List (Option Cut)) (kep
       ]
 
   level_here : level_of new (suc n) ≡ level_in told parent
-  level_here = ap length (chain_law (parent_of new) inward_new (suc n) (omega arith)) ∙ ap (λ o. suc (length (onward o (chain (parent_of new))))) parent_here ∙ by parent there
+  level_here = ap length (chain_law (parent_of new) inward_new (suc n)) ∙ ap (λ o. suc (length (onward o (chain_by (parent_of new))))) parent_here ∙ by parent there
     where
-      by : (o : Option ℕ) → IfSome o (IsAdded told) → suc (length (onward o (chain (parent_of new)))) ≡ level_in told o
+      by : (o : Option ℕ) → IfSome o (IsAdded told) → suc (length (onward o (chain_by (parent_of new)))) ≡ level_in told o
       by None h = refl
-      by (Some p) h = (let e : length (chain (parent_of new) p) ≡ length (chain (parent_of told) p) = ap length (chain_kept (parent_of told) (parent_of new) kept.inward n parents inward_new p h.0 h.1) in omega arith)
+      by (Some p) h = (let e : length (chain_by (parent_of new) p) ≡ length (chain_by (parent_of told) p) = ap length (chain_kept (parent_of told) (parent_of new) kept.inward n parents inward_new p h.0 h.1) in omega arith)
 
   levels_new : (i : ℕ) (l : Links) → slice_get new_links i ≡ Some l → l.level ≡ level_of new (suc i)
   levels_new i l e =
@@ -244,11 +238,11 @@ module _ (told : List Told) (links : List Links) (cuts : List (Option Cut)) (kep
       ]
 
   cut_before : (t : ℕ) → 1 ≤ t → t ≤ n → cut_of new t ≡ cut_of told t
-  cut_before t h k = first_cut_kept (outer_of told) (outer_of new) inwards n outers (outer_inward new inward_new) (own_of told) (own_of new) owns t h k
+  cut_before t h k = cut_kept (outer_of told) (outer_of new) inwards n outers (outer_inward new inward_new) (own_of told) (own_of new) owns t h k
 
   cut_here : cut_of new (suc n) ≡ cut
   cut_here =
-      first_cut_law (outer_of new) (outer_inward new inward_new) (own_of new) (suc n) (omega arith)
+      cut_law (outer_of new) (outer_inward new inward_new) (own_of new) (suc n)
       ∙ ap (λ o. nearer o (option_and_then (cut_of new) (outer_of new (suc n)))) own_here
       ∙ ap (option_and_then (cut_of new)) outer_here
       ∙ by (outer r) (added_outer shield parent there)
@@ -260,7 +254,7 @@ module _ (told : List Told) (links : List Links) (cuts : List (Option Cut)) (kep
   cuts_new : (i : ℕ) → i < length new → slice_get (cuts ++ cut ∷ []) i ≡ Some (cut_of new (suc i))
   cuts_new i lt =
       elim (cases_lt i n) [
-        | inl l ↦ push_before cuts cut i (omega (arith, kept.columns)) ∙ kept.cut i l ∙ ap Some (sym (cut_before (suc i) (omega arith) (omega arith)))
+        | inl l ↦ get_push cuts cut i (omega (arith, kept.columns)) ∙ kept.cut i l ∙ ap Some (sym (cut_before (suc i) (omega arith) (omega arith)))
         | inr g ↦ (let at : i ≡ n = omega (arith, push_length told r) in
             ap (slice_get (cuts ++ cut ∷ [])) (at ∙ sym kept.columns) ∙ push_here cuts cut ∙ ap Some (sym cut_here) ∙ ap (λ j. Some (cut_of new (suc j))) (sym at))
       ]
@@ -280,7 +274,7 @@ module _ (told : List Told) (links : List Links) (cuts : List (Option Cut)) (kep
             | inr ne ↦ some_none c (sym (ap (option_and_then (λ (t : Told). t.own)) (slice_get_past new i (let l : length new ≡ suc n = push_length told r in omega arith))) ∙ e)
           ]
 
-  pub kept_add : IsKept new new_links (cuts ++ cut ∷ [])
+  pub kept_add : AreColumns new new_links (cuts ++ cut ∷ [])
   kept_add = record {
     inward = inward_new;
     rows = length_links ∙ sym (push_length told r);
@@ -304,7 +298,7 @@ link_is told parent shield around next o level is at =
     λ i. record { level = level i; first_inner = None; next_inner = (at ∙ ap (option_and_then (λ s. last_inner (outer_of told) s (length told))) is) i }
 
 -- the columns with the new row, as they are written
-module _ (ts told told_new : List Told) (links links_new : List Links) (cuts cuts_new : List (Option Cut)) (is : told ≡ ts) (kept : IsKept told links cuts) (parent : Option ℕ) (shield : Bool) (there : IfSome parent (IsAdded ts))
+module _ (ts told told_new : List Told) (links links_new : List Links) (cuts cuts_new : List (Option Cut)) (is : told ≡ ts) (kept : AreColumns told links cuts) (parent : Option ℕ) (shield : Bool) (there : IfSome parent (IsAdded ts))
     (around : ℕ) (next o : Option ℕ) (k : Option Cut) (b : Bool) (done : b ≡ true)
     (a : told_new ≡ cond b (told ++ new_row parent shield ∷ []) told)
     (l : links_new ≡ cond b (links ++ (let x : Links = record { level = around + 1; first_inner = None; next_inner = next } in x) ∷ []) links)
@@ -330,19 +324,19 @@ module _ (ts told told_new : List Told) (links links_new : List Links) (cuts cut
   cuts_are : cuts_new ≡ cuts ++ the_cut ∷ []
   cuts_are = u ∙ ap (λ c. cond c (cuts ++ k ∷ []) cuts) done ∙ ap (λ x. cuts ++ x ∷ []) (cut_is ∙ ap (λ xs. option_and_then (cut_of xs) o) (sym is) ∙ ap (option_and_then (cut_of told)) at)
 
-  kept_at : (d : Links) → IsKept (told ++ new_row parent shield ∷ []) (relinked (outer (new_row parent shield)) links the_link d) (cuts ++ the_cut ∷ [])
+  kept_at : (d : Links) → AreColumns (told ++ new_row parent shield ∷ []) (relinked (outer (new_row parent shield)) links the_link d) (cuts ++ the_cut ∷ [])
   kept_at d = kept_add told links cuts kept parent shield there_told d
 
-  kept_columns : (ls : List Links) (d : Links) → ls ≡ relinked (outer (new_row parent shield)) links the_link d → IsKept told_new ls cuts_new
+  kept_columns : (ls : List Links) (d : Links) → ls ≡ relinked (outer (new_row parent shield)) links the_link d → AreColumns told_new ls cuts_new
   kept_columns ls d e =
-      subst (λ xs. IsKept xs ls cuts_new) (sym told_is)
-      (subst (λ xs. IsKept (told ++ new_row parent shield ∷ []) ls xs) (sym cuts_are)
-      (subst (λ xs. IsKept (told ++ new_row parent shield ∷ []) xs (cuts ++ the_cut ∷ [])) (sym e) (kept_at d)))
+      subst (λ xs. AreColumns xs ls cuts_new) (sym told_is)
+      (subst (λ xs. AreColumns (told ++ new_row parent shield ∷ []) ls xs) (sym cuts_are)
+      (subst (λ xs. AreColumns (told ++ new_row parent shield ∷ []) xs (cuts ++ the_cut ∷ [])) (sym e) (kept_at d)))
 
-  pub kept_alone : Links → o ≡ None → IsKept told_new links_new cuts_new
+  pub kept_alone : Links → o ≡ None → AreColumns told_new links_new cuts_new
   kept_alone d none = kept_columns links_new d (links_are ∙ ap (λ x. relinked x links the_link d) (sym none ∙ at))
 
-  pub kept_inside : (p scope : ℕ) (x : Links) → o ≡ Some p → x ≡ get_or links_new (p - 1) x → scope ≡ length ts + 1 → IsKept told_new (set links_new (p - 1) (record x { first_inner = Some scope })) cuts_new
+  pub kept_inside : (p scope : ℕ) (x : Links) → o ≡ Some p → x ≡ get_or links_new (p - 1) x → scope ≡ length ts + 1 → AreColumns told_new (set links_new (p - 1) (record x { first_inner = Some scope })) cuts_new
   kept_inside p scope x some read number =
       let count : scope ≡ suc (length links) = number ∙ ap (λ xs. length xs + 1) (sym is) ∙ ap (λ n. n + 1) (sym kept.rows) ∙ omega arith in
       kept_columns (set links_new (p - 1) (record x { first_inner = Some scope })) x

@@ -3,83 +3,80 @@ use Rattle.std.proofs.Common.{◌≡◌, ◌≢◌, ℕ, ◌<◌, ◌≤◌, Boo
 use Rattle.std.specs.Option.{option_and_then}
 use Rattle.std.proofs.lemmas.Bool.{false≢true, eq-eqb, ne_eqb, le-leb, lt-leb, cases_eq, cases_Bool}
 use Rattle.std.proofs.lemmas.Option.{same_Some}
-use Rattle.cancel_tree.specs.declared.rows.Cut.{Cut}
-use Rattle.cancel_tree.specs.Chains.{nearer, first_cut}
+use Rattle.scope_rules.specs.declared.types.records.Cut.{Cut}
+use Rattle.scope_rules.specs.Chains.{IsInward, nearer, cut_by}
 use Rattle.cancel_tree.specs.Reach.{reached}
-use Rattle.cancel_tree.specs.Kept.{IsInward}
-use Rattle.cancel_tree.proofs.ChainLaws.{along, first_cut_law}
+use Rattle.scope_rules.proofs.ChainLaws.{along, cut_law}
 use Rattle.cancel_tree.proofs.ReachLaws.{reached_law, reached_itself, reached_above, from_outside}
-
-some_none : {A : Type 0} (x : A) → None ≡ Some x → ⊥
-some_none x e = cc
+use Rattle.scope_rules.proofs.EarliestLaws.{some_none}
 
 -- what holds of the near one and of the far one holds of the nearer
 nearer_holds : (P : Cut → Type 0) (a b : Option Cut) → ((c : Cut) → a ≡ Some c → P c) → ((c : Cut) → b ≡ Some c → P c) → (c : Cut) → nearer a b ≡ Some c → P c
 nearer_holds P None b f g c e = g c e
 nearer_holds P (Some a) None f g c e = f c e
 nearer_holds P (Some a) (Some b) f g c e =
-    elim (cases_Bool (leb a.number b.number)) [
+    elim (cases_Bool (leb a.place b.place)) [
       | inl w ↦ f c (sym (ap (λ t. cond t (Some a) (Some b)) w) ∙ e)
       | inr w ↦ g c (sym (ap (λ t. cond t (Some a) (Some b)) w) ∙ e)
     ]
 
 -- the near one, where the far one is none or not earlier
-nearer_first : (a : Cut) (b : Option Cut) → ((c : Cut) → b ≡ Some c → a.number ≤ c.number) → nearer (Some a) b ≡ Some a
+nearer_first : (a : Cut) (b : Option Cut) → ((c : Cut) → b ≡ Some c → a.place ≤ c.place) → nearer (Some a) b ≡ Some a
 nearer_first a None h = refl
-nearer_first a (Some b) h = ap (λ t. cond t (Some a) (Some b)) (le-leb a.number b.number (h b refl))
+nearer_first a (Some b) h = ap (λ t. cond t (Some a) (Some b)) (le-leb a.place b.place (h b refl))
 
-nearer_later : (a b : Cut) → b.number < a.number → nearer (Some a) (Some b) ≡ Some b
-nearer_later a b h = ap (λ t. cond t (Some a) (Some b)) (lt-leb a.number b.number h)
+nearer_later : (a b : Cut) → b.place < a.place → nearer (Some a) (Some b) ≡ Some b
+nearer_later a b h = ap (λ t. cond t (Some a) (Some b)) (lt-leb a.place b.place h)
 
 is_None : {A : Type 0} (o : Option A) → is_none o ≡ true → o ≡ None
 is_None None e = refl
 is_None (Some x) e = absurd (false≢true e)
 
-module _ (outer : ℕ → Option ℕ) (inward : IsInward outer) (own : ℕ → Option Cut) (n : ℕ) (latest : (t : ℕ) (c : Cut) → own t ≡ Some c → c.number ≤ n) where
-  far_bounded : (o : Option ℕ) → ((p : ℕ) → o ≡ Some p → (c : Cut) → first_cut outer own p ≡ Some c → c.number ≤ n) → (c : Cut) → option_and_then (first_cut outer own) o ≡ Some c → c.number ≤ n
+module _ (outer : ℕ → Option ℕ) (inward : IsInward outer) (own : ℕ → Option Cut) (n : ℕ) (latest : (t : ℕ) (c : Cut) → own t ≡ Some c → c.place ≤ n) where
+  far_bounded : (o : Option ℕ) → ((p : ℕ) → o ≡ Some p → (c : Cut) → cut_by outer own p ≡ Some c → c.place ≤ n) → (c : Cut) → option_and_then (cut_by outer own) o ≡ Some c → c.place ≤ n
   far_bounded None h c e = absurd (some_none c e)
   far_bounded (Some p) h c e = h p refl c e
 
-  pub cut_bounded : (t : ℕ) → 1 ≤ t → (c : Cut) → first_cut outer own t ≡ Some c → c.number ≤ n
+  pub cut_bounded : (t : ℕ) → 1 ≤ t → (c : Cut) → cut_by outer own t ≡ Some c → c.place ≤ n
   cut_bounded =
-      along outer inward (λ t. (c : Cut) → first_cut outer own t ≡ Some c → c.number ≤ n)
-      (λ t h ih c e. nearer_holds (λ c. c.number ≤ n) (own t) (option_and_then (first_cut outer own) (outer t)) (latest t) (far_bounded (outer t) ih) c (sym (first_cut_law outer inward own t h) ∙ e))
+      along outer inward (λ t. (c : Cut) → cut_by outer own t ≡ Some c → c.place ≤ n)
+      (λ t h ih c e. nearer_holds (λ c. c.place ≤ n) (own t) (option_and_then (cut_by outer own) (outer t)) (latest t) (far_bounded (outer t) ih) c (sym (cut_law outer inward own t) ∙ e))
 
 module _ (outer : ℕ → Option ℕ) (inward : IsInward outer) (own new : ℕ → Option Cut) (s : ℕ) (m : Cut) (h : 1 ≤ s) (was : own s ≡ None) (is : new s ≡ Some m) (same : (t : ℕ) → t ≢ s → new t ≡ own t) where
   abbrev cut : ℕ → Option Cut
-  cut t = first_cut outer own t
+  cut t = cut_by outer own t
 
   abbrev cut_new : ℕ → Option Cut
-  cut_new t = first_cut outer new t
+  cut_new t = cut_by outer new t
 
   abbrev far : Option ℕ → Option Cut
-  far o = option_and_then (first_cut outer own) o
+  far o = option_and_then (cut_by outer own) o
 
   abbrev far_new : Option ℕ → Option Cut
-  far_new o = option_and_then (first_cut outer new) o
+  far_new o = option_and_then (cut_by outer new) o
 
   -- what was the cut of the scope came from outside
   from_far : cut s ≡ far (outer s)
-  from_far = first_cut_law outer inward own s h ∙ ap (λ o. nearer o (far (outer s))) was
+  from_far = cut_law outer inward own s ∙ ap (λ o. nearer o (far (outer s))) was
 
   far_same : (t : ℕ) → ((p : ℕ) → outer t ≡ Some p → cut_new p ≡ cut p) → (o : Option ℕ) → outer t ≡ o → far_new o ≡ far o
   far_same t ih None e = refl
   far_same t ih (Some p) e = ih p e
 
   -- an own cancel later than the cause changes nothing
-  pub cut_stays : (c : Cut) → cut s ≡ Some c → c.number < m.number → (t : ℕ) → 1 ≤ t → cut_new t ≡ cut t
+  pub cut_stays : (c : Cut) → cut s ≡ Some c → c.place < m.place → (t : ℕ) → 1 ≤ t → cut_new t ≡ cut t
   cut_stays c at late =
       along outer inward (λ t. cut_new t ≡ cut t)
       (λ t k ih. elim (cases_eq t s) [
         | inl e ↦ subst (λ u. ((p : ℕ) → outer u ≡ Some p → cut_new p ≡ cut p) → cut_new u ≡ cut u) (sym e)
-            (λ ih. first_cut_law outer inward new s h
+            (λ ih. cut_law outer inward new s
             ∙ ap (λ o. nearer o (far_new (outer s))) is
             ∙ ap (nearer (Some m)) (far_same s ih (outer s) refl ∙ sym from_far ∙ at)
             ∙ nearer_later m c late ∙ sym at) ih
-        | inr ne ↦ first_cut_law outer inward new t k
+        | inr ne ↦ cut_law outer inward new t
             ∙ ap (λ o. nearer o (far_new (outer t))) (same t ne)
             ∙ ap (nearer (own t)) (far_same t ih (outer t) refl)
-            ∙ sym (first_cut_law outer inward own t k)
+            ∙ sym (cut_law outer inward own t)
       ])
 
   abbrev R : ℕ → Bool
@@ -108,7 +105,7 @@ module _ (outer : ℕ → Option ℕ) (inward : IsInward outer) (own new : ℕ �
 
   open_cut : (t : ℕ) → 1 ≤ t → (p : ℕ) → outer t ≡ Some p → own t ≡ None → cut t ≡ cut p
   open_cut t k p e none =
-      first_cut_law outer inward own t k ∙ ap (λ o. nearer o (far (outer t))) none ∙ ap far e
+      cut_law outer inward own t ∙ ap (λ o. nearer o (far (outer t))) none ∙ ap far e
 
   -- what is reached had the cut of the scope
   reached_cut : (t : ℕ) → 1 ≤ t → R t ≡ true → cut t ≡ cut s
@@ -124,7 +121,7 @@ module _ (outer : ℕ → Option ℕ) (inward : IsInward outer) (own new : ℕ �
       by t k ne None at None e ih r = absurd (false≢true (sym (reached_open t k ne at ∙ ap (from_outside s 0 t R) e) ∙ r))
       by t k ne None at (Some p) e ih r = open_cut t k p e at ∙ ih p e (sym (reached_open t k ne at ∙ ap (from_outside s 0 t R) e ∙ passed_on t p) ∙ r)
 
-  module _ (latest : (t : ℕ) (c : Cut) → own t ≡ Some c → c.number ≤ m.number) (fresh : (c : Cut) → cut s ≡ Some c → m.number ≤ c.number) where
+  module _ (latest : (t : ℕ) (c : Cut) → own t ≡ Some c → c.place ≤ m.place) (fresh : (c : Cut) → cut s ≡ Some c → m.place ≤ c.place) where
     abbrev IsPut : ℕ → Type 0
     IsPut t = cut_new t ≡ cond (R t) (Some m) (cut t)
 
@@ -133,35 +130,35 @@ module _ (outer : ℕ → Option ℕ) (inward : IsInward outer) (own new : ℕ �
 
     put_here : ((p : ℕ) → outer s ≡ Some p → IsPut p) → IsPut s
     put_here ih =
-        first_cut_law outer inward new s h
+        cut_law outer inward new s
         ∙ ap (λ o. nearer o (far_new (outer s))) is
         ∙ ap (nearer (Some m)) (far_same s (λ p e. let i = inward s p e in above_same p i.0 i.1 (ih p e)) (outer s) refl ∙ sym from_far)
         ∙ nearer_first m (cut s) fresh
         ∙ sym (ap (λ b. cond b (Some m) (cut s)) (reached_itself outer inward new s 0 h))
 
     -- an own cancel is not later than the new one, nor than what that replaces
-    owned_same : (o : Cut) (p : ℕ) → 1 ≤ p → o.number ≤ m.number → (b : Bool) → R p ≡ b → nearer (Some o) (cond b (Some m) (cut p)) ≡ nearer (Some o) (cut p)
+    owned_same : (o : Cut) (p : ℕ) → 1 ≤ p → o.place ≤ m.place → (b : Bool) → R p ≡ b → nearer (Some o) (cond b (Some m) (cut p)) ≡ nearer (Some o) (cut p)
     owned_same o p k le true r =
-        nearer_first o (Some m) (λ c e. let q : m ≡ c = same_Some m c e in subst (λ (x : Cut). o.number ≤ x.number) q le)
-        ∙ sym (nearer_first o (cut p) (λ c e. let f : m.number ≤ c.number = fresh c (sym (reached_cut p k r) ∙ e) in omega arith))
+        nearer_first o (Some m) (λ c e. let q : m ≡ c = same_Some m c e in subst (λ (x : Cut). o.place ≤ x.place) q le)
+        ∙ sym (nearer_first o (cut p) (λ c e. let f : m.place ≤ c.place = fresh c (sym (reached_cut p k r) ∙ e) in omega arith))
     owned_same o p k le false r = refl
 
     put_inside : (t : ℕ) → 1 ≤ t → t ≢ s → (c : Option Cut) → own t ≡ c → (o : Option ℕ) → outer t ≡ o → ((p : ℕ) → outer t ≡ Some p → IsPut p) → IsPut t
     put_inside t k ne (Some c) at None e ih =
-        first_cut_law outer inward new t k ∙ ap (λ o. nearer o (far_new (outer t))) (same t ne) ∙ ap (λ o. nearer (own t) (far_new o)) e
-        ∙ sym (first_cut_law outer inward own t k ∙ ap (λ o. nearer (own t) (far o)) e)
+        cut_law outer inward new t ∙ ap (λ o. nearer o (far_new (outer t))) (same t ne) ∙ ap (λ o. nearer (own t) (far_new o)) e
+        ∙ sym (cut_law outer inward own t ∙ ap (λ o. nearer (own t) (far o)) e)
         ∙ sym (ap (λ b. cond b (Some m) (cut t)) (reached_owned t k ne c at))
     put_inside t k ne (Some c) at (Some p) e ih =
-        first_cut_law outer inward new t k ∙ ap (λ o. nearer o (far_new (outer t))) (same t ne ∙ at) ∙ ap (λ o. nearer (Some c) (far_new o)) e
+        cut_law outer inward new t ∙ ap (λ o. nearer o (far_new (outer t))) (same t ne ∙ at) ∙ ap (λ o. nearer (Some c) (far_new o)) e
         ∙ ap (nearer (Some c)) (ih p e) ∙ owned_same c p (inward t p e).0 (latest t c at) (R p) refl
-        ∙ sym (first_cut_law outer inward own t k ∙ ap (λ o. nearer o (far (outer t))) at ∙ ap (λ o. nearer (Some c) (far o)) e)
+        ∙ sym (cut_law outer inward own t ∙ ap (λ o. nearer o (far (outer t))) at ∙ ap (λ o. nearer (Some c) (far o)) e)
         ∙ sym (ap (λ b. cond b (Some m) (cut t)) (reached_owned t k ne c at))
     put_inside t k ne None at None e ih =
-        first_cut_law outer inward new t k ∙ ap (λ o. nearer o (far_new (outer t))) (same t ne) ∙ ap (λ o. nearer (own t) (far_new o)) e
-        ∙ sym (first_cut_law outer inward own t k ∙ ap (λ o. nearer (own t) (far o)) e)
+        cut_law outer inward new t ∙ ap (λ o. nearer o (far_new (outer t))) (same t ne) ∙ ap (λ o. nearer (own t) (far_new o)) e
+        ∙ sym (cut_law outer inward own t ∙ ap (λ o. nearer (own t) (far o)) e)
         ∙ sym (ap (λ b. cond b (Some m) (cut t)) (reached_open t k ne at ∙ ap (from_outside s 0 t R) e))
     put_inside t k ne None at (Some p) e ih =
-        first_cut_law outer inward new t k ∙ ap (λ o. nearer o (far_new (outer t))) (same t ne ∙ at) ∙ ap far_new e
+        cut_law outer inward new t ∙ ap (λ o. nearer o (far_new (outer t))) (same t ne ∙ at) ∙ ap far_new e
         ∙ ih p e
         ∙ ap (λ c. cond (R p) (Some m) c) (sym (open_cut t k p e at))
         ∙ sym (ap (λ b. cond b (Some m) (cut t)) (reached_open t k ne at ∙ ap (from_outside s 0 t R) e ∙ passed_on t p))

@@ -2,9 +2,8 @@
 use Rattle.std.proofs.Common.{◌≡◌, ℕ, ◌<◌, ◌≤◌, Option, Some, None, min, refl, ap, sym, ◌∙◌, arith}
 use Rattle.std.specs.Option.{option_and_then}
 use Rattle.std.proofs.lemmas.Option.{same_Some}
-use Rattle.cancel_tree.specs.Chains.{chain, sooner, least_on}
-use Rattle.cancel_tree.specs.Kept.{IsInward}
-use Rattle.cancel_tree.proofs.ChainLaws.{least_law}
+use Rattle.scope_rules.specs.Chains.{IsInward, chain_by, sooner, least_on}
+use Rattle.scope_rules.proofs.ChainLaws.{least_law}
 use Rattle.cancel_tree.proofs.ReachLaws.{place}
 
 min_assoc : (a b c : ℕ) → min (min a b) c ≡ min a (min b c)
@@ -22,17 +21,17 @@ sooner_none (Some a) = refl
 
 -- the least deadline from the scope on, if there is one
 abbrev pub least_from : (ℕ → Option ℕ) → (ℕ → Option ℕ) → Option ℕ → Option ℕ
-least_from outer deadline next = option_and_then (λ p. least_on deadline (chain outer p)) next
+least_from outer deadline next = option_and_then (λ p. least_on deadline (chain_by outer p)) next
 
 -- what was found and what is still to come make up the least of the chain
 pub record IsLeastSoFar (outer deadline : ℕ → Option ℕ) (n s : ℕ) (least next : Option ℕ) : Type 0 where
-  pub all : sooner least (least_from outer deadline next) ≡ least_on deadline (chain outer s)
+  pub all : sooner least (least_from outer deadline next) ≡ least_on deadline (chain_by outer s)
   pub within : (p : ℕ) → next ≡ Some p → (1 ≤ p) × (p ≤ n)
 
 pub least_start : (outer deadline : ℕ → Option ℕ) (n s : ℕ) → 1 ≤ s → s ≤ n → IsLeastSoFar outer deadline n s None (Some s)
 least_start outer deadline n s h k = record { all = refl; within = λ p e. (let is = same_Some s p e in (omega arith, omega arith)) }
 
-pub least_end : (outer deadline : ℕ → Option ℕ) (n s : ℕ) (least next : Option ℕ) → IsLeastSoFar outer deadline n s least next → next ≡ None → least ≡ least_on deadline (chain outer s)
+pub least_end : (outer deadline : ℕ → Option ℕ) (n s : ℕ) (least next : Option ℕ) → IsLeastSoFar outer deadline n s least next → next ≡ None → least ≡ least_on deadline (chain_by outer s)
 least_end outer deadline n s least next h e = sym (sooner_none least) ∙ sym (ap (λ o. sooner least (least_from outer deadline o)) e) ∙ h.all
 
 pub least_step : (outer deadline : ℕ → Option ℕ) (inward : IsInward outer) (n s p : ℕ) (least next d o more : Option ℕ) → IsLeastSoFar outer deadline n s least next → next ≡ Some p → d ≡ deadline p → o ≡ outer p → more ≡ sooner least d
@@ -42,7 +41,7 @@ least_step outer deadline inward n s p least next d o more h at d_is o_is more_i
     record {
       all = (λ i. sooner ((more_is ∙ ap (sooner least) d_is) i) (least_from outer deadline (o_is i)))
           ∙ sooner_assoc least (deadline p) (least_from outer deadline (outer p))
-          ∙ ap (sooner least) (sym (least_law outer inward deadline p w.0) ∙ ap (least_from outer deadline) (sym at))
+          ∙ ap (sooner least) (sym (least_law outer inward deadline p) ∙ ap (least_from outer deadline) (sym at))
           ∙ h.all;
       within = λ q e. (let i = inward p q (sym o_is ∙ e) in (i.0, omega (arith, i.1, w.1)));
     }

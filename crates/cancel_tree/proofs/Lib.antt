@@ -1,10 +1,8 @@
-pub mod ChainLaws
 pub mod ReachLaws
 pub mod SpreadLaws
 pub mod RowLaws
 pub mod CutLaws
-pub mod KeptLaws
+pub mod ColumnLaws
 pub mod AddLaws
 pub mod LeastLaws
 pub mod LatestLaws
-pub mod EarliestLaws

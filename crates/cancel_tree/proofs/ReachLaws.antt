@@ -3,11 +3,10 @@ use Rattle.std.proofs.Common.{◌≡◌, ◌≢◌, ℕ, zero, suc, ◌<◌, ◌
 use Rattle.std.proofs.lemmas.Bool.{false≢true, eqb-true, eqb-false, eq-eqb, ne_eqb, le-leb, lt-leb, cases_eq, cases_lt, cases_Bool}
 use Rattle.std.proofs.lemmas.Bool.Decides.{nat_tests}
 use Rattle.std.proofs.lemmas.Option.{same_Some}
-use Rattle.cancel_tree.specs.declared.rows.Cut.{Cut}
-use Rattle.cancel_tree.specs.Chains.{onward, chain}
+use Rattle.scope_rules.specs.declared.types.records.Cut.{Cut}
+use Rattle.scope_rules.specs.Chains.{IsInward, onward, chain_by}
 use Rattle.cancel_tree.specs.Reach.{head_is, leads, reached, is_scope, last_inner}
-use Rattle.cancel_tree.specs.Kept.{IsInward}
-use Rattle.cancel_tree.proofs.ChainLaws.{along, chain_law}
+use Rattle.scope_rules.proofs.ChainLaws.{along, chain_law}
 
 -- what comes from outside: nothing, or what reaches the outer scope, where that is not s itself
 abbrev pub from_outside : ℕ → ℕ → ℕ → (ℕ → Bool) → Option ℕ → Bool
@@ -15,16 +14,16 @@ from_outside s k t reach None = false
 from_outside s k t reach (Some p) = cond (eqb p s) (leb k t) (reach p)
 
 module _ (outer : ℕ → Option ℕ) (inward : IsInward outer) (own : ℕ → Option Cut) where
-  head_of_chain : (s p : ℕ) → 1 ≤ p → head_is s (chain outer p) ≡ eqb p s
-  head_of_chain s p h = ap (head_is s) (chain_law outer inward p h)
+  head_of_chain : (s p : ℕ) → 1 ≤ p → head_is s (chain_by outer p) ≡ eqb p s
+  head_of_chain s p h = ap (head_is s) (chain_law outer inward p)
 
   pub reached_law : (s k t : ℕ) → 1 ≤ t → reached outer own s k t ≡ (eqb t s || (is_none (own t) && from_outside s k t (reached outer own s k) (outer t)))
   unfolding reached
   reached_law s k t h =
-      ap (leads own s k) (chain_law outer inward t h)
-      ∙ ap (λ b. eqb t s || (is_none (own t) && b)) (elim (outer t) as (λ o. outer t ≡ o → cond (head_is s (onward o (chain outer))) (leb k t) (leads own s k (onward o (chain outer))) ≡ from_outside s k t (λ p. leads own s k (chain outer p)) o) [
+      ap (leads own s k) (chain_law outer inward t)
+      ∙ ap (λ b. eqb t s || (is_none (own t) && b)) (elim (outer t) as (λ o. outer t ≡ o → cond (head_is s (onward o (chain_by outer))) (leb k t) (leads own s k (onward o (chain_by outer))) ≡ from_outside s k t (λ p. leads own s k (chain_by outer p)) o) [
         | None ↦ λ e. refl
-        | Some p ↦ λ e. ap (λ b. cond b (leb k t) (leads own s k (chain outer p))) (head_of_chain s p (inward t p e).0)
+        | Some p ↦ λ e. ap (λ b. cond b (leb k t) (leads own s k (chain_by outer p))) (head_of_chain s p (inward t p e).0)
       ] refl)
 
   pub reached_itself : (s k : ℕ) → 1 ≤ s → reached outer own s k s ≡ true

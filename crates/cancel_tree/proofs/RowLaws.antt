@@ -5,9 +5,9 @@ use Rattle.std.proofs.lemmas.Bool.{ne_eqb}
 use Rattle.std.proofs.lemmas.Bool.Decides.{nat_tests}
 use Rattle.std.proofs.lemmas.List.{set-get_or}
 use Rattle.std.proofs.lemmas.Option.{slice_get-get_or}
+use Rattle.scope_rules.specs.Chains.{IsInward}
 use Rattle.cancel_tree.specs.declared.rows.Told.{Told}
 use Rattle.cancel_tree.specs.Rows.{row, altered, changed, IsAdded, outer, outer_of, parent_of}
-use Rattle.cancel_tree.specs.Kept.{IsInward}
 
 pub row_at : (told : List Told) (s : ℕ) (d : Told) → IsAdded told s → row told s ≡ Some (get_or told (s - 1) d)
 row_at told zero d h = absurd (omega (arith, h.0))

@@ -3,10 +3,11 @@ use Rattle.std.proofs.Common.{◌≡◌, ◌≢◌, ℕ, zero, suc, ◌-◌, ◌
 use Rattle.std.proofs.lemmas.Bool.{ne_eqb}
 use Rattle.std.proofs.lemmas.Bool.Decides.{nat_tests}
 use Rattle.std.proofs.lemmas.Option.{slice_get-get_or}
-use Rattle.cancel_tree.specs.declared.rows.Cut.{Cut}
+use Rattle.scope_rules.specs.declared.types.records.Cut.{Cut}
+use Rattle.scope_rules.specs.Chains.{IsInward}
 use Rattle.cancel_tree.specs.Reach.{reached, last_inner, IsSpread}
 use Rattle.cancel_tree.specs.declared.rows.Links.{Links}
-use Rattle.cancel_tree.specs.Kept.{IsInward, IsLinked}
+use Rattle.cancel_tree.specs.Columns.{IsLinked}
 use Rattle.cancel_tree.proofs.ReachLaws.{reached_skip, reached_start, reached_step, last_inner_found, last_inner_after, last_inner_place, place}
 
 -- the number from which on the inner scopes were visited

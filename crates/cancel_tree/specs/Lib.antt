@@ -1,5 +1,3 @@
-pub mod Chains
 pub mod Rows
 pub mod Reach
-pub mod Kept
-pub mod Earliest
+pub mod Columns

@@ -1,7 +1,7 @@
 -- Which scopes a cancel reaches, and in which order its walk visits them.
 use Rattle.std.specs.Prelude.{◌≡◌, ◌<◌, length, slice_get, ℕ, zero, suc, Bool, true, false, cond, ◌&&◌, ◌||◌, ◌==◌, nat_le, is_none, Option, Some, None, List, [], ◌∷◌}
-use Rattle.cancel_tree.specs.declared.rows.Cut.{Cut}
-use Rattle.cancel_tree.specs.Chains.{chain}
+use Rattle.scope_rules.specs.declared.types.records.Cut.{Cut}
+use Rattle.scope_rules.specs.Chains.{chain_by}
 
 abbrev pub head_is : ℕ → List ℕ → Bool
 head_is s [] = false
@@ -14,7 +14,7 @@ leads own s k (t ∷ ts) = (t == s) || (is_none (own t) && cond (head_is s ts) (
 
 -- t is s, or lies within s, by way of the inner scopes of s from number k on, and no scope on the way has an own cancel
 unfoldable pub reached : (ℕ → Option ℕ) → (ℕ → Option Cut) → ℕ → ℕ → ℕ → Bool
-reached outer own s k t = leads own s k (chain outer t)
+reached outer own s k t = leads own s k (chain_by outer t)
 
 abbrev pub is_scope : Option ℕ → ℕ → Bool
 is_scope None s = false
@@ -29,7 +29,7 @@ last_inner outer s (suc n) = cond (is_scope (outer (suc n)) s) (Some (suc n)) (l
 abbrev pub IsSpread : (ℕ → Bool) → Cut → List (Option Cut) → List (Option Cut) → Type 0
 IsSpread test cut old new = (i : ℕ) → i < length old → slice_get new i ≡ cond (test (suc i)) (Some (Some cut)) (slice_get old i)
 
--- whether the position is at or before that of the cut, or there is none
+-- whether the place is at or before that of the cut, or there is none
 abbrev pub is_at_or_before : ℕ → Option Cut → Bool
 is_at_or_before number None = true
-is_at_or_before number (Some cut) = nat_le number cut.number
+is_at_or_before number (Some cut) = nat_le number cut.place

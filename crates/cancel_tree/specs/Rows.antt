@@ -1,13 +1,12 @@
 -- What a tree was told: a row for each scope, in order of their numbers, which count from 1.
 use Rattle.std.specs.Prelude.{◌≡◌, ℕ, zero, suc, ◌+◌, ◌-◌, ◌≤◌, Bool, cond, is_some, Option, Some, None, List, [], ◌∷◌, length, slice_get}
 use Rattle.std.specs.Option.{option_and_then, option_map, option_or}
-use Rattle.scope_model.specs.declared.types.answers.Cause.{Cause}
-use Rattle.scope_model.specs.declared.types.answers.CauseKind.{CauseKind}
-use Rattle.scope_model.specs.declared.types.answers.Effective.{Effective}
-use Rattle.scope_model.specs.declared.types.answers.Effective.TheVariants.{Past, At, Never}
-use Rattle.cancel_tree.specs.declared.rows.Cut.{Cut}
+use Rattle.scope_rules.specs.declared.types.answers.Cause.{Cause}
+use Rattle.scope_rules.specs.declared.types.answers.CauseKind.{CauseKind}
+use Rattle.scope_rules.specs.declared.types.answers.Effective.{Effective}
+use Rattle.scope_rules.specs.declared.types.records.Cut.{Cut}
 use Rattle.cancel_tree.specs.declared.rows.Told.{Told}
-use Rattle.cancel_tree.specs.Chains.{chain, first_cut, least_on}
+use Rattle.scope_rules.specs.Chains.{chain_by, cut_by, effective_by}
 
 -- the row of the scope
 abbrev pub row : List Told → ℕ → Option Told
@@ -39,7 +38,7 @@ deadline_of told s = option_and_then (λ t. t.deadline) (row told s)
 
 -- how many scopes lie around one another from it outwards, itself included
 abbrev pub level_of : List Told → ℕ → ℕ
-level_of told s = length (chain (parent_of told) s)
+level_of told s = length (chain_by (parent_of told) s)
 
 -- the level of a scope with this parent
 abbrev pub level_in : List Told → Option ℕ → ℕ
@@ -48,27 +47,23 @@ level_in told (Some p) = level_of told p + 1
 
 -- the earliest own cancel on its chain, the nearest on a tie
 abbrev pub cut_of : List Told → ℕ → Option Cut
-cut_of told s = first_cut (outer_of told) (own_of told) s
+cut_of told s = cut_by (outer_of told) (own_of told) s
 
 -- the scope whose own cancel that is, and its kind
 abbrev pub cause_of : List Told → ℕ → Option Cause
 cause_of told s = option_map (λ c. c.cause) (cut_of told s)
 
--- the position of that own cancel
-abbrev pub number_of : List Told → ℕ → Option ℕ
-number_of told s = option_map (λ c. c.number) (cut_of told s)
-
-abbrev pub at_moment : Option ℕ → Effective
-at_moment None = Never
-at_moment (Some d) = At d
+-- the place of that own cancel
+abbrev pub place_of : List Told → ℕ → Option ℕ
+place_of told s = option_map (λ c. c.place) (cut_of told s)
 
 -- past, if it is cancelled, and else the least deadline on its chain
 abbrev pub effective_of : List Told → ℕ → Effective
-effective_of told s = cond (is_some (cut_of told s)) Past (at_moment (least_on (deadline_of told) (chain (outer_of told) s)))
+effective_of told s = effective_by (outer_of told) (own_of told) (deadline_of told) s
 
--- no own cancel has a greater number
+-- no own cancel stands at a later place
 abbrev pub IsLatest : List Told → ℕ → Type 0
-IsLatest told number = (s : ℕ) (c : Cut) → own_of told s ≡ Some c → c.number ≤ number
+IsLatest told place = (s : ℕ) (c : Cut) → own_of told s ≡ Some c → c.place ≤ place
 
 -- ---- what the calls make of the rows
 
@@ -76,9 +71,9 @@ IsLatest told number = (s : ℕ) (c : Cut) → own_of told s ≡ Some c → c.nu
 abbrev pub new_row : Option ℕ → Bool → Told
 new_row parent shield = record { parent = parent; shield = shield; own = None; deadline = None }
 
--- a cancel of the scope, at this position
+-- a cancel of the scope, at this place
 abbrev pub cut_at : ℕ → ℕ → CauseKind → Cut
-cut_at number scope kind = record { number = number; cause = record { scope = scope; kind = kind } }
+cut_at place scope kind = record { place = place; cause = record { scope = scope; kind = kind } }
 
 -- an own cancel stays once it stands
 abbrev pub with_own : Cut → Told → Told

@@ -7,6 +7,3 @@ mod spread;
 pub mod tree;
 
 pub use tree::Tree;
-
-#[cfg(test)]
-mod tests;

@@ -1,13 +1,7 @@
 //! What a tree keeps of each scope.
 
-use scope_model::{Cause, ScopeId};
-
-/// A cancel: at which position it was, and which scope's own cancel it is, of which kind.
-#[derive(Clone, Copy, Debug, PartialEq, Eq)]
-pub struct Cut {
-    pub number: u64,
-    pub cause: Cause,
-}
+use scope_rules::ScopeId;
+use scope_rules::types::records::Cut;
 
 /// What a tree was told of a scope.
 #[derive(Clone, Copy, Debug, PartialEq, Eq)]

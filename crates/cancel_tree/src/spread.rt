@@ -1,10 +1,12 @@
 ghost use Rattle.std.specs.Prelude.{◌≡◌, ℕ, ◌<◌, ◌≤◌, suc, Some, None, length, slice_get, cond};
+ghost use Rattle.scope_rules.specs.Chains.{IsInward};
 ghost use Rattle.cancel_tree.specs.Rows.{outer_of, own_of, IsAdded};
 ghost use Rattle.cancel_tree.specs.Reach.{reached, IsSpread};
-ghost use Rattle.cancel_tree.specs.Kept.{IsInward, IsLinked};
+ghost use Rattle.cancel_tree.specs.Columns.{IsLinked};
 
-use crate::rows::{Cut, Links, Told};
-use scope_model::ScopeId;
+use crate::rows::{Links, Told};
+use scope_rules::ScopeId;
+use scope_rules::types::records::Cut;
 
 /// Gives the cut to the scope, and to all inside it that no shield or own cancel is in the way of.
 pub(crate) fn spread(

@@ -1,17 +1,18 @@
 ghost use Rattle.std.specs.Prelude.{◌≡◌, ℕ, ◌+◌, ◌<◌, ◌≤◌, ◌++◌, ◌∷◌, [], length, is_some, is_ok, IfSome, IfOk, IfErr, OnOk, OnErr, Some, None, if◌then◌else◌, nat_lt};
-ghost use Rattle.scope_model.specs.declared.types.refusals.Refusal.TheVariants.{TooDeep, Memory};
+ghost use Rattle.scope_rules.specs.declared.types.refusals.Refusal.TheVariants.{TooDeep, Memory};
 ghost use Rattle.std.specs.List.{Contains};
 ghost use Rattle.std.specs.Option.{option_and_then};
-ghost use Rattle.cancel_tree.specs.Chains.{chain, least_on, nearer, onward, sooner};
-ghost use Rattle.cancel_tree.specs.Earliest.{IsEarliest};
-ghost use Rattle.cancel_tree.specs.Kept.{IsInward};
+ghost use Rattle.scope_rules.specs.declared.types.capacity.TheConstants.{LEVEL_LIMIT};
+ghost use Rattle.scope_rules.specs.Chains.{IsInward, chain_by, least_on, nearer, onward, sooner};
+ghost use Rattle.scope_rules.specs.Earliest.{IsEarliest};
 ghost use Rattle.cancel_tree.specs.Reach.{is_at_or_before, last_inner};
-ghost use Rattle.cancel_tree.specs.Rows.{IsAdded, IsLatest, cause_of, number_of, cut_of, own_of, outer_of, deadline_of, effective_of, level_in, new_row, with_own, with_deadline, changed, cut_at};
+ghost use Rattle.cancel_tree.specs.Rows.{IsAdded, IsLatest, cause_of, place_of, cut_of, own_of, outer_of, deadline_of, effective_of, level_in, new_row, with_own, with_deadline, changed, cut_at};
 
-use crate::rows::{Cut, Links, Told};
+use crate::rows::{Links, Told};
 use crate::spread::spread;
-use scope_model::types::capacity::LEVEL_LIMIT;
-use scope_model::{Cause, CauseKind, Effective, Refusal, ScopeId};
+use scope_rules::types::capacity::LEVEL_LIMIT;
+use scope_rules::types::records::Cut;
+use scope_rules::{Cause, CauseKind, Effective, Refusal, ScopeId};
 use std::alloc::{AllocError, Global};
 use std::marker::Model;
 
@@ -28,13 +29,13 @@ pub struct Tree {
 impl Model for Tree {
     ghost use Rattle.std.specs.Prelude.{List};
     ghost use Rattle.cancel_tree.specs.declared.rows.Told.{Told as Row};
-    ghost use Rattle.cancel_tree.specs.Kept.{IsKept};
+    ghost use Rattle.cancel_tree.specs.Columns.{AreColumns};
 
     ghost Value = { List Row };
 
     ghost view = { λ a. a.told.items };
 
-    ghost invariant = { λ a. IsKept a.told.items a.links.items a.cuts.items };
+    ghost invariant = { λ a. AreColumns a.told.items a.links.items a.cuts.items };
 }
 
 impl Tree {
@@ -65,8 +66,8 @@ impl Tree {
         requires next { scope ≡ length self.old + 1 }
         requires there { IfSome parent (IsAdded self.old) }
         ensures added { OnOk result (self.new ≡ self.old ++ new_row parent shield ∷ []) }
-        ensures level { OnOk result (level_in self.old parent ≤ 16) }
-        ensures refused { IfErr result (λ refusal. refusal ≡ (if nat_lt 16 (level_in self.old parent) then TooDeep else Memory)) }
+        ensures level { OnOk result (level_in self.old parent ≤ LEVEL_LIMIT) }
+        ensures refused { IfErr result (λ refusal. refusal ≡ (if nat_lt LEVEL_LIMIT (level_in self.old parent) then TooDeep else Memory)) }
         ensures unchanged { OnErr result (self.new ≡ self.old) }
     {
         let around = self.level_around(parent);
@@ -160,12 +161,12 @@ impl Tree {
         self.cuts[(scope - 1) as usize].map(|cut| cut.cause)
     }
 
-    /// The position of the cause.
+    /// The place of the cause: that of the event that made it.
     pub fn number(&self, scope: ScopeId) -> Option<u64>
         requires { IsAdded self.now scope }
-        ensures { result ≡ number_of self.now scope }
+        ensures { result ≡ place_of self.now scope }
     {
-        self.cuts[(scope - 1) as usize].map(|cut| cut.number)
+        self.cuts[(scope - 1) as usize].map(|cut| cut.place as u64)
     }
 
     /// The earliest deadline in effect for the scope (Trio, `current_effective_deadline`): past where it
@@ -201,7 +202,7 @@ impl Tree {
 
     /// Cancels the scope: it keeps the first own cancel that it is given. The cancel reaches all inside
     /// it that no shield is in the way of, and is the cause where none was earlier; of two at one
-    /// position the nearer is. The position never falls from one call to the next. Takes no memory.
+    /// place the nearer is. The place, `number`, never falls from one call to the next. Takes no memory.
     pub fn cancel(&mut self, scope: ScopeId, kind: CauseKind, number: u64)
         requires added { IsAdded self.old scope }
         requires latest { IsLatest self.old number }
@@ -212,7 +213,7 @@ impl Tree {
             return;
         }
         let cut = Cut {
-            number,
+            place: number as usize,
             cause: Cause { scope, kind },
         };
         let is_cause = is_at_or_before(number, self.cuts[place]);
@@ -248,7 +249,7 @@ fn append(
 fn least_deadline(told: &[Told], scope: ScopeId) -> Option<u64>
     requires added { IsAdded told.now scope }
     requires inward { IsInward (outer_of told.now) }
-    ensures { result ≡ least_on (deadline_of told.now) (chain (outer_of told.now) scope) }
+    ensures { result ≡ least_on (deadline_of told.now) (chain_by (outer_of told.now) scope) }
 {
     let mut least = None;
     let mut next = Some(scope);
@@ -271,12 +272,12 @@ fn sooner(one: Option<u64>, other: Option<u64>) -> Option<u64>
     }
 }
 
-/// Whether the position is at or before that of the cut, or there is none.
+/// Whether the place is at or before that of the cut, or there is none.
 fn is_at_or_before(number: u64, cut: Option<Cut>) -> bool
     ensures { result ≡ is_at_or_before number cut }
 {
     match cut {
-        Some(cut) => number <= cut.number,
+        Some(cut) => number <= cut.place as u64,
         None => true,
     }
 }
@@ -286,7 +287,7 @@ impl Tree {
     /// The chain of a scope is the scope, then the chain of the scope outside it.
     pub fn chain_goes_outwards(&self, scope: ScopeId)
         requires { IsAdded self.now scope }
-        ensures { chain (outer_of self.now) scope ≡ scope ∷ onward (outer_of self.now scope) (chain (outer_of self.now)) }
+        ensures { chain_by (outer_of self.now) scope ≡ scope ∷ onward (outer_of self.now scope) (chain_by (outer_of self.now)) }
     {
         let _told = &self.told;
     }
@@ -302,14 +303,14 @@ impl Tree {
     /// The first cut of a scope is the own cancel of a scope on its chain, none on the chain has an
     /// earlier one, and none nearer has one as early.
     pub fn first_cut_is_the_earliest(&self, scope: ScopeId)
-        ensures { IsEarliest (own_of self.now) (chain (outer_of self.now) scope) (cut_of self.now scope) }
+        ensures { IsEarliest (own_of self.now) (chain_by (outer_of self.now) scope) (cut_of self.now scope) }
     {
         let _told = &self.told;
     }
 
     /// The cause of a scope is a scope on its chain.
     pub fn cause_is_on_the_chain(&self, scope: ScopeId)
-        ensures { IfSome (cause_of self.now scope) (λ cause. Contains (chain (outer_of self.now) scope) cause.scope) }
+        ensures { IfSome (cause_of self.now scope) (λ cause. Contains (chain_by (outer_of self.now) scope) cause.scope) }
     {
         let _told = &self.told;
     }

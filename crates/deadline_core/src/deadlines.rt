@@ -4,7 +4,7 @@ ghost use Rattle.std.specs.BTreeSet.{IsOrdered};
 ghost use Rattle.deadline_core.specs.Ordered.{pair_cmp, scopes_up_to};
 ghost use Rattle.deadline_core.specs.Moments.{IsFirst, IsFirstDue, IsDueInOrder, is_due};
 
-use scope_model::ScopeId;
+use scope_rules::ScopeId;
 use std::alloc::{AllocError, Global};
 use std::collections::{BTreeMap, BTreeSet};
 use std::marker::Model;

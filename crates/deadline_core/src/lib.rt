@@ -4,6 +4,3 @@
 pub mod deadlines;
 
 pub use deadlines::Deadlines;
-
-#[cfg(test)]
-mod tests;

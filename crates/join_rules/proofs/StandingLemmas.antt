@@ -1,27 +1,27 @@
 -- What a progress keeps answers for every list that it stands for.
 use Rattle.std.proofs.Common.{◌≡◌, true, List, [], ◌∷◌, ◌++◌, count_by, length, ap, sym, ◌∙◌}
 use Rattle.std.specs.List.{find}
-use Rattle.scope_model.specs.declared.types.values.Done.{Done}
-use Rattle.scope_model.specs.declared.types.joiners.Rule.{Rule}
-use Rattle.scope_model.specs.declared.types.joiners.Policy.TheVariants.{Until}
-use Rattle.scope_model.specs.Joining.{meets, fires, has_failed, has_succeeded}
+use Rattle.scope_rules.specs.declared.types.values.Completion.{Completion}
+use Rattle.scope_rules.specs.declared.types.joiners.Rule.{Rule}
+use Rattle.scope_rules.specs.declared.types.joiners.Policy.TheVariants.{Until}
+use Rattle.scope_rules.specs.Joining.{meets, fires, has_failed, has_succeeded}
 use Rattle.join_rules.specs.Totals.{Totals, totals_of, counted, totals_fire}
-use Rattle.join_rules.specs.Standing.{Standing, StandsFor, SameJoiner}
+use Rattle.join_rules.specs.JoinerStanding.{JoinerStanding, StandsFor, SameJoiner}
 use Rattle.join_rules.proofs.TotalsLemmas.{fires_by_totals, totals-push}
 
 -- the kept totals say whether the joiner fires
-pub fires_by_kept : (kept : Standing) (list : List Done) → StandsFor kept list → totals_fire kept.policy kept.totals ≡ fires kept.policy list
+pub fires_by_kept : (kept : JoinerStanding) (list : List Completion) → StandsFor kept list → totals_fire kept.policy kept.totals ≡ fires kept.policy list
 fires_by_kept kept list stands =
     ap (totals_fire kept.policy) (sym stands.totals) ∙ sym (fires_by_totals kept.policy list)
 
 -- and so does a closure that agrees with the rule, at the list that it is shown
-pub fires_by_closure : (kept : Standing) (rule : Rule) (list : List Done) → StandsFor kept list → kept.has_closure ≡ true → kept.policy ≡ Until rule → meets rule kept.seen ≡ fires kept.policy list
+pub fires_by_closure : (kept : JoinerStanding) (rule : Rule) (list : List Completion) → StandsFor kept list → kept.has_closure ≡ true → kept.policy ≡ Until rule → meets rule kept.seen ≡ fires kept.policy list
 unfolding fires
 fires_by_closure kept rule list stands has_closure until =
     ap (meets rule) (stands.seen has_closure) ∙ ap (λ p. fires p list) (sym until)
 
 -- one completion more
-pub stands-push : (old new : Standing) (list : List Done) (d : Done) → new.totals ≡ counted old.totals d → (old.has_closure ≡ true → new.seen ≡ old.seen ++ d ∷ []) → SameJoiner old new → StandsFor old list → StandsFor new (list ++ d ∷ [])
+pub stands-push : (old new : JoinerStanding) (list : List Completion) (d : Completion) → new.totals ≡ counted old.totals d → (old.has_closure ≡ true → new.seen ≡ old.seen ++ d ∷ []) → SameJoiner old new → StandsFor old list → StandsFor new (list ++ d ∷ [])
 stands-push old new list d totals seen joiner stands = record {
   totals = totals-push list d ∙ ap (λ t. counted t d) stands.totals ∙ sym totals;
   seen = λ has_closure.
@@ -30,22 +30,22 @@ stands-push old new list d totals seen joiner stands = record {
 }
 
 -- what each reader tells of the list
-pub completions_listed : (kept : Standing) (list : List Done) → StandsFor kept list → kept.totals.completions ≡ length list
+pub completions_listed : (kept : JoinerStanding) (list : List Completion) → StandsFor kept list → kept.totals.completions ≡ length list
 unfolding totals_of
 completions_listed kept list stands = ap (λ (t : Totals). t.completions) (sym stands.totals)
 
-pub failures_listed : (kept : Standing) (list : List Done) → StandsFor kept list → kept.totals.failures ≡ count_by has_failed list
+pub failures_listed : (kept : JoinerStanding) (list : List Completion) → StandsFor kept list → kept.totals.failures ≡ count_by has_failed list
 unfolding totals_of
 failures_listed kept list stands = ap (λ (t : Totals). t.failures) (sym stands.totals)
 
-pub successes_listed : (kept : Standing) (list : List Done) → StandsFor kept list → kept.totals.successes ≡ count_by has_succeeded list
+pub successes_listed : (kept : JoinerStanding) (list : List Completion) → StandsFor kept list → kept.totals.successes ≡ count_by has_succeeded list
 unfolding totals_of
 successes_listed kept list stands = ap (λ (t : Totals). t.successes) (sym stands.totals)
 
-pub first_failure_listed : (kept : Standing) (list : List Done) → StandsFor kept list → kept.totals.first_failure ≡ find has_failed list
+pub first_failure_listed : (kept : JoinerStanding) (list : List Completion) → StandsFor kept list → kept.totals.first_failure ≡ find has_failed list
 unfolding totals_of
 first_failure_listed kept list stands = ap (λ (t : Totals). t.first_failure) (sym stands.totals)
 
-pub first_success_listed : (kept : Standing) (list : List Done) → StandsFor kept list → kept.totals.first_success ≡ find has_succeeded list
+pub first_success_listed : (kept : JoinerStanding) (list : List Completion) → StandsFor kept list → kept.totals.first_success ≡ find has_succeeded list
 unfolding totals_of
 first_success_listed kept list stands = ap (λ (t : Totals). t.first_success) (sym stands.totals)

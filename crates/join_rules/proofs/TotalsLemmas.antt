@@ -6,12 +6,13 @@ use Rattle.std.proofs.lemmas.List.Folds.{find-append}
 use Rattle.std.proofs.lemmas.List.{length_push}
 use Rattle.std.proofs.lemmas.Int.{ints}
 use Rattle.std.proofs.lemmas.Bool.Decides.{nat_tests}
-use Rattle.scope_model.specs.declared.types.values.Done.{Done}
-use Rattle.scope_model.specs.declared.types.joiners.Rule.{Rule}
-use Rattle.scope_model.specs.declared.types.joiners.Rule.TheVariants.{FailuresAtLeast, SuccessesAtLeast, SumAtLeast}
-use Rattle.scope_model.specs.declared.types.joiners.Policy.{Policy}
-use Rattle.scope_model.specs.declared.types.joiners.Policy.TheVariants.{All, Any, AwaitAll, AwaitOk, Until}
-use Rattle.scope_model.specs.Joining.{has_failed, has_succeeded, number_of_end, total_of, meets, fires}
+use Rattle.scope_rules.specs.declared.types.values.Completion.{Completion}
+use Rattle.scope_rules.specs.declared.types.joiners.Rule.{Rule}
+use Rattle.scope_rules.specs.declared.types.joiners.Rule.TheVariants.{FailuresAtLeast, SuccessesAtLeast, SumAtLeast}
+use Rattle.scope_rules.specs.declared.types.joiners.Policy.{Policy}
+use Rattle.scope_rules.specs.declared.types.joiners.Policy.TheVariants.{All, Any, AwaitAll, AwaitOk, Until}
+use Rattle.scope_rules.specs.Joining.{has_failed, has_succeeded, summand_of_end, total_of, meets, fires}
+use Rattle.scope_rules.proofs.Completions.{total_of-push}
 use Rattle.join_rules.specs.Totals.{totals_of, counted, totals_meet, totals_fire}
 
 -- some element passes where at least one does
@@ -24,23 +25,18 @@ any_counted p (x ∷ xs) =
       | false ↦ any_counted p xs ∙ ap (nat_lt 0) (omega arith)
     ])
 
-total-append : (xs : List Done) (d : Done) → total_of (xs ++ d ∷ []) ≡ total_of xs +ℤ number_of_end d.end
-unfolding total_of
-total-append [] d = omega (arith, ints)
-total-append (x ∷ xs) d = omega (arith, ints, total-append xs d)
-
-count-push : (p : Done → Bool) (xs : List Done) (d : Done) → count_by p (xs ++ d ∷ []) ≡ cond (p d) (count_by p xs + 1) (count_by p xs)
+count-push : (p : Completion → Bool) (xs : List Completion) (d : Completion) → count_by p (xs ++ d ∷ []) ≡ cond (p d) (count_by p xs + 1) (count_by p xs)
 count-push p xs d =
     sum_by_push (λ y. cond (p y) 1 0) xs d
     ∙ elim (p d) as (λ b. count_by p xs + cond b 1 0 ≡ cond b (count_by p xs + 1) (count_by p xs)) [ true ↦ refl | false ↦ omega arith ]
 
-pub meets_by_totals : (rule : Rule) (xs : List Done) → meets rule xs ≡ totals_meet rule (totals_of xs)
+pub meets_by_totals : (rule : Rule) (xs : List Completion) → meets rule xs ≡ totals_meet rule (totals_of xs)
 unfolding meets totals_meet totals_of
 meets_by_totals (FailuresAtLeast n) xs = refl
 meets_by_totals (SuccessesAtLeast n) xs = refl
 meets_by_totals (SumAtLeast n) xs = refl
 
-pub fires_by_totals : (policy : Policy) (xs : List Done) → fires policy xs ≡ totals_fire policy (totals_of xs)
+pub fires_by_totals : (policy : Policy) (xs : List Completion) → fires policy xs ≡ totals_fire policy (totals_of xs)
 unfolding fires totals_fire totals_of
 fires_by_totals All xs = any_counted has_failed xs
 fires_by_totals Any xs = any_counted has_succeeded xs
@@ -48,7 +44,7 @@ fires_by_totals AwaitAll xs = refl
 fires_by_totals AwaitOk xs = any_counted has_failed xs
 fires_by_totals (Until rule) xs = meets_by_totals rule xs
 
-pub totals-push : (xs : List Done) (d : Done) → totals_of (xs ++ d ∷ []) ≡ counted (totals_of xs) d
+pub totals-push : (xs : List Completion) (d : Completion) → totals_of (xs ++ d ∷ []) ≡ counted (totals_of xs) d
 unfolding totals_of counted
 totals-push xs d =
     let completions : length (xs ++ d ∷ []) ≡ length xs + 1 = length_push xs d in
@@ -56,5 +52,5 @@ totals-push xs d =
     let successes = count-push has_succeeded xs d in
     let first_failure = find-append has_failed xs (d ∷ []) in
     let first_success = find-append has_succeeded xs (d ∷ []) in
-    let sum = total-append xs d in
+    let sum = total_of-push xs d in
     cc

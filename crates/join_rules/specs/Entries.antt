@@ -2,22 +2,27 @@
 use Rattle.std.specs.Prelude.{◌≡◌, ◌^◌, ◌<◌, ◌≤◌, Bool, List, length, FitsSigned}
 use Rattle.std.specs.Int.{w64}
 use Rattle.std.specs.List.{All}
-use Rattle.scope_model.specs.declared.types.values.Done.{Done}
-use Rattle.scope_model.specs.declared.types.joiners.Rule.{Rule}
-use Rattle.scope_model.specs.Joining.{number_of_end, meets}
+use Rattle.scope_rules.specs.declared.types.capacity.TheConstants.{TASK_LIMIT}
+use Rattle.scope_rules.specs.declared.types.values.Completion.{Completion}
+use Rattle.scope_rules.specs.declared.types.joiners.Rule.{Rule}
+use Rattle.scope_rules.specs.Joining.{summand_of_end, meets}
 use denote.Ref.{Bor}
 
 -- the numbers of a completion fit their types
-pub record EntryFits (d : Done) : Type 0 where
+pub record EntryFits (d : Completion) : Type 0 where
   pub task : d.task < 2 ^ 32
-  pub number : FitsSigned w64 (number_of_end d.end)
+  pub number : FitsSigned w64 (summand_of_end d.end)
 
 -- a list that a closure may be shown: at most 65,536 completions, whose numbers fit their types
-pub record MayBeAsked (list : List Done) : Type 0 where
-  pub short : length list ≤ 65536
+pub record MayBeAsked (list : List Completion) : Type 0 where
+  pub short : length list ≤ TASK_LIMIT
   pub fits : All EntryFits list
 
 -- whatever is answered of a list that may be shown, it is whether the list meets the rule
-abbrev pub AgreesWith : Rule → (Bor (List Done) → Bool → Type 0) → Type 0
+abbrev pub AgreesWith : Rule → (Bor (List Completion) → Bool → Type 0) → Type 0
 AgreesWith rule MayAnswer =
-    (shown : Bor (List Done)) (answer : Bool) → MayBeAsked shown.now → MayAnswer shown answer → answer ≡ meets rule shown.now
+    (shown : Bor (List Completion)) (answer : Bool) → MayBeAsked shown.now → MayAnswer shown answer → answer ≡ meets rule shown.now
+
+-- the closure may be called on every list that it may be shown
+abbrev pub IsCallableOnShown : (Bor (List Completion) → Type 0) → Type 0
+IsCallableOnShown MayCall = (shown : Bor (List Completion)) → MayBeAsked shown.now → MayCall shown

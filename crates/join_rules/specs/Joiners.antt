@@ -1,8 +1,8 @@
 -- What a joiner of the code stands for.
 use Rattle.std.specs.Prelude.{Bool, true, false}
-use Rattle.scope_model.specs.declared.types.joiners.Rule.{Rule}
-use Rattle.scope_model.specs.declared.types.joiners.Policy.{Policy}
-use Rattle.scope_model.specs.declared.types.joiners.Policy.TheVariants as policy
+use Rattle.scope_rules.specs.declared.types.joiners.Rule.{Rule}
+use Rattle.scope_rules.specs.declared.types.joiners.Policy.{Policy}
+use Rattle.scope_rules.specs.declared.types.joiners.Policy.TheVariants as policy
 use Rattle.join_rules.specs.declared.until.UntilTest.{UntilTest}
 use Rattle.join_rules.specs.declared.until.UntilTest.TheVariants.{Plain, Closure}
 use Rattle.join_rules.specs.declared.joiners.Joiner.{Joiner}

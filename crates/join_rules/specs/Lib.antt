@@ -1,5 +1,5 @@
 pub mod Entries
 pub mod Joiners
 pub mod Totals
-pub mod Standing
+pub mod JoinerStanding
 pub mod Progress

@@ -2,29 +2,30 @@
 use Rattle.std.specs.Prelude.{ℕ, ◌+◌, ◌*◌, ◌^◌, ◌≤◌, ◌≤ℤ◌, neg_ℤ, pos, Bool, false, List, length, ℤ, ◌+ℤ◌, int_le, nat_le, nat_lt, count_by, Option, Some, None, if◌then◌else◌}
 use Rattle.std.specs.Option.{option_or}
 use Rattle.std.specs.List.{find}
-use Rattle.scope_model.specs.declared.types.values.Done.{Done}
-use Rattle.scope_model.specs.declared.types.joiners.Rule.{Rule}
-use Rattle.scope_model.specs.declared.types.joiners.Rule.TheVariants.{FailuresAtLeast, SuccessesAtLeast, SumAtLeast}
-use Rattle.scope_model.specs.declared.types.joiners.Policy.{Policy}
-use Rattle.scope_model.specs.declared.types.joiners.Policy.TheVariants.{All, Any, AwaitAll, AwaitOk, Until}
-use Rattle.scope_model.specs.Joining.{has_failed, has_succeeded, number_of_end, total_of}
+use Rattle.scope_rules.specs.declared.types.capacity.TheConstants.{TASK_LIMIT}
+use Rattle.scope_rules.specs.declared.types.values.Completion.{Completion}
+use Rattle.scope_rules.specs.declared.types.joiners.Rule.{Rule}
+use Rattle.scope_rules.specs.declared.types.joiners.Rule.TheVariants.{FailuresAtLeast, SuccessesAtLeast, SumAtLeast}
+use Rattle.scope_rules.specs.declared.types.joiners.Policy.{Policy}
+use Rattle.scope_rules.specs.declared.types.joiners.Policy.TheVariants.{All, Any, AwaitAll, AwaitOk, Until}
+use Rattle.scope_rules.specs.Joining.{has_failed, has_succeeded, summand_of_end, total_of}
 
 pub record Totals : Type 0 where
   pub completions : ℕ
   pub failures : ℕ
   pub successes : ℕ
-  pub first_failure : Option Done
-  pub first_success : Option Done
+  pub first_failure : Option Completion
+  pub first_success : Option Completion
   -- of the number values of successes
   pub sum : ℤ
 
 -- the sum lies within what at most 65,536 numbers of the type `i64` can come to
 pub record SumWithin (completions : ℕ) (sum : ℤ) : Type 0 where
-  pub few : completions ≤ 65536
+  pub few : completions ≤ TASK_LIMIT
   pub low : neg_ℤ (pos (2 ^ 63 * completions)) ≤ℤ sum
   pub high : sum ≤ℤ pos (2 ^ 63 * completions)
 
-unfoldable pub totals_of : List Done → Totals
+unfoldable pub totals_of : List Completion → Totals
 totals_of list = record {
   completions = length list;
   failures = count_by has_failed list;
@@ -35,14 +36,14 @@ totals_of list = record {
 }
 
 -- the totals with one completion more, the latest
-unfoldable pub counted : Totals → Done → Totals
+unfoldable pub counted : Totals → Completion → Totals
 counted t d = record {
   completions = t.completions + 1;
   failures = if has_failed d then t.failures + 1 else t.failures;
   successes = if has_succeeded d then t.successes + 1 else t.successes;
   first_failure = option_or t.first_failure (if has_failed d then Some d else None);
   first_success = option_or t.first_success (if has_succeeded d then Some d else None);
-  sum = t.sum +ℤ number_of_end d.end;
+  sum = t.sum +ℤ summand_of_end d.end;
 }
 
 -- whether lists with these totals meet the rule

@@ -1,11 +1,12 @@
 ghost use Rattle.std.specs.Prelude.{◌≡◌, ◌+◌, ◌<◌, ◌≤◌, ◌∷◌, [], ◌++◌, OnOk, OnErr, IsOk, true, false, if◌then◌else◌, is_ok, ◌&&◌, vec_len};
+ghost use Rattle.scope_rules.specs.declared.types.capacity.TheConstants.{TASK_LIMIT};
 ghost use Rattle.std.specs.Vec.{vec_capacity};
 ghost use Rattle.join_rules.specs.Totals.{counted, totals_of, totals_fire};
 ghost use Rattle.join_rules.specs.Entries.{MayBeAsked};
-ghost use Rattle.join_rules.specs.Standing.{HasRoom, SameJoiner, SameButRoom};
+ghost use Rattle.join_rules.specs.JoinerStanding.{HasRoom, SameJoiner, SameButRoom};
 
 use crate::tally::Tally;
-use scope_model::{Done, Policy};
+use scope_rules::{Completion, Policy};
 use std::alloc::{AllocError, Global};
 use std::marker::Model;
 
@@ -16,7 +17,7 @@ pub struct Account {
     tally: Tally,
     /// Whether a caller's closure is shown the list.
     listed: bool,
-    seen: Vec<Done>,
+    seen: Vec<Completion>,
 }
 
 impl Model for Account {
@@ -24,9 +25,9 @@ impl Model for Account {
     ghost use Rattle.std.specs.Vec.{vec_capacity};
     ghost use Rattle.std.specs.List.{All};
     ghost use Rattle.join_rules.specs.Entries.{EntryFits};
-    ghost use Rattle.join_rules.specs.Standing.{Standing};
+    ghost use Rattle.join_rules.specs.JoinerStanding.{JoinerStanding};
 
-    ghost Value = { Standing };
+    ghost Value = { JoinerStanding };
 
     ghost view = { λ a. record { policy = a.policy; has_closure = a.listed; totals = a.tally; seen = a.seen.items; room = vec_capacity a.seen - vec_len a.seen } };
 
@@ -64,8 +65,8 @@ impl Account {
 
     /// Counts one completion more.
     #[tactic(auto, unfolding(crate::specs::Totals::counted))]
-    pub fn count(&mut self, done: Done) -> Result<(), AllocError>
-        requires { self.old.totals.completions < 65536 }
+    pub fn count(&mut self, done: Completion) -> Result<(), AllocError>
+        requires { self.old.totals.completions < TASK_LIMIT }
         ensures totals { OnOk result (self.new.totals ≡ counted self.old.totals done) }
         ensures completions { OnOk result (self.new.totals.completions ≡ self.old.totals.completions + 1) }
         ensures seen { OnOk result (self.old.has_closure ≡ true → self.new.seen ≡ self.old.seen ++ done ∷ []) }
@@ -122,30 +123,30 @@ impl Account {
     }
 
     /// The first completion that failed.
-    pub fn first_failure(&self) -> Option<Done>
+    pub fn first_failure(&self) -> Option<Completion>
         ensures { result ≡ self.now.totals.first_failure }
     {
         self.tally.first_failure()
     }
 
     /// The first completion that succeeded.
-    pub fn first_success(&self) -> Option<Done>
+    pub fn first_success(&self) -> Option<Completion>
         ensures { result ≡ self.now.totals.first_success }
     {
         self.tally.first_success()
     }
 
     /// The list that a caller's closure is shown.
-    pub fn seen(&self) -> &[Done]
+    pub fn seen(&self) -> &[Completion]
         ensures value { result.now ≡ self.now.seen }
-        ensures askable { self.now.has_closure ≡ true → self.now.totals.completions ≤ 65536 → MayBeAsked result.now }
+        ensures askable { self.now.has_closure ≡ true → self.now.totals.completions ≤ TASK_LIMIT → MayBeAsked result.now }
     {
         &self.seen
     }
 }
 
 /// Makes room for so many more completions, if they are wanted.
-fn reserve_if(seen: &mut Vec<Done>, wanted: bool, additional: usize) -> Result<(), AllocError>
+fn reserve_if(seen: &mut Vec<Completion>, wanted: bool, additional: usize) -> Result<(), AllocError>
     ensures items { seen.new.items ≡ seen.old.items }
     ensures len { vec_len seen.new ≡ vec_len seen.old }
     ensures ok { wanted ≡ true → OnOk result (vec_len seen.new + additional ≤ vec_capacity seen.new) }
@@ -160,7 +161,7 @@ fn reserve_if(seen: &mut Vec<Done>, wanted: bool, additional: usize) -> Result<(
 }
 
 /// Adds the completion, if it is wanted.
-fn add_if(seen: &mut Vec<Done>, wanted: bool, done: Done) -> Result<(), AllocError>
+fn add_if(seen: &mut Vec<Completion>, wanted: bool, done: Completion) -> Result<(), AllocError>
     ensures items { seen.new.items ≡ (if wanted && is_ok result then seen.old.items ++ done ∷ [] else seen.old.items) }
     ensures len { vec_len seen.new ≡ (if wanted && is_ok result then vec_len seen.old + 1 else vec_len seen.old) }
     ensures unwanted { wanted ≡ false → IsOk result }

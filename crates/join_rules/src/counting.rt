@@ -1,16 +1,17 @@
 ghost use Rattle.std.specs.Prelude.{◌≡◌, ◌+◌, ◌<◌, ◌≤◌, List, ◌∷◌, [], ◌++◌, IfOk, OnOk, OnErr, IsOk, true, false, ℕ, is_some, count_by, length};
+ghost use Rattle.scope_rules.specs.declared.types.capacity.TheConstants.{TASK_LIMIT};
 ghost use Rattle.std.specs.List.{find};
 ghost use Rattle.std.specs.Option.{ForSome};
-ghost use Rattle.scope_model.specs.Joining.{fires, has_failed, has_succeeded};
-ghost use Rattle.scope_model.specs.declared.types.values.Done.{Done};
-ghost use Rattle.scope_model.specs.declared.types.joiners.Policy.TheVariants.{Until};
-ghost use Rattle.join_rules.specs.Standing.{StandsFor, HasRoom, SameJoiner, SameButRoom};
+ghost use Rattle.scope_rules.specs.Joining.{fires, has_failed, has_succeeded};
+ghost use Rattle.scope_rules.specs.declared.types.values.Completion.{Completion};
+ghost use Rattle.scope_rules.specs.declared.types.joiners.Policy.TheVariants.{Until};
+ghost use Rattle.join_rules.specs.JoinerStanding.{StandsFor, HasRoom, SameJoiner, SameButRoom};
 ghost use Rattle.join_rules.specs.Joiners.{policy_of, asks_closure};
 
 use crate::account::Account;
 use crate::joiners::Joiner;
 use crate::until::StoredTest;
-use scope_model::{Done, Policy};
+use scope_rules::{Completion, Policy};
 use std::alloc::{AllocError, Global};
 
 /// How far a joiner has come: what it keeps of the completions that it was handed.
@@ -52,13 +53,13 @@ impl Progress {
     }
 
     /// Hands in one completion more, the latest, and says whether the joiner cancels the scope at it.
-    pub fn completed(&mut self, done: Done) -> Result<bool, AllocError>
-        requires { (standing_of self.old).totals.completions < 65536 }
+    pub fn completed(&mut self, done: Completion) -> Result<bool, AllocError>
+        requires { (standing_of self.old).totals.completions < TASK_LIMIT }
 
         // The answer is right for every list that the progress stood for, and it then stands for
         // that list with the new completion last.
-        ensures fires { IfOk result (λ cancels. (list : List Done) → StandsFor (standing_of self.old) list → cancels ≡ fires (standing_of self.old).policy (list ++ done ∷ [])) }
-        ensures stands { OnOk result ((list : List Done) → StandsFor (standing_of self.old) list → StandsFor (standing_of self.new) (list ++ done ∷ [])) }
+        ensures fires { IfOk result (λ cancels. (list : List Completion) → StandsFor (standing_of self.old) list → cancels ≡ fires (standing_of self.old).policy (list ++ done ∷ [])) }
+        ensures stands { OnOk result ((list : List Completion) → StandsFor (standing_of self.old) list → StandsFor (standing_of self.new) (list ++ done ∷ [])) }
         ensures completions { OnOk result ((standing_of self.new).totals.completions ≡ (standing_of self.old).totals.completions + 1) }
         ensures room { OnOk result ((n : ℕ) → HasRoom (standing_of self.old) (n + 1) → HasRoom (standing_of self.new) n) }
         ensures joiner { SameJoiner (standing_of self.old) (standing_of self.new) }
@@ -83,7 +84,7 @@ impl Progress {
     /// How many completions were handed in.
     pub fn completions(&self) -> u32
         ensures kept { result ≡ (standing_of self.now).totals.completions }
-        ensures listed { (list : List Done) → StandsFor (standing_of self.now) list → result ≡ length list }
+        ensures listed { (list : List Completion) → StandsFor (standing_of self.now) list → result ≡ length list }
     {
         self.account.completions()
     }
@@ -91,7 +92,7 @@ impl Progress {
     /// How many completions failed.
     pub fn failures(&self) -> u32
         ensures kept { result ≡ (standing_of self.now).totals.failures }
-        ensures listed { (list : List Done) → StandsFor (standing_of self.now) list → result ≡ count_by has_failed list }
+        ensures listed { (list : List Completion) → StandsFor (standing_of self.now) list → result ≡ count_by has_failed list }
     {
         self.account.failures()
     }
@@ -99,31 +100,31 @@ impl Progress {
     /// How many completions succeeded.
     pub fn successes(&self) -> u32
         ensures kept { result ≡ (standing_of self.now).totals.successes }
-        ensures listed { (list : List Done) → StandsFor (standing_of self.now) list → result ≡ count_by has_succeeded list }
+        ensures listed { (list : List Completion) → StandsFor (standing_of self.now) list → result ≡ count_by has_succeeded list }
     {
         self.account.successes()
     }
 
     /// The first completion that failed.
-    pub fn first_failure(&self) -> Option<Done>
+    pub fn first_failure(&self) -> Option<Completion>
         ensures kept { result ≡ (standing_of self.now).totals.first_failure }
-        ensures listed { (list : List Done) → StandsFor (standing_of self.now) list → result ≡ find has_failed list }
+        ensures listed { (list : List Completion) → StandsFor (standing_of self.now) list → result ≡ find has_failed list }
     {
         self.account.first_failure()
     }
 
     /// The first completion that succeeded.
-    pub fn first_success(&self) -> Option<Done>
+    pub fn first_success(&self) -> Option<Completion>
         ensures kept { result ≡ (standing_of self.now).totals.first_success }
-        ensures listed { (list : List Done) → StandsFor (standing_of self.now) list → result ≡ find has_succeeded list }
+        ensures listed { (list : List Completion) → StandsFor (standing_of self.now) list → result ≡ find has_succeeded list }
     {
         self.account.first_success()
     }
 
     /// Whether the joiner fires at the latest completion.
     fn fires(&self) -> bool
-        requires { (standing_of self.now).totals.completions ≤ 65536 }
-        ensures { (list : List Done) → StandsFor (standing_of self.now) list → result ≡ fires (standing_of self.now).policy list }
+        requires { (standing_of self.now).totals.completions ≤ TASK_LIMIT }
+        ensures { (list : List Completion) → StandsFor (standing_of self.now) list → result ≡ fires (standing_of self.now).policy list }
     {
         match &self.test {
             Some(stored) => stored.ask(self.account.seen()),

@@ -1,9 +1,9 @@
 ghost use Rattle.std.specs.Prelude.{◌≡◌, is_some};
 ghost use Rattle.std.specs.Option.{ForSome};
-ghost use Rattle.scope_model.specs.declared.types.joiners.Policy.TheVariants.{Until};
+ghost use Rattle.scope_rules.specs.declared.types.joiners.Policy.TheVariants.{Until};
 
 use crate::until::{StoredTest, UntilTest};
-use scope_model::Policy;
+use scope_rules::Policy;
 
 /// What a scope's join waits for, and which completion cancels the scope (JEP 505, `Joiner`).
 #[derive(Drop)]

@@ -11,8 +11,5 @@ mod until;
 
 pub use counting::Progress;
 pub use joiners::Joiner;
-pub use scope_model::Done;
+pub use scope_rules::Completion as Done;
 pub use until::{CompletionTest, StoredTest, UntilTest};
-
-#[cfg(test)]
-mod tests;

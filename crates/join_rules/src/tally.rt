@@ -1,9 +1,10 @@
 ghost use Rattle.std.specs.Prelude.{◌≡◌, ◌<◌, []};
+ghost use Rattle.scope_rules.specs.declared.types.capacity.TheConstants.{TASK_LIMIT};
 ghost use Rattle.join_rules.specs.Totals.{counted, totals_meet, totals_of};
-ghost use Rattle.scope_model.specs.Joining.{number_of_end};
+ghost use Rattle.scope_rules.specs.Joining.{summand_of_end};
 ghost use Rattle.join_rules.specs.Entries.{EntryFits};
 
-use scope_model::{Done, End, Rule, Value};
+use scope_rules::{Completion, End, Rule, Value};
 use std::marker::Model;
 
 /// What the completions so far come to, as far as the rules ask for it.
@@ -11,8 +12,8 @@ use std::marker::Model;
 pub struct Tally {
     failures: u32,
     successes: u32,
-    first_failure: Option<Done>,
-    first_success: Option<Done>,
+    first_failure: Option<Completion>,
+    first_success: Option<Completion>,
     sum: i128,
 }
 
@@ -29,7 +30,7 @@ impl Model for Tally {
 
 impl Tally {
     /// The tally of no completion.
-    #[tactic(auto, unfolding(crate::specs::Totals::totals_of, scope_model::specs::Joining::total_of))]
+    #[tactic(auto, unfolding(crate::specs::Totals::totals_of, scope_rules::specs::Joining::total_of))]
     pub fn new() -> Tally
         ensures { result ≡ totals_of [] }
     {
@@ -44,12 +45,12 @@ impl Tally {
 
     /// Counts one completion more.
     #[tactic(auto, unfolding(crate::specs::Totals::counted))]
-    pub fn count(&mut self, done: Done)
-        requires { self.old.completions < 65536 }
+    pub fn count(&mut self, done: Completion)
+        requires { self.old.completions < TASK_LIMIT }
         ensures counted { self.new ≡ counted self.old done }
         ensures fits { EntryFits done }
     {
-        self.sum += i128::from(number_of(&done.end));
+        self.sum += i128::from(summand_of(&done.end));
         match done.end {
             Ok(_) => {
                 self.successes += 1;
@@ -84,14 +85,14 @@ impl Tally {
     }
 
     /// The first completion that failed.
-    pub fn first_failure(&self) -> Option<Done>
+    pub fn first_failure(&self) -> Option<Completion>
         ensures { result ≡ self.now.first_failure }
     {
         self.first_failure
     }
 
     /// The first completion that succeeded.
-    pub fn first_success(&self) -> Option<Done>
+    pub fn first_success(&self) -> Option<Completion>
         ensures { result ≡ self.now.first_success }
     {
         self.first_success
@@ -111,8 +112,8 @@ impl Tally {
 }
 
 /// What the end adds to the sum: its number, if it is one.
-fn number_of(end: &End) -> i64
-    ensures { result ≡ number_of_end end.now }
+fn summand_of(end: &End) -> i64
+    ensures { result ≡ summand_of_end end.now }
 {
     match end {
         Ok(Value::Num(number)) => *number,

@@ -1,24 +1,24 @@
 ghost use Rattle.std.specs.Prelude.{◌≡◌, true, false};
-ghost use Rattle.scope_model.specs.Joining.{meets};
-ghost use Rattle.join_rules.specs.Entries.{MayBeAsked, AgreesWith};
+ghost use Rattle.scope_rules.specs.Joining.{meets};
+ghost use Rattle.join_rules.specs.Entries.{MayBeAsked, AgreesWith, IsCallableOnShown};
 
-use scope_model::{Done, Rule};
+use scope_rules::{Completion, Rule};
 
 /// A caller's closure over all completions so far, the latest last. The caller makes the box.
-pub type CompletionTest = Box<dyn Fn(&[Done]) -> bool + Send>;
+pub type CompletionTest = Box<dyn Fn(&[Completion]) -> bool + Send>;
 
 /// A caller's closure, with the rule that it agrees with.
 #[derive(Drop)]
 pub struct StoredTest {
     rule: Rule,
     test: CompletionTest,
-    ghost callable: { CompletionTest.IsAlwaysCallable test },
+    ghost callable: { IsCallableOnShown (CompletionTest.pre test) },
     ghost agrees: { AgreesWith rule (CompletionTest.post test) },
 }
 
 impl StoredTest {
     /// What the closure answers of these completions.
-    pub(crate) fn ask(&self, completions: &[Done]) -> bool
+    pub(crate) fn ask(&self, completions: &[Completion]) -> bool
         requires { MayBeAsked completions.now }
         ensures { result ≡ meets self.now.rule completions.now }
     {
@@ -46,10 +46,11 @@ impl UntilTest {
         UntilTest::Plain(rule)
     }
 
-    /// The test that asks the closure. At every list of at most 65,536 completions the closure has
-    /// to answer whether the list meets the rule, the empty list too.
+    /// The test that asks the closure. On every list that it may be shown, of at most 65,536
+    /// completions and the empty one too, the closure may be called, and has to answer whether the
+    /// list meets the rule; of other lists nothing is asked.
     pub fn new(rule: Rule, test: CompletionTest) -> UntilTest
-        requires callable { CompletionTest.IsAlwaysCallable test }
+        requires callable { IsCallableOnShown (CompletionTest.pre test) }
         requires agrees { AgreesWith rule (CompletionTest.post test) }
         ensures rule { rule_of result ≡ rule }
         ensures closure { has_closure result ≡ true }

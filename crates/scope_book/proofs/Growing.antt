@@ -1,14 +1,14 @@
 -- A fitting history stays fitting with one more event that fits.
 use Rattle.std.proofs.Common.{◌≡◌, ℕ, ◌<◌, Bool, true, false, Result, Ok, Err, Option, Some, None, is_ok, slice_get, length, [], ◌∷◌, refl, sym, subst, arith, inl, inr, ◌∙◌}
 use Rattle.std.specs.Prelude.{if◌then◌else◌}
-use Rattle.scope_model.specs.declared.types.events.Event.{Event}
-use Rattle.scope_model.specs.declared.types.refusals.Refusal.{Refusal}
-use Rattle.scope_model.specs.declared.types.answers.Cancelling.{Cancelling}
-use Rattle.scope_model.specs.Ends.{LabelValue, EndValue}
-use Rattle.scope_model.specs.Origin.{Origin}
-use Rattle.scope_model.specs.History.{History, before, followed}
-use Rattle.scope_model.specs.Replies.{Realm, starting, base_of, after, after_recording, after_retiring, with_event, recorded}
-use Rattle.scope_model.proofs.Pushing.{entry_of_push, before_push, before_all}
+use Rattle.scope_rules.specs.declared.types.events.Event.{Event}
+use Rattle.scope_rules.specs.declared.types.refusals.Refusal.{Refusal}
+use Rattle.scope_rules.specs.declared.types.answers.Cancelling.{Cancelling}
+use Rattle.scope_rules.specs.Ends.{LabelValue, EndValue}
+use Rattle.scope_rules.specs.Origin.{Origin}
+use Rattle.scope_rules.specs.History.{History, before, followed}
+use Rattle.scope_rules.specs.Replies.{Realm, starting, base_of, after, after_recording, after_retiring, with_event, recorded}
+use Rattle.scope_rules.proofs.Pushing.{entry_of_push, before_push, before_all}
 use Rattle.scope_book.specs.Fits.{FitsEvent, Fitting}
 
 -- a history without events is fitting

@@ -1,14 +1,14 @@
 -- What a book of the code stands for.
 use Rattle.std.specs.Prelude.{Result, Ok, Err}
-use Rattle.scope_model.specs.declared.types.capacity.Limits.{Limits}
-use Rattle.scope_model.specs.declared.types.refusals.Refusal.{Refusal}
-use Rattle.scope_model.specs.History.{History}
-use Rattle.scope_model.specs.Replies.{Realm}
+use Rattle.scope_rules.specs.declared.types.capacity.Limits.{Limits}
+use Rattle.scope_rules.specs.declared.types.refusals.Refusal.{Refusal}
+use Rattle.scope_rules.specs.History.{History}
+use Rattle.scope_rules.specs.Replies.{Realm}
 use Rattle.scope_book.specs.declared.state.book.BookState.{BookState}
 
 -- the realm that the book is the replay of: its limits, and its history
 abbrev pub realm_of : {C : _} → BookState C → Realm
-realm_of book = book.ledger
+realm_of book = book.realm
 
 abbrev pub limits_of : {C : _} → BookState C → Limits
 limits_of book = (realm_of book).limits

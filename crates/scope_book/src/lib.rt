@@ -3,7 +3,5 @@
 #![tactic(auto)]
 
 pub mod state;
-#[cfg(test)]
-mod tests;
 
 pub use state::book::BookState;

@@ -2,5 +2,5 @@
 
 pub mod book;
 pub mod commands;
-pub mod ledger;
+pub mod fitting;
 pub mod queries;

@@ -1,196 +1,65 @@
--- One accepted event more keeps what a plain evaluator keeps.
-use Rattle.std.proofs.Common.{◌≡◌, ℕ, zero, suc, ◌+◌, ◌*◌, ◌<◌, ◌≤◌, Bool, true, false, cond, Option, Some, None, Ok, Err, List, [], ◌∷◌, ◌++◌, slice_get, count_by, is_some, refl, ap, ◌∙◌, arith}
-use Rattle.std.proofs.lemmas.List.Sums.{sum_by-append}
-use Rattle.std.specs.List.{range_with_len}
-use Rattle.scope_model.specs.declared.types.capacity.Limits.{Limits}
-use Rattle.scope_model.specs.declared.types.answers.Cancelling.TheVariants.{Recorded, Already}
-use Rattle.scope_model.specs.declared.types.records.Opening.{Opening}
-use Rattle.scope_model.specs.declared.types.records.Forking.{Forking}
-use Rattle.scope_model.specs.declared.types.events.Event.{Event}
-use Rattle.scope_model.specs.declared.types.events.Event.TheVariants.{Open, Fork, Reject, Start, Finish, Cancel, Move, Tick, Bind, Unbind, Join, BeginClose, EndClose}
-use Rattle.scope_model.specs.History.{History, followed, opened_count, forked_count, opening, forking, is_open, is_fork, opening_of, forking_of}
-use Rattle.scope_model.specs.Scopes.{closing}
-use Rattle.scope_model.specs.Tasks.{task_numbers}
-use Rattle.scope_model.specs.Bindings.{scope_numbers}
-use Rattle.scope_model.specs.Checks.{Checked, weight, scope_check, task_check, waiting_check, finish_check, join_check, own_scope_check, end_close_check}
-use Rattle.scope_model.specs.Replies.{begin_close_reply}
-use Rattle.scope_model.specs.Legal.{Accepts, missing, owed, lacks, join_mark, begin_mark, end_mark, take_mark, finish_mark}
-use Rattle.scope_model.proofs.Missing.{missing_same, missing_lower, missing_number}
-use Rattle.scope_model.proofs.Accepted.{checks_at, not_refused, not_not, lacks_join, lacks_end, lacks_take, lacks_finish, lacks_begin, waiting_task, running_task}
-use Rattle.scope_model.proofs.Openings.{numbered_within}
+-- One accepted event more keeps what a plain evaluator keeps, and so does a retirement.
+use Rattle.std.proofs.Common.{◌≡◌, ℕ, ◌+◌, ◌<◌, ◌≤◌, ◌^◌, Option, List, [], ◌∷◌, ◌++◌, length, refl, arith, length-append}
+use Rattle.scope_rules.specs.declared.types.capacity.Limits.{Limits}
+use Rattle.scope_rules.specs.declared.types.capacity.TheConstants.{LOAD_LIMIT, GREATEST_NUMBER}
+use Rattle.scope_rules.specs.declared.types.events.Event.{Event}
+use Rattle.scope_rules.specs.Origin.{Origin}
+use Rattle.scope_rules.specs.History.{History, followed, HasSmallNumbers}
+use Rattle.scope_rules.specs.Load.{load, weight}
+use Rattle.scope_rules.specs.Replies.{base_of}
+use Rattle.scope_rules.specs.Legal.{Accepts, Legal}
+use Rattle.scope_rules.specs.Owed.{owed, missing, join_mark, begin_mark, end_mark, take_mark, finish_mark}
+use Rattle.scope_model.specs.PlainKeeps.{PlainKeeps}
+use Rattle.scope_rules.proofs.Owing.{owed_event}
+use Rattle.scope_rules.proofs.Pushing.{legal_push, load_push, within_push, stack_within}
 
--- the n-th of a range of numbers
-range_at : (a k j : ℕ) → j < k → slice_get (range_with_len a k) j ≡ Some (a + j)
-range_at a zero j within = absurd (omega arith)
-range_at a (suc k) zero within = ap Some (omega arith)
-range_at a (suc k) (suc j) within = range_at (a + 1) k j (omega arith) ∙ ap Some (omega arith)
+-- with room for its load, an accepted event keeps what is kept
+pub kept_push : (L : Limits) (h : History) (e : Event) (capacity more : ℕ) → PlainKeeps L h capacity → Accepts L h e → load h + weight e ≤ more → PlainKeeps L (followed h e) more
+kept_push L h e capacity more kept ok enough = record {
+  legal = legal_push L h e kept.legal ok;
+  within = within_push L h e kept.within ok;
+  covered = omega (arith, kept.covered, owed_event L h e ok, load_push h e, length-append h.events (e ∷ []));
+  room = omega (arith, load_push h e, enough);
+}
 
-opens : (i : ℕ) (e : Event) (o : Opening) → opening_of i e ≡ Some o → is_open e ≡ true
-opens i (Open actor policy options) o is = refl
-opens i _ o is = absurd cc
+-- what is kept has small numbers
+pub kept_small : (L : Limits) (h : History) (capacity : ℕ) → PlainKeeps L h capacity → L.load ≤ LOAD_LIMIT → HasSmallNumbers h
+kept_small L h capacity kept limit = record {
+  events = omega (arith, kept.covered, kept.within.loaded, limit);
+  scopes = omega (arith, kept.within.scopes_fit);
+  tasks = omega (arith, kept.within.tasks_fit);
+}
 
-forks : (i : ℕ) (e : Event) (f : Forking) → forking_of i e ≡ Some f → is_fork e ≡ true
-forks i (Fork actor scope label) f is = refl
-forks i _ f is = absurd cc
+-- there is room for an event that costs nothing
+pub kept_room : (L : Limits) (h : History) (e : Event) (capacity : ℕ) → PlainKeeps L h capacity → Accepts L h e → weight e ≡ 0 → length h.events < capacity
+kept_room L h e capacity kept ok free = omega (arith, kept.covered, kept.room, owed_event L h e ok, free)
 
--- the place of a number among those given
-pub record Given (ns : List ℕ) (n : ℕ) : Type 0 where
-  pub place : ℕ
-  pub there : slice_get ns place ≡ Some n
+-- the load of a history with an accepted event more is above its length
+pub kept_more : (L : Limits) (h : History) (e : Event) (capacity : ℕ) → PlainKeeps L h capacity → Accepts L h e → length h.events + 1 ≤ load h + weight e
+kept_more L h e capacity kept ok = omega (arith, kept.covered, owed_event L h e ok)
 
-given_at : (a k n j : ℕ) → j < k → n ≡ a + j + 1 → Given (range_with_len (a + 1) k) n
-given_at a k n j within is = record { place = j; there = range_at (a + 1) k j within ∙ ap Some (omega arith) }
+missing_none : (mark : Event → Option ℕ) (es : List Event) → missing mark [] es ≡ 0
+unfolding missing
+missing_none mark es = refl
 
-given_scope_by : (h : History) (s : ℕ) (o : Option Opening) → opening h s ≡ o → is_some o ≡ true → Given (scope_numbers h) s
-unfolding opening
-given_scope_by h s None is found = absurd cc
-given_scope_by h s (Some o) is found =
-    let there = numbered_within is_open opening_of h.base.scopes h.events s opens o is in
-    given_at h.base.scopes (opened_count h) s there.0 there.1 there.2
+-- a base alone is kept
+pub kept_base : (L : Limits) (b : Origin) (capacity : ℕ) → length b.binds ≤ L.load → b.scopes ≤ GREATEST_NUMBER → b.tasks ≤ GREATEST_NUMBER → length b.binds ≤ capacity → PlainKeeps L (record { base = b; events = [] }) capacity
+unfolding Legal load owed
+kept_base L b capacity pairs scopes_small tasks_small enough = record {
+  legal = λ i e at. absurd cc;
+  within = record {
+    opened = omega arith;
+    forked = omega arith;
+    loaded = omega (arith, pairs);
+    scopes_fit = omega (arith, scopes_small);
+    tasks_fit = omega (arith, tasks_small);
+  };
+  covered = omega (arith, missing_none join_mark [], missing_none begin_mark [], missing_none end_mark [], missing_none take_mark [], missing_none finish_mark []);
+  room = omega (arith, enough);
+}
 
-given_task_by : (h : History) (k : ℕ) (o : Option Forking) → forking h k ≡ o → is_some o ≡ true → Given (task_numbers h) k
-unfolding forking
-given_task_by h k None is found = absurd cc
-given_task_by h k (Some f) is found =
-    let there = numbered_within is_fork forking_of h.base.tasks h.events k forks f is in
-    given_at h.base.tasks (forked_count h) k there.0 there.1 there.2
-
-pub if_refused : (b : Bool) (c : Checked) (r : _) → cond b (Err r) c ≡ Ok tt → c ≡ Ok tt
-if_refused true c r passed = absurd cc
-if_refused false c r passed = passed
-
--- a scope whose number passed was given it
-pub given_scope : (h : History) (s : ℕ) → scope_check h s ≡ Ok tt → Given (scope_numbers h) s
-unfolding scope_check
-given_scope h s passed = given_scope_by h s (opening h s) refl (not_not _ (not_refused _ _ (if_refused _ _ _ passed)))
-
--- a task whose number passed was given it
-pub given_task : (h : History) (k : ℕ) → task_check h k ≡ Ok tt → Given (task_numbers h) k
-unfolding task_check
-given_task h k passed = given_task_by h k (forking h k) refl (not_not _ (not_refused _ _ (if_refused _ _ _ passed)))
-
-pub count_push : (kind : Event → Bool) (es : List Event) (e : Event) → count_by kind (es ++ e ∷ []) ≡ count_by kind es + cond (kind e) 1 0
-count_push kind es e = sum_by-append (λ x. cond (kind x) 1 0) es (e ∷ []) ∙ omega arith
-
-numbers_by : (mark : Event → Option ℕ) (a k m : ℕ) (b : Bool) (es : List Event) → m ≡ k + cond b 1 0 → missing mark (range_with_len a m) es ≤ missing mark (range_with_len a k) es + cond b 1 0
-numbers_by mark a k m true es is = rw is (missing_number mark a k es)
-numbers_by mark a k m false es is = let same : m ≡ k = is ∙ omega arith in rw same (omega arith)
-
--- one event more: a scope more where it opens one, and nothing more is missing otherwise
-scopes_missing : (mark : Event → Option ℕ) (h : History) (e : Event) → missing mark (scope_numbers (followed h e)) (h.events ++ e ∷ []) ≤ missing mark (scope_numbers h) h.events + cond (is_open e) 1 0
-scopes_missing mark h e =
-    let number = numbers_by mark (h.base.scopes + 1) (opened_count h) (opened_count (followed h e)) (is_open e) (h.events ++ e ∷ []) (count_push is_open h.events e) in
-    let event = missing_same mark (scope_numbers h) h.events e in
-    omega (arith, number, event)
-
-tasks_missing : (mark : Event → Option ℕ) (h : History) (e : Event) → missing mark (task_numbers (followed h e)) (h.events ++ e ∷ []) ≤ missing mark (task_numbers h) h.events + cond (is_fork e) 1 0
-tasks_missing mark h e =
-    let number = numbers_by mark (h.base.tasks + 1) (forked_count h) (forked_count (followed h e)) (is_fork e) (h.events ++ e ∷ []) (count_push is_fork h.events e) in
-    let event = missing_same mark (task_numbers h) h.events e in
-    omega (arith, number, event)
-
--- an event that was missing for a scope, and opens none
-scope_lower : (mark : Event → Option ℕ) (h : History) (e : Event) (s : ℕ) → is_open e ≡ false → Given (scope_numbers h) s → lacks mark h.events s ≡ true → mark e ≡ Some s
-    → missing mark (scope_numbers (followed h e)) (h.events ++ e ∷ []) + 1 ≤ missing mark (scope_numbers h) h.events
-scope_lower mark h e s closed_kind given lacked is =
-    let number = numbers_by mark (h.base.scopes + 1) (opened_count h) (opened_count (followed h e)) (is_open e) (h.events ++ e ∷ []) (count_push is_open h.events e) in
-    let none : cond {A = ℕ} (is_open e) 1 0 ≡ 0 = ap (λ b. cond {A = ℕ} b 1 0) closed_kind in
-    let event = missing_lower mark (scope_numbers h) h.events e given.place s given.there lacked is in
-    omega (arith, number, event, none)
-
-task_lower : (mark : Event → Option ℕ) (h : History) (e : Event) (k : ℕ) → is_fork e ≡ false → Given (task_numbers h) k → lacks mark h.events k ≡ true → mark e ≡ Some k
-    → missing mark (task_numbers (followed h e)) (h.events ++ e ∷ []) + 1 ≤ missing mark (task_numbers h) h.events
-task_lower mark h e k forks_none given lacked is =
-    let number = numbers_by mark (h.base.tasks + 1) (forked_count h) (forked_count (followed h e)) (is_fork e) (h.events ++ e ∷ []) (count_push is_fork h.events e) in
-    let none : cond {A = ℕ} (is_fork e) 1 0 ≡ 0 = ap (λ b. cond {A = ℕ} b 1 0) forks_none in
-    let event = missing_lower mark (task_numbers h) h.events e given.place k given.there lacked is in
-    omega (arith, number, event, none)
-
-abbrev one_if : Bool → ℕ
-one_if b = cond {A = ℕ} b 1 0
-
--- an event that pays for what it makes owed
-paid_more : (h : History) (e : Event) → one_if (is_open e) * 3 + one_if (is_fork e) * 2 + 1 ≤ weight e → owed (followed h e) + 1 ≤ owed h + weight e
-unfolding owed
-paid_more h e pays =
-    omega (arith, pays, scopes_missing join_mark h e, scopes_missing begin_mark h e, scopes_missing end_mark h e, tasks_missing take_mark h e, tasks_missing finish_mark h e)
-
--- an event that was owed to a scope
-paid_scope_join : (h : History) (e : Event) (s : ℕ) → Given (scope_numbers h) s → lacks join_mark h.events s ≡ true → join_mark e ≡ Some s → is_open e ≡ false → is_fork e ≡ false → owed (followed h e) + 1 ≤ owed h
-unfolding owed
-paid_scope_join h e s given lacked is opens_none forks_none =
-    let no_scope : one_if (is_open e) ≡ 0 = ap one_if opens_none in
-    let no_task : one_if (is_fork e) ≡ 0 = ap one_if forks_none in
-    omega (arith, no_scope, no_task, scope_lower join_mark h e s opens_none given lacked is, scopes_missing begin_mark h e, scopes_missing end_mark h e, tasks_missing take_mark h e, tasks_missing finish_mark h e)
-
-paid_scope_begin : (h : History) (e : Event) (s : ℕ) → Given (scope_numbers h) s → lacks begin_mark h.events s ≡ true → begin_mark e ≡ Some s → is_open e ≡ false → is_fork e ≡ false → owed (followed h e) + 1 ≤ owed h
-unfolding owed
-paid_scope_begin h e s given lacked is opens_none forks_none =
-    let no_scope : one_if (is_open e) ≡ 0 = ap one_if opens_none in
-    let no_task : one_if (is_fork e) ≡ 0 = ap one_if forks_none in
-    omega (arith, no_scope, no_task, scopes_missing join_mark h e, scope_lower begin_mark h e s opens_none given lacked is, scopes_missing end_mark h e, tasks_missing take_mark h e, tasks_missing finish_mark h e)
-
-paid_scope_end : (h : History) (e : Event) (s : ℕ) → Given (scope_numbers h) s → lacks end_mark h.events s ≡ true → end_mark e ≡ Some s → is_open e ≡ false → is_fork e ≡ false → owed (followed h e) + 1 ≤ owed h
-unfolding owed
-paid_scope_end h e s given lacked is opens_none forks_none =
-    let no_scope : one_if (is_open e) ≡ 0 = ap one_if opens_none in
-    let no_task : one_if (is_fork e) ≡ 0 = ap one_if forks_none in
-    omega (arith, no_scope, no_task, scopes_missing join_mark h e, scopes_missing begin_mark h e, scope_lower end_mark h e s opens_none given lacked is, tasks_missing take_mark h e, tasks_missing finish_mark h e)
-
--- an event that was owed to a task
-paid_task_take : (h : History) (e : Event) (k : ℕ) → Given (task_numbers h) k → lacks take_mark h.events k ≡ true → take_mark e ≡ Some k → is_open e ≡ false → is_fork e ≡ false → owed (followed h e) + 1 ≤ owed h
-unfolding owed
-paid_task_take h e k given lacked is opens_none forks_none =
-    let no_scope : one_if (is_open e) ≡ 0 = ap one_if opens_none in
-    let no_task : one_if (is_fork e) ≡ 0 = ap one_if forks_none in
-    omega (arith, no_scope, no_task, scopes_missing join_mark h e, scopes_missing begin_mark h e, scopes_missing end_mark h e, task_lower take_mark h e k forks_none given lacked is, tasks_missing finish_mark h e)
-
-paid_task_finish : (h : History) (e : Event) (k : ℕ) → Given (task_numbers h) k → lacks finish_mark h.events k ≡ true → finish_mark e ≡ Some k → is_open e ≡ false → is_fork e ≡ false → owed (followed h e) + 1 ≤ owed h
-unfolding owed
-paid_task_finish h e k given lacked is opens_none forks_none =
-    let no_scope : one_if (is_open e) ≡ 0 = ap one_if opens_none in
-    let no_task : one_if (is_fork e) ≡ 0 = ap one_if forks_none in
-    omega (arith, no_scope, no_task, scopes_missing join_mark h e, scopes_missing begin_mark h e, scopes_missing end_mark h e, tasks_missing take_mark h e, task_lower finish_mark h e k forks_none given lacked is)
-
-taken_lacks : (h : History) (k : ℕ) → waiting_check h k ≡ Ok tt → Given (task_numbers h) k × (lacks take_mark h.events k ≡ true)
-unfolding waiting_check
-taken_lacks h k ok =
-    let waits = waiting_task h k (not_not _ (not_refused _ _ (checks_at _ 1 _ ok refl))) in
-    (given_task h k (checks_at _ 0 _ ok refl), lacks_take h k waits.0 waits.1)
-
-finished_lacks : (h : History) (k : ℕ) → finish_check h k ≡ Ok tt → Given (task_numbers h) k × (lacks finish_mark h.events k ≡ true)
-unfolding finish_check
-finished_lacks h k ok =
-    (given_task h k (checks_at _ 0 _ ok refl), lacks_finish h k (running_task h k (not_not _ (not_refused _ _ (checks_at _ 1 _ ok refl)))))
-
-joined_lacks : (h : History) (a s : ℕ) → join_check h a s ≡ Ok tt → Given (scope_numbers h) s × (lacks join_mark h.events s ≡ true)
-unfolding join_check
-joined_lacks h a s ok = (given_scope h s (checks_at _ 1 _ ok refl), lacks_join h s (not_refused _ _ (checks_at _ 4 _ ok refl)))
-
-pub recorded_if : (b : Bool) → cond b Already Recorded ≡ Recorded → b ≡ false
-recorded_if true is = absurd cc
-recorded_if false is = refl
-
-begun_lacks : (h : History) (a s : ℕ) → own_scope_check h a s ≡ Ok tt → begin_close_reply h s ≡ Recorded → Given (scope_numbers h) s × (lacks begin_mark h.events s ≡ true)
-unfolding own_scope_check
-begun_lacks h a s ok reply = (given_scope h s (checks_at _ 1 _ ok refl), lacks_begin h s (recorded_if (closing h s) reply))
-
-ended_lacks : (h : History) (a s : ℕ) → end_close_check h a s ≡ Ok tt → Given (scope_numbers h) s × (lacks end_mark h.events s ≡ true)
-unfolding end_close_check
-ended_lacks h a s ok = (given_scope h s (checks_at _ 1 _ ok refl), lacks_end h s (not_refused _ _ (checks_at _ 4 _ ok refl)))
-
--- what an accepted event pays for covers what is owed after it
-pub owed_event : (L : Limits) (h : History) (e : Event) → Accepts L h e → owed (followed h e) + 1 ≤ owed h + weight e
-owed_event L h (Open actor policy options) ok = paid_more h (Open actor policy options) (omega arith)
-owed_event L h (Fork actor scope label) ok = paid_more h (Fork actor scope label) (omega arith)
-owed_event L h (Cancel scope) ok = paid_more h (Cancel scope) (omega arith)
-owed_event L h (Move scope deadline) ok = paid_more h (Move scope deadline) (omega arith)
-owed_event L h (Tick now) ok = paid_more h (Tick now) (omega arith)
-owed_event L h (Bind actor pair) ok = paid_more h (Bind actor pair) (omega arith)
-owed_event L h (Unbind actor) ok = paid_more h (Unbind actor) (omega arith)
-owed_event L h (Reject task) ok = let it = taken_lacks h task ok in omega (arith, paid_task_take h (Reject task) task it.0 it.1 refl refl refl)
-owed_event L h (Start task) ok = let it = taken_lacks h task ok in omega (arith, paid_task_take h (Start task) task it.0 it.1 refl refl refl)
-owed_event L h (Finish task end) ok = let it = finished_lacks h task ok in omega (arith, paid_task_finish h (Finish task end) task it.0 it.1 refl refl refl)
-owed_event L h (Join actor scope) ok = let it = joined_lacks h actor scope ok in omega (arith, paid_scope_join h (Join actor scope) scope it.0 it.1 refl refl refl)
-owed_event L h (BeginClose actor scope) ok = let it = begun_lacks h actor scope ok.0 ok.1 in omega (arith, paid_scope_begin h (BeginClose actor scope) scope it.0 it.1 refl refl refl)
-owed_event L h (EndClose actor scope) ok = let it = ended_lacks h actor scope ok in omega (arith, paid_scope_end h (EndClose actor scope) scope it.0 it.1 refl refl refl)
+-- what a retirement leaves is kept, in the same room
+pub kept_restart : (L : Limits) (h : History) (capacity : ℕ) → PlainKeeps L h capacity → PlainKeeps L (record { base = base_of h; events = [] }) capacity
+unfolding base_of
+kept_restart L h capacity kept =
+    kept_base L (base_of h) capacity (omega (arith, stack_within h, kept.within.loaded)) kept.within.scopes_fit kept.within.tasks_fit (omega (arith, stack_within h, kept.room))

@@ -1,24 +1,14 @@
-//! The model of task scopes: its types, its rules as definitions over a list of events, and a plain
-//! evaluator that answers each question by scanning that list.
+//! The model of task scopes: the rules (`scope_rules`, all of which it hands on), and a plain
+//! evaluator that answers each question by scanning the list of events.
 #![tactic(auto)]
 
-pub mod laws;
 pub mod plain;
-pub mod scan;
-#[cfg(test)]
-mod tests;
-pub mod types;
+mod scan;
 
 pub use plain::evaluator::Plain;
-pub use types::answers::{
-    Cancelling, Cause, CauseKind, Counts, Effective, ForkReply, Stage, State, Verdict,
+pub use scope_rules::{
+    Actor, AnyEnd, Base, Binding, Cancelling, Catalog, Cause, CauseKind, Completion, Counts, Due,
+    Effective, End, Event, Expiry, Fault, ForkReply, Label, Limits, Name, Options, Outcome, Policy,
+    Refusal, Rule, ScopeId, Stage, State, TaskId, TaskState, TaskStates, TaskValue, TaskValues,
+    Value, Verdict, is_name, is_runtime_fault, laws, types,
 };
-pub use types::bases::Base;
-pub use types::capacity::Limits;
-pub use types::catalogs::{AnyEnd, Catalog, Due, is_runtime_fault};
-pub use types::events::{Binding, Event, Expiry, Options};
-pub use types::joiners::{Policy, Rule};
-pub use types::names::{Name, is_name};
-pub use types::outcomes::{Outcome, TaskState, TaskStates, TaskValue, TaskValues};
-pub use types::refusals::Refusal;
-pub use types::values::{Actor, Done, End, Fault, Label, ScopeId, TaskId, Value};

@@ -1,12 +1,15 @@
-//! The plain program of the rules: one function for each definition, which scans the events.
+//! The plain program of the rules: one function for each definition, which scans the events. Each
+//! file computes the file of `scope_rules/specs` that has its name.
 
+pub mod bindings;
 pub mod cancels;
 pub mod checks;
 pub mod completions;
-pub mod openings;
+pub mod history;
+pub mod load;
 pub mod outcomes;
-pub mod past;
 pub mod scopes;
-pub mod stacks;
+pub mod table;
 pub mod tasks;
 pub mod verdicts;
+pub mod view;

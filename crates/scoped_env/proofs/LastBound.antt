@@ -3,13 +3,13 @@ use Rattle.std.proofs.Common.{◌≡◌, ◌≢◌, ◌++◌, [], ◌∷◌, suc
 use Rattle.std.specs.Option.{option_or, MatchOption, IsNone, IfSome}
 use Rattle.std.proofs.lemmas.List.Elements.{All-cons, All-nil}
 use Rattle.std.proofs.lemmas.Bool.Decides.{not_from_Decides}
-use Rattle.scope_model.specs.declared.types.names.Name.{Name}
-use Rattle.scope_model.specs.declared.types.values.Value.{Value}
-use Rattle.scope_model.specs.declared.types.events.Binding.{Binding}
-use Rattle.scope_model.specs.Bindings.{bound_to}
-use Rattle.scope_model.specs.Names.{same_name}
+use Rattle.scope_rules.specs.declared.types.names.Name.{Name}
+use Rattle.scope_rules.specs.declared.types.values.Value.{Value}
+use Rattle.scope_rules.specs.declared.types.events.Binding.{Binding}
+use Rattle.scope_rules.specs.Bindings.{bound_to}
+use Rattle.scope_rules.specs.Names.{same_name}
 use Rattle.scoped_env.specs.LastBound.{HasNone, IsLastBound}
-use Rattle.scoped_env.proofs.Lookups.{same_name-Decides}
+use Rattle.scope_rules.proofs.SamePairs.{same_name_tells}
 
 abbrev Told : Name → List Binding → Option Value → Type 0
 Told key xs o = MatchOption o (HasNone xs key) (IsLastBound xs key)
@@ -28,11 +28,11 @@ told_step key b bs (Some value) test is told = record {
 told_step key b bs None true is told = record {
   before = [];
   after = bs;
-  parts = ap (λ k. pair_of k b.value ∷ bs) ((same_name-Decides b.key key).0 (sym is));
+  parts = ap (λ k. pair_of k b.value ∷ bs) ((same_name_tells b.key key).0 (sym is));
   none_after = told;
 }
 told_step key b bs None false is told =
-    All-cons (λ pair. pair.key ≢ key) b bs (λ same. not_from_Decides (same_name b.key key) (same_name-Decides b.key key) (sym is) same) told
+    All-cons (λ pair. pair.key ≢ key) b bs (λ same. not_from_Decides (same_name b.key key) (same_name_tells b.key key) (sym is) same) told
 
 -- what a look-up tells of the list
 pub bound_to_told : (key : Name) (xs : List Binding) → Told key xs (bound_to key xs)

@@ -1,40 +1,16 @@
 -- What a key is bound to in joined lists, and how a search from the end finds it.
 use Rattle.std.proofs.Common.{◌≡◌, ◌++◌, [], ◌∷◌, List, Bool, true, false, cond, Option, Some, None, refl, ap, sym, ◌∙◌, reverse, IsTrue, ◌↔◌}
 use Rattle.std.specs.Option.{option_or, option_map}
-use Rattle.std.specs.Bool.{Decides}
 use Rattle.std.specs.List.{find}
-use Rattle.std.specs.Cmp.Lexicographic.{bytes_decides}
 use Rattle.std.proofs.lemmas.Bool.Decides.{same_from_decides}
 use Rattle.std.proofs.lemmas.List.{reverse-append}
 use Rattle.std.proofs.lemmas.List.Folds.{find-append}
-use Rattle.scope_model.specs.declared.types.names.Name.{Name}
-use Rattle.scope_model.specs.declared.types.values.Value.{Value}
-use Rattle.scope_model.specs.declared.types.events.Binding.{Binding}
-use Rattle.scope_model.specs.Names.{text_of}
-use Rattle.scope_model.proofs.NameLemmas.{same_text}
-use Rattle.scope_model.specs.Bindings.{bound_to}
-use Rattle.scope_model.specs.Names.{same_name}
-
-pub same_name-Decides : (a b : Name) → Decides (same_name a b) (a ≡ b)
-same_name-Decides a b =
-    let texts = bytes_decides (text_of a) (text_of b) in
-    (λ yes. same_text a b (texts.0 yes), λ same. texts.1 (ap text_of same))
-
-option_or_assoc : {T : Type 0} (a b c : Option T) → option_or (option_or a b) c ≡ option_or a (option_or b c)
-option_or_assoc None b c = refl
-option_or_assoc (Some x) b c = refl
-
-option_or_none : {T : Type 0} (a : Option T) → option_or a None ≡ a
-option_or_none None = refl
-option_or_none (Some x) = refl
-
--- a later list goes before an earlier one
-pub bound_to-append : (key : Name) (xs ys : List Binding) → bound_to key (xs ++ ys) ≡ option_or (bound_to key ys) (bound_to key xs)
-unfolding bound_to
-bound_to-append key [] ys = sym (option_or_none (bound_to key ys))
-bound_to-append key (b ∷ bs) ys =
-    ap (λ o. option_or o (cond (same_name b.key key) (Some b.value) None)) (bound_to-append key bs ys)
-    ∙ option_or_assoc (bound_to key ys) (bound_to key bs) (cond (same_name b.key key) (Some b.value) None)
+use Rattle.scope_rules.specs.declared.types.names.Name.{Name}
+use Rattle.scope_rules.specs.declared.types.values.Value.{Value}
+use Rattle.scope_rules.specs.declared.types.events.Binding.{Binding}
+use Rattle.scope_rules.specs.Bindings.{bound_to}
+use Rattle.scope_rules.proofs.SamePairs.{same_name_tells}
+use Rattle.scope_rules.specs.Names.{same_name}
 
 abbrev pub value_of : Binding → Value
 value_of b = b.value
@@ -62,4 +38,4 @@ bound_to-find key (b ∷ bs) =
 
 -- what a comparison of two keys has told
 pub told_same : (told : Bool) (a b : Name) → (IsTrue told ↔ (a ≡ b)) → told ≡ same_name a b
-told_same told a b says = same_from_decides told (same_name a b) says (same_name-Decides a b)
+told_same told a b says = same_from_decides told (same_name a b) says (same_name_tells a b)

@@ -1,9 +1,9 @@
 ghost use Rattle.std.specs.Prelude.{◌≡◌, ◌↔◌, ◌++◌, ◌∷◌, [], IfOk, OnOk, OnErr, IfErr, IsErr, IfSome, IsNone, length};
-ghost use Rattle.scope_model.specs.Bindings.{bound_to};
+ghost use Rattle.scope_rules.specs.Bindings.{bound_to};
 ghost use Rattle.scoped_env.specs.LastBound.{HasNone, IsLastBound};
 
 use crate::shared::SharedPairs;
-use scope_model::{Binding, Name, Refusal, Value};
+use scope_rules::{Binding, Name, Refusal, Value};
 use std::alloc::{AllocError, Global};
 use std::marker::Model;
 
@@ -13,7 +13,7 @@ use std::marker::Model;
 #[derive(Debug, Drop)]
 pub struct Env {
     inherited: SharedPairs,
-    own: Vec<Binding>,
+    stack: Vec<Binding>,
     // All pairs, made by the last `inherit` and kept for the next; `None` once they changed.
     snapshot: Option<SharedPairs>,
 }
@@ -24,13 +24,13 @@ impl Model for Env {
 
     ghost Value = { Layers };
 
-    ghost view = { λ e. record { inherited = e.inherited; own = e.own.items } };
+    ghost view = { λ e. record { inherited = e.inherited; stack = e.stack.items } };
 
-    ghost invariant = { λ e. IfSome e.snapshot (λ all. all ≡ e.inherited ++ e.own.items) };
+    ghost invariant = { λ e. IfSome e.snapshot (λ all. all ≡ e.inherited ++ e.stack.items) };
 }
 
 impl Env {
-    ghost use Rattle.scoped_env.specs.Layers.{all_pairs, no_pairs, with_own, without_last_own, inheriting};
+    ghost use Rattle.scoped_env.specs.Layers.{all_pairs, no_pairs, with_pair, without_last_pair, inheriting};
 
     /// The environment in which nothing is bound. Its pairs will stand in memory of `alloc`.
     pub fn new(alloc: Global) -> Env
@@ -41,11 +41,11 @@ impl Env {
 
     /// The environment of an actor that has bound nothing itself.
     fn above(inherited: SharedPairs, alloc: Global) -> Env
-        ensures { result ≡ record { inherited = inherited; own = [] } }
+        ensures { result ≡ record { inherited = inherited; stack = [] } }
     {
         Env {
             inherited,
-            own: Vec::new(alloc),
+            stack: Vec::new(alloc),
             snapshot: None,
         }
     }
@@ -53,10 +53,10 @@ impl Env {
     /// Binds the key to the value, above all other pairs. It is refused for memory alone, and then
     /// changes nothing.
     pub fn bind(&mut self, key: Name, value: Value) -> Result<(), AllocError>
-        ensures ok { OnOk result (self.new ≡ with_own self.old (record { key = key; value = value })) }
+        ensures ok { OnOk result (self.new ≡ with_pair self.old (record { key = key; value = value })) }
         ensures err { OnErr result (self.new ≡ self.old) }
     {
-        self.own.push(Binding { key, value })?;
+        self.stack.push(Binding { key, value })?;
         self.snapshot = None;
         Ok(())
     }
@@ -64,12 +64,12 @@ impl Env {
     /// Takes away the last pair of the own stack. It is refused `NotBound` exactly where that is
     /// empty: an inherited pair stays. It takes no memory.
     pub fn unbind(&mut self) -> Result<(), Refusal>
-        ensures ok { OnOk result (self.new ≡ without_last_own self.old) }
-        ensures empty { IsErr result ↔ (self.old.own ≡ []) }
+        ensures ok { OnOk result (self.new ≡ without_last_pair self.old) }
+        ensures empty { IsErr result ↔ (self.old.stack ≡ []) }
         ensures refusal { IfErr result (λ refusal. refusal ≡ Refusal.NotBound) }
         ensures err { OnErr result (self.new ≡ self.old) }
     {
-        match self.own.pop() {
+        match self.stack.pop() {
             Some(_) => {
                 self.snapshot = None;
                 Ok(())
@@ -85,7 +85,7 @@ impl Env {
         ensures last { IfSome result (IsLastBound (all_pairs self.now) key) }
         ensures none { IsNone result ↔ HasNone (all_pairs self.now) key }
     {
-        last_value(&self.own, &key).or_else(|| last_value(self.inherited.as_slice(), &key))
+        last_value(&self.stack, &key).or_else(|| last_value(self.inherited.as_slice(), &key))
     }
 
     /// The environment of a task that this one's actor forks now: all pairs of this one are its
@@ -96,7 +96,7 @@ impl Env {
         ensures ok { IfOk result (λ env. env ≡ inheriting self.old) }
         ensures unchanged { self.new ≡ self.old }
     {
-        let alloc = *self.own.allocator();
+        let alloc = *self.stack.allocator();
         let inherited = self.share_all()?;
         Ok(Env::above(inherited, alloc))
     }
@@ -106,13 +106,17 @@ impl Env {
         ensures ok { IfOk result (λ all. all ≡ all_pairs self.old) }
         ensures unchanged { self.new ≡ self.old }
     {
-        if self.own.is_empty() {
+        if self.stack.is_empty() {
             return self.inherited.share();
         }
         if let Some(all) = &self.snapshot {
             return all.share();
         }
-        let all = SharedPairs::joined(*self.own.allocator(), self.inherited.as_slice(), &self.own)?;
+        let all = SharedPairs::joined(
+            *self.stack.allocator(),
+            self.inherited.as_slice(),
+            &self.stack,
+        )?;
         let shared = all.share()?;
         self.snapshot = Some(all);
         Ok(shared)
@@ -122,22 +126,22 @@ impl Env {
     pub fn depth(&self) -> usize
         ensures { result ≡ length (all_pairs self.now) }
     {
-        self.inherited.as_slice().len() + self.own.len()
+        self.inherited.as_slice().len() + self.stack.len()
     }
 
     /// How many own pairs there are. By this number a caller tells whether the bindings are those
     /// of an earlier moment, where no pair of that moment was taken away since.
-    pub fn own_len(&self) -> usize
-        ensures { result ≡ length self.now.own }
+    pub fn stack_len(&self) -> usize
+        ensures { result ≡ length self.now.stack }
     {
-        self.own.len()
+        self.stack.len()
     }
 
     /// The own pairs, the latest last.
-    pub fn own(&self) -> &[Binding]
-        ensures { result.now ≡ self.now.own }
+    pub fn stack(&self) -> &[Binding]
+        ensures { result.now ≡ self.now.stack }
     {
-        &self.own
+        &self.stack
     }
 }
 

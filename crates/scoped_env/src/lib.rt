@@ -7,6 +7,3 @@ mod env;
 mod shared;
 
 pub use env::Env;
-
-#[cfg(test)]
-mod tests;

@@ -1,6 +1,6 @@
 ghost use Rattle.std.specs.Prelude.{◌≡◌, ◌++◌, IfOk, []};
 
-use scope_model::Binding;
+use scope_rules::Binding;
 use std::alloc::{AllocError, Global};
 use std::marker::Model;
 use std::sync::ArcSlice;
@@ -16,7 +16,7 @@ impl Model for SharedPairs {
     ghost use Rattle.std.specs.Prelude.{List, []};
     ghost use Rattle.std.specs.Option.{unwrap_or, option_map};
     ghost use Rattle.std.specs.Arc.{arc_slice_items};
-    ghost use Rattle.scope_model.specs.declared.types.events.Binding.{Binding};
+    ghost use Rattle.scope_rules.specs.declared.types.events.Binding.{Binding};
 
     ghost Value = { List Binding };
 

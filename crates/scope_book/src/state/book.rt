@@ -1,11 +1,12 @@
 ghost use Rattle.std.specs.Prelude.{◌≡◌};
-ghost use Rattle.scope_model.specs.Legal.{Legal};
-ghost use Rattle.scope_model.specs.Origin.{the_start};
-ghost use Rattle.scope_model.specs.Replies.{starting, base_check, AnswersOrMemory};
+ghost use Rattle.scope_rules.specs.Legal.{Legal, IsWithin};
+ghost use Rattle.scope_rules.specs.Origin.{the_start};
+ghost use Rattle.scope_rules.specs.Replies.{starting, base_check, AnswersOrMemory};
 ghost use Rattle.scope_book.specs.Fits.{Fitting};
 
-use crate::state::ledger::Ledger;
-use scope_model::{Base, Catalog, Limits, Plain, Refusal};
+use crate::state::fitting::FittingRealm;
+use scope_model::Plain;
+use scope_rules::{Base, Catalog, Limits, Refusal};
 use std::alloc::Global;
 use std::marker::PhantomData;
 
@@ -13,7 +14,7 @@ use std::marker::PhantomData;
 /// replay of its history, which is legal, within the limits, and fitting by the catalog `C`.
 #[derive(Drop)]
 pub struct BookState<C: Catalog> {
-    pub(crate) ledger: Ledger<C>,
+    pub(crate) realm: FittingRealm<C>,
 }
 
 impl<C: Catalog> BookState<C> {
@@ -25,7 +26,7 @@ impl<C: Catalog> BookState<C> {
         ensures { realm_of result ≡ starting limits the_start }
     {
         BookState {
-            ledger: Ledger {
+            realm: FittingRealm {
                 plain: Plain::new(alloc, limits),
                 catalog: PhantomData,
             },
@@ -40,19 +41,21 @@ impl<C: Catalog> BookState<C> {
     {
         let plain = Plain::with_base(alloc, limits, base)?;
         Ok(BookState {
-            ledger: Ledger {
+            realm: FittingRealm {
                 plain,
                 catalog: PhantomData,
             },
         })
     }
 
-    /// The realm's limits. It also says of the history that it is legal and fitting.
+    /// The realm's limits. It also says of the history that it is legal, within the limits (the load and
+    /// the numbers too, the base's counted) and fitting.
     pub fn limits(&self) -> Limits
         ensures limits { result ≡ limits_of self.now }
         ensures legal { Legal (limits_of self.now) (history_of self.now) }
+        ensures within { IsWithin (limits_of self.now) (history_of self.now) }
         ensures fitting { Fitting C.fitting (history_of self.now) }
     {
-        self.ledger.plain.limits()
+        self.realm.plain.limits()
     }
 }

@@ -1,14 +1,15 @@
-ghost use Rattle.std.specs.Prelude.{◌≡◌, Ok, OnErr, IfErr};
-ghost use Rattle.scope_model.specs.Checks.{open_check, fork_check, waiting_check, finish_check, move_check, tick_check, bind_check, unbind_check, join_check, own_scope_check, end_close_check, retire_check};
-ghost use Rattle.scope_model.specs.Verdicts.{verdict};
-ghost use Rattle.scope_model.specs.Replies.{Answers, AnswersOrMemory, after, after_recording, after_retiring, next_scope, fork_reply, whole_cancel_check, cancel_reply, begin_close_reply, base_of};
+ghost use Rattle.std.specs.Prelude.{◌≡◌, true, Ok, OnOk, OnErr, IfErr};
+ghost use Rattle.scope_rules.specs.Table.{check_of, is_already, retire_check};
+ghost use Rattle.scope_rules.specs.Verdicts.{verdict};
+ghost use Rattle.scope_rules.specs.ClosingLaws.{IsWhole};
+ghost use Rattle.scope_rules.specs.Replies.{Answers, AnswersOrMemory, after, after_recording, after_retiring, next_scope, fork_reply, recording, base_of};
 ghost use Rattle.join_rules.specs.Joiners.{policy_of};
 ghost use Rattle.scope_book.specs.Books.{realm_of, limits_of, history_of, refusal_alone};
 ghost use Rattle.scope_book.specs.Fits.{FitsTask};
 
 use crate::state::book::BookState;
 use join_rules::Joiner;
-use scope_model::{
+use scope_rules::{
     Actor, Base, Cancelling, Catalog, End, Event, ForkReply, Label, Name, Options, Refusal,
     ScopeId, TaskId, Value, Verdict,
 };
@@ -26,11 +27,11 @@ impl<C: Catalog> BookState<C> {
         joiner: Joiner,
         options: Options,
     ) -> Result<ScopeId, (Refusal, Joiner)>
-        ensures answer { AnswersOrMemory (open_check (limits_of self.old) (history_of self.old) actor) (next_scope (history_of self.old)) (refusal_alone result) }
+        ensures answer { AnswersOrMemory (check_of (limits_of self.old) (history_of self.old) (Event.Open actor (policy_of joiner) options)) (next_scope (history_of self.old)) (refusal_alone result) }
         ensures history { realm_of self.new ≡ after (realm_of self.old) (Event.Open actor (policy_of joiner) options) (refusal_alone result) }
         ensures handed_back { IfErr result (λ e. e.1 ≡ joiner) }
     {
-        match self.ledger.plain.open(actor, joiner.policy(), options) {
+        match self.realm.plain.open(actor, joiner.policy(), options) {
             Ok(scope) => Ok(scope),
             Err(refusal) => Err((refusal, joiner)),
         }
@@ -42,87 +43,87 @@ impl<C: Catalog> BookState<C> {
     /// (`AlreadyJoined`), while the actor's bindings are not those at the scope's opening (`Structure`;
     /// JEP 506), and where a limit is met (`TooMany`).
     pub fn fork(&mut self, actor: Actor, scope: ScopeId, label: Label) -> Result<ForkReply, Refusal>
-        ensures answer { AnswersOrMemory (fork_check (limits_of self.old) (history_of self.old) actor scope) (fork_reply (history_of self.old) scope) result }
+        ensures answer { AnswersOrMemory (check_of (limits_of self.old) (history_of self.old) (Event.Fork actor scope label)) (fork_reply (history_of self.old) scope) result }
         ensures history { realm_of self.new ≡ after (realm_of self.old) (Event.Fork actor scope label) result }
     {
-        self.ledger.plain.fork(actor, scope, label)
+        self.realm.plain.fork(actor, scope, label)
     }
 
     /// Records that no thread was had for a task. Refused where the task does not wait (`WrongStage`),
     /// or is unknown (`NoTask`, `Retired`).
     pub fn reject(&mut self, task: TaskId) -> Result<(), Refusal>
-        ensures answer { Answers (waiting_check (history_of self.old) task) tt result }
+        ensures answer { Answers (check_of (limits_of self.old) (history_of self.old) (Event.Reject task)) tt result }
         ensures history { realm_of self.new ≡ after (realm_of self.old) (Event.Reject task) result }
     {
-        self.ledger.plain.reject(task)
+        self.realm.plain.reject(task)
     }
 
     /// Starts a task whose thread has come. Refused where the task does not wait (`WrongStage`), or is
     /// unknown (`NoTask`, `Retired`).
     pub fn start(&mut self, task: TaskId) -> Result<(), Refusal>
-        ensures answer { Answers (waiting_check (history_of self.old) task) tt result }
+        ensures answer { Answers (check_of (limits_of self.old) (history_of self.old) (Event.Start task)) tt result }
         ensures history { realm_of self.new ≡ after (realm_of self.old) (Event.Start task) result }
     {
-        self.ledger.plain.start(task)
+        self.realm.plain.start(task)
     }
 
     /// Records the end of a running task. Refused where the task does not run (`WrongStage`), is
     /// unknown (`NoTask`, `Retired`), or has a scope that is not closed (`Structure`).
     pub fn finish(&mut self, task: TaskId, end: End) -> Result<(), Refusal>
         requires { FitsTask C.fitting (history_of self.old) task end }
-        ensures answer { Answers (finish_check (history_of self.old) task) tt result }
+        ensures answer { Answers (check_of (limits_of self.old) (history_of self.old) (Event.Finish task end)) tt result }
         ensures history { realm_of self.new ≡ after (realm_of self.old) (Event.Finish task end) result }
     {
-        self.ledger.plain.finish(task, end)
+        self.realm.plain.finish(task, end)
     }
 
     /// Cancels the scope and all that it reaches (Trio, `cancel`). A scope that is cancelled already
     /// stays as it is. Refused for a scope that is unknown (`NoScope`, `Retired`), or closing or closed
     /// (`Closed`), and where the limit of load is met (`TooMany`).
     pub fn cancel(&mut self, scope: ScopeId) -> Result<Cancelling, Refusal>
-        ensures answer { AnswersOrMemory (whole_cancel_check (limits_of self.old) (history_of self.old) scope) (cancel_reply (history_of self.old) scope) result }
-        ensures already { cancel_reply (history_of self.old) scope ≡ Cancelling.Already → Answers (whole_cancel_check (limits_of self.old) (history_of self.old) scope) Cancelling.Already result }
+        ensures answer { AnswersOrMemory (check_of (limits_of self.old) (history_of self.old) (Event.Cancel scope)) (recording (history_of self.old) (Event.Cancel scope)) result }
+        ensures already { is_already (history_of self.old) (Event.Cancel scope) ≡ true → Answers (check_of (limits_of self.old) (history_of self.old) (Event.Cancel scope)) Cancelling.Already result }
         ensures history { realm_of self.new ≡ after_recording (realm_of self.old) (Event.Cancel scope) result }
     {
-        self.ledger.plain.cancel(scope)
+        self.realm.plain.cancel(scope)
     }
 
     /// Sets the deadline of the scope anew, in milliseconds, or takes it away (Trio: a cancel scope's
     /// deadline may be moved). Refused for a scope that is unknown (`NoScope`, `Retired`), closing or
     /// closed (`Closed`) or joined (`AlreadyJoined`), and where the limit of load is met (`TooMany`).
     pub fn move_deadline(&mut self, scope: ScopeId, deadline: Option<u64>) -> Result<(), Refusal>
-        ensures answer { AnswersOrMemory (move_check (limits_of self.old) (history_of self.old) scope) tt result }
+        ensures answer { AnswersOrMemory (check_of (limits_of self.old) (history_of self.old) (Event.Move scope deadline)) tt result }
         ensures history { realm_of self.new ≡ after (realm_of self.old) (Event.Move scope deadline) result }
     {
-        self.ledger.plain.move_deadline(scope, deadline)
+        self.realm.plain.move_deadline(scope, deadline)
     }
 
     /// Sets the moment, in milliseconds. Refused for a moment before the present one (`ClockBack`), and
     /// where the limit of load is met (`TooMany`).
     pub fn tick(&mut self, now: u64) -> Result<(), Refusal>
-        ensures answer { AnswersOrMemory (tick_check (limits_of self.old) (history_of self.old) now) tt result }
+        ensures answer { AnswersOrMemory (check_of (limits_of self.old) (history_of self.old) (Event.Tick now)) tt result }
         ensures history { realm_of self.new ≡ after (realm_of self.old) (Event.Tick now) result }
     {
-        self.ledger.plain.tick(now)
+        self.realm.plain.tick(now)
     }
 
     /// Binds the key above the actor's other bindings (JEP 506, `where`). Refused where the actor is no
     /// running task or main, and where the limit of load is met (`TooMany`).
     pub fn bind(&mut self, actor: Actor, key: Name, value: Value) -> Result<(), Refusal>
-        ensures answer { AnswersOrMemory (bind_check (limits_of self.old) (history_of self.old) actor) tt result }
+        ensures answer { AnswersOrMemory (check_of (limits_of self.old) (history_of self.old) (Event.Bind actor (record { key = key; value = value }))) tt result }
         ensures history { realm_of self.new ≡ after (realm_of self.old) (Event.Bind actor (record { key = key; value = value })) result }
     {
-        self.ledger.plain.bind(actor, key, value)
+        self.realm.plain.bind(actor, key, value)
     }
 
     /// Takes away the actor's last own binding. Refused where the actor is no running task or main, has
     /// no own binding (`NotBound`), or has a scope open or closing that was opened while the binding
     /// stood (`Structure`), and where the limit of load is met (`TooMany`).
     pub fn unbind(&mut self, actor: Actor) -> Result<(), Refusal>
-        ensures answer { AnswersOrMemory (unbind_check (limits_of self.old) (history_of self.old) actor) tt result }
+        ensures answer { AnswersOrMemory (check_of (limits_of self.old) (history_of self.old) (Event.Unbind actor)) tt result }
         ensures history { realm_of self.new ≡ after (realm_of self.old) (Event.Unbind actor) result }
     {
-        self.ledger.plain.unbind(actor)
+        self.realm.plain.unbind(actor)
     }
 
     /// Joins the actor's scope (JEP 505, `join`); what it answers is read by `outcome`. Refused where
@@ -130,10 +131,10 @@ impl<C: Catalog> BookState<C> {
     /// another's (`NotOwner`), closing or closed (`Closed`) or joined (`AlreadyJoined`), and while it is
     /// neither cancelled nor all its tasks have ended (`NotReady`).
     pub fn join_now(&mut self, actor: Actor, scope: ScopeId) -> Result<(), Refusal>
-        ensures answer { Answers (join_check (history_of self.old) actor scope) tt result }
+        ensures answer { Answers (check_of (limits_of self.old) (history_of self.old) (Event.Join actor scope)) tt result }
         ensures history { realm_of self.new ≡ after (realm_of self.old) (Event.Join actor scope) result }
     {
-        self.ledger.plain.join_now(actor, scope)
+        self.realm.plain.join_now(actor, scope)
     }
 
     /// Begins to close the actor's scope, and with it each scope that the actor opened later and has not
@@ -141,21 +142,23 @@ impl<C: Catalog> BookState<C> {
     /// Refused where the actor is no running task or main, and for a scope that is unknown (`NoScope`,
     /// `Retired`) or another's (`NotOwner`).
     pub fn begin_close(&mut self, actor: Actor, scope: ScopeId) -> Result<Cancelling, Refusal>
-        ensures answer { Answers (own_scope_check (history_of self.old) actor scope) (begin_close_reply (history_of self.old) scope) result }
+        ensures answer { Answers (check_of (limits_of self.old) (history_of self.old) (Event.BeginClose actor scope)) (recording (history_of self.old) (Event.BeginClose actor scope)) result }
         ensures history { realm_of self.new ≡ after_recording (realm_of self.old) (Event.BeginClose actor scope) result }
     {
-        self.ledger.plain.begin_close(actor, scope)
+        self.realm.plain.begin_close(actor, scope)
     }
 
     /// Closes the actor's scope. Refused where the actor is no running task or main, for a scope that is
     /// unknown (`NoScope`, `Retired`), another's (`NotOwner`), not closing (`WrongStage`) or closed
     /// (`Closed`), while the actor has a later scope that is not closed (`Structure`), and while a task
-    /// of the scope waits or runs (`NotReady`).
+    /// of the scope waits or runs (`NotReady`). A closed scope is whole: none of its tasks waits or runs,
+    /// and each scope inside it, by parents at any depth, is closed.
     pub fn end_close(&mut self, actor: Actor, scope: ScopeId) -> Result<Verdict, Refusal>
-        ensures answer { Answers (end_close_check (history_of self.old) actor scope) (verdict (history_of self.old) scope) result }
+        ensures answer { Answers (check_of (limits_of self.old) (history_of self.old) (Event.EndClose actor scope)) (verdict (history_of self.old) scope) result }
         ensures history { realm_of self.new ≡ after (realm_of self.old) (Event.EndClose actor scope) result }
+        ensures whole { OnOk result (IsWhole (history_of self.new) scope) }
     {
-        self.ledger.plain.end_close(actor, scope)
+        self.realm.plain.end_close(actor, scope)
     }
 
     /// Takes the events out and leaves a base, once main's outermost scope is closed; what is left goes
@@ -167,6 +170,6 @@ impl<C: Catalog> BookState<C> {
         ensures answer { AnswersOrMemory (retire_check (history_of self.old) actor) (base_of (history_of self.old)) result }
         ensures history { realm_of self.new ≡ after_retiring (realm_of self.old) result }
     {
-        self.ledger.plain.retire(actor)
+        self.realm.plain.retire(actor)
     }
 }

@@ -1,14 +1,15 @@
 ghost use Rattle.std.specs.Prelude.{◌≡◌, Ok};
-ghost use Rattle.scope_model.specs.History.{moment};
-ghost use Rattle.scope_model.specs.Cancels.{cause, first, effective};
-ghost use Rattle.scope_model.specs.Tasks.{stage, state, counts};
-ghost use Rattle.scope_model.specs.Outcomes.{outcome};
-ghost use Rattle.scope_model.specs.Checks.{answering, scope_check, task_check, closed_check};
-ghost use Rattle.scope_model.specs.Replies.{AnswersValue, result_reply, fault_reply, binding_reply, outcome_check};
+ghost use Rattle.scope_rules.specs.History.{moment};
+ghost use Rattle.scope_rules.specs.Cancels.{cause, cancelled_at, effective};
+ghost use Rattle.scope_rules.specs.Tasks.{stage, state, counts};
+ghost use Rattle.scope_rules.specs.Outcomes.{outcome};
+ghost use Rattle.scope_rules.specs.Checks.{scope_check, task_check};
+ghost use Rattle.scope_rules.specs.Table.{answering, until_check};
+ghost use Rattle.scope_rules.specs.Replies.{AnswersValue, result_reply, fault_reply, binding_reply, outcome_check};
 ghost use Rattle.scope_book.specs.Books.{history_of};
 
 use crate::state::book::BookState;
-use scope_model::{
+use scope_rules::{
     Actor, Catalog, Cause, Counts, Effective, Fault, Name, Outcome, Refusal, ScopeId, Stage, State,
     TaskId, Value,
 };
@@ -20,14 +21,14 @@ impl<C: Catalog> BookState<C> {
     pub fn state(&self, task: TaskId) -> Result<State, Refusal>
         ensures { result ≡ answering (task_check (history_of self.now) task) (state (history_of self.now) task) }
     {
-        self.ledger.plain.state(task)
+        self.realm.plain.state(task)
     }
 
     /// How far the task has come. Refused for an unknown task (`NoTask`, `Retired`).
     pub fn stage(&self, task: TaskId) -> Result<Stage, Refusal>
         ensures { result ≡ answering (task_check (history_of self.now) task) (stage (history_of self.now) task) }
     {
-        self.ledger.plain.stage(task)
+        self.realm.plain.stage(task)
     }
 
     /// The value of the task, read by the owner of its scope after the join (JEP 505, `Subtask.get`).
@@ -37,7 +38,7 @@ impl<C: Catalog> BookState<C> {
     pub fn result(&self, actor: Actor, task: TaskId) -> Result<Value, Refusal>
         ensures { result ≡ result_reply (history_of self.now) actor task }
     {
-        self.ledger.plain.result(actor, task)
+        self.realm.plain.result(actor, task)
     }
 
     /// The fault of the task, read by the owner of its scope after the join (JEP 505,
@@ -45,30 +46,30 @@ impl<C: Catalog> BookState<C> {
     pub fn fault(&self, actor: Actor, task: TaskId) -> Result<Fault, Refusal>
         ensures { result ≡ fault_reply (history_of self.now) actor task }
     {
-        self.ledger.plain.fault(actor, task)
+        self.realm.plain.fault(actor, task)
     }
 
     /// Why the scope is cancelled, if it is. Refused for an unknown scope (`NoScope`, `Retired`).
     pub fn cause(&self, scope: ScopeId) -> Result<Option<Cause>, Refusal>
         ensures { result ≡ answering (scope_check (history_of self.now) scope) (cause (history_of self.now) scope) }
     {
-        self.ledger.plain.cause(scope)
+        self.realm.plain.cause(scope)
     }
 
     /// The place of the event by which the scope became cancelled, if it is, counted from 0 since the
     /// base. Refused for an unknown scope (`NoScope`, `Retired`).
     pub fn cancelled_at(&self, scope: ScopeId) -> Result<Option<usize>, Refusal>
-        ensures { result ≡ answering (scope_check (history_of self.now) scope) (first (history_of self.now) scope) }
+        ensures { result ≡ answering (scope_check (history_of self.now) scope) (cancelled_at (history_of self.now) scope) }
     {
-        self.ledger.plain.cancelled_at(scope)
+        self.realm.plain.cancelled_at(scope)
     }
 
     /// The earliest deadline in effect for the scope (Trio, `current_effective_deadline`), in
     /// milliseconds. Refused for a scope that is unknown (`NoScope`, `Retired`) or closed (`Closed`).
     pub fn effective_deadline(&self, scope: ScopeId) -> Result<Effective, Refusal>
-        ensures { result ≡ answering (closed_check (history_of self.now) scope) (effective (history_of self.now) scope) }
+        ensures { result ≡ answering (until_check (history_of self.now) scope) (effective (history_of self.now) scope) }
     {
-        self.ledger.plain.effective_deadline(scope)
+        self.realm.plain.effective_deadline(scope)
     }
 
     /// How many tasks of the scope are at each stage. Refused for an unknown scope (`NoScope`,
@@ -76,7 +77,7 @@ impl<C: Catalog> BookState<C> {
     pub fn counts(&self, scope: ScopeId) -> Result<Counts, Refusal>
         ensures { result ≡ answering (scope_check (history_of self.now) scope) (counts (history_of self.now) scope) }
     {
-        self.ledger.plain.counts(scope)
+        self.realm.plain.counts(scope)
     }
 
     /// What the actor sees the key bound to (JEP 506, `ScopedValue.get`). Refused where the actor is no
@@ -84,14 +85,14 @@ impl<C: Catalog> BookState<C> {
     pub fn binding(&self, actor: Actor, key: &Name) -> Result<Value, Refusal>
         ensures { result ≡ binding_reply (history_of self.now) actor key.now }
     {
-        self.ledger.plain.binding(actor, key)
+        self.realm.plain.binding(actor, key)
     }
 
     /// The moment, in milliseconds.
     pub fn moment(&self) -> u64
         ensures { result ≡ moment (history_of self.now) }
     {
-        self.ledger.plain.moment()
+        self.realm.plain.moment()
     }
 
     /// What the join of the scope answered. Refused for an unknown scope (`NoScope`, `Retired`), before
@@ -99,6 +100,6 @@ impl<C: Catalog> BookState<C> {
     pub fn outcome(&self, scope: ScopeId) -> Result<Outcome, Refusal>
         ensures { AnswersValue (outcome_check (history_of self.now) scope) (outcome (history_of self.now) scope) result }
     {
-        self.ledger.plain.outcome(scope)
+        self.realm.plain.outcome(scope)
     }
 }

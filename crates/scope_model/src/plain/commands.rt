@@ -1,16 +1,17 @@
-ghost use Rattle.std.specs.Prelude.{◌≡◌, ◌+◌, Ok};
-ghost use Rattle.scope_model.specs.Checks.{open_check, fork_check, waiting_check, finish_check, move_check, tick_check, bind_check, unbind_check, join_check, own_scope_check, end_close_check, retire_check};
-ghost use Rattle.scope_model.specs.Verdicts.{verdict};
-ghost use Rattle.scope_model.specs.Replies.{Answers, AnswersOrMemory, after, after_recording, after_retiring, next_scope, fork_reply, whole_cancel_check, cancel_reply, begin_close_reply, base_of};
+ghost use Rattle.std.specs.Prelude.{◌≡◌, true, ◌+◌, Ok, OnOk};
+ghost use Rattle.scope_rules.specs.Table.{check_of, is_already, retire_check};
+ghost use Rattle.scope_rules.specs.Verdicts.{verdict};
+ghost use Rattle.scope_rules.specs.ClosingLaws.{IsWhole};
+ghost use Rattle.scope_rules.specs.Replies.{Answers, AnswersOrMemory, after, after_recording, after_retiring, next_scope, fork_reply, recording, base_of};
 
 use crate::plain::evaluator::Plain;
-use crate::types::answers::{Cancelling, ForkReply, Verdict};
-use crate::types::bases::Base;
-use crate::types::events::{Binding, Event, Options};
-use crate::types::joiners::Policy;
-use crate::types::names::Name;
-use crate::types::refusals::Refusal;
-use crate::types::values::{Actor, End, Label, ScopeId, TaskId, Value};
+use scope_rules::types::answers::{Cancelling, ForkReply, Verdict};
+use scope_rules::types::bases::Base;
+use scope_rules::types::events::{Binding, Event, Options};
+use scope_rules::types::joiners::Policy;
+use scope_rules::types::names::Name;
+use scope_rules::types::refusals::Refusal;
+use scope_rules::types::values::{Actor, End, Label, ScopeId, TaskId, Value};
 
 /// The commands. Each tries its checks in their order, and answers the first refusal; an accepted one
 /// adds exactly its event to the history and answers its reply; a refused one changes nothing. Those
@@ -25,12 +26,12 @@ impl Plain {
         policy: Policy,
         options: Options,
     ) -> Result<ScopeId, Refusal>
-        ensures answer { AnswersOrMemory (open_check self.old.limits self.old.history actor) (next_scope self.old.history) result }
+        ensures answer { AnswersOrMemory (check_of self.old.limits self.old.history (Event.Open actor policy options)) (next_scope self.old.history) result }
         ensures history { self.new ≡ after self.old (Event.Open actor policy options) result }
     {
-        let past = self.past();
-        past.open_check(&self.limits(), actor)?;
-        let scope = past.scopes() + 1;
+        let view = self.view();
+        view.open_row(&self.limits(), actor)?;
+        let scope = view.scopes() + 1;
         self.try_append(Event::Open {
             actor,
             policy,
@@ -45,13 +46,13 @@ impl Plain {
     /// (`AlreadyJoined`), while the actor's bindings are not those at the scope's opening (`Structure`;
     /// JEP 506), and where a limit is met (`TooMany`).
     pub fn fork(&mut self, actor: Actor, scope: ScopeId, label: Label) -> Result<ForkReply, Refusal>
-        ensures answer { AnswersOrMemory (fork_check self.old.limits self.old.history actor scope) (fork_reply self.old.history scope) result }
+        ensures answer { AnswersOrMemory (check_of self.old.limits self.old.history (Event.Fork actor scope label)) (fork_reply self.old.history scope) result }
         ensures history { self.new ≡ after self.old (Event.Fork actor scope label) result }
     {
-        let past = self.past();
-        past.fork_check(&self.limits(), actor, scope)?;
-        let task = past.tasks() + 1;
-        let reply = if past.is_cancelled(scope) {
+        let view = self.view();
+        view.fork_row(&self.limits(), actor, scope)?;
+        let task = view.tasks() + 1;
+        let reply = if view.is_cancelled(scope) {
             ForkReply::Never(task)
         } else {
             ForkReply::Thread(task)
@@ -67,10 +68,10 @@ impl Plain {
     /// Records that no thread was had for a task. Refused where the task does not wait (`WrongStage`),
     /// or is unknown (`NoTask`, `Retired`).
     pub fn reject(&mut self, task: TaskId) -> Result<(), Refusal>
-        ensures answer { Answers (waiting_check self.old.history task) tt result }
+        ensures answer { Answers (check_of self.old.limits self.old.history (Event.Reject task)) tt result }
         ensures history { self.new ≡ after self.old (Event.Reject task) result }
     {
-        self.past().waiting_check(task)?;
+        self.view().waiting_row(task)?;
         self.record(Event::Reject { task });
         Ok(())
     }
@@ -78,10 +79,10 @@ impl Plain {
     /// Starts a task whose thread has come. Refused where the task does not wait (`WrongStage`), or is
     /// unknown (`NoTask`, `Retired`).
     pub fn start(&mut self, task: TaskId) -> Result<(), Refusal>
-        ensures answer { Answers (waiting_check self.old.history task) tt result }
+        ensures answer { Answers (check_of self.old.limits self.old.history (Event.Start task)) tt result }
         ensures history { self.new ≡ after self.old (Event.Start task) result }
     {
-        self.past().waiting_check(task)?;
+        self.view().waiting_row(task)?;
         self.record(Event::Start { task });
         Ok(())
     }
@@ -89,10 +90,10 @@ impl Plain {
     /// Records the end of a running task. Refused where the task does not run (`WrongStage`), is
     /// unknown (`NoTask`, `Retired`), or has a scope that is not closed (`Structure`).
     pub fn finish(&mut self, task: TaskId, end: End) -> Result<(), Refusal>
-        ensures answer { Answers (finish_check self.old.history task) tt result }
+        ensures answer { Answers (check_of self.old.limits self.old.history (Event.Finish task end)) tt result }
         ensures history { self.new ≡ after self.old (Event.Finish task end) result }
     {
-        self.past().finish_check(task)?;
+        self.view().finish_row(task)?;
         self.record(Event::Finish { task, end });
         Ok(())
     }
@@ -101,13 +102,13 @@ impl Plain {
     /// stays as it is. Refused for a scope that is unknown (`NoScope`, `Retired`), or closing or closed
     /// (`Closed`), and where the limit of load is met (`TooMany`).
     pub fn cancel(&mut self, scope: ScopeId) -> Result<Cancelling, Refusal>
-        ensures answer { AnswersOrMemory (whole_cancel_check self.old.limits self.old.history scope) (cancel_reply self.old.history scope) result }
-        ensures already { cancel_reply self.old.history scope ≡ Cancelling.Already → Answers (whole_cancel_check self.old.limits self.old.history scope) Cancelling.Already result }
+        ensures answer { AnswersOrMemory (check_of self.old.limits self.old.history (Event.Cancel scope)) (recording self.old.history (Event.Cancel scope)) result }
+        ensures already { is_already self.old.history (Event.Cancel scope) ≡ true → Answers (check_of self.old.limits self.old.history (Event.Cancel scope)) Cancelling.Already result }
         ensures history { self.new ≡ after_recording self.old (Event.Cancel scope) result }
     {
-        let past = self.past();
-        past.whole_cancel_check(&self.limits(), scope)?;
-        if past.is_cancelled(scope) {
+        let view = self.view();
+        view.cancel_row(&self.limits(), scope)?;
+        if view.is_cancelled(scope) {
             return Ok(Cancelling::Already);
         }
         self.try_append(Event::Cancel { scope })?;
@@ -118,30 +119,30 @@ impl Plain {
     /// deadline may be moved). Refused for a scope that is unknown (`NoScope`, `Retired`), closing or
     /// closed (`Closed`) or joined (`AlreadyJoined`), and where the limit of load is met (`TooMany`).
     pub fn move_deadline(&mut self, scope: ScopeId, deadline: Option<u64>) -> Result<(), Refusal>
-        ensures answer { AnswersOrMemory (move_check self.old.limits self.old.history scope) tt result }
+        ensures answer { AnswersOrMemory (check_of self.old.limits self.old.history (Event.Move scope deadline)) tt result }
         ensures history { self.new ≡ after self.old (Event.Move scope deadline) result }
     {
-        self.past().move_check(&self.limits(), scope)?;
+        self.view().move_row(&self.limits(), scope)?;
         self.try_append(Event::Move { scope, deadline })
     }
 
     /// Sets the moment, in milliseconds. Refused for a moment before the present one (`ClockBack`), and
     /// where the limit of load is met (`TooMany`).
     pub fn tick(&mut self, now: u64) -> Result<(), Refusal>
-        ensures answer { AnswersOrMemory (tick_check self.old.limits self.old.history now) tt result }
+        ensures answer { AnswersOrMemory (check_of self.old.limits self.old.history (Event.Tick now)) tt result }
         ensures history { self.new ≡ after self.old (Event.Tick now) result }
     {
-        self.past().tick_check(&self.limits(), now)?;
+        self.view().tick_row(&self.limits(), now)?;
         self.try_append(Event::Tick { now })
     }
 
     /// Binds the key above the actor's other bindings (JEP 506, `where`). Refused where the actor is no
     /// running task or main, and where the limit of load is met (`TooMany`).
     pub fn bind(&mut self, actor: Actor, key: Name, value: Value) -> Result<(), Refusal>
-        ensures answer { AnswersOrMemory (bind_check self.old.limits self.old.history actor) tt result }
+        ensures answer { AnswersOrMemory (check_of self.old.limits self.old.history (Event.Bind actor (record { key = key; value = value }))) tt result }
         ensures history { self.new ≡ after self.old (Event.Bind actor (record { key = key; value = value })) result }
     {
-        self.past().bind_check(&self.limits(), actor)?;
+        self.view().bind_row(&self.limits(), actor)?;
         self.try_append(Event::Bind {
             actor,
             binding: Binding { key, value },
@@ -152,10 +153,10 @@ impl Plain {
     /// no own binding (`NotBound`), or has a scope open or closing that was opened while the binding
     /// stood (`Structure`), and where the limit of load is met (`TooMany`).
     pub fn unbind(&mut self, actor: Actor) -> Result<(), Refusal>
-        ensures answer { AnswersOrMemory (unbind_check self.old.limits self.old.history actor) tt result }
+        ensures answer { AnswersOrMemory (check_of self.old.limits self.old.history (Event.Unbind actor)) tt result }
         ensures history { self.new ≡ after self.old (Event.Unbind actor) result }
     {
-        self.past().unbind_check(&self.limits(), actor)?;
+        self.view().unbind_row(&self.limits(), actor)?;
         self.try_append(Event::Unbind { actor })
     }
 
@@ -164,10 +165,10 @@ impl Plain {
     /// another's (`NotOwner`), closing or closed (`Closed`) or joined (`AlreadyJoined`), and while it is
     /// neither cancelled nor all its tasks have ended (`NotReady`).
     pub fn join_now(&mut self, actor: Actor, scope: ScopeId) -> Result<(), Refusal>
-        ensures answer { Answers (join_check self.old.history actor scope) tt result }
+        ensures answer { Answers (check_of self.old.limits self.old.history (Event.Join actor scope)) tt result }
         ensures history { self.new ≡ after self.old (Event.Join actor scope) result }
     {
-        self.past().join_check(actor, scope)?;
+        self.view().join_row(actor, scope)?;
         self.record(Event::Join { actor, scope });
         Ok(())
     }
@@ -177,12 +178,12 @@ impl Plain {
     /// Refused where the actor is no running task or main, and for a scope that is unknown (`NoScope`,
     /// `Retired`) or another's (`NotOwner`).
     pub fn begin_close(&mut self, actor: Actor, scope: ScopeId) -> Result<Cancelling, Refusal>
-        ensures answer { Answers (own_scope_check self.old.history actor scope) (begin_close_reply self.old.history scope) result }
+        ensures answer { Answers (check_of self.old.limits self.old.history (Event.BeginClose actor scope)) (recording self.old.history (Event.BeginClose actor scope)) result }
         ensures history { self.new ≡ after_recording self.old (Event.BeginClose actor scope) result }
     {
-        let past = self.past();
-        past.own_scope_check(actor, scope)?;
-        if past.closing(scope) {
+        let view = self.view();
+        view.begin_close_row(actor, scope)?;
+        if view.closing(scope) {
             return Ok(Cancelling::Already);
         }
         self.record(Event::BeginClose { actor, scope });
@@ -192,14 +193,16 @@ impl Plain {
     /// Closes the actor's scope. Refused where the actor is no running task or main, for a scope that is
     /// unknown (`NoScope`, `Retired`), another's (`NotOwner`), not closing (`WrongStage`) or closed
     /// (`Closed`), while the actor has a later scope that is not closed (`Structure`), and while a task
-    /// of the scope waits or runs (`NotReady`).
+    /// of the scope waits or runs (`NotReady`). A closed scope is whole: none of its tasks waits or runs,
+    /// and each scope inside it, by parents at any depth, is closed.
     pub fn end_close(&mut self, actor: Actor, scope: ScopeId) -> Result<Verdict, Refusal>
-        ensures answer { Answers (end_close_check self.old.history actor scope) (verdict self.old.history scope) result }
+        ensures answer { Answers (check_of self.old.limits self.old.history (Event.EndClose actor scope)) (verdict self.old.history scope) result }
         ensures history { self.new ≡ after self.old (Event.EndClose actor scope) result }
+        ensures whole { OnOk result (IsWhole self.new.history scope) }
     {
-        let past = self.past();
-        past.end_close_check(actor, scope)?;
-        let verdict = past.verdict(scope);
+        let view = self.view();
+        view.end_close_row(actor, scope)?;
+        let verdict = view.verdict(scope);
         self.record(Event::EndClose { actor, scope });
         Ok(verdict)
     }
@@ -212,10 +215,10 @@ impl Plain {
         ensures answer { AnswersOrMemory (retire_check self.old.history actor) (base_of self.old.history) result }
         ensures history { self.new ≡ after_retiring self.old result }
     {
-        let past = self.past();
-        past.retire_check(actor)?;
+        let view = self.view();
+        view.retire_check(actor)?;
         let alloc = self.allocator();
-        let (Ok(answered), Ok(kept)) = (past.base_after(alloc), past.base_after(alloc)) else {
+        let (Ok(answered), Ok(kept)) = (view.base_after(alloc), view.base_after(alloc)) else {
             return Err(Refusal::Memory);
         };
         self.restart(kept);

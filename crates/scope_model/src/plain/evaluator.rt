@@ -1,15 +1,16 @@
 ghost use Rattle.std.specs.Prelude.{◌≡◌, ◌+◌, ◌≤◌, length, [], OnOk, OnErr, MatchResult, vec_capacity};
-ghost use Rattle.scope_model.specs.History.{HasSmallNumbers};
-ghost use Rattle.scope_model.specs.Checks.{load, weight};
-ghost use Rattle.scope_model.specs.Legal.{Accepts, Legal, Kept};
-ghost use Rattle.scope_model.specs.Replies.{with_event, starting, base_check, base_of, AnswersOrMemory};
+ghost use Rattle.scope_rules.specs.History.{HasSmallNumbers};
+ghost use Rattle.scope_rules.specs.Load.{weight, load};
+ghost use Rattle.scope_rules.specs.Legal.{Accepts, Legal, IsWithin};
+ghost use Rattle.scope_model.specs.PlainKeeps.{PlainKeeps};
+ghost use Rattle.scope_rules.specs.Replies.{with_event, starting, base_check, base_of, AnswersOrMemory};
 
-use crate::scan::checks::weight;
-use crate::scan::past::Past;
-use crate::types::bases::Base;
-use crate::types::capacity::Limits;
-use crate::types::events::Event;
-use crate::types::refusals::Refusal;
+use crate::scan::load::weight;
+use crate::scan::view::HistoryView;
+use scope_rules::types::bases::Base;
+use scope_rules::types::capacity::Limits;
+use scope_rules::types::events::Event;
+use scope_rules::types::refusals::Refusal;
 use std::alloc::{AllocError, Global};
 use std::marker::Model;
 
@@ -24,19 +25,19 @@ pub struct Plain {
 }
 
 impl Model for Plain {
-    ghost use Rattle.scope_model.specs.Replies.{Realm};
+    ghost use Rattle.scope_rules.specs.Replies.{Realm};
     ghost use Rattle.std.specs.Prelude.{vec_capacity};
-    ghost use Rattle.scope_model.specs.Legal.{Kept};
+    ghost use Rattle.scope_model.specs.PlainKeeps.{PlainKeeps};
 
     ghost Value = { Realm };
 
     ghost view = { λ p. record { limits = p.limits; history = record { base = p.base; events = p.events.items } } };
 
-    ghost invariant = { λ p. Kept p.limits (record { base = p.base; events = p.events.items }) (vec_capacity p.events) };
+    ghost invariant = { λ p. PlainKeeps p.limits (record { base = p.base; events = p.events.items }) (vec_capacity p.events) };
 }
 
 impl Plain {
-    ghost use Rattle.scope_model.specs.Origin.{the_start};
+    ghost use Rattle.scope_rules.specs.Origin.{the_start};
 
     /// A fresh realm.
     pub fn new(alloc: Global, limits: Limits) -> Plain
@@ -74,20 +75,22 @@ impl Plain {
         *self.events.allocator()
     }
 
-    /// The realm's limits.
+    /// The realm's limits. It also says of the history that it is legal, and within the limits: the
+    /// load and the numbers too, the base's counted.
     pub fn limits(&self) -> Limits
         ensures limits { result ≡ self.now.limits }
         ensures legal { Legal self.now.limits self.now.history }
+        ensures within { IsWithin self.now.limits self.now.history }
     {
         self.limits
     }
 
     /// The realm's history, to be read.
-    #[tactic(auto, using(crate::proofs::Pushing::kept_small))]
-    pub fn past(&self) -> Past<'_>
+    #[tactic(auto, using(crate::proofs::Keeping::kept_small))]
+    pub(crate) fn view(&self) -> HistoryView<'_>
         ensures { result ≡ self.now.history }
     {
-        Past::new(&self.base, &self.events)
+        HistoryView::new(&self.base, &self.events)
     }
 
     /// Appends the event, which was accepted.
@@ -96,7 +99,7 @@ impl Plain {
         ensures ok { OnOk result (self.new ≡ with_event self.old event) }
         ensures err { OnErr result (self.new ≡ self.old) }
     {
-        let load = self.past().load() + weight(&event);
+        let load = self.view().load() + weight(&event);
         let more = load as usize - self.events.len();
         self.events.reserve(more)?;
         self.events.push_reserved(event);
@@ -118,7 +121,8 @@ impl Plain {
     pub(crate) fn record(&mut self, event: Event)
         requires accepted { Accepts self.old.limits self.old.history event }
         requires free { weight event ≡ 0 }
-        ensures { self.new ≡ with_event self.old event }
+        ensures added { self.new ≡ with_event self.old event }
+        ensures legal { Legal self.new.limits self.new.history }
     {
         self.events.push_reserved(event);
     }

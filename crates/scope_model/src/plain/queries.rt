@@ -1,17 +1,18 @@
 ghost use Rattle.std.specs.Prelude.{◌≡◌, Ok};
-ghost use Rattle.scope_model.specs.History.{moment};
-ghost use Rattle.scope_model.specs.Cancels.{cause, first, effective};
-ghost use Rattle.scope_model.specs.Tasks.{stage, state, counts};
-ghost use Rattle.scope_model.specs.Outcomes.{outcome};
-ghost use Rattle.scope_model.specs.Checks.{answering, scope_check, task_check, closed_check};
-ghost use Rattle.scope_model.specs.Replies.{AnswersValue, result_reply, fault_reply, binding_reply, outcome_check};
+ghost use Rattle.scope_rules.specs.History.{moment};
+ghost use Rattle.scope_rules.specs.Cancels.{cause, cancelled_at, effective};
+ghost use Rattle.scope_rules.specs.Tasks.{stage, state, counts};
+ghost use Rattle.scope_rules.specs.Outcomes.{outcome};
+ghost use Rattle.scope_rules.specs.Checks.{scope_check, task_check};
+ghost use Rattle.scope_rules.specs.Table.{answering, until_check};
+ghost use Rattle.scope_rules.specs.Replies.{AnswersValue, result_reply, fault_reply, binding_reply, outcome_check};
 
 use crate::plain::evaluator::Plain;
-use crate::types::answers::{Cause, Counts, Effective, Stage, State};
-use crate::types::names::Name;
-use crate::types::outcomes::Outcome;
-use crate::types::refusals::Refusal;
-use crate::types::values::{Actor, Fault, ScopeId, TaskId, Value};
+use scope_rules::types::answers::{Cause, Counts, Effective, Stage, State};
+use scope_rules::types::names::Name;
+use scope_rules::types::outcomes::Outcome;
+use scope_rules::types::refusals::Refusal;
+use scope_rules::types::values::{Actor, Fault, ScopeId, TaskId, Value};
 
 /// The queries. Each answers its definition of the history, and changes nothing.
 impl Plain {
@@ -20,31 +21,31 @@ impl Plain {
     pub fn state(&self, task: TaskId) -> Result<State, Refusal>
         ensures { result ≡ answering (task_check self.now.history task) (state self.now.history task) }
     {
-        let past = self.past();
-        past.task_check(task)?;
-        Ok(past.state(task))
+        let view = self.view();
+        view.task_check(task)?;
+        Ok(view.state(task))
     }
 
     /// How far the task has come. Refused for an unknown task (`NoTask`, `Retired`).
     pub fn stage(&self, task: TaskId) -> Result<Stage, Refusal>
         ensures { result ≡ answering (task_check self.now.history task) (stage self.now.history task) }
     {
-        let past = self.past();
-        past.task_check(task)?;
-        Ok(past.stage(task))
+        let view = self.view();
+        view.task_check(task)?;
+        Ok(view.stage(task))
     }
 
     /// The value of the task, read by the owner of its scope after the join (JEP 505, `Subtask.get`).
     /// Refused where the actor is no running task or main, for a task that is unknown (`NoTask`,
     /// `Retired`) or of another's scope (`NotOwner`), before the join (`NotJoined`), and for one that
     /// can't be read (`Unavailable`) or failed (`NotSuccess`).
-    #[tactic(auto, unfolding(crate::specs::Replies::result_reply))]
+    #[tactic(auto, unfolding(scope_rules::specs::Replies::result_reply))]
     pub fn result(&self, actor: Actor, task: TaskId) -> Result<Value, Refusal>
         ensures { result ≡ result_reply self.now.history actor task }
     {
-        let past = self.past();
-        past.reading_check(actor, task)?;
-        match past.state(task) {
+        let view = self.view();
+        view.reading_check(actor, task)?;
+        match view.state(task) {
             State::Unavailable => Err(Refusal::Unavailable),
             State::Success(value) => Ok(value),
             State::Failed(_) => Err(Refusal::NotSuccess),
@@ -53,13 +54,13 @@ impl Plain {
 
     /// The fault of the task, read by the owner of its scope after the join (JEP 505,
     /// `Subtask.exception`). Refused as `result` is, and for a task that succeeded (`NotFailed`).
-    #[tactic(auto, unfolding(crate::specs::Replies::fault_reply))]
+    #[tactic(auto, unfolding(scope_rules::specs::Replies::fault_reply))]
     pub fn fault(&self, actor: Actor, task: TaskId) -> Result<Fault, Refusal>
         ensures { result ≡ fault_reply self.now.history actor task }
     {
-        let past = self.past();
-        past.reading_check(actor, task)?;
-        match past.state(task) {
+        let view = self.view();
+        view.reading_check(actor, task)?;
+        match view.state(task) {
             State::Unavailable => Err(Refusal::Unavailable),
             State::Success(_) => Err(Refusal::NotFailed),
             State::Failed(fault) => Ok(fault),
@@ -70,29 +71,29 @@ impl Plain {
     pub fn cause(&self, scope: ScopeId) -> Result<Option<Cause>, Refusal>
         ensures { result ≡ answering (scope_check self.now.history scope) (cause self.now.history scope) }
     {
-        let past = self.past();
-        past.scope_check(scope)?;
-        Ok(past.cause(scope))
+        let view = self.view();
+        view.scope_check(scope)?;
+        Ok(view.cause(scope))
     }
 
     /// The place of the event by which the scope became cancelled, if it is, counted from 0 since the
     /// base. Refused for an unknown scope (`NoScope`, `Retired`).
     pub fn cancelled_at(&self, scope: ScopeId) -> Result<Option<usize>, Refusal>
-        ensures { result ≡ answering (scope_check self.now.history scope) (first self.now.history scope) }
+        ensures { result ≡ answering (scope_check self.now.history scope) (cancelled_at self.now.history scope) }
     {
-        let past = self.past();
-        past.scope_check(scope)?;
-        Ok(past.first(scope))
+        let view = self.view();
+        view.scope_check(scope)?;
+        Ok(view.cancelled_at(scope))
     }
 
     /// The earliest deadline in effect for the scope (Trio, `current_effective_deadline`), in
     /// milliseconds. Refused for a scope that is unknown (`NoScope`, `Retired`) or closed (`Closed`).
     pub fn effective_deadline(&self, scope: ScopeId) -> Result<Effective, Refusal>
-        ensures { result ≡ answering (closed_check self.now.history scope) (effective self.now.history scope) }
+        ensures { result ≡ answering (until_check self.now.history scope) (effective self.now.history scope) }
     {
-        let past = self.past();
-        past.closed_check(scope)?;
-        Ok(past.effective(scope))
+        let view = self.view();
+        view.until_check(scope)?;
+        Ok(view.effective(scope))
     }
 
     /// How many tasks of the scope are at each stage. Refused for an unknown scope (`NoScope`,
@@ -100,20 +101,20 @@ impl Plain {
     pub fn counts(&self, scope: ScopeId) -> Result<Counts, Refusal>
         ensures { result ≡ answering (scope_check self.now.history scope) (counts self.now.history scope) }
     {
-        let past = self.past();
-        past.scope_check(scope)?;
-        Ok(past.counts(scope))
+        let view = self.view();
+        view.scope_check(scope)?;
+        Ok(view.counts(scope))
     }
 
     /// What the actor sees the key bound to (JEP 506, `ScopedValue.get`). Refused where the actor is no
     /// running task or main, and where nothing is bound to the key (`NotBound`).
-    #[tactic(auto, unfolding(crate::specs::Replies::binding_reply))]
+    #[tactic(auto, unfolding(scope_rules::specs::Replies::binding_reply))]
     pub fn binding(&self, actor: Actor, key: &Name) -> Result<Value, Refusal>
         ensures { result ≡ binding_reply self.now.history actor key.now }
     {
-        let past = self.past();
-        past.actor_check(actor)?;
-        match past.binding(actor, key) {
+        let view = self.view();
+        view.actor_check(actor)?;
+        match view.binding(actor, key) {
             Some(value) => Ok(value),
             None => Err(Refusal::NotBound),
         }
@@ -123,18 +124,18 @@ impl Plain {
     pub fn moment(&self) -> u64
         ensures { result ≡ moment self.now.history }
     {
-        self.past().moment()
+        self.view().moment()
     }
 
     /// What the join of the scope answered. Refused for an unknown scope (`NoScope`, `Retired`), before
     /// the join (`NotJoined`), and where memory is refused (`Memory`).
-    #[tactic(auto, unfolding(crate::specs::Replies::outcome_check))]
+    #[tactic(auto, unfolding(scope_rules::specs::Replies::outcome_check))]
     pub fn outcome(&self, scope: ScopeId) -> Result<Outcome, Refusal>
         ensures { AnswersValue (outcome_check self.now.history scope) (outcome self.now.history scope) result }
     {
-        let past = self.past();
-        past.outcome_check(scope)?;
-        match past.outcome(self.allocator(), scope) {
+        let view = self.view();
+        view.outcome_check(scope)?;
+        match view.outcome(self.allocator(), scope) {
             Ok(Some(outcome)) => Ok(outcome),
             Ok(None) => unreachable!(),
             Err(_) => Err(Refusal::Memory),

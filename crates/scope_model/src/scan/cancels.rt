@@ -1,16 +1,18 @@
 ghost use Rattle.std.specs.Prelude.{◌≡◌, ◌<◌, ◌≤◌, ◌+◌, length, Some, IfSome};
-ghost use Rattle.scope_model.specs.Search.{last_of, earliest};
-ghost use Rattle.scope_model.specs.Cancels.{move_of, deadline, overdue, direct_kind, kind_by, own_at, own, own_cut, nearer, cut_within, cut, cause, is_cancelled, first, cancelled_before, counting_deadline, lesser, least_within, effective};
+ghost use Rattle.scope_rules.specs.Search.{last_of, earliest};
+ghost use Rattle.scope_rules.specs.Chains.{outwards, nearer, earliest_on, sooner, least_on};
+ghost use Rattle.scope_rules.specs.Scopes.{outer};
+ghost use Rattle.scope_rules.specs.Cancels.{move_of, deadline, overdue, direct_kind, kind_by, own_at, own, own_cut, cut, cause, is_cancelled, cancelled_at, cancelled_before, counting_deadline, effective};
 
-use crate::scan::past::Past;
-use crate::types::answers::{Cause, CauseKind, Effective};
-use crate::types::events::Event;
-use crate::types::records::{Cut, OwnCancel};
-use crate::types::values::ScopeId;
+use crate::scan::view::HistoryView;
+use scope_rules::types::answers::{Cause, CauseKind, Effective};
+use scope_rules::types::events::Event;
+use scope_rules::types::records::{Cut, OwnCancel};
+use scope_rules::types::values::ScopeId;
 
-impl<'a> Past<'a> {
+impl<'a> HistoryView<'a> {
     /// The deadline that the scope's last move set.
-    #[tactic(auto, unfolding(crate::specs::Search::last_of))]
+    #[tactic(auto, unfolding(scope_rules::specs::Search::last_of))]
     fn last_move(&self, scope: ScopeId) -> Option<Option<u64>>
         ensures { result ≡ last_of (move_of scope) self.now.events }
     {
@@ -22,7 +24,7 @@ impl<'a> Past<'a> {
     }
 
     /// The deadline of the scope: that of its last move, or else of its opening.
-    #[tactic(auto, unfolding(crate::specs::Cancels::deadline))]
+    #[tactic(auto, unfolding(scope_rules::specs::Cancels::deadline))]
     pub fn deadline(&self, scope: ScopeId) -> Option<u64>
         ensures { result ≡ deadline self.now scope }
     {
@@ -36,7 +38,7 @@ impl<'a> Past<'a> {
     }
 
     /// Whether the scope isn't joined and its deadline has come.
-    #[tactic(auto, unfolding(crate::specs::Cancels::overdue))]
+    #[tactic(auto, unfolding(scope_rules::specs::Cancels::overdue))]
     fn overdue(&self, scope: ScopeId) -> bool
         ensures { result ≡ overdue self.now scope }
     {
@@ -94,7 +96,7 @@ impl<'a> Past<'a> {
     }
 
     /// The scope's own cancel, if the event at the place gives it one.
-    #[tactic(auto, unfolding(crate::specs::Cancels::own_at))]
+    #[tactic(auto, unfolding(scope_rules::specs::Cancels::own_at))]
     fn own_at(&self, scope: ScopeId, place: usize) -> Option<OwnCancel>
         requires { place < length self.now.events }
         ensures { result ≡ own_at self.now scope place }
@@ -107,7 +109,7 @@ impl<'a> Past<'a> {
     }
 
     /// The scope's own cancel: at the first event, not before its opening, that gives it one.
-    #[tactic(auto, using(crate::proofs::Searching::earliest_found, crate::proofs::Searching::earliest_none_step), unfolding(crate::specs::Cancels::own, crate::specs::Search::earliest))]
+    #[tactic(auto, using(scope_rules::proofs::Searching::earliest_found, scope_rules::proofs::Searching::earliest_none_step), unfolding(scope_rules::specs::Cancels::own, scope_rules::specs::Search::earliest))]
     pub fn own(&self, scope: ScopeId) -> Option<OwnCancel>
         ensures { result ≡ own self.now scope }
     {
@@ -134,33 +136,33 @@ impl<'a> Past<'a> {
         })
     }
 
-    /// The earliest own cancel of what lies at most so many scopes outwards of the scope, the nearest
-    /// on a tie.
-    #[tactic(auto, using(crate::proofs::Chains::nearer_none), unfolding(crate::specs::Cancels::cut_along, crate::specs::Scopes::chain_within))]
-    fn cut_within(&self, outwards: u32, scope: ScopeId) -> Option<Cut>
-        ensures { result ≡ cut_within self.now outwards scope }
+    /// The earliest own cancel of the scopes from the scope outwards, of which it looks at so many;
+    /// the nearest on a tie.
+    #[tactic(auto, using(scope_rules::proofs::ChainLaws::nearer_none))]
+    fn cut_within(&self, count: u64, scope: ScopeId) -> Option<Cut>
+        ensures { result ≡ earliest_on (own_cut self.now) (outwards (outer self.now) count scope) }
     {
-        let own = self.own_cut(scope);
-        if outwards == 0 {
-            return own;
+        if count == 0 {
+            return None;
         }
+        let own = self.own_cut(scope);
         match self.outer(scope) {
-            Some(outer) => nearer(own, self.cut_within(outwards - 1, outer)),
+            Some(outer) => nearer(own, self.cut_within(count - 1, outer)),
             None => own,
         }
     }
 
     /// Why the scope is cancelled, with the place of the event that did it: the earliest own cancel
     /// on its chain, the nearest on a tie.
-    #[tactic(auto, unfolding(crate::specs::Cancels::cut, crate::specs::Scopes::chain))]
+    #[tactic(auto, unfolding(scope_rules::specs::Cancels::cut, scope_rules::specs::Chains::cut_by, scope_rules::specs::Chains::chain_by))]
     pub fn cut(&self, scope: ScopeId) -> Option<Cut>
         ensures { result ≡ cut self.now scope }
     {
-        self.cut_within(scope, scope)
+        self.cut_within(u64::from(scope) + 1, scope)
     }
 
     /// Why the scope is cancelled.
-    #[tactic(auto, unfolding(crate::specs::Cancels::cause))]
+    #[tactic(auto, unfolding(scope_rules::specs::Cancels::cause))]
     pub fn cause(&self, scope: ScopeId) -> Option<Cause>
         ensures { result ≡ cause self.now scope }
     {
@@ -169,7 +171,7 @@ impl<'a> Past<'a> {
     }
 
     /// Whether the scope is cancelled.
-    #[tactic(auto, unfolding(crate::specs::Cancels::is_cancelled))]
+    #[tactic(auto, unfolding(scope_rules::specs::Cancels::is_cancelled))]
     pub fn is_cancelled(&self, scope: ScopeId) -> bool
         ensures { result ≡ is_cancelled self.now scope }
     {
@@ -177,9 +179,9 @@ impl<'a> Past<'a> {
     }
 
     /// The place of the event by which the scope became cancelled, not before its opening.
-    #[tactic(auto, unfolding(crate::specs::Cancels::first))]
-    pub fn first(&self, scope: ScopeId) -> Option<usize>
-        ensures { result ≡ first self.now scope }
+    #[tactic(auto, unfolding(scope_rules::specs::Cancels::cancelled_at))]
+    pub fn cancelled_at(&self, scope: ScopeId) -> Option<usize>
+        ensures { result ≡ cancelled_at self.now scope }
     {
         let opening = self.opening(scope)?;
         let cut = self.cut(scope)?;
@@ -187,18 +189,18 @@ impl<'a> Past<'a> {
     }
 
     /// Whether the scope became cancelled before the place.
-    #[tactic(auto, unfolding(crate::specs::Cancels::cancelled_before))]
+    #[tactic(auto, unfolding(scope_rules::specs::Cancels::cancelled_before))]
     pub fn cancelled_before(&self, scope: ScopeId, place: usize) -> bool
         ensures { result ≡ cancelled_before self.now scope place }
     {
-        match self.first(scope) {
-            Some(first) => first < place,
+        match self.cancelled_at(scope) {
+            Some(at) => at < place,
             None => false,
         }
     }
 
     /// The scope's deadline, while it counts: until the scope is joined.
-    #[tactic(auto, unfolding(crate::specs::Cancels::counting_deadline))]
+    #[tactic(auto, unfolding(scope_rules::specs::Cancels::counting_deadline))]
     fn counting_deadline(&self, scope: ScopeId) -> Option<u64>
         ensures { result ≡ counting_deadline self.now scope }
     {
@@ -208,30 +210,31 @@ impl<'a> Past<'a> {
         self.deadline(scope)
     }
 
-    /// The least deadline that counts, of what lies at most so many scopes outwards of the scope.
-    #[tactic(auto, using(crate::proofs::Chains::lesser_none), unfolding(crate::specs::Cancels::least_deadline, crate::specs::Scopes::chain_within))]
-    fn least_within(&self, outwards: u32, scope: ScopeId) -> Option<u64>
-        ensures { result ≡ least_within self.now outwards scope }
+    /// The least deadline that counts, of the scopes from the scope outwards, of which it looks at so
+    /// many.
+    #[tactic(auto, using(scope_rules::proofs::ChainLaws::sooner_none))]
+    fn least_within(&self, count: u64, scope: ScopeId) -> Option<u64>
+        ensures { result ≡ least_on (counting_deadline self.now) (outwards (outer self.now) count scope) }
     {
-        let own = self.counting_deadline(scope);
-        if outwards == 0 {
-            return own;
+        if count == 0 {
+            return None;
         }
+        let own = self.counting_deadline(scope);
         match self.outer(scope) {
-            Some(outer) => lesser(own, self.least_within(outwards - 1, outer)),
+            Some(outer) => sooner(own, self.least_within(count - 1, outer)),
             None => own,
         }
     }
 
     /// The earliest deadline in effect for the scope (Trio, `current_effective_deadline`).
-    #[tactic(auto, unfolding(crate::specs::Cancels::effective, crate::specs::Scopes::chain))]
+    #[tactic(auto, unfolding(scope_rules::specs::Cancels::effective, scope_rules::specs::Cancels::is_cancelled, scope_rules::specs::Cancels::cut, scope_rules::specs::Chains::chain_by))]
     pub fn effective(&self, scope: ScopeId) -> Effective
         ensures { result ≡ effective self.now scope }
     {
         if self.is_cancelled(scope) {
             return Effective::Past;
         }
-        match self.least_within(scope, scope) {
+        match self.least_within(u64::from(scope) + 1, scope) {
             Some(deadline) => Effective::At(deadline),
             None => Effective::Never,
         }
@@ -268,9 +271,9 @@ fn nearer(near: Option<Cut>, far: Option<Cut>) -> Option<Cut>
     }
 }
 
-/// The lesser of the two.
-fn lesser(one: Option<u64>, other: Option<u64>) -> Option<u64>
-    ensures { result ≡ lesser one other }
+/// The sooner of the two, where they are set.
+fn sooner(one: Option<u64>, other: Option<u64>) -> Option<u64>
+    ensures { result ≡ sooner one other }
 {
     match (one, other) {
         (None, other) => other,

@@ -1,17 +1,18 @@
 ghost use Rattle.std.specs.Prelude.{◌≡◌, ◌<◌, ◌≤◌, ◌^◌, ◌*◌, length, Some, count_by, ◌≤ℤ◌, pos, neg_ℤ};
 ghost use Rattle.std.specs.List.{list_any};
 ghost use Rattle.std.specs.Option.{option_map_or};
-ghost use Rattle.scope_model.specs.Joining.{fires, meets, has_failed, has_succeeded, total_of, number_of_end};
-ghost use Rattle.scope_model.specs.Cancels.{is_task_of, completion_of, completions, passes_at, completes, joiner_fires};
+ghost use Rattle.scope_rules.specs.Joining.{fires, meets, has_failed, has_succeeded, total_of, summand_of_end};
+ghost use Rattle.scope_rules.specs.Cancels.{joiner_fires};
+ghost use Rattle.scope_rules.specs.Completions.{is_task_of, completion_of, completions, passes_at, completes};
 
-use crate::scan::past::Past;
-use crate::types::events::Event;
-use crate::types::joiners::{Policy, Rule};
-use crate::types::values::{Done, ScopeId, TaskId, Value};
+use crate::scan::view::HistoryView;
+use scope_rules::types::events::Event;
+use scope_rules::types::joiners::{Policy, Rule};
+use scope_rules::types::values::{Completion, ScopeId, TaskId, Value};
 
-impl<'a> Past<'a> {
+impl<'a> HistoryView<'a> {
     /// Whether the task was forked in the scope.
-    #[tactic(auto, unfolding(crate::specs::Cancels::is_task_of))]
+    #[tactic(auto, unfolding(scope_rules::specs::Completions::is_task_of))]
     pub fn is_task_of(&self, scope: ScopeId, task: TaskId) -> bool
         ensures { result ≡ is_task_of self.now scope task }
     {
@@ -22,13 +23,13 @@ impl<'a> Past<'a> {
     }
 
     /// The completion that the event is, if it ends a task of the scope.
-    pub fn completion_of(&self, scope: ScopeId, event: &Event) -> Option<Done>
+    pub fn completion_of(&self, scope: ScopeId, event: &Event) -> Option<Completion>
         ensures { result ≡ completion_of self.now scope event.now }
     {
         match *event {
             Event::Finish { task, end } => {
                 if self.is_task_of(scope, task) {
-                    Some(Done { task, end })
+                    Some(Completion { task, end })
                 } else {
                     None
                 }
@@ -96,20 +97,20 @@ impl<'a> Past<'a> {
     }
 
     /// The exact sum of the number values of the scope's successes.
-    #[tactic(auto, unfolding(crate::specs::Cancels::completions))]
+    #[tactic(auto, unfolding(scope_rules::specs::Completions::completions))]
     fn total(&self, scope: ScopeId) -> i128
         ensures { result ≡ total_of (completions self.now scope) }
     {
         let mut total = 0;
         for place in 0..self.len() {
             let done = self.completion_of(scope, self.event(place));
-            total += i128::from(number_of(done));
+            total += i128::from(summand_of(done));
         }
         total
     }
 
     /// Whether the completions of the scope meet the rule.
-    #[tactic(auto, using(crate::proofs::Completions::count_completions), unfolding(crate::specs::Joining::meets))]
+    #[tactic(auto, using(scope_rules::proofs::Completions::count_completions), unfolding(scope_rules::specs::Joining::meets))]
     fn meets(&self, rule: Rule, scope: ScopeId) -> bool
         ensures { result ≡ meets rule (completions self.now scope) }
     {
@@ -121,7 +122,7 @@ impl<'a> Past<'a> {
     }
 
     /// Whether the joiner fires on the completions of the scope.
-    #[tactic(auto, using(crate::proofs::Completions::any_completion), unfolding(crate::specs::Joining::fires))]
+    #[tactic(auto, using(scope_rules::proofs::Completions::any_completion), unfolding(scope_rules::specs::Joining::fires))]
     fn fires(&self, policy: Policy, scope: ScopeId) -> bool
         ensures { result ≡ fires policy (completions self.now scope) }
     {
@@ -145,7 +146,7 @@ impl<'a> Past<'a> {
     }
 
     /// Whether the joiner of the scope fires at the event, the last one.
-    #[tactic(auto, unfolding(crate::specs::Cancels::joiner_fires))]
+    #[tactic(auto, unfolding(scope_rules::specs::Cancels::joiner_fires))]
     pub fn joiner_fires(&self, scope: ScopeId, event: &Event) -> bool
         ensures { result ≡ joiner_fires self.now scope event.now }
     {
@@ -160,8 +161,8 @@ impl<'a> Past<'a> {
 }
 
 /// What the completion adds to the sum: its number, where it succeeded with one.
-fn number_of(done: Option<Done>) -> i64
-    ensures { result ≡ option_map_or (λ d. number_of_end d.end) done (pos 0) }
+fn summand_of(done: Option<Completion>) -> i64
+    ensures { result ≡ option_map_or (λ d. summand_of_end d.end) done (pos 0) }
 {
     match done {
         Some(done) => match done.end {

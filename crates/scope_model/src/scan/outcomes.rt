@@ -1,22 +1,22 @@
 ghost use Rattle.std.specs.Prelude.{◌≡◌, ◌<◌, ◌≤◌, ◌+◌, ◌++◌, [], length, Some, IfSome, IfOk, OnOk};
 ghost use Rattle.std.specs.List.{filter_map, cons_option};
-ghost use Rattle.scope_model.specs.Search.{earliest};
-ghost use Rattle.scope_model.specs.Joining.{has_failed, has_succeeded};
-ghost use Rattle.scope_model.specs.Tasks.{task_numbers};
-ghost use Rattle.scope_model.specs.Outcomes.{is_available, readable, readable_at, first_failure, first_success, value_in, value_of, values, entry_of, listing, outcome_of_end, outcome_or, outcome_by, expired_outcome, outcome_by_kind, outcome_of, joining_at, joining, outcome};
+ghost use Rattle.scope_rules.specs.Search.{earliest};
+ghost use Rattle.scope_rules.specs.Joining.{has_failed, has_succeeded};
+ghost use Rattle.scope_rules.specs.History.{task_numbers};
+ghost use Rattle.scope_rules.specs.Outcomes.{is_available, readable, readable_at, first_failure, first_success, value_in, value_of, values, entry_of, listing, outcome_of_end, outcome_or, outcome_by, expired_outcome, outcome_by_kind, outcome_of, joining_at, joining, outcome};
 
-use crate::scan::past::Past;
-use crate::types::answers::{CauseKind, State};
-use crate::types::events::{Event, Expiry};
-use crate::types::joiners::Policy;
-use crate::types::outcomes::{Outcome, TaskState, TaskStates, TaskValue, TaskValues};
-use crate::types::records::Opening;
-use crate::types::values::{Done, ScopeId, TaskId};
+use crate::scan::view::HistoryView;
+use scope_rules::types::answers::{CauseKind, State};
+use scope_rules::types::events::{Event, Expiry};
+use scope_rules::types::joiners::Policy;
+use scope_rules::types::outcomes::{Outcome, TaskState, TaskStates, TaskValue, TaskValues};
+use scope_rules::types::records::Opening;
+use scope_rules::types::values::{Completion, ScopeId, TaskId};
 use std::alloc::{AllocError, Global};
 
-impl<'a> Past<'a> {
+impl<'a> HistoryView<'a> {
     /// The failed completion that the event at the place is, if it can be read.
-    fn failure_at(&self, scope: ScopeId, place: usize) -> Option<Done>
+    fn failure_at(&self, scope: ScopeId, place: usize) -> Option<Completion>
         requires { place < length self.now.events }
         ensures { result ≡ readable_at has_failed self.now scope place }
     {
@@ -29,8 +29,8 @@ impl<'a> Past<'a> {
     }
 
     /// The first completion that failed, of those that can be read.
-    #[tactic(auto, using(crate::proofs::Searching::earliest_found, crate::proofs::Searching::earliest_none_step), unfolding(crate::specs::Outcomes::first_failure, crate::specs::Search::earliest))]
-    fn first_failure(&self, scope: ScopeId) -> Option<Done>
+    #[tactic(auto, using(scope_rules::proofs::Searching::earliest_found, scope_rules::proofs::Searching::earliest_none_step), unfolding(scope_rules::specs::Outcomes::first_failure, scope_rules::specs::Search::earliest))]
+    fn first_failure(&self, scope: ScopeId) -> Option<Completion>
         ensures { result ≡ first_failure self.now scope }
     {
         for place in 0..self.len() {
@@ -43,7 +43,7 @@ impl<'a> Past<'a> {
     }
 
     /// The successful completion that the event at the place is, if it can be read.
-    fn success_at(&self, scope: ScopeId, place: usize) -> Option<Done>
+    fn success_at(&self, scope: ScopeId, place: usize) -> Option<Completion>
         requires { place < length self.now.events }
         ensures { result ≡ readable_at has_succeeded self.now scope place }
     {
@@ -56,8 +56,8 @@ impl<'a> Past<'a> {
     }
 
     /// The first completion that succeeded, of those that can be read.
-    #[tactic(auto, using(crate::proofs::Searching::earliest_found, crate::proofs::Searching::earliest_none_step), unfolding(crate::specs::Outcomes::first_success, crate::specs::Search::earliest))]
-    fn first_success(&self, scope: ScopeId) -> Option<Done>
+    #[tactic(auto, using(scope_rules::proofs::Searching::earliest_found, scope_rules::proofs::Searching::earliest_none_step), unfolding(scope_rules::specs::Outcomes::first_success, scope_rules::specs::Search::earliest))]
+    fn first_success(&self, scope: ScopeId) -> Option<Completion>
         ensures { result ≡ first_success self.now scope }
     {
         for place in 0..self.len() {
@@ -83,7 +83,7 @@ impl<'a> Past<'a> {
     }
 
     /// The values of the tasks that succeeded, in fork order.
-    #[tactic(auto, using(crate::proofs::Numbers::filter_map_range), unfolding(crate::specs::Outcomes::values))]
+    #[tactic(auto, using(scope_rules::proofs::Numbers::filter_map_range), unfolding(scope_rules::specs::Outcomes::values))]
     fn values(&self, alloc: Global, scope: ScopeId) -> Result<TaskValues, AllocError>
         ensures { IfOk result (λ v. v ≡ values self.now scope) }
     {
@@ -106,7 +106,7 @@ impl<'a> Past<'a> {
     }
 
     /// All tasks with their states, in fork order.
-    #[tactic(auto, using(crate::proofs::Numbers::filter_map_range), unfolding(crate::specs::Outcomes::listing))]
+    #[tactic(auto, using(scope_rules::proofs::Numbers::filter_map_range), unfolding(scope_rules::specs::Outcomes::listing))]
     fn listing(&self, alloc: Global, scope: ScopeId) -> Result<TaskStates, AllocError>
         ensures { IfOk result (λ v. v ≡ listing self.now scope) }
     {
@@ -118,7 +118,7 @@ impl<'a> Past<'a> {
     }
 
     /// What the joiner answers (JEP 505, the joiners' `result`).
-    #[tactic(auto, unfolding(crate::specs::Outcomes::outcome_by))]
+    #[tactic(auto, unfolding(scope_rules::specs::Outcomes::outcome_by))]
     fn outcome_by(
         &self,
         alloc: Global,
@@ -171,7 +171,7 @@ impl<'a> Past<'a> {
     }
 
     /// What a join of the scope, opened so, answers next.
-    #[tactic(auto, unfolding(crate::specs::Outcomes::outcome_of))]
+    #[tactic(auto, unfolding(scope_rules::specs::Outcomes::outcome_of))]
     pub fn outcome_of(
         &self,
         alloc: Global,
@@ -210,7 +210,7 @@ impl<'a> Past<'a> {
     }
 
     /// The place of the scope's join.
-    #[tactic(auto, using(crate::proofs::Searching::earliest_found, crate::proofs::Searching::earliest_none_step), unfolding(crate::specs::Outcomes::joining, crate::specs::Search::earliest))]
+    #[tactic(auto, using(scope_rules::proofs::Searching::earliest_found, scope_rules::proofs::Searching::earliest_none_step), unfolding(scope_rules::specs::Outcomes::joining, scope_rules::specs::Search::earliest))]
     fn joining(&self, scope: ScopeId) -> Option<usize>
         ensures found { result ≡ joining self.now scope }
         ensures within { IfSome result (λ i. i < length self.now.events) }
@@ -225,7 +225,7 @@ impl<'a> Past<'a> {
     }
 
     /// What the join of the scope answered: decided by what stood before it, whatever came later.
-    #[tactic(auto, unfolding(crate::specs::Outcomes::outcome))]
+    #[tactic(auto, unfolding(scope_rules::specs::Outcomes::outcome))]
     pub fn outcome(&self, alloc: Global, scope: ScopeId) -> Result<Option<Outcome>, AllocError>
         ensures { IfOk result (λ o. o ≡ outcome self.now scope) }
     {
@@ -267,7 +267,7 @@ fn is_available(state: State) -> bool
 }
 
 /// The outcome that the completion is.
-fn outcome_of_end(done: Done) -> Outcome
+fn outcome_of_end(done: Completion) -> Outcome
     ensures { result ≡ outcome_of_end done.task done.end }
 {
     match done.end {

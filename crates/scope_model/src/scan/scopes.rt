@@ -1,16 +1,17 @@
 ghost use Rattle.std.specs.Prelude.{◌≡◌, ◌<◌, ◌+◌, ◌≤◌, ◌^◌, length, Some, IfSome};
-ghost use Rattle.scope_model.specs.Search.{latest, some_below};
-ghost use Rattle.scope_model.specs.History.{opened_count, opening};
-ghost use Rattle.scope_model.specs.Scopes.{joins, joined, ends, closed, unclosed_of, innermost, forked_in, surrounding, around, parent, outer, level_within, level, next_level, have_one_opener, covers, begins_closing, closing_at, closing};
+ghost use Rattle.scope_rules.specs.Search.{latest, some_below};
+ghost use Rattle.scope_rules.specs.History.{opened_count, opening};
+ghost use Rattle.scope_rules.specs.Chains.{outwards};
+ghost use Rattle.scope_rules.specs.Scopes.{joins, joined, ends, closed, unclosed_of, innermost, forked_in, surrounding, around, parent, outer, next_level, have_one_opener, covers, begins_closing, closing_at, closing};
 
-use crate::scan::past::Past;
-use crate::types::events::Event;
-use crate::types::records::Opening;
-use crate::types::values::{Actor, ScopeId};
+use crate::scan::view::HistoryView;
+use scope_rules::types::events::Event;
+use scope_rules::types::records::Opening;
+use scope_rules::types::values::{Actor, ScopeId};
 
-impl<'a> Past<'a> {
+impl<'a> HistoryView<'a> {
     /// Whether the scope is joined.
-    #[tactic(auto, unfolding(crate::specs::Scopes::joined))]
+    #[tactic(auto, unfolding(scope_rules::specs::Scopes::joined))]
     pub fn joined(&self, scope: ScopeId) -> bool
         ensures { result ≡ joined self.now scope }
     {
@@ -18,7 +19,7 @@ impl<'a> Past<'a> {
     }
 
     /// Whether the scope is closed.
-    #[tactic(auto, unfolding(crate::specs::Scopes::closed))]
+    #[tactic(auto, unfolding(scope_rules::specs::Scopes::closed))]
     pub fn closed(&self, scope: ScopeId) -> bool
         ensures { result ≡ closed self.now scope }
     {
@@ -41,7 +42,7 @@ impl<'a> Past<'a> {
     }
 
     /// The actor's innermost scope: the latest that it opened and has not closed.
-    #[tactic(auto, using(crate::proofs::Searching::latest_more), unfolding(crate::specs::Scopes::innermost, crate::specs::Search::latest))]
+    #[tactic(auto, using(scope_rules::proofs::Searching::latest_more), unfolding(scope_rules::specs::Scopes::innermost, scope_rules::specs::Search::latest))]
     pub fn innermost(&self, actor: Actor) -> Option<ScopeId>
         ensures { result ≡ innermost self.now actor }
     {
@@ -54,7 +55,7 @@ impl<'a> Past<'a> {
 
     /// The scope that lies around whatever the actor opens next (Trio: a task inherits the scopes
     /// around the scope that it was forked in).
-    #[tactic(auto, unfolding(crate::specs::Scopes::surrounding))]
+    #[tactic(auto, unfolding(scope_rules::specs::Scopes::surrounding))]
     pub fn surrounding(&self, actor: Actor) -> Option<ScopeId>
         ensures { result ≡ surrounding self.now actor }
     {
@@ -80,7 +81,7 @@ impl<'a> Past<'a> {
     }
 
     /// The scope around the scope.
-    #[tactic(auto, unfolding(crate::specs::Scopes::parent))]
+    #[tactic(auto, unfolding(scope_rules::specs::Scopes::parent))]
     pub fn parent(&self, scope: ScopeId) -> Option<ScopeId>
         ensures { result ≡ parent self.now scope }
     {
@@ -90,7 +91,7 @@ impl<'a> Past<'a> {
 
     /// The scope whose cancels reach the scope from outside: its parent, unless it is shielded
     /// (Trio, `shield`).
-    #[tactic(auto, unfolding(crate::specs::Scopes::outer))]
+    #[tactic(auto, unfolding(scope_rules::specs::Scopes::outer))]
     pub fn outer(&self, scope: ScopeId) -> Option<ScopeId>
         ensures { result ≡ outer self.now scope }
     {
@@ -102,28 +103,27 @@ impl<'a> Past<'a> {
         }
     }
 
-    /// How deep the scope lies, looking at most so many scopes outwards.
-    #[tactic(auto, unfolding(crate::specs::Scopes::level_within))]
-    fn level_within(&self, outwards: u32, scope: ScopeId) -> u64
-        ensures level { result ≡ level_within self.now outwards scope }
-        ensures bound { result ≤ outwards + 1 }
+    /// How many scopes lie around one another from the scope outwards, of which it looks at so many.
+    fn level_within(&self, count: u64, scope: ScopeId) -> u64
+        ensures level { result ≡ length (outwards (parent self.now) count scope) }
+        ensures bound { result ≤ count }
     {
-        if outwards == 0 {
-            return 1;
+        if count == 0 {
+            return 0;
         }
         match self.parent(scope) {
-            Some(parent) => self.level_within(outwards - 1, parent) + 1,
+            Some(parent) => self.level_within(count - 1, parent) + 1,
             None => 1,
         }
     }
 
     /// The level of what the actor opens next: 1 where nothing lies around it.
-    #[tactic(auto, unfolding(crate::specs::Scopes::next_level, crate::specs::Scopes::level))]
+    #[tactic(auto, unfolding(scope_rules::specs::Scopes::next_level, scope_rules::specs::Scopes::level, scope_rules::specs::Chains::chain_by))]
     pub fn next_level(&self, actor: Actor) -> u64
         ensures { result ≡ next_level self.now actor }
     {
         match self.surrounding(actor) {
-            Some(parent) => self.level_within(parent, parent) + 1,
+            Some(parent) => self.level_within(u64::from(parent) + 1, parent) + 1,
             None => 1,
         }
     }
@@ -140,7 +140,7 @@ impl<'a> Past<'a> {
 
     /// Whether the beginning of a close, next, covers the scope: the scope that closes, or one that
     /// its owner opened later and has not closed.
-    #[tactic(auto, unfolding(crate::specs::Scopes::covers))]
+    #[tactic(auto, unfolding(scope_rules::specs::Scopes::covers))]
     pub fn covers(&self, closing: ScopeId, scope: ScopeId) -> bool
         ensures { result ≡ covers self.now closing scope }
     {
@@ -171,7 +171,7 @@ impl<'a> Past<'a> {
     }
 
     /// Whether the scope is closing or closed.
-    #[tactic(auto, using(crate::proofs::Searching::some_below_more), unfolding(crate::specs::Scopes::closing, crate::specs::Search::some_below))]
+    #[tactic(auto, using(scope_rules::proofs::Searching::some_below_more), unfolding(scope_rules::specs::Scopes::closing, scope_rules::specs::Search::some_below))]
     pub fn closing(&self, scope: ScopeId) -> bool
         ensures { result ≡ closing self.now scope }
     {

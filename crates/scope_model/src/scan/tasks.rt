@@ -1,18 +1,18 @@
 ghost use Rattle.std.specs.Prelude.{◌≡◌, ◌<◌, ◌≤◌, ◌+◌, ◌^◌, length, Some, IfSome, count_by};
 ghost use Rattle.std.specs.List.{list_all, range_with_len};
-ghost use Rattle.scope_model.specs.History.{forked_count};
-ghost use Rattle.scope_model.specs.Cancels.{is_task_of};
-ghost use Rattle.scope_model.specs.Tasks.{rejects, rejected, starts, started, finishes, finished, ending_of, ending_at, ending, stage_of, stage, is_never, is_waiting, is_running, is_finished, is_settled, state_by_end, state_of, state, task_numbers, is_at, is_stage, counts, is_unsettled, settled, ready};
+ghost use Rattle.scope_rules.specs.History.{forked_count, task_numbers};
+ghost use Rattle.scope_rules.specs.Completions.{is_task_of};
+ghost use Rattle.scope_rules.specs.Tasks.{rejects, rejected, starts, started, finishes, finished, ending_of, ending_at, ending, stage_of, stage, is_never, is_waiting, is_running, is_finished, is_settled, state_by_end, state_of, state, is_at, is_stage, counts, is_unsettled, settled, ready};
 
-use crate::scan::past::Past;
-use crate::types::answers::{Counts, Stage, State};
-use crate::types::events::Event;
-use crate::types::records::{Ending, Forking};
-use crate::types::values::{End, ScopeId, TaskId};
+use crate::scan::view::HistoryView;
+use scope_rules::types::answers::{Counts, Stage, State};
+use scope_rules::types::events::Event;
+use scope_rules::types::records::{Ending, Forking};
+use scope_rules::types::values::{End, ScopeId, TaskId};
 
-impl<'a> Past<'a> {
+impl<'a> HistoryView<'a> {
     /// Whether the task was rejected.
-    #[tactic(auto, unfolding(crate::specs::Tasks::rejected))]
+    #[tactic(auto, unfolding(scope_rules::specs::Tasks::rejected))]
     fn rejected(&self, task: TaskId) -> bool
         ensures { result ≡ rejected self.now task }
     {
@@ -20,7 +20,7 @@ impl<'a> Past<'a> {
     }
 
     /// Whether the task was started.
-    #[tactic(auto, unfolding(crate::specs::Tasks::started))]
+    #[tactic(auto, unfolding(scope_rules::specs::Tasks::started))]
     fn started(&self, task: TaskId) -> bool
         ensures { result ≡ started self.now task }
     {
@@ -28,7 +28,7 @@ impl<'a> Past<'a> {
     }
 
     /// Whether the task has ended.
-    #[tactic(auto, unfolding(crate::specs::Tasks::finished))]
+    #[tactic(auto, unfolding(scope_rules::specs::Tasks::finished))]
     fn finished(&self, task: TaskId) -> bool
         ensures { result ≡ finished self.now task }
     {
@@ -44,7 +44,7 @@ impl<'a> Past<'a> {
     }
 
     /// The end of the task, with its place.
-    #[tactic(auto, using(crate::proofs::Searching::earliest_found, crate::proofs::Searching::earliest_none_step), unfolding(crate::specs::Tasks::ending, crate::specs::Search::earliest))]
+    #[tactic(auto, using(scope_rules::proofs::Searching::earliest_found, scope_rules::proofs::Searching::earliest_none_step), unfolding(scope_rules::specs::Tasks::ending, scope_rules::specs::Search::earliest))]
     fn ending(&self, task: TaskId) -> Option<Ending>
         ensures { result ≡ ending self.now task }
     {
@@ -58,7 +58,7 @@ impl<'a> Past<'a> {
     }
 
     /// The stage of the task that was forked so.
-    #[tactic(auto, unfolding(crate::specs::Tasks::stage_of))]
+    #[tactic(auto, unfolding(scope_rules::specs::Tasks::stage_of))]
     fn stage_of(&self, task: TaskId, forking: &Forking) -> Stage
         ensures { result ≡ stage_of self.now task forking.now }
     {
@@ -74,7 +74,7 @@ impl<'a> Past<'a> {
     }
 
     /// The stage of the task.
-    #[tactic(auto, unfolding(crate::specs::Tasks::stage))]
+    #[tactic(auto, unfolding(scope_rules::specs::Tasks::stage))]
     pub fn stage(&self, task: TaskId) -> Stage
         ensures { result ≡ stage self.now task }
     {
@@ -86,7 +86,7 @@ impl<'a> Past<'a> {
 
     /// What can be read of the task: its end, unless that came after its scope's cancel (JEP 505,
     /// `Subtask.state`).
-    #[tactic(auto, unfolding(crate::specs::Tasks::state))]
+    #[tactic(auto, unfolding(scope_rules::specs::Tasks::state))]
     pub fn state(&self, task: TaskId) -> State
         ensures { result ≡ state self.now task }
     {
@@ -107,7 +107,7 @@ impl<'a> Past<'a> {
     }
 
     /// How many tasks of the scope are at the stage.
-    #[tactic(auto, using(crate::proofs::Numbers::count_by_range))]
+    #[tactic(auto, using(scope_rules::proofs::Numbers::count_by_range))]
     fn count_at(&self, scope: ScopeId, stage: Stage) -> u32
         ensures { result ≡ count_by (is_at self.now scope stage) (task_numbers self.now) }
     {
@@ -119,7 +119,7 @@ impl<'a> Past<'a> {
     }
 
     /// How many tasks of the scope are at each stage.
-    #[tactic(auto, unfolding(crate::specs::Tasks::counts))]
+    #[tactic(auto, unfolding(scope_rules::specs::Tasks::counts))]
     pub fn counts(&self, scope: ScopeId) -> Counts
         ensures { result ≡ counts self.now scope }
     {
@@ -139,7 +139,7 @@ impl<'a> Past<'a> {
     }
 
     /// Whether no task of the scope waits or runs.
-    #[tactic(auto, using(crate::proofs::Numbers::list_any_range), unfolding(crate::specs::Tasks::settled))]
+    #[tactic(auto, using(scope_rules::proofs::Numbers::list_any_range), unfolding(scope_rules::specs::Tasks::settled))]
     pub fn settled(&self, scope: ScopeId) -> bool
         ensures { result ≡ settled self.now scope }
     {
@@ -151,7 +151,7 @@ impl<'a> Past<'a> {
     }
 
     /// Whether the scope may be joined: it is cancelled, or all its tasks are settled.
-    #[tactic(auto, unfolding(crate::specs::Tasks::ready))]
+    #[tactic(auto, unfolding(scope_rules::specs::Tasks::ready))]
     pub fn ready(&self, scope: ScopeId) -> bool
         ensures { result ≡ ready self.now scope }
     {

@@ -1,15 +1,15 @@
 ghost use Rattle.std.specs.Prelude.{◌≡◌, ◌<◌, length};
-ghost use Rattle.scope_model.specs.Tasks.{has_tasks};
-ghost use Rattle.scope_model.specs.Verdicts.{covers_other, covers_another, begins_for, violating_at, violated, verdict};
+ghost use Rattle.scope_rules.specs.Tasks.{has_tasks};
+ghost use Rattle.scope_rules.specs.Verdicts.{covers_other, covers_another, begins_for, violating_at, violated, verdict};
 
-use crate::scan::past::Past;
-use crate::types::answers::Verdict;
-use crate::types::events::Event;
-use crate::types::values::ScopeId;
+use crate::scan::view::HistoryView;
+use scope_rules::types::answers::Verdict;
+use scope_rules::types::events::Event;
+use scope_rules::types::values::ScopeId;
 
-impl<'a> Past<'a> {
+impl<'a> HistoryView<'a> {
     /// Whether a task was forked in the scope.
-    #[tactic(auto, using(crate::proofs::Numbers::list_any_range), unfolding(crate::specs::Tasks::has_tasks))]
+    #[tactic(auto, using(scope_rules::proofs::Numbers::list_any_range), unfolding(scope_rules::specs::Tasks::has_tasks))]
     fn has_tasks(&self, scope: ScopeId) -> bool
         ensures { result ≡ has_tasks self.now scope }
     {
@@ -28,7 +28,7 @@ impl<'a> Past<'a> {
     }
 
     /// Whether the beginning of the scope's close, next, covers another scope.
-    #[tactic(auto, using(crate::proofs::Numbers::list_any_range), unfolding(crate::specs::Verdicts::covers_another))]
+    #[tactic(auto, using(scope_rules::proofs::Numbers::list_any_range), unfolding(scope_rules::specs::Verdicts::covers_another))]
     fn covers_another(&self, scope: ScopeId) -> bool
         ensures { result ≡ covers_another self.now scope }
     {
@@ -62,7 +62,7 @@ impl<'a> Past<'a> {
     }
 
     /// Whether the scope's own close covered another scope.
-    #[tactic(auto, using(crate::proofs::Searching::some_below_more), unfolding(crate::specs::Verdicts::violated, crate::specs::Search::some_below))]
+    #[tactic(auto, using(scope_rules::proofs::Searching::some_below_more), unfolding(scope_rules::specs::Verdicts::violated, scope_rules::specs::Search::some_below))]
     fn violated(&self, scope: ScopeId) -> bool
         ensures { result ≡ violated self.now scope }
     {
@@ -75,7 +75,7 @@ impl<'a> Past<'a> {
 
     /// How the scope was closed (JEP 505: a scope that is not closed in reverse order of opening
     /// violates the structure, and one closed with forks and no join was not joined).
-    #[tactic(auto, unfolding(crate::specs::Verdicts::verdict))]
+    #[tactic(auto, unfolding(scope_rules::specs::Verdicts::verdict))]
     pub fn verdict(&self, scope: ScopeId) -> Verdict
         ensures { result ≡ verdict self.now scope }
     {

@@ -3,7 +3,7 @@ use Rattle.std.proofs.Common.{◌≡◌, ℕ, ◌-◌, ◌<◌, Bool, true, fals
 use Rattle.std.proofs.Math.ListN.{length-set}
 use Rattle.cancel_tree.specs.declared.rows.Links.{Links}
 use Rattle.cancel_tree.specs.declared.rows.Told.{Told}
-use Rattle.cancel_tree.specs.declared.rows.Cut.{Cut}
+use Rattle.scope_rules.specs.declared.types.records.Cut.{Cut}
 use Rattle.cancel_tree.specs.Rows.{outer_of, own_of, IsAdded}
 use Rattle.cancel_tree.specs.Reach.{last_inner}
 use Rattle.cancel_tree.proofs.SpreadLaws.{IsSpreadUpTo, first_link, next_link, next_falls, fewer, spread_start, spread_past, spread_inner}

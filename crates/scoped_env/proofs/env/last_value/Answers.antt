@@ -1,6 +1,6 @@
 -- The first pair from the end that has the key is the last one that has it.
 use Rattle.std.proofs.Common.{rules, ◌≡◌, refl, ap, ◌∙◌, Option, None, Some, Bor}
-use Rattle.scope_model.specs.declared.types.events.Binding.{Binding}
+use Rattle.scope_rules.specs.declared.types.events.Binding.{Binding}
 use Rattle.std.specs.Option.{option_map}
 use Rattle.std.proofs.lemmas.Iterator.Search.{find_from_yields_List}
 use Rattle.std.proofs.lemmas.Iterator.Adapters.{YieldsList-from_rev_slice}

@@ -1,10 +1,11 @@
 -- The first own cancel is put into the scope's row, and its cut at what it reaches where no earlier one is there.
 use Rattle.std.proofs.Common.{length, take, drop, ◌++◌, refl, ap, sym, ◌∙◌, subst}
+use Rattle.scope_rules.specs.Chains.{IsInward}
 use Rattle.cancel_tree.specs.Rows.{IsAdded, IsLatest, changed, with_own, cut_at, outer_of, own_of}
 use Rattle.cancel_tree.specs.Reach.{IsSpread, reached, is_at_or_before}
-use Rattle.cancel_tree.specs.Kept.{IsInward, IsLinked, IsKept}
+use Rattle.cancel_tree.specs.Columns.{IsLinked, AreColumns}
 use Rattle.cancel_tree.proofs.RowLaws.{outer_inward}
-use Rattle.cancel_tree.proofs.KeptLaws.{kept_cancel, kept_later, kept_cut, written_back, own_put, own_stays, none_from_test, outers_kept}
+use Rattle.cancel_tree.proofs.ColumnLaws.{kept_cancel, kept_later, kept_cut, written_back, own_put, own_stays, none_from_test, outers_kept}
 use Rattle.cancel_tree.proofs.tree.Tree.cancel.Goals as goal
 
 pub returns-then-is_some : goal.returns-then-is_some
@@ -52,8 +53,8 @@ invariant_of-self c =
     let kept = kept_cancel told links cuts c.args.scope c.args.number c.args.kind added c.self.invariant c.index.result.now (ap (λ t. t.own) (sym c.index.ensures) ∙ none) latest
     first c.spread.new.cuts (c.spread.auto.cuts ∙ ap length c.deref_mut.ensures.value) spread in
     let back = written_back cuts c.spread.new.cuts c.self.inside.cuts.len (c.spread.auto.cuts ∙ c.deref_mut.ensures.len) in
-    subst (λ ts. IsKept ts links (take c.self.inside.cuts.len (c.spread.new.cuts ++ drop (length c.spread.new.cuts) cuts))) (sym put)
-    (subst (λ cs. IsKept (changed told c.args.scope (with_own m)) links cs) (sym back) kept)
+    subst (λ ts. AreColumns ts links (take c.self.inside.cuts.len (c.spread.new.cuts ++ drop (length c.spread.new.cuts) cuts))) (sym put)
+    (subst (λ cs. AreColumns (changed told c.args.scope (with_own m)) links cs) (sym back) kept)
 
 pub invariant_of-self-else-is_cause : goal.invariant_of-self-else-is_cause
 invariant_of-self-else-is_cause c =
@@ -67,7 +68,7 @@ invariant_of-self-else-is_cause c =
     let put = own_put told c.args.scope c.index_mut.result.now c.index.result.now m added c.index_mut.ensures.value c.index.ensures none in
     let read = c.index-2.ensures ∙ kept_cut told links cuts c.args.scope c.index-2.result.now added c.self.invariant in
     let after = ap (is_at_or_before c.args.number) (sym read) ∙ sym c.is_at_or_before-is_cause.ensures ∙ c.if-is_cause.false in
-    subst (λ ts. IsKept ts links cuts) (sym put)
+    subst (λ ts. AreColumns ts links cuts) (sym put)
     (kept_later told links cuts c.args.scope c.args.number c.args.kind added c.self.invariant c.index.result.now (ap (λ t. t.own) (sym c.index.ensures) ∙ none) latest after)
 
 pub returns-then-is_cause : goal.returns-then-is_cause

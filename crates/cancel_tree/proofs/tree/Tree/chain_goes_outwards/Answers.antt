@@ -1,11 +1,11 @@
 use Rattle.std.proofs.Common.{subst}
+use Rattle.scope_rules.specs.Chains.{IsInward}
 use Rattle.cancel_tree.specs.Rows.{outer_of}
-use Rattle.cancel_tree.specs.Kept.{IsInward}
 use Rattle.cancel_tree.proofs.RowLaws.{outer_inward}
-use Rattle.cancel_tree.proofs.ChainLaws.{chain_law}
+use Rattle.scope_rules.proofs.ChainLaws.{chain_law}
 use Rattle.cancel_tree.proofs.tree.Tree.chain_goes_outwards.Goals as goal
 
 pub returns : goal.returns
 returns c =
     let inward = subst (λ ts. IsInward (outer_of ts)) c.self.view_is (outer_inward c.self.inside.told.items c.self.invariant.inward) in
-    chain_law (outer_of c.args.self.now) inward c.args.scope c.requires.0
+    chain_law (outer_of c.args.self.now) inward c.args.scope

@@ -1,7 +1,7 @@
 -- The kept totals answer, or the closure that agrees with the rule.
 use Rattle.std.proofs.Common.{◌≡◌, ◌∙◌, ap, sym, is_some, true, rules}
-use Rattle.scope_model.specs.Joining.{meets}
-use Rattle.scope_model.specs.declared.types.joiners.Policy.TheVariants.{Until}
+use Rattle.scope_rules.specs.Joining.{meets}
+use Rattle.scope_rules.specs.declared.types.joiners.Policy.TheVariants.{Until}
 use Rattle.join_rules.proofs.StandingLemmas.{fires_by_kept, fires_by_closure}
 use Rattle.join_rules.proofs.counting.Progress.fires.Goals as goal
 

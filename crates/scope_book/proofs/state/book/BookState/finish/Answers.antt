@@ -1,7 +1,7 @@
 use Rattle.std.proofs.Common.{sym, subst}
 use Rattle.scope_book.specs.declared.state.book.BookState.{BookState}
 use Rattle.scope_book.specs.Books.{history_of}
-use Rattle.scope_model.specs.declared.types.events.Event.TheVariants.{Finish}
+use Rattle.scope_rules.specs.declared.types.events.Event.TheVariants.{Finish}
 use Rattle.scope_book.specs.Fits.{FitsTask}
 use Rattle.scope_book.proofs.Growing.{fitting_after}
 use Rattle.scope_book.proofs.state.book.BookState.finish.Goals as goal

@@ -1,4 +1,4 @@
-use Rattle.scope_model.specs.declared.types.events.Event.TheVariants.{Fork}
+use Rattle.scope_rules.specs.declared.types.events.Event.TheVariants.{Fork}
 use Rattle.scope_book.proofs.Growing.{fitting_after}
 use Rattle.scope_book.proofs.state.book.BookState.fork.Goals as goal
 

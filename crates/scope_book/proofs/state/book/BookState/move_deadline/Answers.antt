@@ -1,4 +1,4 @@
-use Rattle.scope_model.specs.declared.types.events.Event.TheVariants.{Move}
+use Rattle.scope_rules.specs.declared.types.events.Event.TheVariants.{Move}
 use Rattle.scope_book.proofs.Growing.{fitting_after}
 use Rattle.scope_book.proofs.state.book.BookState.move_deadline.Goals as goal
 

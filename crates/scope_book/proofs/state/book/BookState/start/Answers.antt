@@ -1,4 +1,4 @@
-use Rattle.scope_model.specs.declared.types.events.Event.TheVariants.{Start}
+use Rattle.scope_rules.specs.declared.types.events.Event.TheVariants.{Start}
 use Rattle.scope_book.proofs.Growing.{fitting_after}
 use Rattle.scope_book.proofs.state.book.BookState.start.Goals as goal
 

@@ -1,10 +1,11 @@
 -- An accepted fork has a number for its task.
 use Rattle.std.proofs.Common.{◌≡◌, Ok, sym, ◌∙◌, arith}
-use Rattle.scope_model.specs.Checks.{fork_check}
-use Rattle.scope_model.proofs.Pushing.{fork_number}
+use Rattle.scope_rules.specs.declared.types.events.Event.TheVariants.{Fork}
+use Rattle.scope_rules.specs.Table.{check_of}
+use Rattle.scope_rules.proofs.Pushing.{fork_number}
 use Rattle.scope_model.proofs.plain.evaluator.Plain.fork.Goals as goal
 
 pub overflow_add-task : goal.overflow_add-task
 overflow_add-task c =
-    let ok : fork_check c.limits.result c.past-past.result c.args.actor c.args.scope ≡ Ok tt = sym c.fork_check.ensures ∙ c.in_ok-fork_check.was in
-    omega (arith, fork_number c.limits.result c.past-past.result c.args.actor c.args.scope ok, c.tasks-task.ensures)
+    let ok : check_of c.limits.result c.view-view.result (Fork c.args.actor c.args.scope c.args.label) ≡ Ok tt = sym (c.fork_row.ensures c.args.label) ∙ c.in_ok-fork_row.was in
+    omega (arith, (fork_number c.limits.result c.view-view.result c.args.actor c.args.scope c.args.label ok).1, c.tasks-task.ensures)

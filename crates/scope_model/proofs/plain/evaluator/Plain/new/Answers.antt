@@ -1,6 +1,6 @@
 use Rattle.std.proofs.Common.{arith}
-use Rattle.scope_model.specs.Origin.{the_start}
-use Rattle.scope_model.proofs.Pushing.{kept_base}
+use Rattle.scope_rules.specs.Origin.{the_start}
+use Rattle.scope_model.proofs.Keeping.{kept_base}
 use Rattle.scope_model.proofs.plain.evaluator.Plain.new.Goals as goal
 
 pub invariant_of-result : goal.invariant_of-result

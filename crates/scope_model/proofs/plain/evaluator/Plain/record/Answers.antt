@@ -1,8 +1,9 @@
 -- There is room for the event, and it keeps what is kept.
-use Rattle.std.proofs.Common.{sym, subst, arith}
-use Rattle.scope_model.specs.Replies.{Realm}
-use Rattle.scope_model.specs.Legal.{Accepts}
-use Rattle.scope_model.proofs.Pushing.{kept_push, kept_room}
+use Rattle.std.proofs.Common.{◌≡◌, sym, subst, ap, arith}
+use Rattle.scope_rules.specs.Replies.{Realm}
+use Rattle.scope_rules.specs.Legal.{Accepts}
+use Rattle.scope_rules.proofs.Pushing.{legal_push}
+use Rattle.scope_model.proofs.Keeping.{kept_push, kept_room}
 use Rattle.scope_model.proofs.plain.evaluator.Plain.record.Goals as goal
 
 pub push_reserved-requires : goal.push_reserved-requires
@@ -15,3 +16,8 @@ invariant_of-self c =
     let ok = subst (λ (r : Realm). Accepts r.limits r.history c.args.event) (sym c.self.view_is) c.requires.accepted in
     rw (c.push_reserved.ensures.items, c.push_reserved.ensures.capacity)
     (kept_push _ _ c.args.event _ _ c.self.invariant ok (omega (arith, c.self.invariant.room, c.requires.free)))
+
+pub returns-clause-legal : goal.returns-clause-legal
+returns-clause-legal c =
+    let ok = subst (λ (r : Realm). Accepts r.limits r.history c.args.event) (sym c.self.view_is) c.requires.accepted in
+    rw c.push_reserved.ensures.items (legal_push _ _ c.args.event c.self.invariant.legal ok)

@@ -1,7 +1,7 @@
 use Rattle.std.proofs.Common.{◌≡◌, sym, ap, ◌∙◌}
-use Rattle.scope_model.specs.History.{History}
-use Rattle.scope_model.specs.Replies.{Realm, base_of}
-use Rattle.scope_model.proofs.Pushing.{kept_restart}
+use Rattle.scope_rules.specs.History.{History}
+use Rattle.scope_rules.specs.Replies.{Realm, base_of}
+use Rattle.scope_model.proofs.Keeping.{kept_restart}
 use Rattle.scope_model.proofs.plain.evaluator.Plain.restart.Goals as goal
 
 pub invariant_of-self : goal.invariant_of-self

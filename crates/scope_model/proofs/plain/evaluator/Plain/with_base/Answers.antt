@@ -1,5 +1,5 @@
 use Rattle.std.proofs.Common.{◌≡◌, length, ap, arith}
-use Rattle.scope_model.proofs.Pushing.{kept_base}
+use Rattle.scope_model.proofs.Keeping.{kept_base}
 use Rattle.scope_model.proofs.plain.evaluator.Plain.with_base.Goals as goal
 
 pub invariant_of-result : goal.invariant_of-result

@@ -1,5 +1,0 @@
-use Rattle.scope_model.proofs.Staying.{cause_stays}
-use Rattle.scope_model.proofs.laws.cause_stays.Goals as goal
-
-pub returns : goal.returns
-returns c = cause_stays

@@ -1,8 +1,0 @@
-use Rattle.scope_model.proofs.Growing.{own_stays, own_grows}
-use Rattle.scope_model.proofs.laws.own_cancel_stays.Goals as goal
-
-pub returns-clause-stays : goal.returns-clause-stays
-returns-clause-stays c = own_stays
-
-pub returns-clause-grows : goal.returns-clause-grows
-returns-clause-grows c = own_grows

@@ -1,0 +1,9 @@
+-- What was closed is whole.
+use Rattle.std.proofs.Common.{ap}
+use Rattle.scope_rules.specs.Replies.{Realm}
+use Rattle.scope_rules.proofs.ClosingScopes.{end_closes_whole}
+use Rattle.scope_model.proofs.plain.evaluator.Plain.end_close.Goals as goal
+
+pub returns-clause-whole : goal.returns-clause-whole
+returns-clause-whole c =
+    end_closes_whole _ _ _ c.args.actor c.args.scope c.record.ensures.legal (ap (λ (r : Realm). r.history) c.record.ensures.added)

@@ -1,4 +1,0 @@
-use Rattle.scope_model.proofs.scan.past.Past.+bound_within.Given as goal
-
-abbrev pub decreases-bound_within : goal.decreases-bound_within
-decreases-bound_within l = l.forks

@@ -1,4 +1,0 @@
-use Rattle.scope_model.proofs.scan.past.Past.+least_within.Given as goal
-
-abbrev pub decreases-least_within : goal.decreases-least_within
-decreases-least_within l = l.outwards

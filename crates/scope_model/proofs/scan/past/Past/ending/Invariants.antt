@@ -1,8 +1,0 @@
--- No event so far ended the task.
-use Rattle.std.proofs.Common.{◌≡◌, None}
-use Rattle.scope_model.specs.Search.{earliest}
-use Rattle.scope_model.specs.Tasks.{ending_at}
-use Rattle.scope_model.proofs.scan.past.Past.ending.Given as goal
-
-abbrev pub invariant-loop-place : goal.invariant-loop-place
-invariant-loop-place l = earliest (ending_at l.self l.task) l.place ≡ None

@@ -1,8 +1,0 @@
--- Whether one of the scopes so far was opened while the last pair stood.
-use Rattle.std.proofs.Common.{◌≡◌, ◌+◌}
-use Rattle.std.specs.List.{list_any, range_with_len}
-use Rattle.scope_model.specs.Bindings.{opened_above}
-use Rattle.scope_model.proofs.scan.past.Past.holds_last.Given as goal
-
-abbrev pub invariant-loop-before : goal.invariant-loop-before
-invariant-loop-before l = l.found ≡ list_any (opened_above l.self l.actor) (range_with_len (l.self.base.scopes + 1) l.before)

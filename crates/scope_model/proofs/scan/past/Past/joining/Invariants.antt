@@ -1,8 +1,0 @@
--- Nothing was found so far.
-use Rattle.std.proofs.Common.{◌≡◌, None}
-use Rattle.scope_model.specs.Search.{earliest}
-use Rattle.scope_model.specs.Outcomes.{joining_at}
-use Rattle.scope_model.proofs.scan.past.Past.joining.Given as goal
-
-abbrev pub invariant-loop-place : goal.invariant-loop-place
-invariant-loop-place l = earliest (joining_at l.self l.scope) l.place ≡ None

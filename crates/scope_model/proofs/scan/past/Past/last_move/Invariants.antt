@@ -1,8 +1,0 @@
--- The last move of the events so far.
-use Rattle.std.proofs.Common.{◌≡◌, take}
-use Rattle.scope_model.specs.Cancels.{move_of}
-use Rattle.scope_model.specs.Search.{last_of}
-use Rattle.scope_model.proofs.scan.past.Past.last_move.Given as goal
-
-abbrev pub invariant-loop-place : goal.invariant-loop-place
-invariant-loop-place l = l.last ≡ last_of (move_of l.scope) (take l.place l.self.events)

@@ -1,8 +1,0 @@
--- No event so far gave the scope its own cancel.
-use Rattle.std.proofs.Common.{◌≡◌, None}
-use Rattle.scope_model.specs.Search.{earliest}
-use Rattle.scope_model.specs.Cancels.{own_at}
-use Rattle.scope_model.proofs.scan.past.Past.own.Given as goal
-
-abbrev pub invariant-loop-place : goal.invariant-loop-place
-invariant-loop-place l = earliest (own_at l.self l.scope) l.place ≡ None

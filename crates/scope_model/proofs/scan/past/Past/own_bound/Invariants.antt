@@ -1,7 +1,0 @@
--- The value of the last of the pairs so far that has the key.
-use Rattle.std.proofs.Common.{◌≡◌, take}
-use Rattle.scope_model.specs.Bindings.{own_stack, bound_to}
-use Rattle.scope_model.proofs.scan.past.Past.own_bound.Given as goal
-
-abbrev pub invariant-loop-index : goal.invariant-loop-index
-invariant-loop-index l = l.found ≡ bound_to l.key (take l.index (own_stack l.self l.actor))

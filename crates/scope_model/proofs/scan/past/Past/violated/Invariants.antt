@@ -1,8 +1,0 @@
--- Whether one of the events so far began the close of the scope and covered another.
-use Rattle.std.proofs.Common.{◌≡◌}
-use Rattle.scope_model.specs.Search.{some_below}
-use Rattle.scope_model.specs.Verdicts.{violating_at}
-use Rattle.scope_model.proofs.scan.past.Past.violated.Given as goal
-
-abbrev pub invariant-loop-place : goal.invariant-loop-place
-invariant-loop-place l = l.found ≡ some_below (violating_at l.self l.scope) l.place

@@ -1,0 +1,8 @@
+-- Nothing was found so far.
+use Rattle.std.proofs.Common.{◌≡◌, None}
+use Rattle.scope_rules.specs.Search.{earliest}
+use Rattle.scope_rules.specs.Outcomes.{joining_at}
+use Rattle.scope_model.proofs.scan.view.HistoryView.joining.Given as goal
+
+abbrev pub invariant-loop-place : goal.invariant-loop-place
+invariant-loop-place l = earliest (joining_at l.self l.scope) l.place ≡ None

@@ -1,0 +1,8 @@
+-- The last move of the events so far.
+use Rattle.std.proofs.Common.{◌≡◌, take}
+use Rattle.scope_rules.specs.Cancels.{move_of}
+use Rattle.scope_rules.specs.Search.{last_of}
+use Rattle.scope_model.proofs.scan.view.HistoryView.last_move.Given as goal
+
+abbrev pub invariant-loop-place : goal.invariant-loop-place
+invariant-loop-place l = l.last ≡ last_of (move_of l.scope) (take l.place l.self.events)

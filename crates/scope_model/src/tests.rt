@@ -1,6 +1,0 @@
-//! Tests by scripts: a line a command, its reply beside it.
-
-mod checks;
-mod rows;
-mod script;
-mod types;

@@ -1,0 +1,54 @@
+-- Where tasks were forked, and what the row of their forking wanted.
+use Rattle.std.proofs.Common.{◌≡◌, ℕ, ◌+◌, ◌<◌, true, Some, length, refl, ap, sym, subst, arith}
+use Rattle.std.proofs.lemmas.Option.{slice_get_within}
+use Rattle.scope_rules.specs.declared.types.capacity.Limits.{Limits}
+use Rattle.scope_rules.specs.declared.types.events.Event.{Event}
+use Rattle.scope_rules.specs.declared.types.events.Event.TheVariants.{Fork}
+use Rattle.scope_rules.specs.declared.types.records.Opening.{Opening}
+use Rattle.scope_rules.specs.declared.types.records.Forking.{Forking}
+use Rattle.scope_rules.specs.History.{History, before, forked_count, opening, forking, is_open, is_fork, opening_of, forking_of}
+use Rattle.scope_rules.specs.Legal.{Legal}
+use Rattle.scope_rules.proofs.Openings.{numbered_within, forks_it}
+use Rattle.scope_rules.proofs.Growing.{numbered_entry, opening_place, forking_place}
+use Rattle.scope_rules.proofs.Nesting.{IsOpened, forked_opened}
+use Rattle.scope_rules.proofs.PassedRows.{IsActor, IsOwner, ForkRow, opener_passed, forker_passed}
+use Rattle.scope_rules.proofs.OneEventMore.{opening_later}
+use Rattle.scope_rules.proofs.Earlier.{forking_within}
+
+-- a task with this number was forked
+pub record IsForked (h : History) (k : ℕ) : Type 0 where
+  pub forked : Forking
+  pub is : forking h k ≡ Some forked
+
+-- a task that was forked has one of the numbers that were given
+pub forked_after : (h : History) (k : ℕ) (f : Forking) → forking h k ≡ Some f → (n : ℕ) × (n < forked_count h) × (h.base.tasks + 1 + n ≡ k)
+unfolding forking
+forked_after h k f is =
+    let it = numbered_within is_fork forking_of h.base.tasks h.events k forks_it f is in
+    (it.0, it.1, omega (arith, it.2))
+
+-- main was never forked
+pub main_unforked : (h : History) (a : ℕ) (f : Forking) → a ≡ 0 → forking h a ≡ Some f → ⊥
+main_unforked h a f main is = let it = forked_after h a f is in absurd (omega (arith, it.2, main))
+
+-- at a scope's opening its opener is main or runs
+pub opening_row : (L : Limits) (h : History) (s : ℕ) (o : Opening) → Legal L h → opening h s ≡ Some o → IsActor (before h o.place) o.actor
+unfolding opening Legal
+opening_row L h s o legal is =
+    let it = numbered_entry is_open opening_of h.base.scopes s h.events o is in
+    let passed = (opener_passed L (before h it.0) it.0 it.1 o it.3 (legal it.0 it.1 it.2)).0 in
+    subst (λ (n : ℕ). IsActor (before h n) o.actor) (sym (opening_place it.0 it.1 o it.3)) passed
+
+-- at a task's forking its forker is main or runs, and owns the scope, which isn't closing
+pub forking_row : (L : Limits) (h : History) (k : ℕ) (f : Forking) → Legal L h → forking h k ≡ Some f → ForkRow (before h f.place) f.actor f.scope
+unfolding forking Legal
+forking_row L h k f legal is =
+    let it = numbered_entry is_fork forking_of h.base.tasks k h.events f is in
+    let passed = (forker_passed L (before h it.0) it.0 it.1 f it.3 (legal it.0 it.1 it.2)).0 in
+    subst (λ (n : ℕ). ForkRow (before h n) f.actor f.scope) (sym (forking_place it.0 it.1 f it.3)) passed
+
+-- the forker of a task opened its scope
+pub forker_owns : (L : Limits) (h : History) (k : ℕ) (f : Forking) → Legal L h → forking h k ≡ Some f → IsOwner h f.actor f.scope
+forker_owns L h k f legal is =
+    let owner = (forking_row L h k f legal is).owner in
+    record { opened = owner.opened; is = opening_later h f.place f.scope owner.opened owner.is; by = owner.by }

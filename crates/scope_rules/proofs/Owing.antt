@@ -1,0 +1,190 @@
+-- An accepted event pays for what is owed after it.
+use Rattle.std.proofs.Common.{◌≡◌, ℕ, zero, suc, ◌+◌, ◌*◌, ◌<◌, ◌≤◌, Bool, true, false, cond, Option, Some, None, Ok, Err, List, [], ◌∷◌, ◌++◌, slice_get, count_by, is_some, refl, ap, ◌∙◌, arith}
+use Rattle.std.proofs.lemmas.List.Sums.{sum_by-append}
+use Rattle.std.specs.List.{range_with_len}
+use Rattle.scope_rules.specs.declared.types.capacity.Limits.{Limits}
+use Rattle.scope_rules.specs.declared.types.records.Opening.{Opening}
+use Rattle.scope_rules.specs.declared.types.records.Forking.{Forking}
+use Rattle.scope_rules.specs.declared.types.events.Event.{Event}
+use Rattle.scope_rules.specs.declared.types.events.Event.TheVariants.{Open, Fork, Reject, Start, Finish, Cancel, Move, Tick, Bind, Unbind, Join, BeginClose, EndClose}
+use Rattle.scope_rules.specs.History.{History, followed, opened_count, forked_count, opening, forking, is_open, is_fork, opening_of, forking_of, scope_numbers, task_numbers}
+use Rattle.scope_rules.specs.Scopes.{closing}
+use Rattle.scope_rules.specs.Checks.{Checked, scope_check, task_check}
+use Rattle.scope_rules.specs.Table.{check_of}
+use Rattle.scope_rules.specs.Load.{weight}
+use Rattle.scope_rules.specs.Legal.{Accepts}
+use Rattle.scope_rules.specs.Owed.{missing, owed, lacks, join_mark, begin_mark, end_mark, take_mark, finish_mark}
+use Rattle.scope_rules.proofs.Missing.{missing_same, missing_lower, missing_number}
+use Rattle.scope_rules.proofs.Accepted.{checks_at, not_refused, not_not, lacks_join, lacks_end, lacks_take, lacks_finish, lacks_begin, waiting_task, running_task}
+use Rattle.scope_rules.proofs.Openings.{numbered_within, opens_it, forks_it}
+
+-- the n-th of a range of numbers
+range_at : (a k j : ℕ) → j < k → slice_get (range_with_len a k) j ≡ Some (a + j)
+range_at a zero j within = absurd (omega arith)
+range_at a (suc k) zero within = ap Some (omega arith)
+range_at a (suc k) (suc j) within = range_at (a + 1) k j (omega arith) ∙ ap Some (omega arith)
+
+-- the place of a number among those given
+pub record Given (ns : List ℕ) (n : ℕ) : Type 0 where
+  pub place : ℕ
+  pub there : slice_get ns place ≡ Some n
+
+given_at : (a k n j : ℕ) → j < k → n ≡ a + j + 1 → Given (range_with_len (a + 1) k) n
+given_at a k n j within is = record { place = j; there = range_at (a + 1) k j within ∙ ap Some (omega arith) }
+
+given_scope_by : (h : History) (s : ℕ) (o : Option Opening) → opening h s ≡ o → is_some o ≡ true → Given (scope_numbers h) s
+unfolding opening
+given_scope_by h s None is found = absurd cc
+given_scope_by h s (Some o) is found =
+    let there = numbered_within is_open opening_of h.base.scopes h.events s opens_it o is in
+    given_at h.base.scopes (opened_count h) s there.0 there.1 there.2
+
+given_task_by : (h : History) (k : ℕ) (o : Option Forking) → forking h k ≡ o → is_some o ≡ true → Given (task_numbers h) k
+unfolding forking
+given_task_by h k None is found = absurd cc
+given_task_by h k (Some f) is found =
+    let there = numbered_within is_fork forking_of h.base.tasks h.events k forks_it f is in
+    given_at h.base.tasks (forked_count h) k there.0 there.1 there.2
+
+pub if_refused : (b : Bool) (c : Checked) (r : _) → cond b (Err r) c ≡ Ok tt → c ≡ Ok tt
+if_refused true c r passed = absurd cc
+if_refused false c r passed = passed
+
+-- a scope whose number passed was given it
+pub given_scope : (h : History) (s : ℕ) → scope_check h s ≡ Ok tt → Given (scope_numbers h) s
+unfolding scope_check
+given_scope h s passed = given_scope_by h s (opening h s) refl (not_not _ (not_refused _ _ (if_refused _ _ _ passed)))
+
+-- a task whose number passed was given it
+pub given_task : (h : History) (k : ℕ) → task_check h k ≡ Ok tt → Given (task_numbers h) k
+unfolding task_check
+given_task h k passed = given_task_by h k (forking h k) refl (not_not _ (not_refused _ _ (if_refused _ _ _ passed)))
+
+pub count_push : (kind : Event → Bool) (es : List Event) (e : Event) → count_by kind (es ++ e ∷ []) ≡ count_by kind es + cond (kind e) 1 0
+count_push kind es e = sum_by-append (λ x. cond (kind x) 1 0) es (e ∷ []) ∙ omega arith
+
+numbers_by : (mark : Event → Option ℕ) (a k m : ℕ) (b : Bool) (es : List Event) → m ≡ k + cond b 1 0 → missing mark (range_with_len a m) es ≤ missing mark (range_with_len a k) es + cond b 1 0
+numbers_by mark a k m true es is = rw is (missing_number mark a k es)
+numbers_by mark a k m false es is = let same : m ≡ k = is ∙ omega arith in rw same (omega arith)
+
+-- one event more: a scope more where it opens_it one, and nothing more is missing otherwise
+scopes_missing : (mark : Event → Option ℕ) (h : History) (e : Event) → missing mark (scope_numbers (followed h e)) (h.events ++ e ∷ []) ≤ missing mark (scope_numbers h) h.events + cond (is_open e) 1 0
+scopes_missing mark h e =
+    let number = numbers_by mark (h.base.scopes + 1) (opened_count h) (opened_count (followed h e)) (is_open e) (h.events ++ e ∷ []) (count_push is_open h.events e) in
+    let event = missing_same mark (scope_numbers h) h.events e in
+    omega (arith, number, event)
+
+tasks_missing : (mark : Event → Option ℕ) (h : History) (e : Event) → missing mark (task_numbers (followed h e)) (h.events ++ e ∷ []) ≤ missing mark (task_numbers h) h.events + cond (is_fork e) 1 0
+tasks_missing mark h e =
+    let number = numbers_by mark (h.base.tasks + 1) (forked_count h) (forked_count (followed h e)) (is_fork e) (h.events ++ e ∷ []) (count_push is_fork h.events e) in
+    let event = missing_same mark (task_numbers h) h.events e in
+    omega (arith, number, event)
+
+-- an event that was missing for a scope, and opens_it none
+scope_lower : (mark : Event → Option ℕ) (h : History) (e : Event) (s : ℕ) → is_open e ≡ false → Given (scope_numbers h) s → lacks mark h.events s ≡ true → mark e ≡ Some s
+    → missing mark (scope_numbers (followed h e)) (h.events ++ e ∷ []) + 1 ≤ missing mark (scope_numbers h) h.events
+scope_lower mark h e s closed_kind given lacked is =
+    let number = numbers_by mark (h.base.scopes + 1) (opened_count h) (opened_count (followed h e)) (is_open e) (h.events ++ e ∷ []) (count_push is_open h.events e) in
+    let none : cond {A = ℕ} (is_open e) 1 0 ≡ 0 = ap (λ b. cond {A = ℕ} b 1 0) closed_kind in
+    let event = missing_lower mark (scope_numbers h) h.events e given.place s given.there lacked is in
+    omega (arith, number, event, none)
+
+task_lower : (mark : Event → Option ℕ) (h : History) (e : Event) (k : ℕ) → is_fork e ≡ false → Given (task_numbers h) k → lacks mark h.events k ≡ true → mark e ≡ Some k
+    → missing mark (task_numbers (followed h e)) (h.events ++ e ∷ []) + 1 ≤ missing mark (task_numbers h) h.events
+task_lower mark h e k forks_none given lacked is =
+    let number = numbers_by mark (h.base.tasks + 1) (forked_count h) (forked_count (followed h e)) (is_fork e) (h.events ++ e ∷ []) (count_push is_fork h.events e) in
+    let none : cond {A = ℕ} (is_fork e) 1 0 ≡ 0 = ap (λ b. cond {A = ℕ} b 1 0) forks_none in
+    let event = missing_lower mark (task_numbers h) h.events e given.place k given.there lacked is in
+    omega (arith, number, event, none)
+
+abbrev one_if : Bool → ℕ
+one_if b = cond {A = ℕ} b 1 0
+
+-- an event that pays for what it makes owed
+paid_more : (h : History) (e : Event) → one_if (is_open e) * 3 + one_if (is_fork e) * 2 + 1 ≤ weight e → owed (followed h e) + 1 ≤ owed h + weight e
+unfolding owed
+paid_more h e pays =
+    omega (arith, pays, scopes_missing join_mark h e, scopes_missing begin_mark h e, scopes_missing end_mark h e, tasks_missing take_mark h e, tasks_missing finish_mark h e)
+
+-- an event that was owed to a scope
+paid_scope_join : (h : History) (e : Event) (s : ℕ) → Given (scope_numbers h) s → lacks join_mark h.events s ≡ true → join_mark e ≡ Some s → is_open e ≡ false → is_fork e ≡ false → owed (followed h e) + 1 ≤ owed h
+unfolding owed
+paid_scope_join h e s given lacked is opens_none forks_none =
+    let no_scope : one_if (is_open e) ≡ 0 = ap one_if opens_none in
+    let no_task : one_if (is_fork e) ≡ 0 = ap one_if forks_none in
+    omega (arith, no_scope, no_task, scope_lower join_mark h e s opens_none given lacked is, scopes_missing begin_mark h e, scopes_missing end_mark h e, tasks_missing take_mark h e, tasks_missing finish_mark h e)
+
+paid_scope_begin : (h : History) (e : Event) (s : ℕ) → Given (scope_numbers h) s → lacks begin_mark h.events s ≡ true → begin_mark e ≡ Some s → is_open e ≡ false → is_fork e ≡ false → owed (followed h e) + 1 ≤ owed h
+unfolding owed
+paid_scope_begin h e s given lacked is opens_none forks_none =
+    let no_scope : one_if (is_open e) ≡ 0 = ap one_if opens_none in
+    let no_task : one_if (is_fork e) ≡ 0 = ap one_if forks_none in
+    omega (arith, no_scope, no_task, scopes_missing join_mark h e, scope_lower begin_mark h e s opens_none given lacked is, scopes_missing end_mark h e, tasks_missing take_mark h e, tasks_missing finish_mark h e)
+
+paid_scope_end : (h : History) (e : Event) (s : ℕ) → Given (scope_numbers h) s → lacks end_mark h.events s ≡ true → end_mark e ≡ Some s → is_open e ≡ false → is_fork e ≡ false → owed (followed h e) + 1 ≤ owed h
+unfolding owed
+paid_scope_end h e s given lacked is opens_none forks_none =
+    let no_scope : one_if (is_open e) ≡ 0 = ap one_if opens_none in
+    let no_task : one_if (is_fork e) ≡ 0 = ap one_if forks_none in
+    omega (arith, no_scope, no_task, scopes_missing join_mark h e, scopes_missing begin_mark h e, scope_lower end_mark h e s opens_none given lacked is, tasks_missing take_mark h e, tasks_missing finish_mark h e)
+
+-- an event that was owed to a task
+paid_task_take : (h : History) (e : Event) (k : ℕ) → Given (task_numbers h) k → lacks take_mark h.events k ≡ true → take_mark e ≡ Some k → is_open e ≡ false → is_fork e ≡ false → owed (followed h e) + 1 ≤ owed h
+unfolding owed
+paid_task_take h e k given lacked is opens_none forks_none =
+    let no_scope : one_if (is_open e) ≡ 0 = ap one_if opens_none in
+    let no_task : one_if (is_fork e) ≡ 0 = ap one_if forks_none in
+    omega (arith, no_scope, no_task, scopes_missing join_mark h e, scopes_missing begin_mark h e, scopes_missing end_mark h e, task_lower take_mark h e k forks_none given lacked is, tasks_missing finish_mark h e)
+
+paid_task_finish : (h : History) (e : Event) (k : ℕ) → Given (task_numbers h) k → lacks finish_mark h.events k ≡ true → finish_mark e ≡ Some k → is_open e ≡ false → is_fork e ≡ false → owed (followed h e) + 1 ≤ owed h
+unfolding owed
+paid_task_finish h e k given lacked is opens_none forks_none =
+    let no_scope : one_if (is_open e) ≡ 0 = ap one_if opens_none in
+    let no_task : one_if (is_fork e) ≡ 0 = ap one_if forks_none in
+    omega (arith, no_scope, no_task, scopes_missing join_mark h e, scopes_missing begin_mark h e, scopes_missing end_mark h e, tasks_missing take_mark h e, task_lower finish_mark h e k forks_none given lacked is)
+
+-- what an accepted event takes has not been taken
+rejected_lacks : (L : Limits) (h : History) (k : ℕ) → Accepts L h (Reject k) → Given (task_numbers h) k × (lacks take_mark h.events k ≡ true)
+unfolding check_of
+rejected_lacks L h k ok =
+    let waits = waiting_task h k (not_not _ (not_refused _ _ (checks_at _ 1 _ ok.passed refl))) in
+    (given_task h k (checks_at _ 0 _ ok.passed refl), lacks_take h k waits.0 waits.1)
+
+started_lacks : (L : Limits) (h : History) (k : ℕ) → Accepts L h (Start k) → Given (task_numbers h) k × (lacks take_mark h.events k ≡ true)
+unfolding check_of
+started_lacks L h k ok =
+    let waits = waiting_task h k (not_not _ (not_refused _ _ (checks_at _ 1 _ ok.passed refl))) in
+    (given_task h k (checks_at _ 0 _ ok.passed refl), lacks_take h k waits.0 waits.1)
+
+finished_lacks : (L : Limits) (h : History) (k : ℕ) (end : _) → Accepts L h (Finish k end) → Given (task_numbers h) k × (lacks finish_mark h.events k ≡ true)
+unfolding check_of
+finished_lacks L h k end ok =
+    (given_task h k (checks_at _ 0 _ ok.passed refl), lacks_finish h k (running_task h k (not_not _ (not_refused _ _ (checks_at _ 1 _ ok.passed refl)))))
+
+joined_lacks : (L : Limits) (h : History) (a s : ℕ) → Accepts L h (Join a s) → Given (scope_numbers h) s × (lacks join_mark h.events s ≡ true)
+unfolding check_of
+joined_lacks L h a s ok = (given_scope h s (checks_at _ 1 _ ok.passed refl), lacks_join h s (not_refused _ _ (checks_at _ 4 _ ok.passed refl)))
+
+begun_lacks : (L : Limits) (h : History) (a s : ℕ) → Accepts L h (BeginClose a s) → Given (scope_numbers h) s × (lacks begin_mark h.events s ≡ true)
+unfolding check_of
+begun_lacks L h a s ok = (given_scope h s (checks_at _ 1 _ ok.passed refl), lacks_begin h s ok.recorded)
+
+ended_lacks : (L : Limits) (h : History) (a s : ℕ) → Accepts L h (EndClose a s) → Given (scope_numbers h) s × (lacks end_mark h.events s ≡ true)
+unfolding check_of
+ended_lacks L h a s ok = (given_scope h s (checks_at _ 1 _ ok.passed refl), lacks_end h s (not_refused _ _ (checks_at _ 4 _ ok.passed refl)))
+
+-- what an accepted event pays for covers what is owed after it
+pub owed_event : (L : Limits) (h : History) (e : Event) → Accepts L h e → owed (followed h e) + 1 ≤ owed h + weight e
+owed_event L h (Open actor policy options) ok = paid_more h (Open actor policy options) (omega arith)
+owed_event L h (Fork actor scope label) ok = paid_more h (Fork actor scope label) (omega arith)
+owed_event L h (Cancel scope) ok = paid_more h (Cancel scope) (omega arith)
+owed_event L h (Move scope deadline) ok = paid_more h (Move scope deadline) (omega arith)
+owed_event L h (Tick now) ok = paid_more h (Tick now) (omega arith)
+owed_event L h (Bind actor pair) ok = paid_more h (Bind actor pair) (omega arith)
+owed_event L h (Unbind actor) ok = paid_more h (Unbind actor) (omega arith)
+owed_event L h (Reject task) ok = let it = rejected_lacks L h task ok in omega (arith, paid_task_take h (Reject task) task it.0 it.1 refl refl refl)
+owed_event L h (Start task) ok = let it = started_lacks L h task ok in omega (arith, paid_task_take h (Start task) task it.0 it.1 refl refl refl)
+owed_event L h (Finish task end) ok = let it = finished_lacks L h task end ok in omega (arith, paid_task_finish h (Finish task end) task it.0 it.1 refl refl refl)
+owed_event L h (Join actor scope) ok = let it = joined_lacks L h actor scope ok in omega (arith, paid_scope_join h (Join actor scope) scope it.0 it.1 refl refl refl)
+owed_event L h (BeginClose actor scope) ok = let it = begun_lacks L h actor scope ok in omega (arith, paid_scope_begin h (BeginClose actor scope) scope it.0 it.1 refl refl refl)
+owed_event L h (EndClose actor scope) ok = let it = ended_lacks L h actor scope ok in omega (arith, paid_scope_end h (EndClose actor scope) scope it.0 it.1 refl refl refl)

@@ -1,0 +1,56 @@
+-- In a legal history a scope's parent has a smaller number.
+use Rattle.std.proofs.Common.{◌≡◌, ℕ, zero, suc, ◌+◌, ◌<◌, ◌≤◌, ◌==◌, ◌&&◌, not, cond, Option, Some, None, option_map, refl, ◌∙◌, arith}
+use Rattle.std.proofs.lemmas.Option.{same_Some}
+use Rattle.std.specs.Option.{option_or}
+use Rattle.scope_rules.specs.declared.types.capacity.Limits.{Limits}
+use Rattle.scope_rules.specs.declared.types.records.Opening.{Opening}
+use Rattle.scope_rules.specs.declared.types.records.Forking.{Forking}
+use Rattle.scope_rules.specs.Search.{latest}
+use Rattle.scope_rules.specs.History.{History, before, scopes, opened_count, opening, forking}
+use Rattle.scope_rules.specs.Scopes.{closed, unclosed_of, innermost, forked_in, surrounding, around, parent}
+use Rattle.scope_rules.specs.Legal.{Legal}
+use Rattle.scope_rules.proofs.Openings.{and_then_some, if_some}
+use Rattle.scope_rules.proofs.Growing.{opening_number}
+use Rattle.scope_rules.proofs.Nesting.{legal_before}
+use Rattle.scope_rules.proofs.Earlier.{opening_since, scope_given}
+use Rattle.scope_rules.proofs.BindingRows.{fork_opened}
+use Rattle.scope_rules.proofs.Inherited.{fork_was_accepted}
+use Rattle.scope_rules.proofs.Searching.{latest_where}
+
+-- an actor's innermost scope has a number of those given
+pub innermost_given : (h : History) (a p : ℕ) → innermost h a ≡ Some p → (0 < p) × (p ≤ scopes h)
+unfolding innermost
+innermost_given h a p found =
+    let there = latest_where (unclosed_of h a) p (opened_count h) found in
+    let s = h.base.scopes + 1 + there.0 in
+    let entry = and_then_some (λ (o : Opening). cond ((o.actor == a) && not (closed h s)) (Some s) None) (opening h s) p there.2 in
+    let test = if_some ((entry.0.actor == a) && not (closed h s)) (Some s) p entry.2 in
+    let same : s ≡ p = same_Some s p test.1 in
+    (omega (arith, same), omega (arith, same, there.1))
+
+forked_given : (L : Limits) (h : History) (a p : ℕ) (o : Option Forking) → Legal L h → forking h a ≡ o → option_map (λ (f : Forking). f.scope) o ≡ Some p → (0 < p) × (p ≤ scopes h)
+forked_given L h a p None legal is found = absurd cc
+forked_given L h a p (Some f) legal is found =
+    let it = fork_opened L (before h f.place) f (fork_was_accepted L h a f legal is) in
+    let given = scope_given h f.scope it.opened (opening_since h f.scope f.place it.opened it.is) in
+    let same : f.scope ≡ p = same_Some f.scope p found in
+    (omega (arith, given.0, same), omega (arith, given.1, same))
+
+surrounding_by : (L : Limits) (h : History) (a p : ℕ) (o : Option ℕ) → Legal L h → innermost h a ≡ o → option_or o (forked_in h a) ≡ Some p → (0 < p) × (p ≤ scopes h)
+surrounding_by L h a p None legal is found = forked_given L h a p (forking h a) legal refl found
+surrounding_by L h a p (Some q) legal is found = innermost_given h a p (is ∙ found)
+
+-- what surrounds an actor has a number of those given
+pub surrounding_given : (L : Limits) (h : History) (a p : ℕ) → Legal L h → surrounding h a ≡ Some p → (0 < p) × (p ≤ scopes h)
+unfolding surrounding
+surrounding_given L h a p legal found = surrounding_by L h a p (innermost h a) legal refl found
+
+-- a parent has a smaller number
+pub parent_smaller : (L : Limits) (h : History) (s p : ℕ) → Legal L h → parent h s ≡ Some p → (0 < p) × (p < s)
+unfolding parent
+parent_smaller L h s p legal is =
+    let there = and_then_some (around h) (opening h s) p is in
+    let o = there.0 in
+    let given = surrounding_given L (before h o.place) o.actor p (legal_before L h o.place legal) there.2 in
+    let number = opening_number h s o there.1 in
+    (given.0, omega (arith, given.1, number))

@@ -1,0 +1,149 @@
+-- A legal history with an accepted event more is legal, and stays within its limits.
+use Rattle.std.proofs.Common.{◌≡◌, ℕ, zero, suc, ◌+◌, ◌-◌, ◌<◌, ◌≤◌, ◌==◌, Bool, true, false, cond, Option, Some, Ok, List, [], ◌∷◌, ◌++◌, length, slice_get, fold, refl, ap, sym, subst, ◌∙◌, arith, inl, inr, ◌⊎◌}
+use Rattle.std.proofs.lemmas.Bool.{leb-false, ltb-false}
+use Rattle.std.proofs.lemmas.List.{take_all, take-append-le}
+use Rattle.std.proofs.lemmas.List.Sums.{sum_by-append}
+use Rattle.std.specs.List.{sum_by}
+use Rattle.scope_rules.specs.declared.types.capacity.Limits.{Limits}
+use Rattle.scope_rules.specs.declared.types.capacity.TheConstants.{OPEN_LOAD, FORK_LOAD, STEP_LOAD, GREATEST_NUMBER}
+use Rattle.scope_rules.specs.declared.types.values.Label.{Label}
+use Rattle.scope_rules.specs.declared.types.joiners.Policy.{Policy}
+use Rattle.scope_rules.specs.declared.types.events.Options.{Options}
+use Rattle.scope_rules.specs.declared.types.events.Binding.{Binding}
+use Rattle.scope_rules.specs.declared.types.events.Event.{Event}
+use Rattle.scope_rules.specs.declared.types.events.Event.TheVariants.{Open, Fork, Reject, Start, Finish, Cancel, Move, Tick, Bind, Unbind, Join, BeginClose, EndClose}
+use Rattle.scope_rules.specs.History.{History, before, followed, scopes, tasks, opened_count, forked_count, is_open, is_fork}
+use Rattle.scope_rules.specs.Cancels.{is_cancelled}
+use Rattle.scope_rules.specs.Load.{load, weight}
+use Rattle.scope_rules.specs.Checks.{Checked, refuse_full}
+use Rattle.scope_rules.specs.Table.{check_of}
+use Rattle.scope_rules.specs.Legal.{Accepts, Legal, IsWithin}
+use Rattle.scope_rules.specs.Bindings.{stacked, first_stack, stack}
+use Rattle.scope_rules.specs.StackSteps.{height_after}
+use Rattle.scope_rules.proofs.Stacks.{length_stacked, cond_bound}
+use Rattle.scope_rules.proofs.Accepted.{checks_at, not_refused, or_left, or_right}
+use Rattle.scope_rules.proofs.Owing.{count_push}
+
+pub entry_of_push : (es : List Event) (e x : Event) (i : ℕ) → slice_get (es ++ e ∷ []) i ≡ Some x → ((i < length es) × (slice_get es i ≡ Some x)) ⊎ ((i ≡ length es) × (x ≡ e))
+entry_of_push [] e x zero at = inr (refl, cc)
+entry_of_push [] e x (suc i) at = absurd cc
+entry_of_push (y ∷ es) e x zero at = inl (omega arith, at)
+entry_of_push (y ∷ es) e x (suc i) at =
+    elim (entry_of_push es e x i at) [ inl h ↦ inl (omega (arith, h.0), h.1) | inr h ↦ inr (ap suc h.0, h.1) ]
+
+pub before_push : (h : History) (e : Event) (i : ℕ) → i ≤ length h.events → before (followed h e) i ≡ before h i
+before_push h e i within = ap (λ es. record { base = h.base; events = es }) (take-append-le i h.events (e ∷ []) within)
+
+pub before_all : (h : History) (i : ℕ) → length h.events ≤ i → before h i ≡ h
+before_all h i all = ap (λ es. record { base = h.base; events = es }) (take_all i h.events all)
+
+-- an accepted event more is legal
+pub legal_push : (L : Limits) (h : History) (e : Event) → Legal L h → Accepts L h e → Legal L (followed h e)
+unfolding Legal
+legal_push L h e legal ok i x at =
+    elim (entry_of_push h.events e x i at) [
+      | inl here ↦ subst (λ (g : History). Accepts L g x) (sym (before_push h e i (omega (arith, here.0)))) (legal i x here.1)
+      | inr here ↦
+          let whole : before (followed h e) i ≡ h = before_push h e i (omega (arith, here.0)) ∙ before_all h i (omega (arith, here.0)) in
+          subst (λ (g : History). Accepts L g x) (sym whole) (subst (λ (y : Event). Accepts L h y) (sym here.1) ok)
+    ]
+
+-- the load grows by what the event costs
+pub load_push : (h : History) (e : Event) → load (followed h e) ≡ load h + weight e
+unfolding load
+load_push h e =
+    let sum : sum_by weight (h.events ++ e ∷ []) ≡ sum_by weight h.events + sum_by weight (e ∷ []) = sum_by-append weight h.events (e ∷ []) in
+    let one : sum_by weight (e ∷ []) ≡ weight e = omega arith in
+    omega (arith, sum, one)
+
+fits : (L : Limits) (h : History) (n : ℕ) → refuse_full L h n ≡ Ok tt → load h + n ≤ L.load
+fits L h n ok = ltb-false _ _ (not_refused _ _ ok)
+
+unless_already : (b : Bool) (c : Checked) → b ≡ false → cond b (Ok tt) c ≡ Ok tt → c ≡ Ok tt
+unless_already true c is passed = absurd cc
+unless_already false c is passed = passed
+
+-- an accepted event fits the limit of load
+pub load_fits : (L : Limits) (h : History) (e : Event) → load h ≤ L.load → Accepts L h e → load h + weight e ≤ L.load
+unfolding check_of
+load_fits L h (Open actor policy options) within ok = fits L h OPEN_LOAD (checks_at _ 4 _ ok.passed refl)
+load_fits L h (Fork actor scope label) within ok = fits L h FORK_LOAD (checks_at _ 7 _ ok.passed refl)
+load_fits L h (Cancel scope) within ok = fits L h STEP_LOAD (unless_already (is_cancelled h scope) _ ok.recorded (checks_at _ 2 _ ok.passed refl))
+load_fits L h (Move scope deadline) within ok = fits L h STEP_LOAD (checks_at _ 3 _ ok.passed refl)
+load_fits L h (Tick now) within ok = fits L h STEP_LOAD (checks_at _ 1 _ ok.passed refl)
+load_fits L h (Bind actor pair) within ok = fits L h STEP_LOAD (checks_at _ 1 _ ok.passed refl)
+load_fits L h (Unbind actor) within ok = fits L h STEP_LOAD (checks_at _ 3 _ ok.passed refl)
+load_fits L h (Reject task) within ok = omega (arith, within)
+load_fits L h (Start task) within ok = omega (arith, within)
+load_fits L h (Finish task end) within ok = omega (arith, within)
+load_fits L h (Join actor scope) within ok = omega (arith, within)
+load_fits L h (BeginClose actor scope) within ok = omega (arith, within)
+load_fits L h (EndClose actor scope) within ok = omega (arith, within)
+
+-- where an open is accepted there is a number for its scope, and the limit of scopes is not met
+pub open_number : (L : Limits) (h : History) (a : ℕ) (policy : Policy) (options : Options) → check_of L h (Open a policy options) ≡ Ok tt → (opened_count h < L.scopes) × (scopes h < GREATEST_NUMBER)
+unfolding check_of
+open_number L h a policy options ok =
+    let under = not_refused _ _ (checks_at _ 3 _ ok refl) in
+    (leb-false L.scopes (opened_count h) (or_left _ _ under), leb-false GREATEST_NUMBER (scopes h) (or_right _ _ under))
+
+-- where a fork is accepted there is a number for its task, and the limit of tasks is not met
+pub fork_number : (L : Limits) (h : History) (a s : ℕ) (label : Label) → check_of L h (Fork a s label) ≡ Ok tt → (forked_count h < L.tasks) × (tasks h < GREATEST_NUMBER)
+unfolding check_of
+fork_number L h a s label ok =
+    let under = not_refused _ _ (checks_at _ 6 _ ok refl) in
+    (leb-false L.tasks (forked_count h) (or_left _ _ under), leb-false GREATEST_NUMBER (tasks h) (or_right _ _ under))
+
+-- an accepted event fits the limits of scopes and of their numbers
+scopes_fit : (L : Limits) (h : History) (e : Event) → IsWithin L h → Accepts L h e
+    → (opened_count h + cond {A = ℕ} (is_open e) 1 0 ≤ L.scopes) × (scopes h + cond {A = ℕ} (is_open e) 1 0 ≤ GREATEST_NUMBER)
+scopes_fit L h (Open actor policy options) within ok =
+    let under = open_number L h actor policy options ok.passed in
+    (omega (arith, under.0), omega (arith, under.1))
+scopes_fit L h _ within ok = (omega (arith, within.opened), omega (arith, within.scopes_fit))
+
+tasks_fit : (L : Limits) (h : History) (e : Event) → IsWithin L h → Accepts L h e
+    → (forked_count h + cond {A = ℕ} (is_fork e) 1 0 ≤ L.tasks) × (tasks h + cond {A = ℕ} (is_fork e) 1 0 ≤ GREATEST_NUMBER)
+tasks_fit L h (Fork actor scope label) within ok =
+    let under = fork_number L h actor scope label ok.passed in
+    (omega (arith, under.0), omega (arith, under.1))
+tasks_fit L h _ within ok = (omega (arith, within.forked), omega (arith, within.tasks_fit))
+
+-- a realm within its limits is so after an accepted event
+pub within_push : (L : Limits) (h : History) (e : Event) → IsWithin L h → Accepts L h e → IsWithin L (followed h e)
+within_push L h e within ok =
+    let opened = count_push is_open h.events e in
+    let forked = count_push is_fork h.events e in
+    let scopes_so = scopes_fit L h e within ok in
+    let tasks_so = tasks_fit L h e within ok in
+    record {
+      opened = omega (arith, opened, scopes_so.0);
+      forked = omega (arith, forked, tasks_so.0);
+      loaded = omega (arith, load_push h e, load_fits L h e within.loaded ok);
+      scopes_fit = omega (arith, opened, scopes_so.1);
+      tasks_fit = omega (arith, forked, tasks_so.1);
+    }
+
+height_weight : (a n : ℕ) (e : Event) → height_after a n e ≤ n + weight e
+height_weight a n (Bind by pair) = cond_bound (by == a) (n + 1) n (n + 1) (omega arith) (omega arith)
+height_weight a n (Unbind by) = cond_bound (by == a) (n - 1) n (n + 1) (omega arith) (omega arith)
+height_weight a n _ = omega arith
+
+sum_by-cons : (e : Event) (es : List Event) → sum_by weight (e ∷ es) ≡ weight e + sum_by weight es
+sum_by-cons e es = sum_by-append weight (e ∷ []) es ∙ omega arith
+
+stack_bound : (es : List Event) (bs : List Binding) (a : ℕ) → length (fold (stacked a) bs es) ≤ length bs + sum_by weight es
+stack_bound [] bs a = omega arith
+stack_bound (e ∷ es) bs a =
+    let rest : length (fold (stacked a) (stacked a bs e) es) ≤ length (stacked a bs e) + sum_by weight es = stack_bound es (stacked a bs e) a in
+    let step : length (stacked a bs e) ≤ length bs + weight e = rw (length_stacked a bs e) (height_weight a (length bs) e) in
+    omega (arith, rest, step, sum_by-cons e es)
+
+-- main's pairs are within the load
+pub stack_within : (h : History) → length (stack h 0) ≤ load h
+unfolding stack load
+stack_within h = stack_bound h.events (first_stack h 0) 0
+
+-- before the last event stands what there was
+pub before_last : (h : History) (e : Event) → before (followed h e) (length h.events) ≡ h
+before_last h e = before_push h e (length h.events) (omega arith) ∙ before_all h (length h.events) (omega arith)

@@ -1,0 +1,12 @@
+-- Names by their texts.
+use Rattle.std.specs.Prelude.{ℕ, Bool, List, take, nat_eq}
+use Rattle.std.specs.Cmp.Lexicographic.{pointwise}
+use Rattle.scope_rules.specs.declared.types.names.Name.{Name}
+
+-- the text of a name
+abbrev pub text_of : Name → List ℕ
+text_of name = take name.len name.bytes
+
+-- names are told apart by their texts
+abbrev pub same_name : Name → Name → Bool
+same_name a b = pointwise nat_eq (text_of a) (text_of b)

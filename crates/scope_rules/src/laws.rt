@@ -1,0 +1,42 @@
+//! Laws that hold of every history, above the definitions. Each function does nothing: its contract
+//! is the law.
+
+ghost use Rattle.scope_rules.specs.Laws.{OwnCancelStays, OwnCancelGrows, CutIsEarliest, ChainGoesOutwards, OuterIsSmaller, CauseStays, NumbersNeverFall, ScopeNumberStays, TaskNumberStays, ScopeNumberGivenOnce, TaskNumberGivenOnce};
+
+pub mod bindings;
+pub mod closing;
+pub mod levels;
+pub mod outcomes;
+
+/// An own cancel never moves once it stands. One event more gives an own cancel to a scope that had
+/// none, or leaves it as it was.
+pub fn own_cancel_stays()
+    ensures stays { OwnCancelStays }
+    ensures grows { OwnCancelGrows }
+{}
+
+/// The cause of a scope is the own cancel of a member of its chain: none on the chain is earlier, and
+/// those nearer are later, so the nearest wins a tie.
+pub fn cause_is_earliest()
+    ensures { CutIsEarliest }
+{}
+
+/// The chain of a scope is the scope and the chain of its outer scope, whose number is smaller.
+pub fn chain_goes_outwards()
+    ensures chain { ChainGoesOutwards }
+    ensures smaller { OuterIsSmaller }
+{}
+
+/// A cancelled scope stays cancelled, with its cause.
+pub fn cause_stays()
+    ensures { CauseStays }
+{}
+
+/// Numbers of scopes and tasks are given once, stay with their events, and never fall.
+pub fn numbers_are_given_once()
+    ensures never_fall { NumbersNeverFall }
+    ensures scope_stays { ScopeNumberStays }
+    ensures task_stays { TaskNumberStays }
+    ensures scope_once { ScopeNumberGivenOnce }
+    ensures task_once { TaskNumberGivenOnce }
+{}

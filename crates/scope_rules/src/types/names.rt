@@ -1,0 +1,99 @@
+ghost use Rattle.std.specs.Prelude.{◌≡◌, ◌<◌, ◌↔◌, IsSome, IfSome, IsTrue, Some, length, ◌≤◌};
+ghost use Rattle.std.specs.List.{list_all};
+ghost use Rattle.scope_rules.specs.NameText.{IsStored, is_name, is_inner, is_letter, begins_with_letter};
+
+use std::fmt;
+
+/// How many bytes a name has at the most.
+pub const NAME_LIMIT: usize = 24;
+
+/// A name of 1 to 24 bytes: the first in `a`..`z`, the others in `a`..`z`, `0`..`9`, `-`, `_`, `.`.
+/// It is kept inline, and the bytes after its text are 0, so that equal texts are equal names.
+#[derive(Clone, Copy, Debug, PartialEq, Eq, Hash)]
+pub struct Name {
+    len: usize,
+    bytes: [u8; NAME_LIMIT],
+    ghost stored: { ∥ IsStored len bytes ∥₁ },
+}
+
+impl Name {
+    ghost use Rattle.scope_rules.specs.Names.{text_of, same_name};
+
+    /// The name with this text, if it may be one.
+    pub fn new(text: &[u8]) -> Option<Name>
+        ensures named { IsSome result ↔ IsTrue (is_name text.now) }
+        ensures text { IfSome result (λ name. text_of name ≡ text.now) }
+    {
+        if !is_name(text) {
+            return None;
+        }
+        let mut bytes = [0; NAME_LIMIT];
+        for i in 0..text.len() {
+            bytes[i] = text[i];
+        }
+        Some(Name {
+            len: text.len(),
+            bytes,
+        })
+    }
+
+    /// The text, of ASCII bytes.
+    pub fn as_bytes(&self) -> &[u8]
+        ensures { result.now ≡ text_of self.now }
+    {
+        let len = self.len.min(NAME_LIMIT);
+        &self.bytes[..len]
+    }
+
+    /// Whether the two names are one.
+    pub fn is_same(&self, other: &Name) -> bool
+        ensures tested { result ≡ same_name self.now other.now }
+        ensures same { IsTrue result ↔ (self.now ≡ other.now) }
+    {
+        self.as_bytes() == other.as_bytes()
+    }
+}
+
+/// Whether the text may be a name.
+#[tactic(auto, unfolding(crate::specs::NameText::is_name))]
+pub fn is_name(text: &[u8]) -> bool
+    ensures tested { result ≡ is_name text.now }
+    ensures fits { IsTrue result → length text.now ≤ NAME_LIMIT }
+{
+    text.len() <= NAME_LIMIT && begins_with_letter(text) && has_inner_alone(text)
+}
+
+/// Whether the text begins with a letter of `a`..`z`.
+fn begins_with_letter(text: &[u8]) -> bool
+    ensures { result ≡ begins_with_letter text.now }
+{
+    match text.first() {
+        Some(first) => is_letter(*first),
+        None => false,
+    }
+}
+
+/// Whether the text has only bytes that may stand in a name.
+fn has_inner_alone(text: &[u8]) -> bool
+    ensures { result ≡ list_all is_inner text.now }
+{
+    text.iter().all(|byte| is_inner(*byte))
+}
+
+/// Whether the byte may stand in a name after its first.
+fn is_inner(byte: u8) -> bool
+    ensures { result ≡ is_inner byte }
+{
+    is_letter(byte)
+        || (byte >= b'0' && byte <= b'9')
+        || byte == b'-'
+        || byte == b'_'
+        || byte == b'.'
+}
+
+/// Whether the byte is in `a`..`z`.
+fn is_letter(byte: u8) -> bool
+    ensures { result ≡ is_letter byte }
+{
+    byte >= b'a' && byte <= b'z'
+}
