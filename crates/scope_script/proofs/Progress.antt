@@ -2,15 +2,22 @@
 use Rattle.std.proofs.Common.{◌≡◌, ℕ, Option, List, [], ◌∷◌, ◌++◌, refl, ap, sym, ◌∙◌, subst, append_assoc, append-nil, take}
 use Rattle.std.specs.Io.KnownBytes.{Appends, Consumes, IsAtEnd, Keeps}
 use Rattle.std.proofs.KnownBytes.{Appends-trans, Appends-nil, Consumes-trans, Consumes-nil, Consumes-kept}
-use Rattle.scope_model.specs.declared.types.capacity.Limits.{Limits}
-use Rattle.scope_model.specs.Replies.{Realm}
+use Rattle.scope_rules.specs.declared.types.capacity.Limits.{Limits}
+use Rattle.scope_rules.specs.Replies.{Realm}
 use Rattle.scope_script.specs.declared.session.run.Mode.{Mode}
 use Rattle.scope_script.specs.Streams.{AppendsPart}
-use Rattle.scope_script.specs.Texts.{GrowsByPart}
-use Rattle.scope_script.specs.Sessions.{Session, the_beginning, after_bytes, bytes_reply, end_reply, shown, replies_of, realm_of_script}
-use Rattle.scope_script.specs.Running.{RunsToEnd, RunsPartly, UnderWay}
+use Rattle.scope_script.specs.Sessions.{shown, replies_of, realm_of_script}
+use Rattle.scope_script.specs.ByBytes.{Session, the_beginning, after_bytes, bytes_reply, end_reply}
+use Rattle.scope_script.specs.Running.{RunsToEnd, RunsPartly}
 use Rattle.scope_script.proofs.Scripts.{shown_append, after_append, reply_append, after_none, shown_nothing, reply_none}
 use Rattle.scope_script.proofs.Kept.{script_replies, script_leaves}
+
+-- the run is under way: it answered all that it read so far
+pub record UnderWay (unread unread_now written written_now : Option (List ℕ)) (mode : Mode) (L : Limits) (now : Session) : Type 0 where
+  pub script : List ℕ
+  pub read : Consumes unread unread_now script
+  pub replied : Appends written written_now (shown mode (bytes_reply (the_beginning L) script))
+  pub session : now ≡ after_bytes (the_beginning L) script
 
 -- a beginning of a beginning is a beginning
 pub part_of_part : (old new : Option (List ℕ)) (bs part rest : List ℕ) → bs ≡ part ++ rest → AppendsPart old new part → AppendsPart old new bs

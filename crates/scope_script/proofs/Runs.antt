@@ -1,9 +1,12 @@
 -- Runs of commands that are put together.
-use Rattle.std.proofs.Common.{◌≡◌, ℕ, ◌+◌, Some, List, [], ◌∷◌, ◌++◌, take, slice_get, refl, ap, ◌∙◌}
-use Rattle.scope_model.specs.Replies.{Realm}
-use Rattle.scope_model.proofs.Prefixes.{take_at}
-use Rattle.scope_script.specs.declared.commands.Command.{Command}
-use Rattle.scope_script.specs.Replying.{realm_after, realm_after_all}
+use Rattle.std.proofs.Common.{◌≡◌, ℕ, suc, ◌+◌, ◌<◌, Some, List, [], ◌∷◌, ◌++◌, length, take, drop, slice_get, get_or, refl, ap, sym, ◌∙◌, add-one}
+use Rattle.std.proofs.Math.Seq.{drop-cons}
+use Rattle.std.proofs.lemmas.List.{take-append-drop}
+use Rattle.std.proofs.lemmas.Option.{slice_get_within, get_or_from_slice_get}
+use Rattle.scope_rules.specs.Replies.{Realm}
+use Rattle.scope_rules.proofs.Prefixes.{take_at}
+use Rattle.script_lines.specs.declared.commands.Command.{Command}
+use Rattle.scope_script.specs.Replying.{realm_after, realm_stopped, realm_after_all, StopsAmong}
 
 pub realm_after_more : (realm : Realm) (xs : List Command) (x : Command) → realm_after_all realm (xs ++ x ∷ []) ≡ realm_after (realm_after_all realm xs) x
 unfolding realm_after_all
@@ -13,3 +16,20 @@ realm_after_more realm (y ∷ ys) x = realm_after_more (realm_after realm y) ys 
 -- the run so far, with the command at the index
 pub realm_after_at : (realm : Realm) (xs : List Command) (i : ℕ) (x : Command) → slice_get xs i ≡ Some x → realm_after_all realm (take (i + 1) xs) ≡ realm_after (realm_after_all realm (take i xs)) x
 realm_after_at realm xs i x at = ap (realm_after_all realm) (take_at xs i x at) ∙ realm_after_more realm (take i xs) x
+
+take_drop_at : {A : Type 0} (xs : List A) (i : ℕ) (x : A) → slice_get xs i ≡ Some x → take i xs ++ x ∷ drop (i + 1) xs ≡ xs
+take_drop_at xs i x at =
+    let short : i < length xs = slice_get_within xs i x at in
+    let first : get_or xs i x ≡ x = get_or_from_slice_get xs i x x at in
+    let rest : drop i xs ≡ x ∷ drop (i + 1) xs = rw add-one (drop-cons xs i x short ∙ ap (λ y. y ∷ drop (suc i) xs) first) in
+    ap (λ r. take i xs ++ r) (sym rest) ∙ take-append-drop i xs
+
+-- the run was ended at the command at the index
+pub stops_at : (realm now new : Realm) (xs : List Command) (i : ℕ) (x : Command) → slice_get xs i ≡ Some x → now ≡ realm_after_all realm (take i xs) → new ≡ realm_stopped now x → StopsAmong realm xs new
+stops_at realm now new xs i x at is stopped = record {
+  before = take i xs;
+  command = x;
+  others = drop (i + 1) xs;
+  whole = sym (take_drop_at xs i x at);
+  stopped = stopped ∙ ap (λ (r : Realm). realm_stopped r x) is;
+}

@@ -1,10 +1,11 @@
 -- Scripts that are put together, and what is kept of a line.
 use Rattle.std.proofs.Common.{◌≡◌, ℕ, ◌+◌, ◌==◌, Bool, true, false, Option, Some, None, List, [], ◌∷◌, ◌++◌, length, take, drop, slice_get, refl, ap, sym, ◌∙◌, append_assoc, append-nil}
 use Rattle.std.proofs.lemmas.List.{take-append-drop}
-use Rattle.scope_model.proofs.Prefixes.{take_at}
+use Rattle.scope_rules.proofs.Prefixes.{take_at}
 use Rattle.scope_script.specs.declared.session.run.Mode.{Mode}
 use Rattle.scope_script.specs.declared.session.run.Mode.TheVariants.{Replies, Quiet}
-use Rattle.scope_script.specs.Sessions.{Session, after_byte, byte_reply, after_bytes, bytes_reply, shown}
+use Rattle.scope_script.specs.Sessions.{shown}
+use Rattle.scope_script.specs.ByBytes.{Session, after_byte, byte_reply, after_bytes, bytes_reply}
 
 pub shown_append : (mode : Mode) (xs ys : List ℕ) → shown mode (xs ++ ys) ≡ shown mode xs ++ shown mode ys
 shown_append Replies xs ys = refl

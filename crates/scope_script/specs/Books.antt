@@ -1,7 +1,7 @@
 -- What a script of the code stands for.
 use Rattle.scope_book.specs.Books.{realm_of}
 use Rattle.scope_script.specs.declared.session.script.Script.{Script}
-use Rattle.scope_script.specs.Sessions.{Session}
+use Rattle.scope_script.specs.ByBytes.{Session}
 
 abbrev pub session_of : Script → Session
 session_of script = record { realm = realm_of script.book; begun = script.begun }

@@ -1,105 +1,130 @@
 -- What a command is answered in a realm, and what it leaves of it.
-use Rattle.std.specs.Prelude.{◌≡◌, ◌⊎◌, Bool, true, false, ok_or, List, [], ◌∷◌, Result, Ok, Err}
-use Rattle.scope_model.specs.declared.types.events.Event.TheVariants as event
-use Rattle.scope_model.specs.declared.types.refusals.Refusal.{Refusal}
-use Rattle.scope_model.specs.declared.types.refusals.Refusal.TheVariants.{Memory, NotJoined}
-use Rattle.scope_model.specs.declared.types.answers.Cancelling.{Cancelling}
-use Rattle.scope_model.specs.declared.types.answers.Cancelling.TheVariants.{Recorded}
-use Rattle.scope_model.specs.History.{followed, moment}
-use Rattle.scope_model.specs.Origin.{Origin}
-use Rattle.scope_model.specs.Cancels.{cause, effective}
-use Rattle.scope_model.specs.Tasks.{stage, state, counts}
-use Rattle.scope_model.specs.Outcomes.{outcome}
-use Rattle.scope_model.specs.Verdicts.{verdict}
-use Rattle.scope_model.specs.Checks.{open_check, fork_check, waiting_check, finish_check, move_check, tick_check, bind_check, unbind_check, join_check, own_scope_check, end_close_check, retire_check, scope_check, task_check, closed_check, answering, checked_then}
-use Rattle.scope_model.specs.Replies.{Realm, after, after_recording, after_retiring, next_scope, fork_reply, whole_cancel_check, cancel_reply, begin_close_reply, base_of, result_reply, fault_reply, binding_reply}
-use Rattle.scope_script.specs.declared.commands.Command.{Command}
-use Rattle.scope_script.specs.declared.commands.Command.TheVariants.{Open, Fork, Reject, Start, Finish, Cancel, Move, Tick, Bind, Unbind, Join, BeginClose, EndClose, Retire, State, Stage, Result as ResultOf, Fault, Cause, Until, Counts, Get}
-use Rattle.scope_script.specs.declared.replies.reply.Reply.{Reply}
-use Rattle.scope_script.specs.declared.replies.reply.Reply.TheVariants as reply
+use Rattle.std.specs.Prelude.{◌≡◌, ◌⊎◌, Bool, true, false, not, ◌&&◌, ok_or, List, [], ◌∷◌, ◌++◌, Result, Ok, Err, is_ok, if◌then◌else◌}
+use Rattle.scope_rules.specs.declared.types.events.Event.{Event}
+use Rattle.scope_rules.specs.declared.types.events.Event.TheVariants as event
+use Rattle.scope_rules.specs.declared.types.capacity.Limits.{Limits}
+use Rattle.scope_rules.specs.declared.types.refusals.Refusal.{Refusal}
+use Rattle.scope_rules.specs.declared.types.refusals.Refusal.TheVariants.{Memory, NotJoined}
+use Rattle.scope_rules.specs.declared.types.answers.Cancelling.{Cancelling}
+use Rattle.scope_rules.specs.declared.types.answers.Cancelling.TheVariants.{Recorded, Already}
+use Rattle.scope_rules.specs.History.{History, followed}
+use Rattle.scope_rules.specs.Origin.{Origin}
+use Rattle.scope_rules.specs.Cancels.{cause, effective}
+use Rattle.scope_rules.specs.Tasks.{stage, state, counts}
+use Rattle.scope_rules.specs.Outcomes.{outcome}
+use Rattle.scope_rules.specs.Verdicts.{verdict}
+use Rattle.scope_rules.specs.Checks.{Checked, scope_check, task_check}
+use Rattle.scope_rules.specs.Replies.{Realm, with_event, after_retiring, next_scope, fork_reply, base_of, result_reply, fault_reply, binding_reply}
+use Rattle.scope_rules.specs.Table.{check_of, is_already, retire_check, until_check, answering}
+use Rattle.script_lines.specs.declared.commands.Command.{Command}
+use Rattle.script_lines.specs.declared.commands.Command.TheVariants.{Do, Retire, Ask}
+use Rattle.script_lines.specs.declared.commands.Question.{Question}
+use Rattle.script_lines.specs.declared.commands.Question.TheVariants as question
+use Rattle.script_replies.specs.declared.reply.Reply.{Reply}
+use Rattle.script_replies.specs.declared.reply.Reply.TheVariants as reply
 
 -- the reply to what was answered
 abbrev pub replied : {A : Type 0} → (A → Reply) → Result A Refusal → Reply
 replied tell (Ok x) = tell x
 replied tell (Err r) = reply.Refused r
 
+-- the check's refusal, or else this reply
+abbrev pub refused_or : Checked → Reply → Reply
+refused_or (Ok done) said = said
+refused_or (Err r) said = reply.Refused r
+
+-- what an event is told that is accepted on the history
+abbrev pub told_of : History → Event → Reply
+told_of h (event.Open actor policy options) = reply.Scope (next_scope h)
+told_of h (event.Fork actor scope label) = reply.Task (fork_reply h scope)
+told_of h (event.Reject task) = reply.Rejected
+told_of h (event.Start task) = reply.Started
+told_of h (event.Finish task end) = reply.Finished
+told_of h (event.Cancel scope) = reply.Cancelled
+told_of h (event.Move scope deadline) = reply.Moved
+told_of h (event.Tick now) = reply.Moment now
+told_of h (event.Bind actor pair) = reply.Bound
+told_of h (event.Unbind actor) = reply.Unbound
+told_of h (event.Join actor scope) = replied reply.Outcome (ok_or (outcome (followed h (event.Join actor scope)) scope) NotJoined)
+told_of h (event.BeginClose actor scope) = reply.Closing
+told_of h (event.EndClose actor scope) = reply.Closed (verdict h scope)
+
 -- the reply where nothing but success is answered
-abbrev pub told : {A : Type 0} → Reply → A → Reply
-told said x = said
+abbrev pub always : {A : Type 0} → Reply → A → Reply
+always said x = said
 
--- the reply to a command that may find that all is so already
-abbrev pub told_of : Reply → Cancelling → Reply
-told_of said Recorded = said
-told_of said _ = reply.Already
+-- what is told of a command that may find that all is so already
+abbrev pub told_once : Reply → Cancelling → Reply
+told_once said Recorded = said
+told_once said Already = reply.Already
 
+-- what an event is told that no check refuses
+abbrev pub passed_reply : History → Event → Reply
+passed_reply h e = if is_already h e then reply.Already else told_of h e
+
+-- no check refuses the event, and it is not so already
+abbrev pub is_accepted : Realm → Event → Bool
+is_accepted realm e = is_ok (check_of realm.limits realm.history e) && not (is_already realm.history e)
+
+-- what a retirement is told
 abbrev pub told_base : Origin → Reply
 told_base b = reply.Retired b.scopes b.tasks
 
+-- what a question is answered
+unfoldable pub answer_to : History → Question → Reply
+answer_to h (question.State task) = replied reply.State (answering (task_check h task) (state h task))
+answer_to h (question.Stage task) = replied reply.Stage (answering (task_check h task) (stage h task))
+answer_to h (question.Result actor task) = replied reply.Value (result_reply h actor task)
+answer_to h (question.Fault actor task) = replied reply.Fault (fault_reply h actor task)
+answer_to h (question.Cause scope) = replied reply.Cause (answering (scope_check h scope) (cause h scope))
+answer_to h (question.Until scope) = replied reply.Until (answering (until_check h scope) (effective h scope))
+answer_to h (question.Counts scope) = replied reply.Counts (answering (scope_check h scope) (counts h scope))
+answer_to h (question.Get actor key) = replied reply.Value (binding_reply h actor key)
+
 -- what the command is answered in the realm, were memory no matter
 unfoldable pub reply_to : Realm → Command → Reply
-reply_to realm (Open actor policy options) = replied reply.Scope (answering (open_check realm.limits realm.history actor) (next_scope realm.history))
-reply_to realm (Fork actor scope label) = replied reply.Task (answering (fork_check realm.limits realm.history actor scope) (fork_reply realm.history scope))
-reply_to realm (Reject task) = replied (told reply.Rejected) (waiting_check realm.history task)
-reply_to realm (Start task) = replied (told reply.Started) (waiting_check realm.history task)
-reply_to realm (Finish task end) = replied (told reply.Finished) (finish_check realm.history task)
-reply_to realm (Cancel scope) = replied (told_of reply.Cancelled) (answering (whole_cancel_check realm.limits realm.history scope) (cancel_reply realm.history scope))
-reply_to realm (Move scope deadline) = replied (told reply.Moved) (move_check realm.limits realm.history scope)
-reply_to realm (Tick now) = replied (told (reply.Moment now)) (tick_check realm.limits realm.history now)
-reply_to realm (Bind actor binding) = replied (told reply.Bound) (bind_check realm.limits realm.history actor)
-reply_to realm (Unbind actor) = replied (told reply.Unbound) (unbind_check realm.limits realm.history actor)
-reply_to realm (Join actor scope) = replied reply.Outcome (checked_then (join_check realm.history actor scope) (ok_or (outcome (followed realm.history (event.Join actor scope)) scope) NotJoined))
-reply_to realm (BeginClose actor scope) = replied (told_of reply.Closing) (answering (own_scope_check realm.history actor scope) (begin_close_reply realm.history scope))
-reply_to realm (EndClose actor scope) = replied reply.Closed (answering (end_close_check realm.history actor scope) (verdict realm.history scope))
+reply_to realm (Do e) = refused_or (check_of realm.limits realm.history e) (passed_reply realm.history e)
 reply_to realm (Retire actor) = replied told_base (answering (retire_check realm.history actor) (base_of realm.history))
-reply_to realm (State task) = replied reply.State (answering (task_check realm.history task) (state realm.history task))
-reply_to realm (Stage task) = replied reply.Stage (answering (task_check realm.history task) (stage realm.history task))
-reply_to realm (ResultOf actor task) = replied reply.Value (result_reply realm.history actor task)
-reply_to realm (Fault actor task) = replied reply.Fault (fault_reply realm.history actor task)
-reply_to realm (Cause scope) = replied reply.Cause (answering (scope_check realm.history scope) (cause realm.history scope))
-reply_to realm (Until scope) = replied reply.Until (answering (closed_check realm.history scope) (effective realm.history scope))
-reply_to realm (Counts scope) = replied reply.Counts (answering (scope_check realm.history scope) (counts realm.history scope))
-reply_to realm (Get actor key) = replied reply.Value (binding_reply realm.history actor key)
+reply_to realm (Ask asked) = answer_to realm.history asked
 
--- it asks, and changes nothing
-abbrev pub is_query : Command → Bool
-is_query (State task) = true
-is_query (Stage task) = true
-is_query (ResultOf actor task) = true
-is_query (Fault actor task) = true
-is_query (Cause scope) = true
-is_query (Until scope) = true
-is_query (Counts scope) = true
-is_query (Get actor key) = true
-is_query _ = false
-
--- what the command leaves of the realm: an accepted one adds exactly its event
+-- what the command leaves of the realm: an accepted event is added, and nothing else changes
 unfoldable pub realm_after : Realm → Command → Realm
-realm_after realm (Open actor policy options) = after realm (event.Open actor policy options) (open_check realm.limits realm.history actor)
-realm_after realm (Fork actor scope label) = after realm (event.Fork actor scope label) (fork_check realm.limits realm.history actor scope)
-realm_after realm (Reject task) = after realm (event.Reject task) (waiting_check realm.history task)
-realm_after realm (Start task) = after realm (event.Start task) (waiting_check realm.history task)
-realm_after realm (Finish task end) = after realm (event.Finish task end) (finish_check realm.history task)
-realm_after realm (Cancel scope) = after_recording realm (event.Cancel scope) (answering (whole_cancel_check realm.limits realm.history scope) (cancel_reply realm.history scope))
-realm_after realm (Move scope deadline) = after realm (event.Move scope deadline) (move_check realm.limits realm.history scope)
-realm_after realm (Tick now) = after realm (event.Tick now) (tick_check realm.limits realm.history now)
-realm_after realm (Bind actor binding) = after realm (event.Bind actor binding) (bind_check realm.limits realm.history actor)
-realm_after realm (Unbind actor) = after realm (event.Unbind actor) (unbind_check realm.limits realm.history actor)
-realm_after realm (Join actor scope) = after realm (event.Join actor scope) (join_check realm.history actor scope)
-realm_after realm (BeginClose actor scope) = after_recording realm (event.BeginClose actor scope) (answering (own_scope_check realm.history actor scope) (begin_close_reply realm.history scope))
-realm_after realm (EndClose actor scope) = after realm (event.EndClose actor scope) (end_close_check realm.history actor scope)
+realm_after realm (Do e) = if is_accepted realm e then with_event realm e else realm
 realm_after realm (Retire actor) = after_retiring realm (retire_check realm.history actor)
-realm_after realm _ = realm
+realm_after realm (Ask asked) = realm
+
+-- the command joins a scope
+abbrev pub is_join : Command → Bool
+is_join (Do (event.Join actor scope)) = true
+is_join _ = false
+
+-- what a command leaves for which memory is refused: the realm as it was, but a join stands
+abbrev pub realm_stopped : Realm → Command → Realm
+realm_stopped realm command = if is_join command then realm_after realm command else realm
 
 -- the command got its reply, and left the realm as it should
 pub record Performs (old : Realm) (command : Command) (new : Realm) (said : Reply) : Type 0 where
   pub reply : said ≡ reply_to old command
   pub realm : new ≡ realm_after old command
 
+-- memory was refused for the command
+pub record Stops (old : Realm) (command : Command) (new : Realm) (said : Reply) : Type 0 where
+  pub memory : said ≡ reply.Refused Memory
+  pub stopped : new ≡ realm_stopped old command
+
 -- the same, unless memory was refused
-abbrev pub PerformsOrMemory : Realm → Command → Realm → Reply → Type 0
-PerformsOrMemory old command new said = (said ≡ reply.Refused Memory) ⊎ Performs old command new said
+abbrev pub PerformsOrStops : Realm → Command → Realm → Reply → Type 0
+PerformsOrStops old command new said = Stops old command new said ⊎ Performs old command new said
 
 -- the run of a list of commands: each accepted one adds its event
 unfoldable pub realm_after_all : Realm → List Command → Realm
 realm_after_all realm [] = realm
 realm_after_all realm (command ∷ commands) = realm_after_all (realm_after realm command) commands
+
+-- a run of commands was ended by want of memory: those before one were performed, and this was not
+pub record StopsAmong (old : Realm) (commands : List Command) (new : Realm) : Type 0 where
+  pub before : List Command
+  pub command : Command
+  pub others : List Command
+  pub whole : commands ≡ before ++ command ∷ others
+  pub stopped : new ≡ realm_stopped (realm_after_all old before) command

@@ -1,11 +1,11 @@
 -- What a run of a script has read, written and left behind.
 use Rattle.std.specs.Prelude.{◌≡◌, ℕ, Option, List}
 use Rattle.std.specs.Io.KnownBytes.{Appends, Consumes, IsAtEnd}
-use Rattle.scope_model.specs.declared.types.capacity.Limits.{Limits}
-use Rattle.scope_model.specs.Replies.{Realm}
+use Rattle.scope_rules.specs.declared.types.capacity.Limits.{Limits}
+use Rattle.scope_rules.specs.Replies.{Realm}
 use Rattle.scope_script.specs.declared.session.run.Mode.{Mode}
 use Rattle.scope_script.specs.Streams.{AppendsPart}
-use Rattle.scope_script.specs.Sessions.{Session, the_beginning, after_bytes, bytes_reply, shown, replies_of, realm_of_script}
+use Rattle.scope_script.specs.Sessions.{shown, replies_of, realm_of_script}
 
 -- the run came to the end of its script: it read all bytes, wrote exactly the replies to them, and
 -- left the realm that they leave
@@ -21,10 +21,3 @@ pub record RunsPartly (unread unread_new written written_new : Option (List ℕ)
   pub script : List ℕ
   pub read : Consumes unread unread_new script
   pub replied : AppendsPart written written_new (shown mode (replies_of L script))
-
--- the run is under way: it answered all that it read so far
-pub record UnderWay (unread unread_now written written_now : Option (List ℕ)) (mode : Mode) (L : Limits) (now : Session) : Type 0 where
-  pub script : List ℕ
-  pub read : Consumes unread unread_now script
-  pub replied : Appends written written_now (shown mode (bytes_reply (the_beginning L) script))
-  pub session : now ≡ after_bytes (the_beginning L) script

@@ -1,18 +1,18 @@
 -- What a script is answered: the replies to its lines, and what they leave of the realm.
 use Rattle.std.specs.Prelude.{◌≡◌, ℕ, ◌==◌, Bool, true, false, Option, Some, None, List, [], ◌∷◌, ◌++◌, if◌then◌else◌}
-use Rattle.scope_model.specs.declared.types.capacity.Limits.{Limits}
-use Rattle.scope_model.specs.declared.types.refusals.Refusal.TheVariants.{BadWord as bad_word}
-use Rattle.scope_model.specs.Origin.{the_start}
-use Rattle.scope_model.specs.Replies.{Realm, starting}
-use Rattle.scope_script.specs.declared.commands.Line.{Line}
-use Rattle.scope_script.specs.declared.commands.Line.TheVariants.{Silent, BadWord, Command}
-use Rattle.scope_script.specs.declared.replies.reply.Reply.TheVariants.{Refused}
+use Rattle.scope_rules.specs.declared.types.capacity.Limits.{Limits}
+use Rattle.scope_rules.specs.declared.types.refusals.Refusal.TheVariants.{BadWord as bad_word}
+use Rattle.scope_rules.specs.Origin.{the_start}
+use Rattle.scope_rules.specs.Replies.{Realm, starting}
+use Rattle.script_lines.specs.declared.commands.Line.{Line}
+use Rattle.script_lines.specs.declared.commands.Line.TheVariants.{Silent, BadWord, Command}
+use Rattle.script_replies.specs.declared.reply.Reply.TheVariants.{Refused}
 use Rattle.scope_script.specs.declared.session.run.Mode.{Mode}
 use Rattle.scope_script.specs.declared.session.run.Mode.TheVariants.{Replies, Quiet}
-use Rattle.scope_script.specs.ReplyText.{reply_text}
-use Rattle.scope_script.specs.Lines.{line_said}
+use Rattle.script_replies.specs.ReplyText.{reply_text}
+use Rattle.script_lines.specs.Lines.{line_said}
 use Rattle.scope_script.specs.Replying.{reply_to, realm_after}
-use Rattle.scope_script.specs.Cutting.{ended_lines, begun_line, KeptLine, grown, said, is_blank}
+use Rattle.scope_script.specs.Cutting.{ended_lines, begun_line}
 
 -- the line `refused 18 bad-word`
 abbrev pub bad_word_line : List ℕ
@@ -56,32 +56,3 @@ realm_of_script L bytes = realm_after_lines (starting L the_start) (ended_lines 
 abbrev pub shown : Mode → List ℕ → List ℕ
 shown Replies text = text
 shown Quiet text = []
-
--- a script under way: the realm, and the line that is begun
-pub record Session : Type 0 where
-  pub realm : Realm
-  pub begun : KeptLine
-
--- the script goes on by a byte
-unfoldable pub after_byte : Session → ℕ → Session
-after_byte s b = if b == 10 then record { realm = realm_after_line s.realm (said s.begun); begun = Some [] } else record { realm = s.realm; begun = grown s.begun b }
-
--- what is answered at the byte
-unfoldable pub byte_reply : Session → ℕ → List ℕ
-byte_reply s b = if b == 10 then line_reply s.realm (said s.begun) else []
-
-unfoldable pub after_bytes : Session → List ℕ → Session
-after_bytes s [] = s
-after_bytes s (b ∷ bytes) = after_bytes (after_byte s b) bytes
-
-unfoldable pub bytes_reply : Session → List ℕ → List ℕ
-bytes_reply s [] = []
-bytes_reply s (b ∷ bytes) = byte_reply s b ++ bytes_reply (after_byte s b) bytes
-
--- what is answered at the end of the script
-abbrev pub end_reply : Session → List ℕ
-end_reply s = if is_blank s.begun then [] else bad_word_line
-
--- a script that begins
-abbrev pub the_beginning : Limits → Session
-the_beginning L = record { realm = starting L the_start; begun = Some [] }

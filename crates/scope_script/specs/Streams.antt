@@ -1,8 +1,8 @@
--- What is written of some bytes where a write may fail.
+-- What comes of some bytes where memory or a stream may fail.
 use Rattle.std.specs.Prelude.{◌≡◌, ℕ, Option, List, ◌++◌}
 use Rattle.std.specs.Io.KnownBytes.{Appends}
 
--- known bytes grew by a beginning of bs
+-- known bytes grew by a beginning of bs; a text is `Some` of its bytes
 pub record AppendsPart (old new : Option (List ℕ)) (bs : List ℕ) : Type 0 where
   pub part : List ℕ
   pub rest : List ℕ

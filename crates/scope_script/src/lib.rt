@@ -1,19 +1,15 @@
-//! The script of a realm: lines of commands in, one line of reply a command out.
+//! The script of a realm: lines of commands in, one line of reply a command out. What a line says
+//! (`script_lines`) and the line of a reply (`script_replies`) are handed on.
 #![tactic(auto)]
 
-pub mod commands;
 pub mod performing;
-pub mod reading;
-pub mod replies;
 pub mod session;
 pub mod streams;
-#[cfg(test)]
-mod tests;
 
-pub use commands::{Command, Line};
 pub use performing::commands::{perform, perform_all};
-pub use reading::{LINE_LIMIT, read_line};
-pub use replies::lines::append_line;
-pub use replies::reply::Reply;
+pub use script_lines as reading;
+pub use script_lines::{Command, LINE_LIMIT, Line, Question, read_line};
+pub use script_replies as replies;
+pub use script_replies::{Reply, append_line};
 pub use session::run::{Mode, ScriptFault, run};
 pub use streams::watched::{StreamFailed, Watched};

@@ -1,19 +1,27 @@
 //! From what the book answers to the reply.
 
-ghost use Rattle.std.specs.Prelude.{◌≡◌};
+ghost use Rattle.std.specs.Prelude.{◌≡◌, MatchResult};
 ghost use Rattle.scope_book.specs.Books.{refusal_alone};
-ghost use Rattle.scope_script.specs.Replying.{replied, told, told_of, told_base};
+ghost use Rattle.scope_script.specs.Replying.{replied, always, told_once, told_base};
 
-use crate::replies::reply::Reply;
 use join_rules::Joiner;
-use scope_model::{
-    Base, Cancelling, Cause, Counts, Effective, Fault, ForkReply, Refusal, ScopeId, Stage, State,
-    Value, Verdict,
-};
+use scope_rules::{Base, Cancelling, Refusal, ScopeId};
+use script_replies::Reply;
+
+/// The reply that a constructor makes of what was answered.
+pub(crate) fn told<T, F: FnOnce(T) -> Reply + Drop>(answer: Result<T, Refusal>, tell: F) -> Reply
+    requires { F.IsAlwaysCallable tell }
+    ensures { MatchResult answer (λ x. F.post tell x result) (λ refusal. result ≡ Reply.Refused refusal) }
+{
+    match answer {
+        Ok(value) => tell(value),
+        Err(refusal) => Reply::Refused(refusal),
+    }
+}
 
 /// The reply where nothing but success is answered.
-pub(crate) fn told(said: Reply, answer: Result<(), Refusal>) -> Reply
-    ensures { result ≡ replied (told said) answer }
+pub(crate) fn done(answer: Result<(), Refusal>, said: Reply) -> Reply
+    ensures { result ≡ replied (always said) answer }
 {
     match answer {
         Ok(()) => said,
@@ -22,8 +30,8 @@ pub(crate) fn told(said: Reply, answer: Result<(), Refusal>) -> Reply
 }
 
 /// The reply to a command that may find that all is so already.
-pub(crate) fn told_of(said: Reply, answer: Result<Cancelling, Refusal>) -> Reply
-    ensures { result ≡ replied (told_of said) answer }
+pub(crate) fn recorded(answer: Result<Cancelling, Refusal>, said: Reply) -> Reply
+    ensures { result ≡ replied (told_once said) answer }
 {
     match answer {
         Ok(Cancelling::Recorded) => said,
@@ -33,7 +41,7 @@ pub(crate) fn told_of(said: Reply, answer: Result<Cancelling, Refusal>) -> Reply
 }
 
 /// The reply of a retirement.
-pub(crate) fn told_base(answer: Result<Base, Refusal>) -> Reply
+pub(crate) fn retired(answer: Result<Base, Refusal>) -> Reply
     ensures { result ≡ replied told_base answer }
 {
     match answer {
@@ -52,95 +60,5 @@ pub(crate) fn opened(answer: Result<ScopeId, (Refusal, Joiner)>) -> Reply
     match answer {
         Ok(scope) => Reply::Scope(scope),
         Err((refusal, _)) => Reply::Refused(refusal),
-    }
-}
-
-/// The reply of a fork.
-pub(crate) fn task(answer: Result<ForkReply, Refusal>) -> Reply
-    ensures { result ≡ replied Reply.Task answer }
-{
-    match answer {
-        Ok(task) => Reply::Task(task),
-        Err(refusal) => Reply::Refused(refusal),
-    }
-}
-
-/// The reply of the end of a close.
-pub(crate) fn verdict(answer: Result<Verdict, Refusal>) -> Reply
-    ensures { result ≡ replied Reply.Closed answer }
-{
-    match answer {
-        Ok(verdict) => Reply::Closed(verdict),
-        Err(refusal) => Reply::Refused(refusal),
-    }
-}
-
-/// The reply that tells a state.
-pub(crate) fn state(answer: Result<State, Refusal>) -> Reply
-    ensures { result ≡ replied Reply.State answer }
-{
-    match answer {
-        Ok(state) => Reply::State(state),
-        Err(refusal) => Reply::Refused(refusal),
-    }
-}
-
-/// The reply that tells a stage.
-pub(crate) fn stage(answer: Result<Stage, Refusal>) -> Reply
-    ensures { result ≡ replied Reply.Stage answer }
-{
-    match answer {
-        Ok(stage) => Reply::Stage(stage),
-        Err(refusal) => Reply::Refused(refusal),
-    }
-}
-
-/// The reply that tells a value.
-pub(crate) fn value(answer: Result<Value, Refusal>) -> Reply
-    ensures { result ≡ replied Reply.Value answer }
-{
-    match answer {
-        Ok(value) => Reply::Value(value),
-        Err(refusal) => Reply::Refused(refusal),
-    }
-}
-
-/// The reply that tells a fault.
-pub(crate) fn fault(answer: Result<Fault, Refusal>) -> Reply
-    ensures { result ≡ replied Reply.Fault answer }
-{
-    match answer {
-        Ok(fault) => Reply::Fault(fault),
-        Err(refusal) => Reply::Refused(refusal),
-    }
-}
-
-/// The reply that tells why a scope is cancelled.
-pub(crate) fn cause(answer: Result<Option<Cause>, Refusal>) -> Reply
-    ensures { result ≡ replied Reply.Cause answer }
-{
-    match answer {
-        Ok(cause) => Reply::Cause(cause),
-        Err(refusal) => Reply::Refused(refusal),
-    }
-}
-
-/// The reply that tells a deadline.
-pub(crate) fn until(answer: Result<Effective, Refusal>) -> Reply
-    ensures { result ≡ replied Reply.Until answer }
-{
-    match answer {
-        Ok(until) => Reply::Until(until),
-        Err(refusal) => Reply::Refused(refusal),
-    }
-}
-
-/// The reply that tells counts.
-pub(crate) fn counts(answer: Result<Counts, Refusal>) -> Reply
-    ensures { result ≡ replied Reply.Counts answer }
-{
-    match answer {
-        Ok(counts) => Reply::Counts(counts),
-        Err(refusal) => Reply::Refused(refusal),
     }
 }

@@ -1,22 +1,21 @@
 ghost use Rattle.std.specs.Prelude.{◌≡◌, [], Some};
-ghost use Rattle.scope_script.specs.Cutting.{grown, said, is_blank};
+ghost use Rattle.scope_script.specs.KeptLines.{grown, said, is_blank};
 
-use crate::commands::Line;
-use crate::reading::read_line;
 use arrayvec::ArrayVec;
+use script_lines::{LINE_LIMIT, Line, read_line};
 use std::marker::Model;
 
 /// The line that is begun: its bytes, or nothing but that they are more than a line may have. It
 /// takes no memory.
 #[derive(Drop)]
 pub(crate) struct BegunLine {
-    bytes: ArrayVec<u8, 200>,
+    bytes: ArrayVec<u8, LINE_LIMIT>,
     overlong: bool,
 }
 
 impl Model for BegunLine {
     ghost use Rattle.std.specs.Prelude.{Some, None, if◌then◌else◌};
-    ghost use Rattle.scope_script.specs.Cutting.{KeptLine};
+    ghost use Rattle.scope_script.specs.KeptLines.{KeptLine};
 
     ghost Value = { KeptLine };
 
@@ -42,14 +41,14 @@ impl BegunLine {
     }
 
     /// The line goes on with the byte.
-    #[tactic(auto, unfolding(crate::specs::Cutting::grown))]
+    #[tactic(auto, unfolding(crate::specs::KeptLines::grown))]
     pub(crate) fn push(&mut self, byte: u8)
         ensures { self.new ≡ grown self.old byte }
     {
         if self.overlong {
             return;
         }
-        if self.bytes.len() < 200 {
+        if self.bytes.len() < LINE_LIMIT {
             self.bytes.push(byte);
         } else {
             self.overlong = true;

@@ -1,15 +1,16 @@
-ghost use Rattle.std.specs.Prelude.{◌≡◌, [], true, false, IfOk, OnOk, OnErr, IsErrOf, vec_len};
+ghost use Rattle.std.specs.Prelude.{◌≡◌, ◌⊎◌, [], true, false, IfOk, OnOk, OnErr, IsErrOf, vec_len};
 ghost use Rattle.std.specs.Io.KnownBytes.{Appends};
 ghost use Rattle.scope_book.specs.Books.{realm_of};
 ghost use Rattle.scope_script.specs.Books.{session_of};
-ghost use Rattle.scope_script.specs.Sessions.{after_bytes, bytes_reply, end_reply, shown};
+ghost use Rattle.scope_script.specs.Sessions.{shown};
+ghost use Rattle.scope_script.specs.ByBytes.{after_bytes, bytes_reply, end_reply};
 ghost use Rattle.scope_script.specs.Streams.{AppendsPart};
 ghost use Rattle.scope_script.specs.Running.{RunsToEnd, RunsPartly};
 
 use crate::session::script::Script;
 use crate::streams::watched::Watched;
 use scope_book::BookState;
-use scope_model::{AnyEnd, Limits};
+use scope_rules::{AnyEnd, Limits};
 use std::alloc::Global;
 use std::io::{Read, Write};
 
@@ -28,7 +29,7 @@ pub enum Mode {
 /// Why a run ended before its script did.
 #[derive(Clone, Copy, Debug, PartialEq, Eq)]
 pub enum ScriptFault {
-    /// The reader failed, or was given up after 2^64 - 1 reads.
+    /// The reader failed, or was given up, since 2^64 - 1 reads were asked of it.
     Read,
     /// The writer failed.
     Write,
@@ -41,8 +42,9 @@ pub enum ScriptFault {
 /// reply text of them was written, and the book is that of their run. After a fault, what was written
 /// is a beginning of the reply text of what was read.
 ///
-/// The replies to what was read are written before more is read. `Read` and `Write` are answered only
-/// where that stream failed in this call.
+/// The replies to what was read are written before more is read. Where a stream failed in this call
+/// the fault says so, and `Memory` is answered only where none did. A reader of which 2^64 - 1 reads
+/// were asked is given up.
 pub fn run<R: Read + Drop, W: Write + Drop>(
     alloc: Global,
     reader: &mut Watched<R>,
@@ -54,15 +56,17 @@ pub fn run<R: Read + Drop, W: Write + Drop>(
     requires writer { writer.old.failed ≡ false }
     ensures ok { IfOk result (λ book. RunsToEnd (R.remaining reader.old.inner) (R.remaining reader.new.inner) (W.contents writer.old.inner) (W.contents writer.new.inner) mode limits (realm_of book)) }
     ensures fault { OnErr result (RunsPartly (R.remaining reader.old.inner) (R.remaining reader.new.inner) (W.contents writer.old.inner) (W.contents writer.new.inner) mode limits) }
-    ensures read { IsErrOf result ScriptFault.Read → reader.new.failed ≡ true }
+    ensures read { IsErrOf result ScriptFault.Read → (reader.new.failed ≡ true) ⊎ (reader.new.reads ≡ u64.MAX) }
+    ensures read_failed { reader.new.failed ≡ true → IsErrOf result ScriptFault.Read }
     ensures write { IsErrOf result ScriptFault.Write → writer.new.failed ≡ true }
+    ensures write_failed { writer.new.failed ≡ true → IsErrOf result ScriptFault.Write }
 {
     let mut script = Script::new(alloc, limits);
     let Ok(mut replies) = Vec::with_capacity(alloc, PIECE) else {
         return Err(ScriptFault::Memory);
     };
     let mut piece = [0; PIECE];
-    for _ in 0..u64::MAX {
+    'reading: while !reader.has_given_up() {
         let Ok(count) = reader.read_piece(&mut piece) else {
             return Err(ScriptFault::Read);
         };
@@ -77,12 +81,11 @@ pub fn run<R: Read + Drop, W: Write + Drop>(
             Err(fault) => return Err(fault),
         }
     }
-    reader.give_up();
     Err(ScriptFault::Read)
 }
 
 /// Takes a piece of the script, and writes what it is answered. After a fault, a beginning of that was
-/// written.
+/// written: where memory was refused, what was answered before that.
 fn step<W: Write + Drop>(
     script: &mut Script,
     writer: &mut Watched<W>,
@@ -90,20 +93,22 @@ fn step<W: Write + Drop>(
     piece: &[u8],
     replies: &mut Vec<u8>,
 ) -> Result<(), ScriptFault>
-    requires { replies.old.items ≡ [] }
+    requires empty { replies.old.items ≡ [] }
+    requires writer { writer.old.failed ≡ false }
     ensures script { OnOk result (session_of script.new ≡ after_bytes (session_of script.old) piece.now) }
     ensures ok { OnOk result (Appends (W.contents writer.old.inner) (W.contents writer.new.inner) (shown mode (bytes_reply (session_of script.old) piece.now))) }
     ensures sent { OnOk result ((replies.new.items ≡ []) × (writer.new.failed ≡ writer.old.failed)) }
     ensures err { OnErr result (AppendsPart (W.contents writer.old.inner) (W.contents writer.new.inner) (shown mode (bytes_reply (session_of script.old) piece.now))) }
     ensures write { IsErrOf result ScriptFault.Write → writer.new.failed ≡ true }
+    ensures write_failed { writer.new.failed ≡ true → IsErrOf result ScriptFault.Write }
     ensures read { IsErrOf result ScriptFault.Read → ⊥ }
 {
     let taken = script.take(mode, piece, replies);
     let sent = writer.write_bytes(replies);
     replies.clear();
     match (taken, sent) {
-        (Err(_), _) => Err(ScriptFault::Memory),
-        (Ok(()), Err(_)) => Err(ScriptFault::Write),
+        (_, Err(_)) => Err(ScriptFault::Write),
+        (Err(_), Ok(())) => Err(ScriptFault::Memory),
         (Ok(()), Ok(())) => Ok(()),
     }
 }
@@ -115,10 +120,12 @@ fn finish<W: Write + Drop>(
     mode: Mode,
     replies: &mut Vec<u8>,
 ) -> Result<(), ScriptFault>
-    requires { replies.old.items ≡ [] }
+    requires empty { replies.old.items ≡ [] }
+    requires writer { writer.old.failed ≡ false }
     ensures ok { OnOk result (Appends (W.contents writer.old.inner) (W.contents writer.new.inner) (shown mode (end_reply (session_of script.now)))) }
     ensures err { OnErr result (AppendsPart (W.contents writer.old.inner) (W.contents writer.new.inner) (shown mode (end_reply (session_of script.now)))) }
     ensures write { IsErrOf result ScriptFault.Write → writer.new.failed ≡ true }
+    ensures write_failed { writer.new.failed ≡ true → IsErrOf result ScriptFault.Write }
     ensures read { IsErrOf result ScriptFault.Read → ⊥ }
 {
     if script.end(mode, replies).is_err() {

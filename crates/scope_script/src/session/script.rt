@@ -1,18 +1,18 @@
 ghost use Rattle.std.specs.Prelude.{◌≡◌, ◌++◌, ◌∷◌, [], OnOk, OnErr};
 ghost use Rattle.scope_book.specs.Books.{realm_of};
-ghost use Rattle.scope_script.specs.ReplyText.{reply_text};
-ghost use Rattle.scope_script.specs.Sessions.{line_reply, realm_after_line, after_byte, byte_reply, after_bytes, bytes_reply, end_reply, shown, the_beginning};
+ghost use Rattle.script_replies.specs.ReplyText.{reply_text};
+ghost use Rattle.scope_script.specs.Sessions.{line_reply, realm_after_line, shown};
+ghost use Rattle.scope_script.specs.ByBytes.{after_byte, byte_reply, after_bytes, bytes_reply, end_reply, the_beginning};
 ghost use Rattle.scope_script.specs.Books.{session_of};
-ghost use Rattle.scope_script.specs.Texts.{GrowsByPart};
+ghost use Rattle.scope_script.specs.Streams.{AppendsPart};
 
-use crate::commands::Line;
 use crate::performing::commands::perform;
-use crate::replies::lines::append_line;
-use crate::replies::reply::Reply;
 use crate::session::begun::BegunLine;
 use crate::session::run::Mode;
 use scope_book::BookState;
-use scope_model::{AnyEnd, Limits, Refusal};
+use scope_rules::{AnyEnd, Limits, Refusal};
+use script_lines::Line;
+use script_replies::{Reply, append_line};
 use std::alloc::{AllocError, Global};
 
 /// A script under way: the book that its commands are performed on, and the line that is begun.
@@ -43,7 +43,7 @@ impl Script {
     ) -> Result<(), AllocError>
         ensures script { OnOk result (session_of self.new ≡ after_bytes (session_of self.old) bytes.now) }
         ensures ok { OnOk result (replies.new.items ≡ replies.old.items ++ shown mode (bytes_reply (session_of self.old) bytes.now)) }
-        ensures err { OnErr result (GrowsByPart replies.old.items replies.new.items (shown mode (bytes_reply (session_of self.old) bytes.now))) }
+        ensures err { OnErr result (AppendsPart (Some replies.old.items) (Some replies.new.items) (shown mode (bytes_reply (session_of self.old) bytes.now))) }
     {
         for byte in bytes {
             match self.take_byte(mode, *byte, replies) {
@@ -55,7 +55,7 @@ impl Script {
     }
 
     /// The script goes on by a byte. Where memory is refused, `replies` stays as it is.
-    #[tactic(auto, unfolding(crate::specs::Sessions::after_byte, crate::specs::Sessions::byte_reply))]
+    #[tactic(auto, unfolding(crate::specs::ByBytes::after_byte, crate::specs::ByBytes::byte_reply))]
     fn take_byte(&mut self, mode: Mode, byte: u8, replies: &mut Vec<u8>) -> Result<(), AllocError>
         ensures script { OnOk result (session_of self.new ≡ after_byte (session_of self.old) byte) }
         ensures ok { OnOk result (replies.new.items ≡ replies.old.items ++ shown mode (byte_reply (session_of self.old) byte)) }

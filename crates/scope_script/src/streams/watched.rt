@@ -1,15 +1,16 @@
-ghost use Rattle.std.specs.Prelude.{◌≡◌, ◌≤◌, ◌<◌, ℕ, true, false, length, take, IfOk, OnOk, OnErr, List, IsOk};
+ghost use Rattle.std.specs.Prelude.{◌≡◌, ◌+◌, ◌≤◌, ◌<◌, ℕ, true, false, length, take, IfOk, OnOk, OnErr, List, IsOk};
 ghost use Rattle.std.specs.Io.KnownBytes.{Appends, Consumes, IsAtEnd, Keeps};
 ghost use Rattle.scope_script.specs.Streams.{AppendsPart};
 
 use std::io::{Read, Write};
 
-/// A stream that remembers whether a call of it has failed. A read that is given up after 2^64 - 1
-/// others counts as failed, and so does a write that takes no byte of a piece that has some.
+/// A stream that remembers whether a call of it has failed, and how many reads were asked of it. A
+/// write that takes no byte of a piece that has some counts as failed.
 #[derive(Debug, Drop)]
 pub struct Watched<T: Drop> {
     inner: T,
     failed: bool,
+    reads: u64,
 }
 
 /// A call of the stream failed.
@@ -21,10 +22,12 @@ impl<T: Drop> Watched<T> {
     pub fn new(inner: T) -> Watched<T>
         ensures inner { result.inner ≡ inner }
         ensures unfailed { result.failed ≡ false }
+        ensures unread { result.reads ≡ 0 }
     {
         Watched {
             inner,
             failed: false,
+            reads: 0,
         }
     }
 
@@ -42,20 +45,22 @@ impl<T: Drop> Watched<T> {
         self.inner
     }
 
-    /// Counts the stream as failed.
-    pub(crate) fn give_up(&mut self)
-        ensures inner { self.new.inner ≡ self.old.inner }
-        ensures failed { self.new.failed ≡ true }
+    /// Whether as many reads were asked of the stream as are counted, 2^64 - 1: no more may be.
+    pub fn has_given_up(&self) -> bool
+        ensures given_up { result ≡ true → self.now.reads ≡ u64.MAX }
+        ensures going { result ≡ false → self.now.reads < u64.MAX }
     {
-        self.failed = true;
+        self.reads == u64::MAX
     }
 }
 
 impl<R: Read + Drop> Watched<R> {
     /// Reads some bytes into the front of the piece, none only at the end of the stream.
     pub(crate) fn read_piece(&mut self, piece: &mut [u8]) -> Result<usize, StreamFailed>
-        requires { 0 < length piece.old }
+        requires some { 0 < length piece.old }
+        requires going { self.old.reads < u64.MAX }
         ensures within { IfOk result (λ n. n ≤ length piece.new) }
+        ensures counted { self.new.reads ≡ self.old.reads + 1 }
         ensures same_room { length piece.new ≡ length piece.old }
         ensures bytes { IfOk result (λ n. Consumes (R.remaining self.old.inner) (R.remaining self.new.inner) (take n piece.new)) }
         ensures end { IfOk result (λ n. n ≡ 0 → IsAtEnd (R.remaining self.new.inner)) }
@@ -63,6 +68,7 @@ impl<R: Read + Drop> Watched<R> {
         ensures kept { OnErr result (Keeps (R.remaining self.old.inner) (R.remaining self.new.inner)) }
         ensures failed { OnErr result (self.new.failed ≡ true) }
     {
+        self.reads += 1;
         match self.inner.read(piece) {
             Ok(count) => Ok(count),
             Err(_) => {

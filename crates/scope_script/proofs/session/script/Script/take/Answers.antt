@@ -1,7 +1,8 @@
 use Rattle.std.proofs.Common.{◌∙◌, ap, sym, slice_index, take, drop}
 use Rattle.std.proofs.lemmas.Option.{slice_get-get_or}
 use Rattle.scope_script.specs.Books.{session_of}
-use Rattle.scope_script.specs.Sessions.{Session, after_byte, after_bytes, bytes_reply, shown}
+use Rattle.scope_script.specs.Sessions.{shown}
+use Rattle.scope_script.specs.ByBytes.{Session, after_byte, after_bytes, bytes_reply}
 use Rattle.scope_script.proofs.Scripts.{after_none, reply_none, after_at, answered_more, reply_whole}
 use Rattle.scope_script.proofs.session.script.Script.take.Goals as goal
 
@@ -31,5 +32,5 @@ returns-in-Err-clause-err c =
       part = shown c.args.mode (bytes_reply start (take i c.args.bytes.now));
       rest = shown c.args.mode (bytes_reply (after_bytes start (take i c.args.bytes.now)) (drop i c.args.bytes.now));
       whole = reply_whole c.args.mode start c.args.bytes.now i;
-      grown = c.in-Err.ensures.err ∙ c.loop-byte.invariant.answered;
+      appended = c.in-Err.ensures.err ∙ c.loop-byte.invariant.answered;
     }

@@ -1,7 +1,8 @@
 -- The bytes before the index were taken, and answered.
 use Rattle.std.proofs.Common.{◌≡◌, ◌++◌, take}
 use Rattle.scope_script.specs.Books.{session_of}
-use Rattle.scope_script.specs.Sessions.{after_bytes, bytes_reply, shown}
+use Rattle.scope_script.specs.Sessions.{shown}
+use Rattle.scope_script.specs.ByBytes.{after_bytes, bytes_reply}
 use Rattle.scope_script.proofs.session.script.Script.take.Given as goal
 
 abbrev pub invariant-loop-byte : goal.invariant-loop-byte

@@ -1,0 +1,38 @@
+-- A script that comes byte by byte: what is kept of it, and what each byte is answered.
+use Rattle.std.specs.Prelude.{ℕ, ◌==◌, Some, List, [], ◌∷◌, ◌++◌, if◌then◌else◌}
+use Rattle.scope_rules.specs.declared.types.capacity.Limits.{Limits}
+use Rattle.scope_rules.specs.Origin.{the_start}
+use Rattle.scope_rules.specs.Replies.{Realm, starting}
+use Rattle.scope_script.specs.KeptLines.{KeptLine, grown, said, is_blank}
+use Rattle.scope_script.specs.Sessions.{bad_word_line, line_reply, realm_after_line}
+
+-- a script under way: the realm, and the line that is begun
+pub record Session : Type 0 where
+  pub realm : Realm
+  pub begun : KeptLine
+
+-- the script goes on by a byte
+unfoldable pub after_byte : Session → ℕ → Session
+after_byte s b = if b == 10 then record { realm = realm_after_line s.realm (said s.begun); begun = Some [] } else record { realm = s.realm; begun = grown s.begun b }
+
+-- what is answered at the byte
+unfoldable pub byte_reply : Session → ℕ → List ℕ
+byte_reply s b = if b == 10 then line_reply s.realm (said s.begun) else []
+
+-- the script goes on by bytes
+unfoldable pub after_bytes : Session → List ℕ → Session
+after_bytes s [] = s
+after_bytes s (b ∷ bytes) = after_bytes (after_byte s b) bytes
+
+-- what is answered at the bytes
+unfoldable pub bytes_reply : Session → List ℕ → List ℕ
+bytes_reply s [] = []
+bytes_reply s (b ∷ bytes) = byte_reply s b ++ bytes_reply (after_byte s b) bytes
+
+-- what is answered at the end of the script
+abbrev pub end_reply : Session → List ℕ
+end_reply s = if is_blank s.begun then [] else bad_word_line
+
+-- a script that begins
+abbrev pub the_beginning : Limits → Session
+the_beginning L = record { realm = starting L the_start; begun = Some [] }

@@ -1,0 +1,29 @@
+-- What is kept of a line that comes byte by byte.
+use Rattle.std.specs.Prelude.{ℕ, Bool, true, false, nat_lt, Option, Some, None, List, [], ◌∷◌, ◌++◌, length, if◌then◌else◌}
+use Rattle.script_lines.specs.declared.commands.Line.{Line}
+use Rattle.script_lines.specs.declared.commands.Line.TheVariants.{BadWord}
+use Rattle.script_lines.specs.declared.lines.TheConstants.{LINE_LIMIT}
+use Rattle.script_lines.specs.Lines.{line_said}
+
+-- a line as it is kept: its bytes, or none where they are more than a line may have
+abbrev pub KeptLine : Type 0
+KeptLine = Option (List ℕ)
+
+-- what is kept of a line
+unfoldable pub kept : List ℕ → KeptLine
+kept line = if nat_lt LINE_LIMIT (length line) then None else Some line
+
+-- a kept line with one byte more
+unfoldable pub grown : KeptLine → ℕ → KeptLine
+grown None b = None
+grown (Some line) b = if nat_lt (length line) LINE_LIMIT then Some (line ++ b ∷ []) else None
+
+-- what a kept line says
+abbrev pub said : KeptLine → Line
+said None = BadWord
+said (Some line) = line_said line
+
+-- the kept line has no byte
+abbrev pub is_blank : KeptLine → Bool
+is_blank (Some []) = true
+is_blank _ = false

@@ -1,0 +1,121 @@
+-- The forms of commands.
+use Rattle.std.specs.Prelude.{ℕ, List, Option, Some, None, option_map, Ok, Err, codes, if◌then◌else◌}
+use Rattle.std.specs.Str.{bytes_eq}
+use Rattle.scope_rules.specs.declared.types.names.Name.{Name}
+use Rattle.scope_rules.specs.declared.types.values.Label.{Label}
+use Rattle.scope_rules.specs.Ends.{EndValue}
+use Rattle.script_lines.specs.declared.commands.Command.{Command}
+use Rattle.scope_rules.specs.declared.types.events.Event.TheVariants as event
+use Rattle.script_lines.specs.declared.commands.Question.TheVariants as question
+use Rattle.script_lines.specs.declared.commands.Command.TheVariants as command
+use Rattle.script_lines.specs.declared.keywords.Keyword.{Keyword}
+use Rattle.script_lines.specs.declared.keywords.Keyword.TheVariants as keyword
+use Rattle.script_lines.specs.Steps.{◌>>=◌}
+use Rattle.script_lines.specs.Fields.{just_one, just_two, just_three}
+use Rattle.script_lines.specs.Numbers.{small_said, moment_said}
+use Rattle.script_lines.specs.Words.{name_said, value_said}
+use Rattle.script_lines.specs.Openings.{open_said}
+
+-- the number that is the only argument
+unfoldable pub number_alone : List (List ℕ) → Option ℕ
+number_alone args = just_one args >>= small_said
+
+-- the numbers that are the two arguments
+unfoldable pub two_numbers : List (List ℕ) → Option (ℕ × ℕ)
+two_numbers args = do
+  words ← just_two args
+  first ← small_said words.0
+  second ← small_said words.1
+  Some (first, second)
+
+-- a label with no end that is expected
+abbrev pub label_of : Name → Label
+label_of name = record { name = name; due = None }
+
+-- `fork A S NAME`, without its first word
+unfoldable pub fork_said : List (List ℕ) → Option Command
+fork_said args = do
+  words ← just_three args
+  actor ← small_said words.0
+  scope ← small_said words.1
+  name ← name_said words.2
+  Some (command.Do (event.Fork actor scope (label_of name)))
+
+-- the end of a task that failed so
+abbrev pub failed : Name → EndValue
+failed name = Err (record { 0 = name })
+
+-- `ok K VALUE`, without its first word
+unfoldable pub ok_said : List (List ℕ) → Option Command
+ok_said args = do
+  words ← just_two args
+  task ← small_said words.0
+  value ← value_said words.1
+  Some (command.Do (event.Finish task (Ok value)))
+
+-- `fail K NAME`, without its first word
+unfoldable pub fail_said : List (List ℕ) → Option Command
+fail_said args = do
+  words ← just_two args
+  task ← small_said words.0
+  name ← name_said words.1
+  Some (command.Do (event.Finish task (failed name)))
+
+-- a deadline, or `never`
+unfoldable pub new_deadline_said : List ℕ → Option (Option ℕ)
+new_deadline_said word = if bytes_eq word (codes "never") then Some None else option_map Some (moment_said word)
+
+-- `move S N`, or `move S never`, without its first word
+unfoldable pub move_said : List (List ℕ) → Option Command
+move_said args = do
+  words ← just_two args
+  scope ← small_said words.0
+  deadline ← new_deadline_said words.1
+  Some (command.Do (event.Move scope deadline))
+
+-- `tick N`, without its first word
+unfoldable pub tick_said : List (List ℕ) → Option Command
+tick_said args = option_map (λ n. command.Do (event.Tick n)) (just_one args >>= moment_said)
+
+-- `bind A NAME VALUE`, without its first word
+unfoldable pub bind_said : List (List ℕ) → Option Command
+bind_said args = do
+  words ← just_three args
+  actor ← small_said words.0
+  key ← name_said words.1
+  value ← value_said words.2
+  Some (command.Do (event.Bind actor (record { key = key; value = value })))
+
+-- `get A NAME`, without its first word
+unfoldable pub get_said : List (List ℕ) → Option Command
+get_said args = do
+  words ← just_two args
+  actor ← small_said words.0
+  key ← name_said words.1
+  Some (command.Ask (question.Get actor key))
+
+-- the command with this keyword and these arguments
+unfoldable pub form_said : Keyword → List (List ℕ) → Option Command
+form_said keyword.Open args = open_said args
+form_said keyword.Fork args = fork_said args
+form_said keyword.Reject args = option_map (λ n. command.Do (event.Reject n)) (number_alone args)
+form_said keyword.Start args = option_map (λ n. command.Do (event.Start n)) (number_alone args)
+form_said keyword.Succeed args = ok_said args
+form_said keyword.Fail args = fail_said args
+form_said keyword.Cancel args = option_map (λ n. command.Do (event.Cancel n)) (number_alone args)
+form_said keyword.Move args = move_said args
+form_said keyword.Tick args = tick_said args
+form_said keyword.Bind args = bind_said args
+form_said keyword.Unbind args = option_map (λ n. command.Do (event.Unbind n)) (number_alone args)
+form_said keyword.Join args = option_map (λ n. command.Do (event.Join n.0 n.1)) (two_numbers args)
+form_said keyword.Close args = option_map (λ n. command.Do (event.BeginClose n.0 n.1)) (two_numbers args)
+form_said keyword.Closed args = option_map (λ n. command.Do (event.EndClose n.0 n.1)) (two_numbers args)
+form_said keyword.Retire args = option_map command.Retire (number_alone args)
+form_said keyword.State args = option_map (λ n. command.Ask (question.State n)) (number_alone args)
+form_said keyword.Stage args = option_map (λ n. command.Ask (question.Stage n)) (number_alone args)
+form_said keyword.ResultOf args = option_map (λ n. command.Ask (question.Result n.0 n.1)) (two_numbers args)
+form_said keyword.FaultOf args = option_map (λ n. command.Ask (question.Fault n.0 n.1)) (two_numbers args)
+form_said keyword.Cause args = option_map (λ n. command.Ask (question.Cause n)) (number_alone args)
+form_said keyword.Until args = option_map (λ n. command.Ask (question.Until n)) (number_alone args)
+form_said keyword.Counts args = option_map (λ n. command.Ask (question.Counts n)) (number_alone args)
+form_said keyword.Get args = get_said args

@@ -1,0 +1,2 @@
+mod PrintableLines
+mod PrintableText

@@ -1,0 +1,3 @@
+pub mod OutcomeText
+pub mod ReplyText
+pub mod Printable

@@ -1,0 +1,12 @@
+//! What a command is answered, and the line that says it.
+#![tactic(auto)]
+
+pub mod laws;
+pub mod lines;
+mod outcomes;
+mod parts;
+pub mod reply;
+mod words;
+
+pub use lines::append_line;
+pub use reply::Reply;
