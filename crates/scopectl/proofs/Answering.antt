@@ -1,5 +1,5 @@
 -- Which fault a parse that failed comes to.
-use Rattle.std.proofs.Common.{◌≡◌, ◌⊎◌, inl, inr, subst, ◌∙◌, List, [], Option, Some, None, refl}
+use Rattle.std.proofs.Common.{◌≡◌, ◌⊎◌, inl, inr, subst, ◌∙◌, List, [], ◌∷◌, Option, Some, None, refl}
 use Rattle.clap.specs.Faults.{fault_of}
 use Rattle.clap.specs.Kinds.{IsAmong, Kinds}
 use Rattle.std.specs.Prelude.{option_map}
@@ -12,10 +12,11 @@ use Rattle.clap.specs.declared.parser.matches.ArgMatches.TheViews.{out-ArgMatche
 use Rattle.clap.specs.declared.error.kind.ErrorKind.{ErrorKind}
 use Rattle.clap.specs.declared.error.kind.ErrorKind.TheVariants as kind
 use Rattle.scopectl.proofs.Clearing.{said_clear}
+use Rattle.scopectl.proofs.Requests.{asked_alone}
 use Rattle.scopectl.specs.Application.{scopectl}
 use Rattle.scopectl.specs.CommandLine.{replay_said}
 use Rattle.scopectl.specs.Settings.{Numbers}
-use Rattle.scopectl.specs.Faults.{Answers, IsUsageOrMemory, TellsKind}
+use Rattle.scopectl.specs.Faults.{Answers, AsksHelp, AsksVersion, IsUsageOrMemory, TellsKind}
 use Rattle.scopectl.specs.declared.command_line.faults.LineFault.{LineFault}
 use Rattle.scopectl.specs.declared.command_line.faults.LineFault.TheVariants.{Help, Version, Usage, Memory}
 
@@ -30,26 +31,36 @@ name_in_rows m = first_parts (out-ArgMatches m).subcommand (λ b. (out-SubComman
 among : (k asked : ErrorKind) (kinds given : Kinds) → k ≡ asked → kinds ≡ given → IsAmong k kinds → IsAmong asked given
 among k asked kinds given is same h = subst (IsAmong asked) same (subst (λ (x : ErrorKind). IsAmong x kinds) is h)
 
+the_only : (k asked : ErrorKind) → IsAmong k (asked ∷ []) → k ≡ asked
+the_only k asked (inl is) = is
+the_only k asked (inr none) = absurd none
+
 pub answers_of : (words : List Text) (fault : LineFault) (k : ErrorKind) (kinds : Kinds) → TellsKind k fault → (k ≡ kind.OutOfMemory) ⊎ IsAmong k kinds
     → kinds ≡ fault_of scopectl words → Answers words fault
-answers_of words (Help text) k kinds told h same =
-    elim h [ inl memory ↦ absurd (cc) | inr asked ↦ among k kind.DisplayHelp kinds (fault_of scopectl words) told same asked ]
-answers_of words (Version text) k kinds told h same =
-    elim h [ inl memory ↦ absurd (cc) | inr asked ↦ among k kind.DisplayVersion kinds (fault_of scopectl words) told same asked ]
+answers_of words Help k kinds told h same =
+    elim h [ inl memory ↦ absurd (cc) | inr asked ↦ asked_alone words kind.DisplayHelp refl (among k kind.DisplayHelp kinds (fault_of scopectl words) told same asked) ]
+answers_of words Version k kinds told h same =
+    elim h [ inl memory ↦ absurd (cc) | inr asked ↦ asked_alone words kind.DisplayVersion refl (among k kind.DisplayVersion kinds (fault_of scopectl words) told same asked) ]
 answers_of words (Usage text) k kinds told h same =
-    elim h [ inl memory ↦ absurd (told.2 memory) | inr asked ↦ inr (k, subst (λ (ks : Kinds). IsAmong k ks) same asked, told.0, told.1) ]
+    elim h [
+      | inl memory ↦ absurd (told.2 memory)
+      | inr asked ↦ (
+        λ (help : AsksHelp words). told.0 (the_only k kind.DisplayHelp (subst (λ (ks : Kinds). IsAmong k ks) (same ∙ help) asked)),
+        λ (version : AsksVersion words). told.1 (the_only k kind.DisplayVersion (subst (λ (ks : Kinds). IsAmong k ks) (same ∙ version) asked)),
+      )
+    ]
 answers_of words Memory k kinds told h same = tt
 
 -- where the parse took the words, help and the version are not answered
 pub taken_answers : (words : List Text) (fault : LineFault) → IsUsageOrMemory fault → fault_of scopectl words ≡ [] → Answers words fault
-taken_answers words (Help text) told clear = absurd told
-taken_answers words (Version text) told clear = absurd told
-taken_answers words (Usage text) told clear = inl clear
+taken_answers words Help told clear = absurd told
+taken_answers words Version told clear = absurd told
+taken_answers words (Usage text) told clear = (λ (help : AsksHelp words). absurd (cc), λ (version : AsksVersion words). absurd (cc))
 taken_answers words Memory told clear = tt
 
 memory_is : (fault : LineFault) (k : ErrorKind) → TellsKind k fault → k ≡ kind.OutOfMemory → fault ≡ Memory
-memory_is (Help text) k told is = absurd (cc)
-memory_is (Version text) k told is = absurd (cc)
+memory_is Help k told is = absurd (cc)
+memory_is Version k told is = absurd (cc)
 memory_is (Usage text) k told is = absurd (told.2 is)
 memory_is Memory k told is = refl
 

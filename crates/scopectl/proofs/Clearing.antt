@@ -11,7 +11,7 @@ use Rattle.clap.specs.Simple.{entered}
 use Rattle.clap.specs.Walk.{Row, Rule, Text, Walk, finished, has_row, is_empty, nothing_held, settled, walk, walk_from, walked, with_default}
 use Rattle.scopectl.specs.Application.{scopectl}
 use Rattle.scopectl.specs.CommandLine.{Given, numbers_given, options_said, replay_said, text_given}
-use Rattle.scopectl.specs.Settings.{Numbers, greatest_of, is_plain, name_of, number_of, plain_number}
+use Rattle.scopectl.specs.Settings.{Numbers, greatest_of, is_plain, name_of, setting_number, plain_number}
 use Rattle.scopectl.specs.declared.command_line.settings.Setting.{Setting}
 use Rattle.scopectl.specs.declared.command_line.settings.Setting.TheVariants.{Scopes, Tasks, Load}
 use Rattle.scopectl.proofs.BuiltReplay.{built_app, built_replay, built_top, command_names, replay_rules, top_rules}
@@ -86,8 +86,8 @@ said_plain greatest n text e = go (is_plain text) refl e
     go true is e = refl
     go false is e = absurd (cc)
 
-number_plain : (s : Setting) (o : Option Text) (n : ℕ) (text : Text) → number_of s o ≡ Some n → o ≡ Some text → is_plain text ≡ true
-number_plain s o n text e is = said_plain (greatest_of s) n text (ap (number_of s) (sym is) ∙ e)
+number_plain : (s : Setting) (o : Option Text) (n : ℕ) (text : Text) → setting_number s o ≡ Some n → o ≡ Some text → is_plain text ≡ true
+number_plain s o n text e is = said_plain (greatest_of s) n text (ap (setting_number s) (sym is) ∙ e)
 
 data HasNumber (o : Option ℕ) : Type 0 where
   number : (n : ℕ) → o ≡ Some n → HasNumber o
@@ -103,14 +103,14 @@ module _ (given : Setting → Option Text) (numbers : Numbers) where
   all_have (Some n) None c e = absurd (cc)
   all_have (Some n) (Some m) c e = (number n refl, number m refl, load_has n m c e)
 
-plain_by : (s : Setting) (o : Option Text) → HasNumber (number_of s o) → (text : Text) → o ≡ Some text → is_plain text ≡ true
+plain_by : (s : Setting) (o : Option Text) → HasNumber (setting_number s o) → (text : Text) → o ≡ Some text → is_plain text ≡ true
 plain_by s o (number n e) text is = number_plain s o n text e is
 
 all_plain : (final : Given) (numbers : Numbers) → numbers_given final ≡ Some numbers → AllPlain final
 unfolding AllPlain
 all_plain final numbers e s text is = go s text is
   where
-    have : HasNumber (number_of Scopes (text_given final (name_of Scopes))) × HasNumber (number_of Tasks (text_given final (name_of Tasks))) × HasNumber (number_of Load (text_given final (name_of Load)))
+    have : HasNumber (setting_number Scopes (text_given final (name_of Scopes))) × HasNumber (setting_number Tasks (text_given final (name_of Tasks))) × HasNumber (setting_number Load (text_given final (name_of Load)))
     have = all_have (λ s. text_given final (name_of s)) numbers _ _ _ e
 
     go : (s : Setting) (text : Text) → text_given final (name_of s) ≡ Some text → is_plain text ≡ true

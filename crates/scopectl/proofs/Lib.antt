@@ -4,6 +4,7 @@ mod Clearing
 mod Levels
 mod Numbers
 mod Passing
+mod Requests
 mod Saying
 mod TopLevel
 mod Walking

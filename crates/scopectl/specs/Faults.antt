@@ -1,7 +1,6 @@
 -- Which fault a command line gets.
-use Rattle.std.specs.Prelude.{◌≡◌, ◌≢◌, ⊤, ℕ, List, ◌⊎◌, []}
+use Rattle.std.specs.Prelude.{◌≡◌, ◌≢◌, ⊤, ℕ, List, [], ◌∷◌}
 use Rattle.clap.specs.Faults.{fault_of}
-use Rattle.clap.specs.Kinds.{IsAmong}
 use Rattle.clap.specs.declared.error.kind.ErrorKind.{ErrorKind}
 use Rattle.clap.specs.declared.error.kind.ErrorKind.TheVariants as kind
 use Rattle.scopectl.specs.Application.{scopectl}
@@ -10,27 +9,28 @@ use Rattle.scopectl.specs.declared.command_line.faults.LineFault.TheVariants.{He
 
 -- the fault by which an error of a kind is told
 abbrev pub TellsKind : ErrorKind → LineFault → Type 0
-TellsKind k (Help text) = k ≡ kind.DisplayHelp
-TellsKind k (Version text) = k ≡ kind.DisplayVersion
+TellsKind k Help = k ≡ kind.DisplayHelp
+TellsKind k Version = k ≡ kind.DisplayVersion
 TellsKind k (Usage text) =
     (k ≢ kind.DisplayHelp) × (k ≢ kind.DisplayVersion) × (k ≢ kind.OutOfMemory)
 TellsKind k Memory = ⊤
 
+-- the parse of the words answers help, and can answer nothing else
 abbrev pub AsksHelp : List (List ℕ) → Type 0
-AsksHelp words = IsAmong kind.DisplayHelp (fault_of scopectl words)
+AsksHelp words = fault_of scopectl words ≡ kind.DisplayHelp ∷ []
 
+-- the parse of the words answers the version, and can answer nothing else
 abbrev pub AsksVersion : List (List ℕ) → Type 0
-AsksVersion words = IsAmong kind.DisplayVersion (fault_of scopectl words)
+AsksVersion words = fault_of scopectl words ≡ kind.DisplayVersion ∷ []
 
--- the parse refuses the words by an error that asks for neither, or takes them
+-- the words ask for neither
 abbrev pub IsNoRequest : List (List ℕ) → Type 0
-IsNoRequest words = (fault_of scopectl words ≡ [])
-    ⊎ ((k : ErrorKind) × IsAmong k (fault_of scopectl words) × (k ≢ kind.DisplayHelp) × (k ≢ kind.DisplayVersion))
+IsNoRequest words = (AsksHelp words → ⊥) × (AsksVersion words → ⊥)
 
 -- help comes where the words ask for it, and so does the version
 abbrev pub Answers : List (List ℕ) → LineFault → Type 0
-Answers words (Help text) = AsksHelp words
-Answers words (Version text) = AsksVersion words
+Answers words Help = AsksHelp words
+Answers words Version = AsksVersion words
 Answers words (Usage text) = IsNoRequest words
 Answers words Memory = ⊤
 

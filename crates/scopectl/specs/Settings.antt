@@ -4,7 +4,8 @@ use Rattle.std.specs.Prelude.{option_map, option_and_then}
 use Rattle.std.specs.List.{list_all}
 use Rattle.std.specs.Option.{option_map_or}
 use Rattle.std.specs.Str.Parse.{digits_value}
-use Rattle.scope_model.specs.declared.types.capacity.Limits.{Limits}
+use Rattle.scope_rules.specs.declared.types.capacity.Limits.{Limits}
+use Rattle.scope_rules.specs.declared.types.capacity.TheConstants.{SCOPE_LIMIT, TASK_LIMIT, LOAD_LIMIT}
 use Rattle.scopectl.specs.declared.command_line.settings.Setting.{Setting}
 use Rattle.scopectl.specs.declared.command_line.settings.Setting.TheVariants.{Scopes, Tasks, Load}
 
@@ -16,9 +17,9 @@ name_of Load = codes "load"
 
 -- the greatest number that an option can say, which also stands where it is not given
 abbrev pub greatest_of : Setting → ℕ
-greatest_of Scopes = 4096
-greatest_of Tasks = 65536
-greatest_of Load = 1048576
+greatest_of Scopes = SCOPE_LIMIT
+greatest_of Tasks = TASK_LIMIT
+greatest_of Load = LOAD_LIMIT
 
 abbrev pub is_digit : ℕ → Bool
 is_digit byte = nat_le 48 byte && nat_le byte 57
@@ -35,8 +36,8 @@ plain_number greatest text =
     if is_plain text && (nat_le 1 number && nat_le number greatest) then Some number else None
 
 -- the number of an option that was given with a text, or was not given
-abbrev pub number_of : Setting → Option (List ℕ) → Option ℕ
-number_of setting given =
+abbrev pub setting_number : Setting → Option (List ℕ) → Option ℕ
+setting_number setting given =
     option_map_or (plain_number (greatest_of setting)) given (Some (greatest_of setting))
 
 -- the numbers of all the options
@@ -54,4 +55,4 @@ numbers_by given = option_and_then (λ scopes. option_and_then (λ tasks. option
   scopes = scopes;
   tasks = tasks;
   load = load;
-}) (number_of Load (given Load))) (number_of Tasks (given Tasks))) (number_of Scopes (given Scopes))
+}) (setting_number Load (given Load))) (setting_number Tasks (given Tasks))) (setting_number Scopes (given Scopes))

@@ -1,16 +1,18 @@
 //! All that the program does.
-ghost use Rattle.std.specs.Prelude.{◌≡◌, ◌≢◌, ◌≤◌, ◌⊎◌, false, map, OnOk, IfErr, IfOk};
-ghost use Rattle.scope_model.specs.Replies.{Realm};
+ghost use Rattle.std.specs.Prelude.{◌≡◌, ◌≢◌, ◌≤◌, ◌⊎◌, false, true, map};
+ghost use Rattle.std.specs.Io.KnownBytes.{Appends};
+ghost use Rattle.scope_rules.specs.Replies.{Realm};
 ghost use Rattle.scope_script.specs.Running.{RunsToEnd, RunsPartly};
-ghost use Rattle.scopectl.specs.CommandLine.{Says, SaysNone};
-ghost use Rattle.scopectl.specs.Program.{AsksText, DidAsSaid, StoppedShort};
+ghost use Rattle.scope_script.specs.Streams.{AppendsPart};
+ghost use Rattle.scopectl.specs.Program.{DidAsSaid, DidPartly, GaveText, GaveTextPartly, IsNotUnderstood, IsSaid, NamesFault};
+ghost use Rattle.scopectl.specs.Texts.{line_of};
 
-use crate::command_line::{LineFault, line};
-use scope_model::Limits;
-use scope_script::{Mode, ScriptFault, Watched, run};
+use crate::command_line::{LineFault, VERSION_LINE, help_of, line};
+use crate::fault::ProgramFault;
+use scope_rules::Limits;
+use scope_script::{Mode, Watched, run};
 use std::alloc::Global;
 use std::io::{ErrorKind, Read, Write};
-use thiserror::Error;
 
 /// The status of a line that was understood and carried out.
 pub const DONE: u8 = 0;
@@ -21,47 +23,50 @@ pub const FAULT: u8 = 1;
 /// The status of a line that is not understood.
 pub const NOT_UNDERSTOOD: u8 = 2;
 
-/// Why the program ends with status 1. Its text is the word after `scopectl: `.
-#[derive(Clone, Copy, Debug, PartialEq, Eq, Error)]
-pub enum ProgramFault {
-    /// Standard input failed.
-    #[error("read")]
-    Read,
-    /// Standard output failed.
-    #[error("write")]
-    Write,
-    /// Memory was refused.
-    #[error("memory")]
-    Memory,
-}
-
 /// Does what the words say, of which the first is the program's name, and answers the exit status.
 /// What is read comes from `reader`, what is written goes to `writer`, and what is said of faults to
 /// `errors`, whose own failing is passed over.
 ///
-/// With status 0 the words ask for help or the version, or they say a replay: then all bytes were read
-/// and exactly the reply text of them was written, in a realm of the limits that stand in the words.
-/// With status 1 what was written is a beginning of that. With status 2 the words say nothing.
-pub fn act<'a, R: Read + Drop, W: Write + Drop, E: Write>(
+/// With status 0 the words asked for help or the version, and exactly that text was written and nothing
+/// read; or they said a replay, all bytes were read, and exactly the reply text of them was written, in
+/// a realm of the limits that stand in the words. Nothing was said on `errors`.
+///
+/// With status 1 one line on `errors` names the fault: `read` or `write` only where that stream failed,
+/// or the reader was given up after 2^64 - 1 reads.
+/// Nothing was read or written, or the writer failed at the text that was asked for, or what was written
+/// is a beginning of the replies to what was read.
+///
+/// With status 2 the words say no command and ask for no text, and nothing was read or written. So words
+/// that say a command or ask for a text never end with 2, and other words with 2, or with 1 where memory
+/// was refused.
+pub fn act<'a, R: Read + Drop, W: Write + Drop, E: Write + Drop>(
     alloc: Global,
     words: &'a [&'a str],
     reader: &mut Watched<R>,
     writer: &mut Watched<W>,
-    errors: &mut E,
+    errors: &mut Watched<E>,
 ) -> u8
     requires reader { reader.old.failed ≡ false }
     requires writer { writer.old.failed ≡ false }
     ensures status { result ≤ 2 }
-    ensures done { result ≡ 0 → AsksText (map (λ word. word.now) words.now) ⊎ DidAsSaid (map (λ word. word.now) words.now) (R.remaining reader.old.inner) (R.remaining reader.new.inner) (W.contents writer.old.inner) (W.contents writer.new.inner) }
-    ensures fault { result ≡ 1 → SaysNone (map (λ word. word.now) words.now) ⊎ StoppedShort (map (λ word. word.now) words.now) (R.remaining reader.old.inner) (R.remaining reader.new.inner) (W.contents writer.old.inner) (W.contents writer.new.inner) }
-    ensures not_understood { result ≡ 2 → SaysNone (map (λ word. word.now) words.now) }
+    ensures done { result ≡ 0 → ((reader.new ≡ reader.old)
+        × GaveText (map (λ word. word.now) words.now) (W.contents writer.old.inner) (W.contents writer.new.inner))
+        ⊎ DidAsSaid (map (λ word. word.now) words.now) (R.remaining reader.old.inner) (R.remaining reader.new.inner) (W.contents writer.old.inner) (W.contents writer.new.inner) }
+    ensures silent { result ≡ 0 → errors.new ≡ errors.old }
+    ensures fault { result ≡ 1 → ((reader.new ≡ reader.old) × (writer.new ≡ writer.old))
+        ⊎ (((reader.new ≡ reader.old)
+        × GaveTextPartly (map (λ word. word.now) words.now) (W.contents writer.old.inner) (W.contents writer.new.inner) writer.new.failed)
+        ⊎ DidPartly (map (λ word. word.now) words.now) (R.remaining reader.old.inner) (R.remaining reader.new.inner) (W.contents writer.old.inner) (W.contents writer.new.inner)) }
+    ensures named { result ≡ 1 → NamesFault (E.contents errors.old.inner) (E.contents errors.new.inner) errors.new.failed ((reader.new.failed ≡ true) ⊎ (reader.new.reads ≡ u64.MAX)) (writer.new.failed ≡ true) }
+    ensures not_understood { result ≡ 2 → IsNotUnderstood (map (λ word. word.now) words.now)
+        × (reader.new ≡ reader.old) × (writer.new ≡ writer.old) }
 {
     match line(alloc, words) {
         Ok(command) => replay(alloc, command.limits, reader, writer, errors),
-        Err(LineFault::Help(text)) => tell(&text, writer, errors),
-        Err(LineFault::Version(text)) => tell(&text, writer, errors),
+        Err(LineFault::Help) => tell(help_of(words), writer, errors),
+        Err(LineFault::Version) => tell(VERSION_LINE, writer, errors),
         Err(LineFault::Usage(text)) => {
-            let _told = errors.write_all(text.as_bytes());
+            say(&text, errors);
             NOT_UNDERSTOOD
         }
         Err(LineFault::Memory) => fail(ProgramFault::Memory, errors),
@@ -70,50 +75,53 @@ pub fn act<'a, R: Read + Drop, W: Write + Drop, E: Write>(
 
 /// Answers the status where the words of the line could not be had: for want of memory, or since one is
 /// not UTF-8.
-pub fn refuse_words<E: Write>(kind: ErrorKind, errors: &mut E) -> u8
-    ensures memory { kind ≡ ErrorKind.OutOfMemory → result ≡ 1 }
+pub fn refuse_words<E: Write + Drop>(kind: ErrorKind, errors: &mut Watched<E>) -> u8
+    ensures memory { kind ≡ ErrorKind.OutOfMemory → (result ≡ 1)
+        × IsSaid (line_of ProgramFault.Memory) (E.contents errors.old.inner) (E.contents errors.new.inner) errors.new.failed }
     ensures other { kind ≢ ErrorKind.OutOfMemory → result ≡ 2 }
 {
     if kind == ErrorKind::OutOfMemory {
         return fail(ProgramFault::Memory, errors);
     }
-    let _told = errors.write_all(b"error: a word of the command line is not UTF-8\n");
+    say("error: a word of the command line is not UTF-8\n", errors);
     NOT_UNDERSTOOD
 }
 
 /// Replays the script that is read.
-fn replay<R: Read + Drop, W: Write + Drop, E: Write>(
+fn replay<R: Read + Drop, W: Write + Drop, E: Write + Drop>(
     alloc: Global,
     limits: Limits,
     reader: &mut Watched<R>,
     writer: &mut Watched<W>,
-    errors: &mut E,
+    errors: &mut Watched<E>,
 ) -> u8
     requires reader { reader.old.failed ≡ false }
     requires writer { writer.old.failed ≡ false }
     ensures status { result ≤ 1 }
     ensures done { result ≡ 0 → (realm : Realm) × RunsToEnd (R.remaining reader.old.inner) (R.remaining reader.new.inner) (W.contents writer.old.inner) (W.contents writer.new.inner) Mode.Replies limits realm }
+    ensures silent { result ≡ 0 → errors.new ≡ errors.old }
     ensures fault { result ≡ 1 → RunsPartly (R.remaining reader.old.inner) (R.remaining reader.new.inner) (W.contents writer.old.inner) (W.contents writer.new.inner) Mode.Replies limits }
+    ensures named { result ≡ 1 → NamesFault (E.contents errors.old.inner) (E.contents errors.new.inner) errors.new.failed ((reader.new.failed ≡ true) ⊎ (reader.new.reads ≡ u64.MAX)) (writer.new.failed ≡ true) }
 {
     let fault = match run(alloc, reader, writer, limits, Mode::Replies) {
         Ok(_) => return DONE,
         Err(fault) => fault,
     };
-    fail(program_fault(fault), errors)
-}
-
-/// The program's fault for a fault of the run.
-fn program_fault(fault: ScriptFault) -> ProgramFault {
-    match fault {
-        ScriptFault::Read => ProgramFault::Read,
-        ScriptFault::Write => ProgramFault::Write,
-        ScriptFault::Memory => ProgramFault::Memory,
-    }
+    fail(ProgramFault::of_run(fault), errors)
 }
 
 /// Writes the text that was asked for.
-fn tell<W: Write + Drop, E: Write>(text: &str, writer: &mut Watched<W>, errors: &mut E) -> u8
-    ensures { result ≤ 1 }
+fn tell<W: Write + Drop, E: Write + Drop>(
+    text: &str,
+    writer: &mut Watched<W>,
+    errors: &mut Watched<E>,
+) -> u8
+    ensures status { result ≤ 1 }
+    ensures done { result ≡ 0 → Appends (W.contents writer.old.inner) (W.contents writer.new.inner) text.now }
+    ensures silent { result ≡ 0 → errors.new ≡ errors.old }
+    ensures fault { result ≡ 1 → AppendsPart (W.contents writer.old.inner) (W.contents writer.new.inner) text.now }
+    ensures failed { result ≡ 1 → writer.new.failed ≡ true }
+    ensures named { result ≡ 1 → IsSaid (line_of ProgramFault.Write) (E.contents errors.old.inner) (E.contents errors.new.inner) errors.new.failed }
 {
     match writer.write_bytes(text.as_bytes()) {
         Ok(()) => DONE,
@@ -121,10 +129,18 @@ fn tell<W: Write + Drop, E: Write>(text: &str, writer: &mut Watched<W>, errors: 
     }
 }
 
-/// Says the fault.
-fn fail<E: Write>(fault: ProgramFault, errors: &mut E) -> u8
-    ensures { result ≡ 1 }
+/// Names the fault.
+fn fail<E: Write + Drop>(fault: ProgramFault, errors: &mut Watched<E>) -> u8
+    ensures status { result ≡ 1 }
+    ensures named { IsSaid (line_of fault) (E.contents errors.old.inner) (E.contents errors.new.inner) errors.new.failed }
 {
-    let _told = writeln!(errors, "scopectl: {fault}");
+    say(fault.line(), errors);
     FAULT
+}
+
+/// Says the text on standard error, whose own failing is passed over.
+fn say<E: Write + Drop>(text: &str, errors: &mut Watched<E>)
+    ensures { IsSaid text.now (E.contents errors.old.inner) (E.contents errors.new.inner) errors.new.failed }
+{
+    let _said = errors.write_bytes(text.as_bytes());
 }

@@ -11,7 +11,8 @@ mod settings;
 mod tests;
 
 pub use faults::LineFault;
-use scope_model::Limits;
+pub use help::{VERSION_LINE, help_of};
+use scope_rules::Limits;
 use std::alloc::Global;
 
 /// What a command line tells the program to do.

@@ -3,6 +3,7 @@
 
 mod act;
 mod command_line;
+mod fault;
 #[cfg(test)]
 mod tests;
 
@@ -12,7 +13,7 @@ use std::io;
 use std::process::ExitCode;
 
 fn main(rt: HostRuntime) -> ExitCode {
-    let mut errors = rt.stderr();
+    let mut errors = Watched::new(rt.stderr());
     let status = match words_of_the_line(&rt) {
         Ok(owned) => act_on(&rt, &owned),
         Err(error) => refuse_words(error.kind(), &mut errors),
@@ -27,7 +28,7 @@ fn words_of_the_line(rt: &HostRuntime) -> io::Result<Vec<String>> {
 
 /// Does what the words say, over the program's own streams.
 fn act_on(rt: &HostRuntime, owned: &[String]) -> u8 {
-    let mut errors = rt.stderr();
+    let mut errors = Watched::new(rt.stderr());
     let words: Vec<&str> = match owned.iter().map(|word| word.as_str()).collect(rt.alloc()) {
         Ok(words) => words,
         Err(_) => return refuse_words(io::ErrorKind::OutOfMemory, &mut errors),

@@ -1,4 +1,5 @@
-//! The application as `clap` knows it: its commands, their options and its texts.
+//! The application as `clap` knows it: its commands and their options. Help and the version are texts of
+//! our own (`help`).
 ghost use Rattle.std.specs.Prelude.{◌≡◌, IfOk, false};
 ghost use Rattle.clap.specs.Words.{app_of, rule_of};
 ghost use Rattle.clap.specs.declared.builder.command.Command.TheViews.{out-Command as fields_of};
@@ -18,9 +19,7 @@ pub fn application<'a>(alloc: Global) -> Result<Command<'a>, AllocError>
 {
     let replay = replay(alloc)?;
     Command::new(alloc, "scopectl")
-        .version("0.1.0")
-        .about(help::ABOUT)
-        .after_help(help::STATUSES)
+        .version(help::VERSION)
         .subcommand_required(true)
         .disable_help_subcommand(true)
         .subcommand(replay)
@@ -35,17 +34,15 @@ fn replay<'a>(alloc: Global) -> Result<Command<'a>, AllocError>
     let tasks: &'a str = Setting::Tasks.name();
     let load: &'a str = Setting::Load.name();
     Command::new(alloc, "replay")
-        .about(help::REPLAY)
-        .after_help(help::REPLAY_EXAMPLE)
-        .arg(option(alloc, scopes, help::SCOPES))?
-        .arg(option(alloc, tasks, help::TASKS))?
-        .arg(option(alloc, load, help::LOAD))
+        .arg(option(alloc, scopes))?
+        .arg(option(alloc, tasks))?
+        .arg(option(alloc, load))
 }
 
 // The option `--NAME N`.
-fn option<'a>(alloc: Global, name: &'a str, text: &'a str) -> Arg<'a>
+fn option<'a>(alloc: Global, name: &'a str) -> Arg<'a>
     ensures rule { rule_of result ≡ option_rule name.now }
     ensures local { result.global ≡ false }
 {
-    Arg::new(alloc, name).long(name).value_name("N").help(text)
+    Arg::new(alloc, name).long(name).value_name("N")
 }

@@ -1,14 +1,47 @@
-//! The texts of the help.
+//! The texts of the help and the version.
+ghost use Rattle.std.specs.Prelude.{◌≡◌, map};
+ghost use Rattle.scopectl.specs.Texts.{help_at, help_of};
 
-/// What the program is.
-pub const ABOUT: &str = "Replays scripts of commands on task scopes, by proved rules.";
+/// The version, as `clap` is told it.
+pub const VERSION: &str = "0.1.0";
 
-/// What `replay` reads and writes.
-pub const REPLAY: &str =
-    "Reads a script of commands from standard input, one a line, and writes one reply a line to standard output. A line that is empty or begins with # has no reply.";
+/// What `scopectl --version` writes.
+pub const VERSION_LINE: &str = "scopectl 0.1.0\n";
 
-/// An example session of `replay`, and the exit statuses.
-pub const REPLAY_EXAMPLE: &str = "Example: the script on the left has the replies on the right.
+/// What `scopectl --help` writes.
+pub const HELP: &str = "Replays scripts of commands on task scopes, by proved rules.
+
+Usage: scopectl <COMMAND>
+
+Commands:
+  replay  Reads a script of commands from standard input, and writes the replies
+
+Options:
+  -h, --help     Print help
+  -V, --version  Print version
+
+Exit status:
+  0  the script was read to its end, also where commands were refused
+  1  standard error has one line: scopectl: read, scopectl: write or scopectl: memory
+  2  the command line is not understood
+
+Try 'scopectl replay --help' for an example session.
+";
+
+/// What `scopectl replay --help` writes.
+pub const REPLAY_HELP: &str =
+    "Reads a script of commands from standard input, one a line, and writes one reply a line to
+standard output. A line that is empty or begins with # has no reply.
+
+Usage: scopectl replay [OPTIONS]
+
+Options:
+      --scopes <N>  How many scopes may be opened, from 1 to 4096 [default: 4096]
+      --tasks <N>   How many tasks may be forked, from 1 to 65536 [default: 65536]
+      --load <N>    How much load the realm takes, from 1 to 1048576 units [default: 1048576]
+  -h, --help        Print help
+
+Example: the script on the left has the replies on the right.
 
   open 0 await    scope 1
   fork 0 1 a      task 1 thread
@@ -21,21 +54,26 @@ pub const REPLAY_EXAMPLE: &str = "Example: the script on the left has the replie
 Exit status:
   0  the script was read to its end, also where commands were refused
   1  standard error has one line: scopectl: read, scopectl: write or scopectl: memory
-  2  the command line is not understood";
-
-/// The exit statuses, and where to read on.
-pub const STATUSES: &str = "Exit status:
-  0  the script was read to its end, also where commands were refused
-  1  standard error has one line: scopectl: read, scopectl: write or scopectl: memory
   2  the command line is not understood
+";
 
-Try 'scopectl replay --help' for an example session.";
+/// The help that the words ask for, of which the first is the program's name.
+pub fn help_of(words: &[&str]) -> &'static str
+    ensures { result.now ≡ help_of (map (λ word. word.now) words.now) }
+{
+    match words.get(1) {
+        Some(command) => help_at(command),
+        None => HELP,
+    }
+}
 
-/// What `--scopes` is.
-pub const SCOPES: &str = "How many scopes may be opened, from 1 to 4096 [default: 4096]";
-
-/// What `--tasks` is.
-pub const TASKS: &str = "How many tasks may be forked, from 1 to 65536 [default: 65536]";
-
-/// What `--load` is.
-pub const LOAD: &str = "How much load the realm takes, from 1 to 1048576 units [default: 1048576]";
+// The help at a first word after the program's name.
+fn help_at(command: &str) -> &'static str
+    ensures { result.now ≡ help_at command.now }
+{
+    if command == "replay" {
+        REPLAY_HELP
+    } else {
+        HELP
+    }
+}

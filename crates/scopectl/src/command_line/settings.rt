@@ -3,12 +3,12 @@ ghost use Rattle.std.specs.Prelude.{◌≡◌, ◌≤◌, ◌⊎◌, IfOk, IfErr
 ghost use Rattle.std.specs.List.{list_all};
 ghost use Rattle.clap.specs.Words.{first_value, found_of};
 ghost use Rattle.scopectl.specs.Faults.{IsUsageOrMemory};
-ghost use Rattle.scopectl.specs.Settings.{greatest_of, is_digit, is_plain, name_of, number_of, numbers_by, numbers_of, plain_number};
+ghost use Rattle.scopectl.specs.Settings.{greatest_of, is_digit, is_plain, name_of, setting_number, numbers_by, numbers_of, plain_number};
 
 use super::LineFault;
 use clap::ArgMatches;
-use scope_model::Limits;
-use scope_model::types::capacity::{LOAD_LIMIT, SCOPE_LIMIT, TASK_LIMIT};
+use scope_rules::Limits;
+use scope_rules::types::capacity::{LOAD_LIMIT, SCOPE_LIMIT, TASK_LIMIT};
 use std::alloc::Global;
 
 /// An option that sets one limit of the realm.
@@ -67,10 +67,10 @@ pub fn limits(alloc: Global, matches: &ArgMatches<'_>) -> Result<Limits, LineFau
 // The number of one option.
 fn number(alloc: Global, matches: &ArgMatches<'_>, setting: Setting) -> Result<u32, LineFault>
     ensures said { IfOk result (λ number.
-        number_of setting (first_value (found_of matches.now) (name_of setting)) ≡ Some number) }
+        setting_number setting (first_value (found_of matches.now) (name_of setting)) ≡ Some number) }
     ensures within { IfOk result (λ number. (1 ≤ number) × (number ≤ greatest_of setting)) }
     ensures refused { IfErr result (λ fault. (fault ≡ LineFault.Memory)
-        ⊎ (number_of setting (first_value (found_of matches.now) (name_of setting)) ≡ None)) }
+        ⊎ (setting_number setting (first_value (found_of matches.now) (name_of setting)) ≡ None)) }
     ensures told { IfErr result IsUsageOrMemory }
 {
     let Some(text) = matches.get_str(setting.name()) else {

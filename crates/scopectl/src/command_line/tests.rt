@@ -1,5 +1,6 @@
-use super::{LineFault, line};
-use scope_model::Limits;
+use super::help::{HELP, REPLAY_HELP};
+use super::{LineFault, help_of, line};
+use scope_rules::Limits;
 use std::alloc::Global;
 
 // The limits that the words say.
@@ -14,14 +15,6 @@ fn limits(alloc: Global, words: &[&str]) -> Option<Limits> {
 fn is_usage(alloc: Global, words: &[&str], part: &str) -> bool {
     match line(alloc, words) {
         Err(LineFault::Usage(text)) => text.starts_with("error: ") && text.contains(part),
-        _ => false,
-    }
-}
-
-// Whether the words ask for help, and the text says `part`.
-fn is_help(alloc: Global, words: &[&str], part: &str) -> bool {
-    match line(alloc, words) {
-        Err(LineFault::Help(text)) => text.contains(part),
         _ => false,
     }
 }
@@ -80,10 +73,44 @@ fn other_values_are_not_understood(rt: HostRuntime) {
         let words = ["scopectl", "replay", "--scopes", value];
         assert!(rt; is_usage(rt.alloc(), words.as_slice(), "--help"), "{value}");
     }
-    let words = ["scopectl", "replay", "--tasks", "65537"];
-    assert!(rt; is_usage(rt.alloc(), words.as_slice(), "'65537' for '--tasks <N>'"));
-    let words = ["scopectl", "replay", "--load=1048577"];
-    assert!(rt; is_usage(rt.alloc(), words.as_slice(), "from 1 to 1048576"));
+}
+
+#[test]
+fn each_option_is_told_by_its_own_limit(rt: HostRuntime) {
+    for (word, name, greatest) in [
+        ("--scopes=4097", "scopes", "4096"),
+        ("--tasks=65537", "tasks", "65536"),
+        ("--load=1048577", "load", "1048576"),
+    ] {
+        let words = ["scopectl", "replay", word];
+        match line(rt.alloc(), words.as_slice()) {
+            Err(LineFault::Usage(text)) => {
+                let Some((before, after)) = text.split_once(" for '--") else {
+                    return assert!(rt; false, "{text}");
+                };
+                assert!(rt; before.starts_with("error: invalid value '"), "{text}");
+                assert!(rt; after.starts_with(name), "{text}");
+                let Some((_, limits)) = text.split_once("a decimal number from 1 to ") else {
+                    return assert!(rt; false, "{text}");
+                };
+                assert!(rt; limits.starts_with(greatest), "{text}");
+            }
+            _ => assert!(rt; false, "{word}"),
+        }
+    }
+}
+
+#[test]
+fn the_help_of_replay_explains_each_option(rt: HostRuntime) {
+    for explained in [
+        "\n      --scopes <N>  How many scopes may be opened, from 1 to 4096 [default: 4096]\n",
+        "\n      --tasks <N>   How many tasks may be forked, from 1 to 65536 [default: 65536]\n",
+        "\n      --load <N>    How much load the realm takes, from 1 to 1048576 units [default: 1048576]\n",
+        "\n  ok 1 7          finished\n",
+        "\n  2  the command line is not understood\n",
+    ] {
+        assert!(rt; REPLAY_HELP.contains(explained), "{explained}");
+    }
 }
 
 #[test]
@@ -116,26 +143,29 @@ fn other_words_are_not_understood(rt: HostRuntime) {
 }
 
 #[test]
-fn help_and_version_are_told(rt: HostRuntime) {
+fn help_is_that_of_the_command(rt: HostRuntime) {
     let alloc = rt.alloc();
-    assert!(rt; is_help(alloc, ["scopectl", "--help"].as_slice(), "replay"));
-    assert!(rt; is_help(alloc, ["scopectl", "-h"].as_slice(), "Exit status:"));
-    assert!(rt;
-        is_help(
-            alloc,
-            ["scopectl", "replay", "-h"].as_slice(),
-            "--scopes <N>"
-        )
-    );
-    assert!(rt;
-        is_help(
-            alloc,
-            ["scopectl", "replay", "--help"].as_slice(),
-            "task 1 thread"
-        )
-    );
-    match line(alloc, ["scopectl", "--version"].as_slice()) {
-        Err(LineFault::Version(text)) => assert_eq!(rt; text.as_str(), "scopectl 0.1.0\n"),
-        _ => assert!(rt; false),
+    for (first, second) in [("--help", "-h"), ("-h", "replay"), ("--help", "replay")] {
+        let words = ["scopectl", first, second];
+        assert!(rt;
+            matches!(line(alloc, words.as_slice()), Err(LineFault::Help)),
+            "{first}"
+        );
+        assert!(rt; help_of(words.as_slice()) == HELP, "{first}");
+    }
+    for word in ["--help", "-h"] {
+        let words = ["scopectl", "replay", "--load=1", word];
+        assert!(rt;
+            matches!(line(alloc, words.as_slice()), Err(LineFault::Help)),
+            "{word}"
+        );
+        assert!(rt; help_of(words.as_slice()) == REPLAY_HELP, "{word}");
+    }
+    for word in ["--version", "-V"] {
+        let words = ["scopectl", word];
+        assert!(rt;
+            matches!(line(alloc, words.as_slice()), Err(LineFault::Version)),
+            "{word}"
+        );
     }
 }

@@ -10,7 +10,7 @@ use Rattle.scopectl.proofs.command_line.application.replay.Goals as goal
 pub returns-clause-app : goal.returns-clause-app
 unfolding replay
 returns-clause-app c =
-    let start_is : app_of c.after_help.result ≡ new_app (codes "replay") = search rules in
+    let start_is : app_of c.new.result ≡ new_app (codes "replay") = search rules in
     let scopes_is : rule_of c.option.result ≡ option_rule (name_of Scopes) = c.option.ensures.rule ∙ ap option_rule c.name-scopes.ensures in
     let tasks_is : rule_of c.option-2.result ≡ option_rule (name_of Tasks) = c.option-2.ensures.rule ∙ ap option_rule c.name-tasks.ensures in
     let load_is : rule_of c.option-3.result ≡ option_rule (name_of Load) = c.option-3.ensures.rule ∙ ap option_rule c.name-load.ensures in
@@ -20,7 +20,7 @@ returns-clause-app c =
 
 pub returns-clause-local : goal.returns-clause-local
 returns-clause-local c =
-    let start_is : (out-Command c.after_help.result).has_globals ≡ false = search rules in
+    let start_is : (out-Command c.new.result).has_globals ≡ false = search rules in
     IfOk-weaker c.arg-3.result _ _ (λ m h. h.globals
     ∙ ap₂ (λ a b. a || b) (c.in_ok-arg-2.ensures.globals
     ∙ ap₂ (λ a b. a || b) (c.in_ok-arg.ensures.globals ∙ ap₂ (λ a b. a || b) start_is c.option.ensures.local) c.option-2.ensures.local) c.option-3.ensures.local) c.arg-3.ensures
