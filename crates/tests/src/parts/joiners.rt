@@ -1,0 +1,339 @@
+//! Joiners: tables of ends, as many completions as there can be, and callers' closures.
+
+ghost use Rattle.std.specs.Prelude.{◌≡◌, ◌≤◌, length, count_by};
+ghost use Rattle.scope_rules.specs.Joining.{meets, has_succeeded};
+
+use super::{boxed, name, pages};
+use join_rules::{CompletionTest, Joiner, Progress, UntilTest};
+use scope_rules::{Completion, End, Fault, Policy, Refusal, Rule, Value};
+use std::alloc::Global;
+use std::process::Abort;
+use std::sync::Arc;
+use std::sync::atomic::{AtomicU64, Ordering};
+use std::test::Fail;
+use std::thread;
+
+/// An end: with a number, with a text, or with a fault.
+#[derive(Clone, Copy, Debug)]
+pub enum Kind {
+    Number(i64),
+    Text,
+    Fault,
+}
+
+use Kind::{Number, Text};
+
+/// A joiner, the ends that it is handed, and a mark for each: `x` where it says cancel.
+#[derive(Clone, Copy)]
+struct Row {
+    policy: Policy,
+    ends: &'static [Kind],
+    marks: &'static str,
+}
+
+const fn marked(policy: Policy, ends: &'static [Kind], marks: &'static str) -> Row {
+    Row {
+        policy,
+        ends,
+        marks,
+    }
+}
+
+const BAD: Kind = Kind::Fault;
+
+const ONE: Kind = Number(1);
+
+const LESS: Kind = Number(-1);
+
+const MOST: Kind = Number(i64::MAX);
+
+const LEAST: Kind = Number(i64::MIN);
+
+/// The end, if `boom` and `seven` are names.
+pub fn end_of(kind: Kind) -> Result<End, Fail> {
+    Ok(match kind {
+        Number(number) => Ok(Value::Num(number)),
+        Text => Ok(Value::Text(name(b"seven")?)),
+        Kind::Fault => Err(Fault(name(b"boom")?)),
+    })
+}
+
+/// Hands in the end as that of the next task.
+pub fn hand_in(progress: &mut Progress, end: End) -> Result<bool, Refusal> {
+    let before = progress.completions();
+    if before >= 65_536 {
+        return Err(Refusal::TooMany);
+    }
+    let task = before + 1;
+    match progress.completed(Completion { task, end }) {
+        Ok(fires) => Ok(fires),
+        Err(_) => Err(Refusal::Memory),
+    }
+}
+
+/// Hands the ends in, and compares each answer with its mark.
+fn check_marks(
+    rt: &impl Abort,
+    progress: &mut Progress,
+    ends: &[Kind],
+    marks: &str,
+) -> Result<(), Fail> {
+    assert_eq!(rt; ends.len(), marks.len());
+    for (kind, mark) in ends.iter().zip(marks.as_bytes()) {
+        let fires = hand_in(progress, end_of(*kind)?)?;
+        assert_eq!(rt; fires, *mark == b'x', "{ends:?}");
+    }
+    Ok(())
+}
+
+/// Checks the row by a joiner with its policy, which asks a rule itself.
+fn check_row(rt: &impl Abort, alloc: Global, row: &Row) -> Result<(), Fail> {
+    let joiner = match row.policy {
+        Policy::All => Joiner::All,
+        Policy::Any => Joiner::Any,
+        Policy::AwaitAll => Joiner::AwaitAll,
+        Policy::AwaitOk => Joiner::AwaitOk,
+        Policy::Until(rule) => Joiner::Until(UntilTest::plain(rule)),
+    };
+    let mut progress = Progress::new(alloc, joiner);
+    assert_eq!(rt; progress.policy(), row.policy);
+    check_marks(rt, &mut progress, row.ends, row.marks)
+}
+
+#[test]
+fn joiners_fire_at_their_first_cause(rt: HostRuntime) -> Result<(), Fail> {
+    for row in [
+        marked(Policy::All, &[ONE, Text, BAD, ONE, BAD], "..xxx"),
+        marked(Policy::AwaitOk, &[ONE, BAD, ONE], ".xx"),
+        marked(Policy::Any, &[BAD, BAD, ONE, BAD], "..xx"),
+        marked(Policy::Any, &[BAD, Text], ".x"),
+        marked(Policy::AwaitAll, &[BAD, ONE, Text, BAD], "...."),
+        marked(
+            Policy::Until(Rule::FailuresAtLeast(2)),
+            &[BAD, ONE, BAD, ONE],
+            "..xx",
+        ),
+        marked(Policy::Until(Rule::FailuresAtLeast(0)), &[ONE, BAD], "xx"),
+        marked(
+            Policy::Until(Rule::SuccessesAtLeast(2)),
+            &[ONE, BAD, Text, BAD],
+            "..xx",
+        ),
+        marked(Policy::Until(Rule::SuccessesAtLeast(0)), &[BAD, Text], "xx"),
+        marked(
+            Policy::Until(Rule::SumAtLeast(10)),
+            &[Number(-3), Number(13), Text, LESS],
+            ".xx.",
+        ),
+        marked(
+            Policy::Until(Rule::SumAtLeast(1)),
+            &[Text, BAD, Text, ONE],
+            "...x",
+        ),
+        marked(
+            Policy::Until(Rule::SumAtLeast(0)),
+            &[BAD, Text, LESS, ONE],
+            "xx.x",
+        ),
+        marked(
+            Policy::Until(Rule::SumAtLeast(-5)),
+            &[Number(-5), LESS, BAD, ONE],
+            "x..x",
+        ),
+        // 2^63 - 1, 2^64 - 2, 2^63 - 2, -2, -2^63 - 2, -3, 0
+        marked(
+            Policy::Until(Rule::SumAtLeast(0)),
+            &[MOST, MOST, LEAST, LEAST, LEAST, MOST, Number(3)],
+            "xxx...x",
+        ),
+        // 2^63 - 1, 2^63, 0, 2^63 - 1
+        marked(
+            Policy::Until(Rule::SumAtLeast(i64::MAX)),
+            &[MOST, ONE, LEAST, MOST],
+            "xx.x",
+        ),
+        // -2^63, -2^63 - 1, -2^63
+        marked(
+            Policy::Until(Rule::SumAtLeast(i64::MIN)),
+            &[LEAST, LESS, ONE],
+            "x.x",
+        ),
+    ] {
+        check_row(&rt, rt.alloc(), &row)?;
+    }
+    Ok(())
+}
+
+/// Hands in 32,768 ends of one kind and then as many of another. The joiner fires from the first
+/// completion of `fires` to its last.
+fn check_long(
+    rt: &impl Abort,
+    progress: &mut Progress,
+    kinds: (Kind, Kind),
+    fires: (u32, u32),
+) -> Result<(), Fail> {
+    let (early, late) = (end_of(kinds.0)?, end_of(kinds.1)?);
+    for task in 1..=65_536u32 {
+        let end = if task <= 32_768 { early } else { late };
+        let answer = hand_in(progress, end)?;
+        assert_eq!(rt; answer, task >= fires.0 && task <= fires.1, "at {task}");
+    }
+    Ok(())
+}
+
+#[test]
+fn as_many_as_there_can_be_are_counted(rt: HostRuntime) -> Result<(), Fail> {
+    for (rule, kinds, fires, failed, succeeded) in [
+        (
+            Rule::FailuresAtLeast(65_536),
+            (BAD, BAD),
+            (65_536, 65_536),
+            Some(1),
+            None,
+        ),
+        (
+            Rule::SuccessesAtLeast(32_768),
+            (BAD, Text),
+            (65_536, 65_536),
+            Some(1),
+            Some(32_769),
+        ),
+        // The sum is 2^63 - 32,768 before the last completion, and -32,768 after it.
+        (
+            Rule::SumAtLeast(9_223_372_036_854_743_040),
+            (MOST, LEAST),
+            (1, 65_535),
+            None,
+            Some(1),
+        ),
+        (
+            Rule::SumAtLeast(9_223_372_036_854_743_041),
+            (MOST, LEAST),
+            (1, 65_534),
+            None,
+            Some(1),
+        ),
+    ] {
+        let joiner = Joiner::Until(UntilTest::plain(rule));
+        let mut progress = Progress::new(rt.alloc(), joiner);
+        check_long(&rt, &mut progress, kinds, fires)?;
+        assert_eq!(rt;
+            progress.failures().wrapping_add(progress.successes()),
+            65_536
+        );
+        let firsts = [progress.first_failure(), progress.first_success()];
+        assert_eq!(rt;
+            firsts.map(|done| done.map(|done| done.task)),
+            [failed, succeeded]
+        );
+    }
+    Ok(())
+}
+
+/// Whether the list has two successes. It counts from the back, and stops at the second.
+pub fn has_two_successes(list: &[Completion]) -> bool
+    ensures { result ≡ meets (Rule.SuccessesAtLeast 2) list.now }
+{
+    let mut found = 0u32;
+    let mut left = list.len();
+    while left > 0 && found < 2 {
+        left -= 1;
+        if list[left].end.is_ok() {
+            found += 1;
+        }
+    }
+    found == 2
+}
+
+/// The closure adds up how long the lists are that it is shown: after each completion once the
+/// number of completions.
+#[test]
+fn a_closure_is_shown_all_once_for_each_completion(rt: HostRuntime) -> Result<(), Fail> {
+    let shown = Arc::new(rt.alloc(), AtomicU64::new(0))?;
+    let theirs = Arc::try_clone(&shown)?;
+    let test: CompletionTest = boxed(
+        rt.alloc(),
+        move |list: &[Completion]|
+            ensures { result ≡ meets (Rule.SuccessesAtLeast 2) list.now }
+        {
+            theirs.fetch_add(list.len() as u64, Ordering::SeqCst);
+            has_two_successes(list)
+        },
+    )?;
+    let joiner = Joiner::Until(UntilTest::new(Rule::SuccessesAtLeast(2), test));
+    let mut progress = Progress::new(rt.alloc(), joiner);
+    for (kind, mark) in [(ONE, false), (BAD, false), (Text, true), (BAD, true)] {
+        let fires = hand_in(&mut progress, end_of(kind)?)?;
+        assert_eq!(rt; fires, mark);
+        let sum = shown.swap(0, Ordering::SeqCst);
+        assert_eq!(rt; sum, u64::from(progress.completions()));
+    }
+    Ok(())
+}
+
+/// How many completions succeeded.
+fn successes_in(list: &[Completion]) -> u32
+    requires { length list.now ≤ 65536 }
+    ensures { result ≡ count_by has_succeeded list.now }
+{
+    list.iter().filter(|done| done.end.is_ok()).count() as u32
+}
+
+#[test]
+#[tactic(auto, unfolding(scope_rules::specs::Joining::meets))]
+fn a_closure_may_ask_for_short_lists(rt: HostRuntime) -> Result<(), Fail> {
+    let test: CompletionTest = boxed(
+        rt.alloc(),
+        |list: &[Completion]|
+            requires { length list.now ≤ 65536 }
+            ensures { result ≡ meets (Rule.SuccessesAtLeast 2) list.now }
+        { successes_in(list) >= 2 },
+    )?;
+    let until = UntilTest::new(Rule::SuccessesAtLeast(2), test);
+    assert_eq!(rt; until.rule(), Rule::SuccessesAtLeast(2));
+    let joiner = Joiner::Until(until);
+    assert_eq!(rt; joiner.policy(), Policy::Until(Rule::SuccessesAtLeast(2)));
+    let mut progress = Progress::new(rt.alloc(), joiner);
+    check_marks(&rt, &mut progress, &[ONE, BAD, Text, BAD], "..xx")
+}
+
+/// A completion takes 56 bytes, so a list of them all takes 896 pages, and one that grew some 2,000.
+#[test]
+#[tactic(auto, unfolding(scope_rules::specs::Joining::meets))]
+fn a_list_grows_by_itself_and_takes_what_it_needs(rt: HostRuntime) -> Result<(), Fail> {
+    for reserved in [0usize, 65_536] {
+        let test: CompletionTest = boxed(rt.alloc(), |_: &[Completion]| true)?;
+        let joiner = Joiner::Until(UntilTest::new(Rule::SuccessesAtLeast(0), test));
+        let mut progress = Progress::new(rt.alloc(), joiner);
+        let before = pages(&rt);
+        progress.reserve(reserved)?;
+        check_long(&rt, &mut progress, (BAD, ONE), (1, 65_536))?;
+        assert!(rt; pages(&rt) < before.saturating_add(4000), "{reserved}");
+    }
+    Ok(())
+}
+
+/// Hands one completion in, and gives the progress back with the answer.
+fn hand_in_there(mut progress: Progress, end: End) -> (Progress, Option<bool>) {
+    let fires = hand_in(&mut progress, end).ok();
+    (progress, fires)
+}
+
+#[test]
+fn a_closure_made_here_is_asked_in_other_threads(rt: HostRuntime) -> Result<(), Fail> {
+    let alloc = rt.alloc();
+    let end = end_of(ONE)?;
+    let test: CompletionTest = boxed(alloc, |list: &[Completion]| has_two_successes(list))?;
+    let joiner = Joiner::Until(UntilTest::new(Rule::SuccessesAtLeast(2), test));
+    let child = thread::spawn(
+        &rt,
+        move || hand_in_there(Progress::new(alloc, joiner), end),
+    )?;
+    let (progress, fires) = child.join(&rt);
+    assert_eq!(rt; fires, Some(false));
+    let child = thread::spawn(&rt, move || hand_in_there(progress, end))?;
+    let (progress, fires) = child.join(&rt);
+    assert_eq!(rt; fires, Some(true));
+    assert_eq!(rt; progress.successes(), 2);
+    Ok(())
+}

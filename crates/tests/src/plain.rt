@@ -1,0 +1,89 @@
+//! The script's commands on the plain evaluator.
+
+use scope_model::Plain;
+use scope_rules::{Cancelling, Event, Refusal};
+use scope_script::{Command, Question, Reply};
+
+/// What the plain evaluator answers to the command.
+pub fn reply_of(realm: &mut Plain, command: Command) -> Reply {
+    let answer = match command {
+        Command::Do(event) => tried(realm, event),
+        Command::Retire { actor } => retired(realm, actor),
+        Command::Ask(question) => asked(realm, question),
+    };
+    match answer {
+        Ok(reply) => reply,
+        Err(refusal) => Reply::Refused(refusal),
+    }
+}
+
+fn tried(realm: &mut Plain, event: Event) -> Result<Reply, Refusal> {
+    match event {
+        Event::Open {
+            actor,
+            policy,
+            options,
+        } => Ok(Reply::Scope(realm.open(actor, policy, options)?)),
+        Event::Fork {
+            actor,
+            scope,
+            label,
+        } => Ok(Reply::Task(realm.fork(actor, scope, label)?)),
+        Event::Reject { task } => done(realm.reject(task), Reply::Rejected),
+        Event::Start { task } => done(realm.start(task), Reply::Started),
+        Event::Finish { task, end } => done(realm.finish(task, end), Reply::Finished),
+        Event::Cancel { scope } => recorded(realm.cancel(scope), Reply::Cancelled),
+        Event::Move { scope, deadline } => done(realm.move_deadline(scope, deadline), Reply::Moved),
+        Event::Tick { now } => done(realm.tick(now), Reply::Moment(now)),
+        Event::Bind { actor, binding } => done(
+            realm.bind(actor, binding.key, binding.value),
+            Reply::Bound,
+        ),
+        Event::Unbind { actor } => done(realm.unbind(actor), Reply::Unbound),
+        Event::Join { actor, scope } => {
+            realm.join_now(actor, scope)?;
+            Ok(Reply::Outcome(realm.outcome(scope)?))
+        }
+        Event::BeginClose { actor, scope } => recorded(
+            realm.begin_close(actor, scope),
+            Reply::Closing,
+        ),
+        Event::EndClose { actor, scope } => Ok(Reply::Closed(realm.end_close(actor, scope)?)),
+    }
+}
+
+fn done(answer: Result<(), Refusal>, said: Reply) -> Result<Reply, Refusal> {
+    match answer {
+        Ok(()) => Ok(said),
+        Err(refusal) => Err(refusal),
+    }
+}
+
+fn recorded(answer: Result<Cancelling, Refusal>, said: Reply) -> Result<Reply, Refusal> {
+    match answer {
+        Ok(Cancelling::Recorded) => Ok(said),
+        Ok(Cancelling::Already) => Ok(Reply::Already),
+        Err(refusal) => Err(refusal),
+    }
+}
+
+fn retired(realm: &mut Plain, actor: u32) -> Result<Reply, Refusal> {
+    let base = realm.retire(actor)?;
+    Ok(Reply::Retired {
+        scopes: base.scopes(),
+        tasks: base.tasks(),
+    })
+}
+
+fn asked(realm: &Plain, question: Question) -> Result<Reply, Refusal> {
+    match question {
+        Question::State { task } => Ok(Reply::State(realm.state(task)?)),
+        Question::Stage { task } => Ok(Reply::Stage(realm.stage(task)?)),
+        Question::Result { actor, task } => Ok(Reply::Value(realm.result(actor, task)?)),
+        Question::Fault { actor, task } => Ok(Reply::Fault(realm.fault(actor, task)?)),
+        Question::Cause { scope } => Ok(Reply::Cause(realm.cause(scope)?)),
+        Question::Until { scope } => Ok(Reply::Until(realm.effective_deadline(scope)?)),
+        Question::Counts { scope } => Ok(Reply::Counts(realm.counts(scope)?)),
+        Question::Get { actor, key } => Ok(Reply::Value(realm.binding(actor, &key)?)),
+    }
+}
