@@ -1,5 +1,5 @@
 -- What a join answered stays.
-use Rattle.std.proofs.Common.{◌≡◌, ℕ, zero, suc, ◌+◌, ◌<◌, cond, Option, Some, None, option_map, List, [], ◌∷◌, ◌++◌, length, slice_get, refl, ap, ◌∙◌, arith, length-append}
+use Rattle.std.proofs.Common.{◌≡◌, ℕ, ◌+◌, ◌<◌, cond, Option, Some, None, option_map, [], ◌∷◌, ◌++◌, length, slice_get, refl, ap, ◌∙◌, arith, length-append}
 use Rattle.scope_rules.specs.declared.types.events.Event.{Event}
 use Rattle.scope_rules.specs.declared.types.outcomes.Outcome.{Outcome}
 use Rattle.scope_rules.specs.History.{History, before, followed, opening}

@@ -1,19 +1,14 @@
 -- Where tasks were forked, and what the row of their forking wanted.
-use Rattle.std.proofs.Common.{◌≡◌, ℕ, ◌+◌, ◌<◌, true, Some, length, refl, ap, sym, subst, arith}
-use Rattle.std.proofs.lemmas.Option.{slice_get_within}
+use Rattle.std.proofs.Common.{◌≡◌, ℕ, ◌+◌, ◌<◌, Some, sym, subst, arith}
 use Rattle.scope_rules.specs.declared.types.capacity.Limits.{Limits}
-use Rattle.scope_rules.specs.declared.types.events.Event.{Event}
-use Rattle.scope_rules.specs.declared.types.events.Event.TheVariants.{Fork}
 use Rattle.scope_rules.specs.declared.types.records.Opening.{Opening}
 use Rattle.scope_rules.specs.declared.types.records.Forking.{Forking}
 use Rattle.scope_rules.specs.History.{History, before, forked_count, opening, forking, is_open, is_fork, opening_of, forking_of}
 use Rattle.scope_rules.specs.Legal.{Legal}
 use Rattle.scope_rules.proofs.Openings.{numbered_within, forks_it}
 use Rattle.scope_rules.proofs.Growing.{numbered_entry, opening_place, forking_place}
-use Rattle.scope_rules.proofs.Nesting.{IsOpened, forked_opened}
 use Rattle.scope_rules.proofs.PassedRows.{IsActor, IsOwner, ForkRow, opener_passed, forker_passed}
 use Rattle.scope_rules.proofs.OneEventMore.{opening_later}
-use Rattle.scope_rules.proofs.Earlier.{forking_within}
 
 -- a task with this number was forked
 pub record IsForked (h : History) (k : ℕ) : Type 0 where

@@ -2,8 +2,6 @@
 use Rattle.std.proofs.Common.{◌≡◌, ℕ, zero, suc, ◌+◌, ◌<◌, ◌≤◌, ◌==◌, ◌&&◌, Bool, true, false, not, cond, Option, Some, None, refl, ap, sym, ◌∙◌, arith, inl, inr}
 use Rattle.std.proofs.lemmas.Bool.{eqb-true, eq-eqb, cases_eq, cases_lt}
 use Rattle.std.specs.Option.{option_and_then, option_or}
-use Rattle.scope_rules.specs.declared.types.events.Event.{Event}
-use Rattle.scope_rules.specs.declared.types.events.Event.TheVariants.{Open}
 use Rattle.scope_rules.specs.declared.types.records.Opening.{Opening}
 use Rattle.scope_rules.specs.Search.{latest}
 use Rattle.scope_rules.specs.History.{History, opened_count, opening, is_open, opening_of}

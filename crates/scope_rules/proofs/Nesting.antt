@@ -1,22 +1,21 @@
 -- In a legal history what lies around a scope was opened before it.
 use Rattle.std.proofs.Common.{◌≡◌, ℕ, zero, suc, ◌+◌, ◌<◌, ◌≤◌, ◌==◌, ◌&&◌, Bool, true, false, not, cond, Option, Some, None, List, [], ◌∷◌, ◌++◌, take, drop, slice_get, is_some, option_map, refl, ap, sym, subst, ◌∙◌, arith, append_assoc}
 use Rattle.std.proofs.lemmas.List.{append-nil, take-append-drop}
-use Rattle.std.specs.Option.{option_or, option_map_or}
+use Rattle.std.specs.Option.{option_or}
 use Rattle.scope_rules.specs.declared.types.capacity.Limits.{Limits}
 use Rattle.scope_rules.specs.declared.types.events.Event.{Event}
-use Rattle.scope_rules.specs.declared.types.events.Event.TheVariants.{Open, Fork}
+use Rattle.scope_rules.specs.declared.types.events.Event.TheVariants.{Fork}
 use Rattle.scope_rules.specs.declared.types.records.Opening.{Opening}
 use Rattle.scope_rules.specs.declared.types.records.Forking.{Forking}
-use Rattle.scope_rules.specs.Search.{latest}
-use Rattle.scope_rules.specs.History.{History, before, followed, scopes, opened_count, opening, forking, is_open, is_fork, opening_of, forking_of}
+use Rattle.scope_rules.specs.History.{History, before, followed, opened_count, opening, forking, is_fork, forking_of}
 use Rattle.scope_rules.specs.Scopes.{closed, unclosed_of, innermost, forked_in, surrounding, around, outer, chain}
-use Rattle.scope_rules.specs.Chains.{IsInward, onward, chain_by}
+use Rattle.scope_rules.specs.Chains.{IsInward, onward}
 use Rattle.scope_rules.specs.Checks.{scope_check}
 use Rattle.scope_rules.specs.Table.{check_of}
 use Rattle.scope_rules.specs.Legal.{Accepts, Legal}
 use Rattle.scope_rules.proofs.Accepted.{checks_at, not_refused, not_not}
 use Rattle.scope_rules.proofs.Owing.{if_refused}
-use Rattle.scope_rules.proofs.Openings.{and_then_some, if_some, numbered_within, opens_it}
+use Rattle.scope_rules.proofs.Openings.{and_then_some, if_some}
 use Rattle.scope_rules.proofs.ChainLaws.{chain_law}
 use Rattle.scope_rules.proofs.Growing.{opening_stays, opening_number, numbered_entry}
 use Rattle.scope_rules.proofs.Searching.{latest_where}

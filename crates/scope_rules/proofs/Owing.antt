@@ -8,7 +8,6 @@ use Rattle.scope_rules.specs.declared.types.records.Forking.{Forking}
 use Rattle.scope_rules.specs.declared.types.events.Event.{Event}
 use Rattle.scope_rules.specs.declared.types.events.Event.TheVariants.{Open, Fork, Reject, Start, Finish, Cancel, Move, Tick, Bind, Unbind, Join, BeginClose, EndClose}
 use Rattle.scope_rules.specs.History.{History, followed, opened_count, forked_count, opening, forking, is_open, is_fork, opening_of, forking_of, scope_numbers, task_numbers}
-use Rattle.scope_rules.specs.Scopes.{closing}
 use Rattle.scope_rules.specs.Checks.{Checked, scope_check, task_check}
 use Rattle.scope_rules.specs.Table.{check_of}
 use Rattle.scope_rules.specs.Load.{weight}

@@ -8,7 +8,7 @@ use Rattle.scope_rules.specs.declared.types.events.Event.TheVariants.{Bind, Unbi
 use Rattle.scope_rules.specs.History.{History, before, followed}
 use Rattle.scope_rules.specs.Bindings.{stacked, stack, without_last}
 use Rattle.scope_rules.specs.StackSteps.{height_after}
-use Rattle.scope_rules.proofs.Pushing.{before_push, before_all, before_last}
+use Rattle.scope_rules.proofs.Pushing.{before_all, before_last}
 use Rattle.scope_rules.proofs.Stacks.{stack_more, length_stacked}
 
 get_last : {A : Type 0} (xs : List A) (x : A) → slice_get (xs ++ x ∷ []) (length xs) ≡ Some x

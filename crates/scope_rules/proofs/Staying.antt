@@ -1,8 +1,7 @@
 -- A cancelled scope of a legal history stays cancelled, with its cause.
 use Rattle.std.proofs.Common.{◌≡◌, ℕ, zero, suc, ◌+◌, ◌<◌, ◌≤◌, Bool, true, false, cond, Option, Some, None, option_map, is_some, List, [], ◌∷◌, length, slice_get, nat_le, refl, ap, sym, subst, ◌∙◌, arith, inl, inr, ◌⊎◌}
 use Rattle.std.proofs.lemmas.Bool.{leb-true, le-leb}
-use Rattle.std.proofs.lemmas.Option.{slice_get_within}
-use Rattle.std.specs.Option.{option_and_then, option_or, option_map_or}
+use Rattle.std.specs.Option.{option_and_then, option_or}
 use Rattle.scope_rules.specs.declared.types.capacity.Limits.{Limits}
 use Rattle.scope_rules.specs.declared.types.answers.Cause.{Cause}
 use Rattle.scope_rules.specs.declared.types.answers.CauseKind.{CauseKind}
@@ -11,7 +10,7 @@ use Rattle.scope_rules.specs.declared.types.events.Event.TheVariants.{Tick}
 use Rattle.scope_rules.specs.declared.types.records.OwnCancel.{OwnCancel}
 use Rattle.scope_rules.specs.declared.types.records.Opening.{Opening}
 use Rattle.scope_rules.specs.declared.types.records.Cut.{Cut}
-use Rattle.scope_rules.specs.History.{History, before, followed, opening, is_open, opening_of}
+use Rattle.scope_rules.specs.History.{History, before, followed, opening}
 use Rattle.scope_rules.specs.Scopes.{surrounding, outer}
 use Rattle.scope_rules.specs.Cancels.{own, own_at, kind_by, own_cut, cut, cause}
 use Rattle.scope_rules.specs.Chains.{onward, outwards, chain_by, nearer, earliest_on, cut_by}
@@ -19,7 +18,7 @@ use Rattle.scope_rules.specs.Legal.{Legal}
 use Rattle.scope_rules.proofs.Searching.{earliest_where}
 use Rattle.scope_rules.proofs.Openings.{and_then_some, if_some}
 use Rattle.scope_rules.proofs.Pushing.{before_push}
-use Rattle.scope_rules.proofs.Growing.{own_grows, opening_stays, numbered_entry, opening_place}
+use Rattle.scope_rules.proofs.Growing.{own_grows, opening_stays}
 use Rattle.scope_rules.proofs.Nesting.{IsOpened, outer_opened, opened_before, opened_some, same_onward}
 use Rattle.scope_rules.proofs.Earlier.{opening_within}
 

@@ -1,5 +1,5 @@
 -- What actors see bound.
-use Rattle.std.specs.Prelude.{ℕ, zero, suc, ◌+◌, ◌-◌, ◌==◌, ◌&&◌, Bool, false, not, nat_le, Option, Some, None, List, [], ◌∷◌, ◌++◌, length, take, slice_get, fold, if◌then◌else◌}
+use Rattle.std.specs.Prelude.{ℕ, zero, suc, ◌-◌, ◌==◌, ◌&&◌, Bool, false, not, nat_le, Option, Some, None, List, [], ◌∷◌, ◌++◌, length, take, slice_get, fold, if◌then◌else◌}
 use Rattle.std.specs.Option.{option_map_or, option_or}
 use Rattle.std.specs.List.{list_any}
 use Rattle.scope_rules.specs.Search.{some_below}

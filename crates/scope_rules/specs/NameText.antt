@@ -1,6 +1,7 @@
 -- What the text of a name is.
-use Rattle.std.specs.Prelude.{◌≡◌, ℕ, ◌-◌, ◌≤◌, Bool, false, true, ◌&&◌, ◌||◌, ◌==◌, nat_le, List, [], ◌∷◌, length, take, drop, replicate}
+use Rattle.std.specs.Prelude.{ℕ, ◌-◌, Bool, false, ◌&&◌, ◌||◌, ◌==◌, nat_le, List, [], ◌∷◌, ◌++◌, length, take, replicate}
 use Rattle.std.specs.List.{list_all}
+use Rattle.std.specs.Str.{bytes_eq}
 use Rattle.scope_rules.specs.declared.types.names.TheConstants.{NAME_LIMIT}
 
 -- a byte from `a` to `z`
@@ -19,12 +20,10 @@ begins_with_letter (b ∷ bs) = is_letter b
 unfoldable pub is_name : List ℕ → Bool
 is_name bs = nat_le (length bs) NAME_LIMIT && begins_with_letter bs && list_all is_inner bs
 
--- how a name lies in its 24 bytes: its text, then zeros
-pub record StoredText (len : ℕ) (bytes : List ℕ) : Type 0 where
-  pub room : length bytes ≡ NAME_LIMIT
-  pub fits : len ≤ NAME_LIMIT
-  pub named : is_name (take len bytes) ≡ true
-  pub padded : drop len bytes ≡ replicate (NAME_LIMIT - len) 0
+-- a text and the zeros that fill it up to the bytes of a name
+unfoldable pub filled_up : List ℕ → List ℕ
+filled_up text = text ++ replicate (NAME_LIMIT - length text) 0
 
-unfoldable pub IsStored : ℕ → List ℕ → Type 0
-IsStored len bytes = StoredText len bytes
+-- whether the first `len` of the bytes are a name, and the bytes are that name filled up
+unfoldable pub is_stored : ℕ → List ℕ → Bool
+is_stored len bytes = nat_le len NAME_LIMIT && is_name (take len bytes) && bytes_eq bytes (filled_up (take len bytes))

@@ -1,5 +1,5 @@
 -- How far tasks have come, what they gave, and whether a scope may be joined.
-use Rattle.std.specs.Prelude.{ℕ, ◌==◌, ◌&&◌, ◌||◌, Bool, true, false, not, Option, Some, None, Ok, Err, List, length, slice_get, count_by, if◌then◌else◌}
+use Rattle.std.specs.Prelude.{ℕ, ◌==◌, ◌&&◌, ◌||◌, Bool, true, false, not, Option, Some, None, Ok, Err, length, slice_get, count_by, if◌then◌else◌}
 use Rattle.std.specs.Option.{option_and_then, option_map_or}
 use Rattle.std.specs.List.{list_any}
 use Rattle.scope_rules.specs.declared.types.events.Event.{Event}

@@ -6,7 +6,7 @@ use Rattle.std.specs.List.{list_all}
 use Rattle.std.proofs.Props.{props}
 use Rattle.std.proofs.Math.Logic.{∥∥₁_elim}
 use Rattle.std.proofs.lemmas.Bool.Decides.{nat_tests}
-use Rattle.scope_rules.specs.NameText.{IsStored, is_name}
+use Rattle.scope_rules.specs.NameText.{is_name}
 use Rattle.scope_rules.specs.Names.{text_of}
 use Rattle.scope_rules.specs.declared.types.names.Name.{Name}
 use Rattle.scope_rules.specs.declared.types.values.Value.{Value}
@@ -14,6 +14,7 @@ use Rattle.scope_rules.specs.declared.types.values.Value.TheVariants.{Num, Text}
 use Rattle.scope_rules.specs.declared.types.joiners.Policy.{Policy}
 use Rattle.scope_rules.specs.declared.types.joiners.Policy.TheVariants.{All, Any, AwaitAll, AwaitOk, Until}
 use Rattle.scope_rules.specs.declared.types.joiners.Rule.TheVariants.{FailuresAtLeast, SuccessesAtLeast, SumAtLeast}
+use Rattle.scope_rules.proofs.StoredNames.{stored_parts}
 use Rattle.script_lines.specs.Numbers.{is_numeral, has_no_needless_zero, number_said, small_said, moment_said, integer_said}
 use Rattle.script_lines.specs.Words.{name_said, value_said}
 use Rattle.script_lines.specs.Joiners.{after, rule_said, policy_said}
@@ -29,10 +30,9 @@ pub moment_read : (n : ℕ) → n < 2 ^ 64 → moment_said (decimal n) ≡ Some 
 moment_read n small = printed_number_is_read 18446744073709551615 n (omega (arith, small)) small
 
 pub named_text : (name : Name) → is_name (text_of name) ≡ true
-unfolding IsStored
 named_text name =
     let test : IsProp (is_name (text_of name) ≡ true) = hlevel props in
-    ∥∥₁_elim name.stored test (λ s. s.named)
+    ∥∥₁_elim name.stored test (λ s. (stored_parts name.len name.bytes s).named)
 
 pub name_read : (name : Name) → name_said (text_of name) ≡ Some name
 name_read name = name_said_some (text_of name) name (named_text name) refl

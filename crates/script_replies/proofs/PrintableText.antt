@@ -11,9 +11,10 @@ use Rattle.std.specs.Fmt.{decimal, signed_decimal, digits, digits_onto, digit_gl
 use Rattle.std.specs.List.{list_all, flat_map}
 use Rattle.std.specs.Prelude.{ℤ, pos, negsuc}
 use Rattle.std.specs.Str.{IsUtf8}
-use Rattle.scope_rules.specs.NameText.{IsStored, is_inner, is_name}
+use Rattle.scope_rules.specs.NameText.{is_inner, is_name, is_stored}
 use Rattle.scope_rules.specs.Names.{text_of}
 use Rattle.scope_rules.specs.declared.types.names.Name.{Name}
+use Rattle.scope_rules.proofs.StoredNames.{stored_parts}
 use Rattle.script_replies.specs.Printable.{is_printable}
 
 -- the bytes are all printable
@@ -54,9 +55,8 @@ is_name_shows : (bs : List ℕ) → is_name bs ≡ true → Shows bs
 unfolding is_name
 is_name_shows bs h = inner_text_shows bs (grind (arith, common_steps))
 
-stored_shows : (len : ℕ) (bytes : List ℕ) → IsStored len bytes → Shows (take len bytes)
-unfolding IsStored
-stored_shows len bytes s = is_name_shows _ s.named
+stored_shows : (len : ℕ) (bytes : List ℕ) → is_stored len bytes ≡ true → Shows (take len bytes)
+stored_shows len bytes s = is_name_shows _ (stored_parts len bytes s).named
 
 pub name_shows : (name : Name) → Shows (text_of name)
 name_shows name =

@@ -1,6 +1,6 @@
 ghost use Rattle.std.specs.Prelude.{◌≡◌, ◌<◌, ◌↔◌, IsSome, IfSome, IsTrue, Some, length, ◌≤◌};
 ghost use Rattle.std.specs.List.{list_all};
-ghost use Rattle.scope_rules.specs.NameText.{IsStored, is_name, is_inner, is_letter, begins_with_letter};
+ghost use Rattle.scope_rules.specs.NameText.{is_stored, is_name, is_inner, is_letter, begins_with_letter};
 
 use std::fmt;
 
@@ -13,7 +13,7 @@ pub const NAME_LIMIT: usize = 24;
 pub struct Name {
     len: usize,
     bytes: [u8; NAME_LIMIT],
-    ghost stored: { ∥ IsStored len bytes ∥₁ },
+    ghost stored: { ∥ IsTrue (is_stored len bytes) ∥₁ },
 }
 
 impl Name {

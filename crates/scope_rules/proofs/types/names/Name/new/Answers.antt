@@ -2,7 +2,8 @@
 use Rattle.std.proofs.Common.{◌≡◌, ℕ, ◌+◌, ◌-◌, ◌<◌, ◌++◌, [], ◌∷◌, List, length, take, drop, set, replicate, get_or, ap, sym, ◌∙◌, add-one, arith, true}
 use Rattle.std.proofs.lemmas.List.{length-set, drop-set-lt, drop-drop, drop-replicate, take_all}
 use Rattle.std.proofs.Math.Seq.{take-suc-set, take-suc}
-use Rattle.scope_rules.specs.NameText.{IsStored, is_name}
+use Rattle.scope_rules.specs.NameText.{is_name}
+use Rattle.scope_rules.proofs.StoredNames.{stored_passes}
 use Rattle.scope_rules.proofs.types.names.Name.new.Goals as goal
 
 step_copied : (bytes text : List ℕ) (i : ℕ) → i < length bytes → i < length text → take i bytes ≡ take i text
@@ -27,16 +28,15 @@ loop-i-preserved c = record {
 }
 
 pub invariant_of-result : goal.invariant_of-result
-unfolding IsStored
 invariant_of-result c =
     let len : c.loop-i.i ≡ length c.args.text.now = omega arith in
     let copied : take (length c.args.text.now) c.loop-i.bytes ≡ c.args.text.now = rw len at c.loop-i.invariant.copied ∙ take_all _ _ (omega arith) in
     let named : is_name (take (length c.args.text.now) c.loop-i.bytes) ≡ true = ap is_name copied ∙ cc in
     record {
-      stored = ∣ record {
+      stored = ∣ stored_passes _ _ (record {
         room = c.loop-i.invariant.room;
         fits = omega (arith, c.is_name.ensures.fits cc);
         named = named;
         padded = rw len at c.loop-i.invariant.padded;
-      } ∣₁;
+      }) ∣₁;
     }
