@@ -4,13 +4,12 @@ use super::{name, pages};
 use scope_rules::{Name, Refusal, Value};
 use scoped_env::Env;
 use std::alloc::{AllocError, Global};
-use std::process::Abort;
 use std::test::Fail;
 use std::thread;
 
 /// One call on an environment, which goes by its number: 0 is the one that a table begins with,
 /// and each `Inherit` makes the next. `Sees` and `Counts` say what must be found there.
-#[derive(Clone, Copy, Debug)]
+#[derive(Clone, Copy)]
 enum Step {
     Inherit(usize),
     Bind(usize, &'static str, i64),
@@ -104,24 +103,18 @@ const ORPHANS: [Step; 20] = [
     Refused(3),
 ];
 
-/// Takes the step at its environment, and gives the one that it made.
-fn act(rt: &impl Abort, env: &mut Env, step: Step) -> Result<Option<Env>, Fail> {
-    match step {
-        Inherit(_) => return Ok(Some(env.inherit()?)),
-        Bind(_, key, number) => env.bind(name(key.as_bytes())?, Value::Num(number))?,
-        Unbind(_) => assert_eq!(rt; env.unbind(), Ok(()), "{step:?}"),
-        Refused(_) => assert_eq!(rt; env.unbind(), Err(Refusal::NotBound), "{step:?}"),
-        Sees(_, key, number) => {
-            let found = env.get(name(key.as_bytes())?);
-            assert_eq!(rt; found, number.map(Value::Num), "{step:?}");
-        }
+/// Whether the call that the step makes at its environment goes as it wants.
+fn goes(env: &mut Env, step: Step) -> Result<bool, Fail> {
+    Ok(match step {
+        Bind(_, key, number) => env.bind(name(key.as_bytes())?, Value::Num(number)).is_ok(),
+        Unbind(_) => env.unbind() == Ok(()),
+        Refused(_) => env.unbind() == Err(Refusal::NotBound),
+        Sees(_, key, number) => env.get(name(key.as_bytes())?) == number.map(Value::Num),
         Counts(_, depth, own) => {
-            assert_eq!(rt; [env.depth(), env.stack_len()], [depth, own], "{step:?}");
-            assert_eq!(rt; env.stack().len(), own, "{step:?}");
+            [env.depth(), env.stack_len(), env.stack().len()] == [depth, own, own]
         }
-        Leave(_) => {}
-    }
-    Ok(None)
+        Inherit(_) | Leave(_) => true,
+    })
 }
 
 fn place_of(step: Step) -> usize {
@@ -131,21 +124,24 @@ fn place_of(step: Step) -> usize {
     }
 }
 
-fn take(rt: &impl Abort, envs: &mut Vec<Option<Env>>, step: Step) -> Result<(), Fail> {
+/// Takes the step at its environment, which may make one more, or leave; and says whether it went as
+/// the step wants.
+fn take(envs: &mut Vec<Option<Env>>, step: Step) -> Result<bool, Fail> {
     let Some(place) = envs.get_mut(place_of(step)) else {
         return Err("no such environment")?;
     };
-    if let Leave(_) = step {
-        *place = None;
-        return Ok(());
-    }
     let Some(env) = place else {
         return Err("the environment is gone")?;
     };
-    if let Some(child) = act(rt, env, step)? {
-        envs.push(Some(child))?;
+    match step {
+        Inherit(_) => {
+            let child = env.inherit()?;
+            envs.push(Some(child))?;
+        }
+        Leave(_) => *place = None,
+        _ => return goes(env, step),
     }
-    Ok(())
+    Ok(true)
 }
 
 #[test]
@@ -157,8 +153,8 @@ fn environments_see_what_their_tables_say(rt: HostRuntime) -> Result<(), Fail> {
     ] {
         let mut envs = Vec::new(rt.alloc());
         envs.push(Some(Env::new(rt.alloc())))?;
-        for step in steps {
-            take(&rt, &mut envs, *step)?;
+        for (at, step) in steps.iter().enumerate() {
+            assert!(rt; take(&mut envs, *step)?, "step {at}");
         }
     }
     Ok(())
@@ -192,24 +188,29 @@ fn unbind_all(env: &mut Env) -> usize {
     count
 }
 
+/// An environment that inherited a thousand pairs of one key and has as many of another.
+fn two_thousand(alloc: Global, below: Name, above: Name) -> Result<Env, AllocError> {
+    let mut parent = Env::new(alloc);
+    bind_a_thousand(&mut parent, below)?;
+    let mut env = parent.inherit()?;
+    bind_a_thousand(&mut env, above)?;
+    Ok(env)
+}
+
 /// Two thousand pairs take 35 pages, and a thousand heirs would take 35,000 if each had a copy.
 #[test]
 fn a_thousand_pairs_are_shared(rt: HostRuntime) -> Result<(), Fail> {
     let (user, trace) = (name(b"user")?, name(b"trace")?);
-    let mut parent = Env::new(rt.alloc());
-    bind_a_thousand(&mut parent, user)?;
-    let mut env = parent.inherit()?;
-    bind_a_thousand(&mut env, trace)?;
+    let mut env = two_thousand(rt.alloc(), user, trace)?;
     let before = pages(&rt);
     let heirs = heirs(rt.alloc(), &mut env)?;
     assert!(rt; pages(&rt) < before.saturating_add(2000));
     for heir in &heirs {
-        assert_eq!(rt; [heir.depth(), heir.stack_len()], [2000, 0]);
-        assert_eq!(rt; heir.get(user), Some(Value::Num(999)));
+        let found = (heir.depth(), heir.stack_len(), heir.get(user));
+        assert_eq!(rt; found, (2000, 0, Some(Value::Num(999))));
     }
-    assert_eq!(rt; unbind_all(&mut env), 1000);
-    assert_eq!(rt; env.get(user), Some(Value::Num(999)));
-    assert_eq!(rt; env.get(trace), None);
+    let found = (unbind_all(&mut env), env.get(user), env.get(trace));
+    assert_eq!(rt; found, (1000, Some(Value::Num(999)), None));
     Ok(())
 }
 

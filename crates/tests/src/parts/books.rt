@@ -1,9 +1,6 @@
 //! The book and the plain evaluator: what a script of commands does not carry.
 
-ghost use Rattle.std.specs.Prelude.{◌≡◌};
-ghost use Rattle.scope_rules.specs.Joining.{meets};
-
-use super::joiners::{Kind, end_of, hand_in, has_two_successes};
+use super::joiners::{Kind, end_of, hand_in, has_two_successes, joiner_that_adds};
 use super::{boxed, name};
 use join_rules::{CompletionTest, Joiner, Progress, UntilTest};
 use scope_book::BookState;
@@ -13,7 +10,7 @@ use scope_rules::{
     AnyEnd, Base, Binding, CauseKind, Completion, Expiry, Label, Limits, Name, Options, Outcome,
     Policy, Refusal, Rule, ScopeId, State, TaskId, Value, Verdict,
 };
-use std::alloc::Global;
+use std::alloc::{AllocError, Global};
 use std::process::Abort;
 use std::sync::Arc;
 use std::sync::atomic::{AtomicU64, Ordering};
@@ -75,13 +72,11 @@ fn is_list(outcome: &Outcome, marks: &str) -> bool {
         && states.iter().map(|row| row.task).eq(1..=3)
 }
 
-/// A book in which main has a scope with the joiner, and three tasks of it ended so.
-fn book_of(alloc: Global, joiner: Joiner, ends: &[(TaskId, Kind)]) -> Result<Book, Fail> {
-    let mut book: Book = BookState::new(alloc, Limits::GREATEST);
-    let scope = open(&mut book, joiner)?;
-    fork_three(&mut book, scope)?;
-    finish_all(&mut book, ends)?;
-    Ok(book)
+/// Main opens a scope with the joiner, and three tasks of it end so.
+fn run_three(book: &mut Book, joiner: Joiner, ends: &[(TaskId, Kind)]) -> Result<(), Fail> {
+    let scope = open(book, joiner)?;
+    fork_three(book, scope)?;
+    finish_all(book, ends)
 }
 
 /// The joiner cancelled scope 1 at the place, or nothing did, and its join lists the marks.
@@ -115,70 +110,52 @@ fn a_closure_decides_until_two_succeed(rt: HostRuntime) -> Result<(), Fail> {
             |list: &[Completion]| has_two_successes(list),
         )?;
         let joiner = Joiner::Until(UntilTest::new(Rule::SuccessesAtLeast(2), test));
-        let mut book = book_of(rt.alloc(), joiner, ends.as_slice())?;
+        let mut book: Book = BookState::new(rt.alloc(), Limits::GREATEST);
+        run_three(&mut book, joiner, ends.as_slice())?;
         check_until(&rt, &mut book, place, marks)?;
     }
     Ok(())
 }
 
-/// The joiner comes back where no task 4 runs, and what it is handed its closure is shown.
-fn check_handed_back(
-    rt: &impl Abort,
-    alloc: Global,
-    joiner: Joiner,
-    shown: &Arc<AtomicU64, Global>,
-) -> Result<(), Fail> {
+/// The joiner that comes back from an open by a task that does not run.
+fn handed_back(alloc: Global, joiner: Joiner) -> Result<Joiner, Fail> {
     let mut book: Book = BookState::new(alloc, Limits::GREATEST);
-    let joiner = match book.open(4, joiner, OPTIONS) {
-        Err((Refusal::NoTask, joiner)) => joiner,
-        _ => return Err("no task 4 runs")?,
-    };
-    let mut progress = Progress::new(alloc, joiner);
-    assert_eq!(rt; hand_in(&mut progress, Ok(Value::Num(1))), Ok(false));
-    assert_eq!(rt; shown.load(Ordering::SeqCst), 1);
-    Ok(())
+    match book.open(4, joiner, OPTIONS) {
+        Err((Refusal::NoTask, joiner)) => Ok(joiner),
+        _ => Err("no task 4 runs")?,
+    }
 }
 
-/// The closure adds up how long the lists are, by which the joiner that comes back is known.
+/// The joiner that comes back is known by what its closure adds up.
 #[test]
 fn a_refused_open_hands_the_very_joiner_back(rt: HostRuntime) -> Result<(), Fail> {
     let shown = Arc::new(rt.alloc(), AtomicU64::new(0))?;
-    let theirs = Arc::try_clone(&shown)?;
-    let test: CompletionTest = boxed(
-        rt.alloc(),
-        move |list: &[Completion]|
-            ensures { result ≡ meets (Rule.SuccessesAtLeast 2) list.now }
-        {
-            theirs.fetch_add(list.len() as u64, Ordering::SeqCst);
-            has_two_successes(list)
-        },
-    )?;
-    let joiner = Joiner::Until(UntilTest::new(Rule::SuccessesAtLeast(2), test));
-    check_handed_back(&rt, rt.alloc(), joiner, &shown)
+    let joiner = joiner_that_adds(rt.alloc(), Arc::try_clone(&shown)?)?;
+    let mut progress = Progress::new(rt.alloc(), handed_back(rt.alloc(), joiner)?);
+    let fires = hand_in(&mut progress, Ok(Value::Num(1)));
+    assert_eq!(rt; (fires, shown.load(Ordering::SeqCst)), (Ok(false), 1));
+    Ok(())
 }
 
-/// A book in which main has bound a key twice and unbound it once, and a scope was opened, cancelled
-/// and closed at moment 7.
-fn used_book(alloc: Global, limits: Limits) -> Result<Book, Fail> {
-    let mut book: Book = BookState::new(alloc, limits);
-    let key = name(b"user")?;
-    book.bind(0, key, Value::Num(1))?;
-    book.bind(0, key, Value::Num(2))?;
+/// Main binds the key twice and unbinds it once; a scope is opened, cancelled and closed at moment 7.
+fn use_book(book: &mut Book, key: Name) -> Result<(), Fail> {
+    for number in 1..=2i64 {
+        book.bind(0, key, Value::Num(number))?;
+    }
     book.unbind(0)?;
-    let scope = open(&mut book, Joiner::AwaitAll)?;
+    let scope = open(book, Joiner::AwaitAll)?;
     book.tick(7)?;
     book.cancel(scope)?;
     book.begin_close(0, scope)?;
     book.end_close(0, scope)?;
-    Ok(book)
+    Ok(())
 }
 
 /// What the book above answers once it is retired, and then opens.
-fn check_retired(rt: &impl Abort, book: &mut Book, limits: Limits) -> Result<(), Fail> {
-    assert_eq!(rt; book.limits(), limits);
-    assert_eq!(rt; book.moment(), 7);
-    assert_eq!(rt; book.cause(1), Err(Refusal::Retired));
-    assert_eq!(rt; book.binding(0, &name(b"user")?), Ok(Value::Num(1)));
+fn check_retired(rt: &impl Abort, book: &mut Book, key: Name) -> Result<(), Fail> {
+    let found = (book.moment(), book.cause(1), book.binding(0, &key));
+    let wanted = (7, Err(Refusal::Retired), Ok(Value::Num(1)));
+    assert_eq!(rt; found, wanted);
     assert_eq!(rt; open(book, Joiner::AwaitAll)?, 2);
     Ok(())
 }
@@ -186,51 +163,71 @@ fn check_retired(rt: &impl Abort, book: &mut Book, limits: Limits) -> Result<(),
 #[test]
 fn a_book_goes_on_from_a_base(rt: HostRuntime) -> Result<(), Fail> {
     let limits = Limits::new(2, 2, 12).ok_or("limits")?;
-    let mut book = used_book(rt.alloc(), limits)?;
+    let key = name(b"user")?;
+    let mut book: Book = BookState::new(rt.alloc(), limits);
+    use_book(&mut book, key)?;
     let base = book.retire(0)?;
-    assert_eq!(rt; (base.moment(), base.scopes(), base.tasks()), (7, 1, 0));
-    assert_eq!(rt; base.binds().len(), 1);
-    check_retired(&rt, &mut book, limits)?;
+    let parts = (
+        base.moment(),
+        base.scopes(),
+        base.tasks(),
+        base.binds().len(),
+    );
+    assert_eq!(rt; parts, (7, 1, 0, 1));
+    check_retired(&rt, &mut book, key)?;
     let mut again: Book = BookState::with_base(rt.alloc(), limits, base)?;
-    check_retired(&rt, &mut again, limits)
+    assert_eq!(rt; [book.limits(), again.limits()], [limits; 2]);
+    check_retired(&rt, &mut again, key)
 }
 
 /// Fifty pairs of one key with the numbers 0 to 49, each below one of another key.
-fn hundred_pairs(alloc: Global) -> Result<Vec<Binding>, Fail> {
-    let (user, trace) = (name(b"user")?, name(b"trace")?);
+fn hundred_pairs(alloc: Global, user: Name, trace: Name) -> Result<Vec<Binding>, AllocError> {
     let mut pairs = Vec::new(alloc);
-    for number in 0..50i64 {
-        let value = Value::Num(number);
-        pairs.push(Binding { key: user, value })?;
-        let value = Value::Text(user);
-        pairs.push(Binding { key: trace, value })?;
+    for place in 0..100i64 {
+        let (key, value) = if place % 2 == 0 {
+            (user, Value::Num(place / 2))
+        } else {
+            (trace, Value::Text(user))
+        };
+        pairs.push(Binding { key, value })?;
     }
     Ok(pairs)
 }
 
-#[test]
-fn a_realm_begins_with_a_base_of_a_hundred_pairs(rt: HostRuntime) -> Result<(), Fail> {
-    let base = Base::new(9, 4294967294, 3, hundred_pairs(rt.alloc())?);
-    let mut realm = Plain::with_base(rt.alloc(), Limits::GREATEST, base)?;
-    assert_eq!(rt; realm.moment(), 9);
-    let user = name(b"user")?;
-    assert_eq!(rt; realm.binding(0, &user), Ok(Value::Num(49)));
-    assert_eq!(rt; realm.binding(0, &name(b"trace")?), Ok(Value::Text(user)));
-    assert_eq!(rt; realm.stage(3), Err(Refusal::Retired));
+/// Main sees the last pairs of both keys, and unbinds all hundred.
+fn check_pairs(rt: &impl Abort, realm: &mut Plain, user: Name, trace: Name) {
+    let found = [realm.binding(0, &user), realm.binding(0, &trace)];
+    assert_eq!(rt; found, [Ok(Value::Num(49)), Ok(Value::Text(user))]);
     for count in 0..100u32 {
         assert_eq!(rt; realm.unbind(0), Ok(()), "{count}");
     }
     assert_eq!(rt; realm.unbind(0), Err(Refusal::NotBound));
+}
+
+#[test]
+fn a_realm_begins_with_a_base_of_a_hundred_pairs(rt: HostRuntime) -> Result<(), Fail> {
+    let (user, trace) = (name(b"user")?, name(b"trace")?);
+    let base = Base::new(9, 4294967294, 3, hundred_pairs(rt.alloc(), user, trace)?);
+    let mut realm = Plain::with_base(rt.alloc(), Limits::GREATEST, base)?;
+    assert_eq!(rt;
+        (realm.moment(), realm.stage(3)),
+        (9, Err(Refusal::Retired))
+    );
+    check_pairs(&rt, &mut realm, user, trace);
     // One number of a scope is left.
     for answer in [Ok(4294967295), Err(Refusal::TooMany)] {
         assert_eq!(rt; realm.open(0, Policy::AwaitAll, OPTIONS), answer);
     }
-    let load = Limits::new(1, 1, 99).ok_or("limits")?;
-    let more = Base::new(0, 0, 0, hundred_pairs(rt.alloc())?);
-    assert_eq!(rt;
-        Plain::with_base(rt.alloc(), load, more).err(),
-        Some(Refusal::TooMany)
-    );
+    Ok(())
+}
+
+#[test]
+fn a_base_with_more_pairs_than_load_is_refused(rt: HostRuntime) -> Result<(), Fail> {
+    let limits = Limits::new(1, 1, 99).ok_or("limits")?;
+    let key = name(b"user")?;
+    let base = Base::new(0, 0, 0, hundred_pairs(rt.alloc(), key, key)?);
+    let refused = Plain::with_base(rt.alloc(), limits, base).err();
+    assert_eq!(rt; refused, Some(Refusal::TooMany));
     Ok(())
 }
 

@@ -6,7 +6,7 @@ ghost use Rattle.scope_rules.specs.Joining.{meets, has_succeeded};
 use super::{boxed, name, pages};
 use join_rules::{CompletionTest, Joiner, Progress, UntilTest};
 use scope_rules::{Completion, End, Fault, Policy, Refusal, Rule, Value};
-use std::alloc::Global;
+use std::alloc::{AllocError, Global};
 use std::process::Abort;
 use std::sync::Arc;
 use std::sync::atomic::{AtomicU64, Ordering};
@@ -14,7 +14,7 @@ use std::test::Fail;
 use std::thread;
 
 /// An end: with a number, with a text, or with a fault.
-#[derive(Clone, Copy, Debug)]
+#[derive(Clone, Copy)]
 pub enum Kind {
     Number(i64),
     Text,
@@ -81,7 +81,7 @@ fn check_marks(
     assert_eq!(rt; ends.len(), marks.len());
     for (kind, mark) in ends.iter().zip(marks.as_bytes()) {
         let fires = hand_in(progress, end_of(*kind)?)?;
-        assert_eq!(rt; fires, *mark == b'x', "{ends:?}");
+        assert_eq!(rt; fires, *mark == b'x', "{marks}");
     }
     Ok(())
 }
@@ -245,28 +245,33 @@ pub fn has_two_successes(list: &[Completion]) -> bool
     found == 2
 }
 
-/// The closure adds up how long the lists are that it is shown: after each completion once the
-/// number of completions.
-#[test]
-fn a_closure_is_shown_all_once_for_each_completion(rt: HostRuntime) -> Result<(), Fail> {
-    let shown = Arc::new(rt.alloc(), AtomicU64::new(0))?;
-    let theirs = Arc::try_clone(&shown)?;
+/// A joiner until two succeed, whose closure adds up how long the lists are that it is shown.
+pub fn joiner_that_adds(
+    alloc: Global,
+    shown: Arc<AtomicU64, Global>,
+) -> Result<Joiner, AllocError> {
     let test: CompletionTest = boxed(
-        rt.alloc(),
+        alloc,
         move |list: &[Completion]|
             ensures { result ≡ meets (Rule.SuccessesAtLeast 2) list.now }
         {
-            theirs.fetch_add(list.len() as u64, Ordering::SeqCst);
+            shown.fetch_add(list.len() as u64, Ordering::SeqCst);
             has_two_successes(list)
         },
     )?;
-    let joiner = Joiner::Until(UntilTest::new(Rule::SuccessesAtLeast(2), test));
+    Ok(Joiner::Until(UntilTest::new(Rule::SuccessesAtLeast(2), test)))
+}
+
+/// The closure is shown all completions, once after each.
+#[test]
+fn a_closure_is_shown_all_once_for_each_completion(rt: HostRuntime) -> Result<(), Fail> {
+    let shown = Arc::new(rt.alloc(), AtomicU64::new(0))?;
+    let joiner = joiner_that_adds(rt.alloc(), Arc::try_clone(&shown)?)?;
     let mut progress = Progress::new(rt.alloc(), joiner);
     for (kind, mark) in [(ONE, false), (BAD, false), (Text, true), (BAD, true)] {
         let fires = hand_in(&mut progress, end_of(kind)?)?;
-        assert_eq!(rt; fires, mark);
         let sum = shown.swap(0, Ordering::SeqCst);
-        assert_eq!(rt; sum, u64::from(progress.completions()));
+        assert_eq!(rt; (fires, sum), (mark, u64::from(progress.completions())));
     }
     Ok(())
 }
@@ -297,14 +302,24 @@ fn a_closure_may_ask_for_short_lists(rt: HostRuntime) -> Result<(), Fail> {
     check_marks(&rt, &mut progress, &[ONE, BAD, Text, BAD], "..xx")
 }
 
+/// A progress whose closure says cancel of every list.
+#[tactic(auto, unfolding(scope_rules::specs::Joining::meets))]
+fn always_fires(alloc: Global) -> Result<Progress, AllocError> {
+    let test: CompletionTest = boxed(
+        alloc,
+        |list: &[Completion]|
+            ensures { result ≡ meets (Rule.SuccessesAtLeast 0) list.now }
+        { true },
+    )?;
+    let joiner = Joiner::Until(UntilTest::new(Rule::SuccessesAtLeast(0), test));
+    Ok(Progress::new(alloc, joiner))
+}
+
 /// A completion takes 56 bytes, so a list of them all takes 896 pages, and one that grew some 2,000.
 #[test]
-#[tactic(auto, unfolding(scope_rules::specs::Joining::meets))]
 fn a_list_grows_by_itself_and_takes_what_it_needs(rt: HostRuntime) -> Result<(), Fail> {
     for reserved in [0usize, 65_536] {
-        let test: CompletionTest = boxed(rt.alloc(), |_: &[Completion]| true)?;
-        let joiner = Joiner::Until(UntilTest::new(Rule::SuccessesAtLeast(0), test));
-        let mut progress = Progress::new(rt.alloc(), joiner);
+        let mut progress = always_fires(rt.alloc())?;
         let before = pages(&rt);
         progress.reserve(reserved)?;
         check_long(&rt, &mut progress, (BAD, ONE), (1, 65_536))?;

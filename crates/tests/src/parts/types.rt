@@ -2,6 +2,7 @@
 
 use super::name;
 use scope_rules::{AnyEnd, Catalog, Due, End, Fault, Label, Limits, Name, Refusal, Value};
+use std::process::Abort;
 use std::test::Fail;
 
 #[test]
@@ -22,30 +23,33 @@ fn names_by_their_alphabet(rt: HostRuntime) {
     }
 }
 
+/// Each refusal with its line of reply.
+const REFUSALS: [(Refusal, &str); 20] = [
+    (Refusal::NoScope, "refused 1 no-scope"),
+    (Refusal::NotOwner, "refused 2 not-owner"),
+    (Refusal::Closed, "refused 3 closed"),
+    (Refusal::AlreadyJoined, "refused 4 already-joined"),
+    (Refusal::NotJoined, "refused 5 not-joined"),
+    (Refusal::Structure, "refused 6 structure"),
+    (Refusal::NoTask, "refused 7 no-task"),
+    (Refusal::WrongStage, "refused 8 wrong-stage"),
+    (Refusal::ClockBack, "refused 9 clock-back"),
+    (Refusal::TooMany, "refused 10 too-many"),
+    (Refusal::NotReady, "refused 11 not-ready"),
+    (Refusal::NotBound, "refused 12 not-bound"),
+    (Refusal::Unavailable, "refused 13 unavailable"),
+    (Refusal::NotSuccess, "refused 14 not-success"),
+    (Refusal::NotFailed, "refused 15 not-failed"),
+    (Refusal::Rejected, "refused 16 rejected"),
+    (Refusal::Memory, "refused 17 memory"),
+    (Refusal::BadWord, "refused 18 bad-word"),
+    (Refusal::TooDeep, "refused 19 too-deep"),
+    (Refusal::Retired, "refused 20 retired"),
+];
+
 #[test]
 fn refusals_by_number_and_word(rt: HostRuntime) -> Result<(), Fail> {
-    for (refusal, line) in [
-        (Refusal::NoScope, "refused 1 no-scope"),
-        (Refusal::NotOwner, "refused 2 not-owner"),
-        (Refusal::Closed, "refused 3 closed"),
-        (Refusal::AlreadyJoined, "refused 4 already-joined"),
-        (Refusal::NotJoined, "refused 5 not-joined"),
-        (Refusal::Structure, "refused 6 structure"),
-        (Refusal::NoTask, "refused 7 no-task"),
-        (Refusal::WrongStage, "refused 8 wrong-stage"),
-        (Refusal::ClockBack, "refused 9 clock-back"),
-        (Refusal::TooMany, "refused 10 too-many"),
-        (Refusal::NotReady, "refused 11 not-ready"),
-        (Refusal::NotBound, "refused 12 not-bound"),
-        (Refusal::Unavailable, "refused 13 unavailable"),
-        (Refusal::NotSuccess, "refused 14 not-success"),
-        (Refusal::NotFailed, "refused 15 not-failed"),
-        (Refusal::Rejected, "refused 16 rejected"),
-        (Refusal::Memory, "refused 17 memory"),
-        (Refusal::BadWord, "refused 18 bad-word"),
-        (Refusal::TooDeep, "refused 19 too-deep"),
-        (Refusal::Retired, "refused 20 retired"),
-    ] {
+    for (refusal, line) in REFUSALS {
         let text = format!(in rt.alloc(); "{refusal}")?;
         assert_eq!(rt; text.as_str(), line);
     }
@@ -68,28 +72,38 @@ fn limits_from_one_to_the_greatest(rt: HostRuntime) {
     }
 }
 
+/// The fault with this name.
+fn fault(text: &[u8]) -> Result<End, Fail> {
+    Ok(Err(Fault(name(text)?)))
+}
+
+/// Whether the end fits a task whose label expects the other; without a catalog of such it does.
+fn check_fit(rt: &impl Abort, due: Option<End>, end: End, fits: bool) -> Result<(), Fail> {
+    let label = Label {
+        name: name(b"job")?,
+        due,
+    };
+    let found = [Due::fits(&label, &end), AnyEnd::fits(&label, &end)];
+    assert_eq!(rt; found, [fits, true]);
+    Ok(())
+}
+
 #[test]
 fn ends_that_fit(rt: HostRuntime) -> Result<(), Fail> {
-    let name_of_job = name(b"job")?;
-    let due: End = Ok(Value::Num(7));
-    let other: End = Ok(Value::Num(8));
-    let fault: End = Err(Fault(name_of_job));
+    let (seven, eight): (End, End) = (Ok(Value::Num(7)), Ok(Value::Num(8)));
+    let (job, memory) = (fault(b"job")?, fault(b"memory")?);
+    let (cancelled, left_open) = (fault(b"cancelled")?, fault(b"left-open")?);
     for (expected, end, fits) in [
-        (Some(due), due, true),
-        (Some(due), other, false),
-        (Some(due), fault, false),
-        (Some(due), Err(Fault(name(b"memory")?)), true),
-        (Some(due), Err(Fault(name(b"cancelled")?)), true),
-        (Some(fault), fault, true),
-        (None, due, false),
-        (None, Err(Fault(name(b"left-open")?)), true),
+        (Some(seven), seven, true),
+        (Some(seven), eight, false),
+        (Some(seven), job, false),
+        (Some(seven), memory, true),
+        (Some(seven), cancelled, true),
+        (Some(job), job, true),
+        (None, seven, false),
+        (None, left_open, true),
     ] {
-        let label = Label {
-            name: name_of_job,
-            due: expected,
-        };
-        assert_eq!(rt; Due::fits(&label, &end), fits, "{expected:?} {end:?}");
-        assert!(rt; AnyEnd::fits(&label, &end));
+        check_fit(&rt, expected, end, fits)?;
     }
     Ok(())
 }

@@ -11,7 +11,7 @@ use std::alloc::Global;
 use std::test::Fail;
 
 /// What both are told.
-#[derive(Clone, Copy, Debug)]
+#[derive(Clone, Copy)]
 enum Step {
     /// The actor opens a scope, which lies inside the parent.
     Open(Actor, Option<ScopeId>),
@@ -222,27 +222,23 @@ const PAST: [Step; 4] = [
 #[test]
 fn a_tree_agrees_with_a_realm(rt: HostRuntime) -> Result<(), Fail> {
     let tasks = TWO_TASKS.as_slice();
-    for (first, then, cancelled) in [
-        (tasks, [Cancel(1)].as_slice(), 4),
-        (tasks, [Cancel(2)].as_slice(), 1),
-        (tasks, [Cancel(3)].as_slice(), 1),
-        (tasks, [Cancel(4)].as_slice(), 1),
-        (tasks, [Cancel(5)].as_slice(), 1),
-        (tasks, DEADLINES.as_slice(), 5),
-        (TIE.as_slice(), [].as_slice(), 2),
-        (OLDER.as_slice(), [].as_slice(), 2),
-        (JOINED.as_slice(), [].as_slice(), 0),
-        (MOVED.as_slice(), [].as_slice(), 0),
-        (PAST.as_slice(), [].as_slice(), 1),
+    for (row, first, then, cancelled) in [
+        ("outermost", tasks, [Cancel(1)].as_slice(), 4),
+        ("of a task", tasks, [Cancel(2)].as_slice(), 1),
+        ("of main", tasks, [Cancel(3)].as_slice(), 1),
+        ("shielded", tasks, [Cancel(4)].as_slice(), 1),
+        ("of another task", tasks, [Cancel(5)].as_slice(), 1),
+        ("deadlines", tasks, DEADLINES.as_slice(), 5),
+        ("tie", TIE.as_slice(), [].as_slice(), 2),
+        ("older", OLDER.as_slice(), [].as_slice(), 2),
+        ("joined", JOINED.as_slice(), [].as_slice(), 0),
+        ("moved", MOVED.as_slice(), [].as_slice(), 0),
+        ("past", PAST.as_slice(), [].as_slice(), 1),
     ] {
         let mut beside = Beside::new(rt.alloc());
-        assert!(rt; beside.agrees_after(first)?, "{first:?}");
-        assert!(rt; beside.agrees_after(then)?, "{first:?} {then:?}");
-        assert_eq!(rt;
-            count_cancelled(&beside.tree),
-            cancelled,
-            "{first:?} {then:?}"
-        );
+        assert!(rt; beside.agrees_after(first)?, "{row}");
+        assert!(rt; beside.agrees_after(then)?, "{row}");
+        assert_eq!(rt; count_cancelled(&beside.tree), cancelled, "{row}");
     }
     Ok(())
 }
