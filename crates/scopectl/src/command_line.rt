@@ -7,8 +7,6 @@ mod application;
 mod faults;
 mod help;
 mod settings;
-#[cfg(test)]
-mod tests;
 
 pub use faults::LineFault;
 pub use help::{VERSION_LINE, help_of};
@@ -24,7 +22,7 @@ pub struct CommandLine {
 }
 
 /// The kinds of work.
-#[derive(Clone, Copy, Debug, PartialEq, Eq)]
+#[derive(Clone, Copy)]
 pub enum Job {
     /// Replays the script on standard input, and writes the replies.
     Replay,

@@ -5,7 +5,7 @@ ghost use Rattle.scopectl.specs.Texts.{fault_of_run, line_of};
 use scope_script::ScriptFault;
 
 /// Why the program ends with status 1.
-#[derive(Clone, Copy, Debug, PartialEq, Eq)]
+#[derive(Clone, Copy)]
 pub enum ProgramFault {
     /// Standard input failed.
     Read,

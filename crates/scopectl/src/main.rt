@@ -4,8 +4,6 @@
 mod act;
 mod command_line;
 mod fault;
-#[cfg(test)]
-mod tests;
 
 use act::{act, refuse_words};
 use scope_script::Watched;

@@ -9,7 +9,7 @@ use clap::error::ErrorKind;
 use std::alloc::{AllocError, Global};
 
 /// Why a command line gives no command. A text has its last line's end.
-#[derive(Debug, Drop)]
+#[derive(Drop)]
 pub enum LineFault {
     /// The words ask for help.
     Help,

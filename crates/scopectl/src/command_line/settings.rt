@@ -12,7 +12,7 @@ use scope_rules::types::capacity::{LOAD_LIMIT, SCOPE_LIMIT, TASK_LIMIT};
 use std::alloc::Global;
 
 /// An option that sets one limit of the realm.
-#[derive(Clone, Copy, Debug, PartialEq, Eq)]
+#[derive(Clone, Copy)]
 pub enum Setting {
     Scopes,
     Tasks,
