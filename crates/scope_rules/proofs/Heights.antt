@@ -16,7 +16,7 @@ use Rattle.scope_rules.proofs.StackEvents.{height_kept}
 use Rattle.scope_rules.proofs.Earlier.{opening_event, opening_before, unclosed_before, before_of_before, scope_number}
 use Rattle.scope_rules.proofs.BindingRows.{unbind_free}
 
-range_any : (test : ℕ → Bool) (a k j : ℕ) → j < k → test (a + j) ≡ true → list_any test (range_with_len a k) ≡ true
+pub range_any : (test : ℕ → Bool) (a k j : ℕ) → j < k → test (a + j) ≡ true → list_any test (range_with_len a k) ≡ true
 range_any test a zero j within is = absurd (omega arith)
 range_any test a (suc k) zero within is =
     let same : a + 0 ≡ a = omega arith in
@@ -29,7 +29,7 @@ any_split : (test : ℕ → Bool) (n : ℕ) (ns : List ℕ) → (test n ≡ true
 any_split test n ns (inl here) rest = (n, here)
 any_split test n ns (inr there) rest = rest there
 
-any_where : (test : ℕ → Bool) (ns : List ℕ) → list_any test ns ≡ true → (n : ℕ) × (test n ≡ true)
+pub any_where : (test : ℕ → Bool) (ns : List ℕ) → list_any test ns ≡ true → (n : ℕ) × (test n ≡ true)
 any_where test [] found = absurd cc
 any_where test (n ∷ ns) found = any_split test n ns (or_cases (test n) (list_any test ns) found) (any_where test ns)
 

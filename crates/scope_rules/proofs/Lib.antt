@@ -38,3 +38,13 @@ pub mod ClosingScopes
 pub mod StageSteps
 pub mod InnermostSteps
 pub mod InnermostEnds
+pub mod Timed
+pub mod OwnSteps
+pub mod StateSteps
+pub mod CompletionSteps
+pub mod TallySteps
+pub mod ShiftedChains
+pub mod Tallies
+pub mod Bound
+pub mod NewScopes
+pub mod VerdictSteps

@@ -34,7 +34,7 @@ without_last es e = take-append-le (length es) es (e ∷ []) (omega arith) ∙ t
 longer_by_one : (es : List Event) (e : Event) → length (es ++ e ∷ []) ≡ length es + 1
 longer_by_one es e = length-append es (e ∷ []) ∙ omega arith
 
-some_below_same : (p q : ℕ → Bool) (n : ℕ) → ((i : ℕ) → i < n → p i ≡ q i) → some_below p n ≡ some_below q n
+pub some_below_same : (p q : ℕ → Bool) (n : ℕ) → ((i : ℕ) → i < n → p i ≡ q i) → some_below p n ≡ some_below q n
 unfolding some_below
 some_below_same p q zero same = refl
 some_below_same p q (suc n) same = rw (some_below_same p q n (λ i h. same i (omega arith))) (ap (λ b. some_below q n || b) (same n (omega arith)))

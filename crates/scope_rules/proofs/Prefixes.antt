@@ -41,7 +41,7 @@ pub option_or-assoc : {A : Type 0} (o p q : Option A) → option_or (option_or o
 option_or-assoc None p q = refl
 option_or-assoc (Some x) p q = refl
 
-last_of-push : {A B : Type 0} (f : A → Option B) (xs : List A) (x : A) → last_of f (xs ++ x ∷ []) ≡ option_or (f x) (last_of f xs)
+pub last_of-push : {A B : Type 0} (f : A → Option B) (xs : List A) (x : A) → last_of f (xs ++ x ∷ []) ≡ option_or (f x) (last_of f xs)
 unfolding last_of
 last_of-push f [] x = sym (option_or-none (f x))
 last_of-push f (y ∷ ys) x = rw (last_of-push f ys x) (option_or-assoc (f x) (last_of f ys) (f y))

@@ -163,7 +163,7 @@ chain_stays L h e (suc n) s legal it =
     ∙ same_onward (outwards (outer (followed h e)) n) (outwards (outer h) n) (outer h s) (λ p is. chain_stays L h e n p legal (outer_opened L h s p legal is).0))
 
 -- a scope that was never opened isn't cancelled
-own_unopened : (h : History) (s : ℕ) (o : Option OwnCancel) → opening h s ≡ None → own h s ≡ o → o ≡ None
+pub own_unopened : (h : History) (s : ℕ) (o : Option OwnCancel) → opening h s ≡ None → own h s ≡ o → o ≡ None
 own_unopened h s None none is = refl
 own_unopened h s (Some w) none is = let it = (own_place h s w is).1 in absurd (cc (it.is, none))
 
