@@ -26,4 +26,3 @@ pub use Rattle.scope_rules.specs.Replies
 pub use Rattle.scope_rules.specs.Legal
 pub use Rattle.scope_rules.specs.Owed
 pub use Rattle.scope_rules.specs.Laws
-pub mod PlainKeeps

@@ -1,9 +1,9 @@
 ghost use Rattle.std.specs.Prelude.{◌≡◌, ◌<◌, ◌≤◌, ◌+◌, ◌^◌};
-ghost use Rattle.scope_rules.specs.Load.{weight, load, over_load, over_scopes, over_tasks};
+ghost use Rattle.scope_rules.specs.Load.{load, over_load, over_scopes, over_tasks};
 
 use crate::scan::view::HistoryView;
-use scope_rules::types::capacity::{FORK_LOAD, GREATEST_NUMBER, Limits, OPEN_LOAD, STEP_LOAD};
-use scope_rules::types::events::Event;
+use scope_journal::weight;
+use scope_rules::types::capacity::{GREATEST_NUMBER, Limits};
 
 impl<'a> HistoryView<'a> {
     /// The load so far: a unit for each pair of the base, and what the events cost.
@@ -39,22 +39,5 @@ impl<'a> HistoryView<'a> {
         ensures { result ≡ over_tasks limits.now self.now }
     {
         limits.tasks <= self.forked_count() || GREATEST_NUMBER <= self.tasks()
-    }
-}
-
-/// What an accepted command costs.
-pub fn weight(event: &Event) -> u64
-    ensures cost { result ≡ weight event.now }
-    ensures small { result ≤ 4 }
-{
-    match *event {
-        Event::Open { .. } => OPEN_LOAD,
-        Event::Fork { .. } => FORK_LOAD,
-        Event::Cancel { .. } => STEP_LOAD,
-        Event::Move { .. } => STEP_LOAD,
-        Event::Tick { .. } => STEP_LOAD,
-        Event::Bind { .. } => STEP_LOAD,
-        Event::Unbind { .. } => STEP_LOAD,
-        _ => 0,
     }
 }

@@ -4,6 +4,7 @@ use super::joiners::{Kind, end_of, hand_in, has_two_successes, joiner_that_adds}
 use super::{boxed, name};
 use join_rules::{CompletionTest, Joiner, Progress, UntilTest};
 use scope_book::BookState;
+use scope_journal::Journal;
 use scope_model::Plain;
 use scope_rules::types::values::MAIN;
 use scope_rules::{
@@ -218,6 +219,15 @@ fn a_realm_begins_with_a_base_of_a_hundred_pairs(rt: HostRuntime) -> Result<(), 
     for answer in [Ok(4294967295), Err(Refusal::TooMany)] {
         assert_eq!(rt; realm.open(0, Policy::AwaitAll, OPTIONS), answer);
     }
+    Ok(())
+}
+
+#[test]
+fn a_journal_counts_the_pairs_of_its_base(rt: HostRuntime) -> Result<(), Fail> {
+    let key = name(b"user")?;
+    let base = Base::new(0, 0, 0, hundred_pairs(rt.alloc(), key, key)?);
+    let journal = Journal::with_base(rt.alloc(), Limits::GREATEST, base)?;
+    assert_eq!(rt; (journal.load(), journal.events().len()), (100, 0));
     Ok(())
 }
 

@@ -1,4 +1,4 @@
--- One accepted event more keeps what a plain evaluator keeps, and so does a retirement.
+-- One accepted event more keeps what a journal keeps, and so does a retirement.
 use Rattle.std.proofs.Common.{◌≡◌, ℕ, ◌+◌, ◌<◌, ◌≤◌, ◌^◌, Option, List, [], ◌∷◌, ◌++◌, length, refl, arith, length-append}
 use Rattle.scope_rules.specs.declared.types.capacity.Limits.{Limits}
 use Rattle.scope_rules.specs.declared.types.capacity.TheConstants.{LOAD_LIMIT, GREATEST_NUMBER}
@@ -9,41 +9,48 @@ use Rattle.scope_rules.specs.Load.{load, weight}
 use Rattle.scope_rules.specs.Replies.{base_of}
 use Rattle.scope_rules.specs.Legal.{Accepts, Legal}
 use Rattle.scope_rules.specs.Owed.{owed, missing, join_mark, begin_mark, end_mark, take_mark, finish_mark}
-use Rattle.scope_model.specs.PlainKeeps.{PlainKeeps}
+use Rattle.scope_journal.specs.JournalKeeps.{JournalKeeps}
 use Rattle.scope_rules.proofs.Owing.{owed_event}
 use Rattle.scope_rules.proofs.Pushing.{legal_push, load_push, within_push, stack_within}
 
 -- with room for its load, an accepted event keeps what is kept
-pub kept_push : (L : Limits) (h : History) (e : Event) (capacity more : ℕ) → PlainKeeps L h capacity → Accepts L h e → load h + weight e ≤ more → PlainKeeps L (followed h e) more
-kept_push L h e capacity more kept ok enough = record {
+pub kept_push : (L : Limits) (h : History) (e : Event) (capacity more units : ℕ) → JournalKeeps L h capacity units → Accepts L h e → load h + weight e ≤ more → JournalKeeps L (followed h e) more (units + weight e)
+kept_push L h e capacity more units kept ok enough = record {
   legal = legal_push L h e kept.legal ok;
   within = within_push L h e kept.within ok;
   covered = omega (arith, kept.covered, owed_event L h e ok, load_push h e, length-append h.events (e ∷ []));
   room = omega (arith, load_push h e, enough);
+  counted = omega (arith, kept.counted, load_push h e);
 }
 
+-- an accepted event that costs nothing keeps what is kept
+pub kept_free : (L : Limits) (h : History) (e : Event) (capacity units : ℕ) → JournalKeeps L h capacity units → Accepts L h e → weight e ≡ 0 → JournalKeeps L (followed h e) capacity units
+kept_free L h e capacity units kept ok free =
+    let same : units + weight e ≡ units = omega (arith, free) in
+    rw same at (kept_push L h e capacity capacity units kept ok (omega (arith, kept.room, free)))
+
 -- what is kept has small numbers
-pub kept_small : (L : Limits) (h : History) (capacity : ℕ) → PlainKeeps L h capacity → L.load ≤ LOAD_LIMIT → HasSmallNumbers h
-kept_small L h capacity kept limit = record {
+pub kept_small : (L : Limits) (h : History) (capacity units : ℕ) → JournalKeeps L h capacity units → L.load ≤ LOAD_LIMIT → HasSmallNumbers h
+kept_small L h capacity units kept limit = record {
   events = omega (arith, kept.covered, kept.within.loaded, limit);
   scopes = omega (arith, kept.within.scopes_fit);
   tasks = omega (arith, kept.within.tasks_fit);
 }
 
 -- there is room for an event that costs nothing
-pub kept_room : (L : Limits) (h : History) (e : Event) (capacity : ℕ) → PlainKeeps L h capacity → Accepts L h e → weight e ≡ 0 → length h.events < capacity
-kept_room L h e capacity kept ok free = omega (arith, kept.covered, kept.room, owed_event L h e ok, free)
+pub kept_room : (L : Limits) (h : History) (e : Event) (capacity units : ℕ) → JournalKeeps L h capacity units → Accepts L h e → weight e ≡ 0 → length h.events < capacity
+kept_room L h e capacity units kept ok free = omega (arith, kept.covered, kept.room, owed_event L h e ok, free)
 
 -- the load of a history with an accepted event more is above its length
-pub kept_more : (L : Limits) (h : History) (e : Event) (capacity : ℕ) → PlainKeeps L h capacity → Accepts L h e → length h.events + 1 ≤ load h + weight e
-kept_more L h e capacity kept ok = omega (arith, kept.covered, owed_event L h e ok)
+pub kept_more : (L : Limits) (h : History) (e : Event) (capacity units : ℕ) → JournalKeeps L h capacity units → Accepts L h e → length h.events + 1 ≤ load h + weight e
+kept_more L h e capacity units kept ok = omega (arith, kept.covered, owed_event L h e ok)
 
 missing_none : (mark : Event → Option ℕ) (es : List Event) → missing mark [] es ≡ 0
 unfolding missing
 missing_none mark es = refl
 
 -- a base alone is kept
-pub kept_base : (L : Limits) (b : Origin) (capacity : ℕ) → length b.binds ≤ L.load → b.scopes ≤ GREATEST_NUMBER → b.tasks ≤ GREATEST_NUMBER → length b.binds ≤ capacity → PlainKeeps L (record { base = b; events = [] }) capacity
+pub kept_base : (L : Limits) (b : Origin) (capacity : ℕ) → length b.binds ≤ L.load → b.scopes ≤ GREATEST_NUMBER → b.tasks ≤ GREATEST_NUMBER → length b.binds ≤ capacity → JournalKeeps L (record { base = b; events = [] }) capacity (length b.binds)
 unfolding Legal load owed
 kept_base L b capacity pairs scopes_small tasks_small enough = record {
   legal = λ i e at. absurd cc;
@@ -56,10 +63,11 @@ kept_base L b capacity pairs scopes_small tasks_small enough = record {
   };
   covered = omega (arith, missing_none join_mark [], missing_none begin_mark [], missing_none end_mark [], missing_none take_mark [], missing_none finish_mark []);
   room = omega (arith, enough);
+  counted = omega arith;
 }
 
 -- what a retirement leaves is kept, in the same room
-pub kept_restart : (L : Limits) (h : History) (capacity : ℕ) → PlainKeeps L h capacity → PlainKeeps L (record { base = base_of h; events = [] }) capacity
+pub kept_restart : (L : Limits) (h : History) (capacity units : ℕ) → JournalKeeps L h capacity units → JournalKeeps L (record { base = base_of h; events = [] }) capacity (length (base_of h).binds)
 unfolding base_of
-kept_restart L h capacity kept =
+kept_restart L h capacity units kept =
     kept_base L (base_of h) capacity (omega (arith, stack_within h, kept.within.loaded)) kept.within.scopes_fit kept.within.tasks_fit (omega (arith, stack_within h, kept.room))

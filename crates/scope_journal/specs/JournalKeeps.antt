@@ -1,5 +1,5 @@
--- What a plain evaluator keeps true of its realm.
-use Rattle.std.specs.Prelude.{ℕ, ◌+◌, ◌≤◌, length}
+-- What a journal keeps true of its realm.
+use Rattle.std.specs.Prelude.{◌≡◌, ℕ, ◌+◌, ◌≤◌, length}
 use Rattle.scope_rules.specs.declared.types.capacity.Limits.{Limits}
 use Rattle.scope_rules.specs.History.{History}
 use Rattle.scope_rules.specs.Load.{load}
@@ -8,8 +8,9 @@ use Rattle.scope_rules.specs.Owed.{owed}
 
 -- its history is legal and within the limits, and there is room for its load, which covers what is
 -- there and what may still come at no cost
-pub record PlainKeeps (L : Limits) (h : History) (capacity : ℕ) : Type 0 where
+pub record JournalKeeps (L : Limits) (h : History) (capacity units : ℕ) : Type 0 where
   pub legal : Legal L h
   pub within : IsWithin L h
   pub covered : length h.events + owed h ≤ load h
   pub room : load h ≤ capacity
+  pub counted : units ≡ load h

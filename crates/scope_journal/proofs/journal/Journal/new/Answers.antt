@@ -1,7 +1,7 @@
 use Rattle.std.proofs.Common.{arith}
 use Rattle.scope_rules.specs.Origin.{the_start}
-use Rattle.scope_model.proofs.Keeping.{kept_base}
-use Rattle.scope_model.proofs.plain.evaluator.Plain.new.Goals as goal
+use Rattle.scope_journal.proofs.Keeping.{kept_base}
+use Rattle.scope_journal.proofs.journal.Journal.new.Goals as goal
 
 pub invariant_of-result : goal.invariant_of-result
 invariant_of-result c = rw (c.empty.ensures, c.new.ensures.items) (kept_base c.args.limits the_start _ (omega arith) (omega arith) (omega arith) (omega arith))

@@ -1,0 +1,147 @@
+ghost use Rattle.std.specs.Prelude.{◌≡◌, MatchResult};
+ghost use Rattle.scope_rules.specs.History.{HasSmallNumbers};
+ghost use Rattle.scope_rules.specs.Legal.{Accepts, Legal, IsWithin};
+ghost use Rattle.scope_rules.specs.Load.{weight, load};
+ghost use Rattle.scope_rules.specs.Replies.{with_event, starting, base_check, base_of, AnswersOrMemory};
+
+use crate::weights::weight;
+use scope_rules::{Base, Event, Limits, Refusal};
+use std::alloc::Global;
+use std::marker::Model;
+
+/// A realm's limits, its base and its events since. They are always a legal history within the limits,
+/// and there is room for each event that may still come at no cost: a scope's join and the beginning and
+/// end of its close, a task's start or reject and its end.
+#[derive(Drop)]
+pub struct Journal {
+    limits: Limits,
+    base: Base,
+    events: Vec<Event>,
+    load: u64,
+}
+
+impl Model for Journal {
+    ghost use Rattle.scope_rules.specs.Replies.{Realm};
+    ghost use Rattle.std.specs.Prelude.{vec_capacity};
+    ghost use Rattle.scope_journal.specs.JournalKeeps.{JournalKeeps};
+
+    ghost Value = { Realm };
+
+    ghost view = { λ j. record { limits = j.limits; history = record { base = j.base; events = j.events.items } } };
+
+    ghost invariant = { λ j. JournalKeeps j.limits (record { base = j.base; events = j.events.items }) (vec_capacity j.events) j.load };
+}
+
+impl Journal {
+    ghost use Rattle.scope_rules.specs.Origin.{the_start};
+
+    /// The journal of a fresh realm. It takes no memory; that of later calls comes from `alloc`.
+    pub fn new(alloc: Global, limits: Limits) -> Journal
+        ensures { result ≡ starting limits the_start }
+    {
+        Journal {
+            limits,
+            base: Base::empty(alloc),
+            events: Vec::new(alloc),
+            load: 0,
+        }
+    }
+
+    /// The journal of a realm that begins with the base, as a retirement leaves it. Refused where the
+    /// base has more pairs than the limit of load (`TooMany`), and where memory is refused (`Memory`).
+    pub fn with_base(alloc: Global, limits: Limits, base: Base) -> Result<Journal, Refusal>
+        ensures { AnswersOrMemory (base_check limits base) (starting limits base) result }
+    {
+        let _numbers = (base.scopes(), base.tasks());
+        let pairs = base.binds().len();
+        if pairs > limits.load as usize {
+            return Err(Refusal::TooMany);
+        }
+        let Ok(events) = Vec::with_capacity(alloc, pairs) else {
+            return Err(Refusal::Memory);
+        };
+        Ok(Journal {
+            limits,
+            base,
+            events,
+            load: pairs as u64,
+        })
+    }
+
+    /// The allocator that the journal grows by.
+    pub fn allocator(&self) -> Global {
+        *self.events.allocator()
+    }
+
+    /// The realm's limits. It also says of the history that it is legal, and within the limits: the
+    /// load and the numbers too, the base's counted.
+    pub fn limits(&self) -> Limits
+        ensures limits { result ≡ self.now.limits }
+        ensures legal { Legal self.now.limits self.now.history }
+        ensures within { IsWithin self.now.limits self.now.history }
+    {
+        self.limits
+    }
+
+    /// What the history begins with.
+    pub fn base(&self) -> &Base
+        ensures { result.now ≡ self.now.history.base }
+    {
+        &self.base
+    }
+
+    /// The events since, in order. It also says that places and numbers fit 32 bits.
+    #[tactic(auto, using(crate::proofs::Keeping::kept_small))]
+    pub fn events(&self) -> &[Event]
+        ensures events { result.now ≡ self.now.history.events }
+        ensures small { HasSmallNumbers self.now.history }
+    {
+        &self.events
+    }
+
+    /// The load so far: a unit for each pair of the base, and what the events cost.
+    pub fn load(&self) -> u64
+        ensures { result ≡ load self.now.history }
+    {
+        self.load
+    }
+
+    /// Appends the event, which was accepted.
+    ///
+    /// # Errors
+    ///
+    /// `Memory` where memory is refused. Then nothing has changed.
+    pub fn append(&mut self, event: Event) -> Result<(), Refusal>
+        requires { Accepts self.old.limits self.old.history event }
+        ensures answer { MatchResult result (λ _. self.new ≡ with_event self.old event) (λ refusal. (refusal ≡ Refusal.Memory) × (self.new ≡ self.old)) }
+    {
+        let load = self.load + weight(&event);
+        let more = load as usize - self.events.len();
+        let Ok(()) = self.events.reserve(more) else {
+            return Err(Refusal::Memory);
+        };
+        self.events.push_reserved(event);
+        self.load = load;
+        Ok(())
+    }
+
+    /// Appends the event, which was accepted and costs nothing, so that there is room for it.
+    pub fn record(&mut self, event: Event)
+        requires accepted { Accepts self.old.limits self.old.history event }
+        requires free { weight event ≡ 0 }
+        ensures added { self.new ≡ with_event self.old event }
+        ensures legal { Legal self.new.limits self.new.history }
+    {
+        self.events.push_reserved(event);
+    }
+
+    /// Leaves the base alone, which is that of the history.
+    pub fn restart(&mut self, base: Base)
+        requires { base ≡ base_of self.old.history }
+        ensures { self.new ≡ starting self.old.limits base }
+    {
+        self.events.clear();
+        self.load = base.binds().len() as u64;
+        self.base = base;
+    }
+}
