@@ -6,8 +6,8 @@ use Rattle.scope_rules.specs.Load.{load}
 use Rattle.scope_rules.specs.Legal.{Legal, IsWithin}
 use Rattle.scope_rules.specs.Owed.{owed}
 
--- its history is legal and within the limits, and there is room for its load, which covers what is
--- there and what may still come at no cost
+-- its history is legal and within the limits, the units are its load, and there is room for that, which
+-- covers what is there and what may still come at no cost
 pub record JournalKeeps (L : Limits) (h : History) (capacity units : ℕ) : Type 0 where
   pub legal : Legal L h
   pub within : IsWithin L h
