@@ -28,7 +28,8 @@ push_length : {A : Type 0} (xs : List A) (x : A) → length (xs ++ x ∷ []) ≡
 push_length [] x = refl
 push_length (y ∷ xs) x = ap suc (push_length xs x)
 
-push_cases : {A : Type 0} (xs : List A) (x : A) (i : ℕ) (y : A) → slice_get (xs ++ x ∷ []) i ≡ Some y → ((i ≡ length xs) × (y ≡ x)) ⊎ ((i < length xs) × (slice_get xs i ≡ Some y))
+-- what stands in a list with one more is the one, or stood there before
+pub push_cases : {A : Type 0} (xs : List A) (x : A) (i : ℕ) (y : A) → slice_get (xs ++ x ∷ []) i ≡ Some y → ((i ≡ length xs) × (y ≡ x)) ⊎ ((i < length xs) × (slice_get xs i ≡ Some y))
 push_cases xs x i y e =
     elim (cases_lt i (length xs)) [
       | inl lt ↦ inr (lt, sym (get_push xs x i lt) ∙ e)

@@ -6,3 +6,4 @@ pub mod ColumnLaws
 pub mod AddLaws
 pub mod LeastLaws
 pub mod LatestLaws
+pub mod CauseLaws

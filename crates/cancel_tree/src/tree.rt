@@ -153,12 +153,22 @@ impl Tree {
         self.cuts[(scope - 1) as usize].is_some()
     }
 
+    /// The earliest own cancel on the chain, the nearest on a tie, with its place. The scope whose it is
+    /// has no greater number.
+    pub fn cut(&self, scope: ScopeId) -> Option<Cut>
+        requires { IsAdded self.now scope }
+        ensures cut { result ≡ cut_of self.now scope }
+        ensures within { IfSome result (λ cut. cut.cause.scope ≤ scope) }
+    {
+        self.cuts[(scope - 1) as usize]
+    }
+
     /// The scope on the chain whose own cancel is the earliest, the nearest on a tie, with its kind.
     pub fn cause(&self, scope: ScopeId) -> Option<Cause>
         requires { IsAdded self.now scope }
         ensures { result ≡ cause_of self.now scope }
     {
-        self.cuts[(scope - 1) as usize].map(|cut| cut.cause)
+        self.cut(scope).map(|cut| cut.cause)
     }
 
     /// The place of the cause: that of the event that made it.
@@ -166,7 +176,7 @@ impl Tree {
         requires { IsAdded self.now scope }
         ensures { result ≡ place_of self.now scope }
     {
-        self.cuts[(scope - 1) as usize].map(|cut| cut.place as u64)
+        self.cut(scope).map(|cut| cut.place as u64)
     }
 
     /// The earliest deadline in effect for the scope (Trio, `current_effective_deadline`): past where it

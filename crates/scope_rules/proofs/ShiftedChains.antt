@@ -3,12 +3,8 @@
 use Rattle.std.proofs.Common.{◌≡◌, ℕ, suc, zero, ◌+◌, ◌≤◌, Bool, true, false, cond, Option, Some, None, option_map, is_some, nat_le, List, [], ◌∷◌, map, refl, ap, sym, ◌∙◌, arith}
 use Rattle.scope_rules.specs.declared.types.answers.Effective.TheVariants.{Past}
 use Rattle.scope_rules.specs.declared.types.records.Cut.{Cut}
-use Rattle.scope_rules.specs.Chains.{IsInward, onward, chain_by, nearer, earliest_on, cut_by, least_on, at_moment, effective_by}
+use Rattle.scope_rules.specs.Chains.{IsInward, shifted, onward, chain_by, nearer, earliest_on, cut_by, least_on, at_moment, effective_by}
 use Rattle.scope_rules.proofs.ChainLaws.{chain_law}
-
--- the cut, with so much added to its scope's number
-abbrev pub shifted : ℕ → Cut → Cut
-shifted b c = record { place = c.place; cause = record { scope = b + c.cause.scope; kind = c.cause.kind } }
 
 either_shifted : (b : ℕ) (test : Bool) (x y : Cut) → cond test (Some (shifted b x)) (Some (shifted b y)) ≡ option_map (shifted b) (cond test (Some x) (Some y))
 either_shifted b true x y = refl

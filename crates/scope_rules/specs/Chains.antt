@@ -1,7 +1,7 @@
 -- Chains of scopes, and what comes first along them. A tree of scopes is given by functions of a
 -- scope's number: the scope outside it, its own cancel, its deadline. A history and a tree that is
 -- kept speak by these same definitions.
-use Rattle.std.specs.Prelude.{◌≡◌, ℕ, zero, suc, ◌<◌, ◌≤◌, min, nat_le, is_some, Option, Some, None, List, [], ◌∷◌, if◌then◌else◌}
+use Rattle.std.specs.Prelude.{◌≡◌, ℕ, zero, suc, ◌+◌, ◌<◌, ◌≤◌, min, nat_le, is_some, Option, Some, None, List, [], ◌∷◌, if◌then◌else◌}
 use Rattle.scope_rules.specs.declared.types.records.Cut.{Cut}
 use Rattle.scope_rules.specs.declared.types.answers.Effective.{Effective}
 use Rattle.scope_rules.specs.declared.types.answers.Effective.TheVariants.{Past, At, Never}
@@ -58,3 +58,7 @@ at_moment (Some d) = At d
 -- past, if the scope is cut, and else the least deadline on its chain
 abbrev pub effective_by : (ℕ → Option ℕ) → (ℕ → Option Cut) → (ℕ → Option ℕ) → ℕ → Effective
 effective_by outer own deadline s = if is_some (cut_by outer own s) then Past else at_moment (least_on deadline (chain_by outer s))
+
+-- the cut, with so much added to its scope's number: as it is where others were numbered before
+abbrev pub shifted : ℕ → Cut → Cut
+shifted b c = record { place = c.place; cause = record { scope = b + c.cause.scope; kind = c.cause.kind } }

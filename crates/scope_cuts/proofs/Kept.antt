@@ -1,0 +1,106 @@
+-- The index goes on as the rows do.
+use Rattle.std.proofs.Common.{◌≡◌, ◌≢◌, ℕ, zero, suc, [], ◌^◌, ◌+◌, ◌-◌, ◌≤◌, ◌<◌, Bool, true, false, cond, eqb, Option, Some, None, List, length, refl, ap, sym, ◌∙◌, arith}
+use Rattle.std.specs.Option.{option_and_then, option_map}
+use Rattle.std.specs.Ordering.{nat_cmp, eq_by_cmp}
+use Rattle.std.specs.Cmp.{nat_cmp_total}
+use Rattle.std.specs.FinMap as map
+use Rattle.std.proofs.lemmas.Bool.Decides.{nat_tests}
+use Rattle.std.proofs.lemmas.Bool.{eqb-true, lt-ltb, le-ltb}
+use Rattle.scope_rules.specs.declared.types.answers.CauseKind.{CauseKind}
+use Rattle.deadline_core.specs.Moments.{Moments}
+use Rattle.cancel_tree.specs.declared.rows.Told.{Told}
+use Rattle.cancel_tree.specs.Rows as rows
+use Rattle.cancel_tree.specs.Rows.{IsAdded, changed, cut_at, with_own, with_deadline, deadline_of}
+use Rattle.cancel_tree.proofs.RowLaws.{altered_length, field_kept, row_changed, row_at}
+use Rattle.join_rules.specs.JoinerStanding.{JoinerStanding}
+use Rattle.scope_cuts.specs.CutTables.{AreKept, IsIndexed, to_come}
+
+-- an own cancel leaves the deadlines
+pub kept_cancel : (before now n place : ℕ) (kind : CauseKind) (told : List Told) (accounts : List JoinerStanding) (moments : Moments) → 1 ≤ n → AreKept before now told accounts moments
+    → AreKept before now (changed told n (with_own (cut_at place n kind))) accounts moments
+kept_cancel before now n place kind told accounts moments first was =
+    let same = altered_length (with_own (cut_at place n kind)) told (n - 1) in
+    record {
+      rows = was.rows ∙ sym same;
+      numbers = omega (arith, was.numbers, same);
+      indexed = λ m. was.indexed m ∙ ap (to_come now) (sym (field_kept (λ (t : Told). t.deadline) (with_own (cut_at place n kind)) (λ t. refl) told n m first));
+    }
+
+pub tied : (q k : ℕ) → eq_by_cmp nat_cmp q k ≡ eqb q k
+tied q k = grind (arith, nat_tests)
+
+-- the deadline that a row has after the change of one
+deadline_put : (d : Option ℕ) (told : List Told) (n m : ℕ) → IsAdded told n → deadline_of (changed told n (with_deadline d)) m ≡ cond (eqb m n) d (deadline_of told m)
+deadline_put d told n m added = ap (option_and_then (λ (t : Told). t.deadline)) (row_changed (with_deadline d) told n m added.0) ∙ by (eqb m n) refl (rows.row told m) refl
+  where
+    no_told : Told
+    no_told = record { parent = None; shield = false; own = None; deadline = None }
+    by : (b : Bool) → eqb m n ≡ b → (r : Option Told) → rows.row told m ≡ r → option_and_then (λ (t : Told). t.deadline) (cond b (option_map (with_deadline d) r) r) ≡ cond b d (option_and_then (λ (t : Told). t.deadline) r)
+    by true at (Some t) is = refl
+    by true at None is = absurd (cc (sym (row_at told n no_told added), ap (rows.row told) (sym (eqb-true m n at)), is))
+    by false at r is = refl
+
+come_put : (now : ℕ) (b : Bool) (d e : Option ℕ) → to_come now (cond b d e) ≡ cond b (to_come now d) (to_come now e)
+come_put now true d e = refl
+come_put now false d e = refl
+
+-- a deadline that is taken away is taken out of the index
+pub kept_join : (before now n : ℕ) (told : List Told) (accounts : List JoinerStanding) (moments : Moments) → IsAdded told n → AreKept before now told accounts moments
+    → AreKept before now (changed told n (with_deadline None)) accounts (map.remove moments n)
+kept_join before now n told accounts moments added was =
+    let same = altered_length (with_deadline None) told (n - 1) in
+    record {
+      rows = was.rows ∙ sym same;
+      numbers = omega (arith, was.numbers, same);
+      indexed = λ m.
+          map.get-remove nat_cmp_total moments n m
+          ∙ (ap (λ b. cond b None (map.get moments m)) (tied m n)
+          ∙ (ap (λ o. cond (eqb m n) None o) (was.indexed m)
+          ∙ (sym (come_put now (eqb m n) None (deadline_of told m)) ∙ ap (to_come now) (sym (deadline_put None told n m added)))));
+    }
+
+-- a deadline that is still to come is put into the index
+pub kept_move : (before now n d : ℕ) (told : List Told) (accounts : List JoinerStanding) (moments : Moments) → IsAdded told n → now < d → AreKept before now told accounts moments
+    → AreKept before now (changed told n (with_deadline (Some d))) accounts (map.insert moments n d)
+kept_move before now n d told accounts moments added later was =
+    let same = altered_length (with_deadline (Some d)) told (n - 1) in
+    let coming : to_come now (Some d) ≡ Some d = ap (λ b. cond b (Some d) None) (lt-ltb now d later) in
+    record {
+      rows = was.rows ∙ sym same;
+      numbers = omega (arith, was.numbers, same);
+      indexed = λ m.
+          map.get-insert nat_cmp_total moments n d m
+          ∙ (ap (λ b. cond b (Some d) (map.get moments m)) (tied m n)
+          ∙ (ap (λ o. cond (eqb m n) (Some d) o) (was.indexed m)
+          ∙ (ap (λ o. cond (eqb m n) o (to_come now (deadline_of told m))) (sym coming)
+          ∙ (sym (come_put now (eqb m n) (Some d) (deadline_of told m)) ∙ ap (to_come now) (sym (deadline_put (Some d) told n m added))))));
+    }
+
+-- one that has passed is not
+pub kept_past : (before now n d : ℕ) (told : List Told) (accounts : List JoinerStanding) (moments : Moments) → IsAdded told n → d ≤ now → AreKept before now told accounts moments
+    → AreKept before now (changed told n (with_deadline (Some d))) accounts (map.remove moments n)
+kept_past before now n d told accounts moments added past was =
+    let same = altered_length (with_deadline (Some d)) told (n - 1) in
+    let gone : to_come now (Some d) ≡ None = ap (λ b. cond b (Some d) None) (le-ltb now d past) in
+    record {
+      rows = was.rows ∙ sym same;
+      numbers = omega (arith, was.numbers, same);
+      indexed = λ m.
+          map.get-remove nat_cmp_total moments n m
+          ∙ (ap (λ b. cond b None (map.get moments m)) (tied m n)
+          ∙ (ap (λ o. cond (eqb m n) None o) (was.indexed m)
+          ∙ (ap (λ o. cond (eqb m n) o (to_come now (deadline_of told m))) (sym gone)
+          ∙ (sym (come_put now (eqb m n) (Some d) (deadline_of told m)) ∙ ap (to_come now) (sym (deadline_put (Some d) told n m added))))));
+    }
+
+-- with no rows nothing is listed
+pub kept_begun : (before now : ℕ) → before < 2 ^ 32 → AreKept before now [] [] map.empty
+kept_begun before now small = record {
+  rows = refl;
+  numbers = omega (arith, small);
+  indexed = λ n. map.get-empty nat_cmp n ∙ sym (none n);
+}
+  where
+    none : (n : ℕ) → to_come now (deadline_of [] n) ≡ None
+    none zero = refl
+    none (suc n) = refl

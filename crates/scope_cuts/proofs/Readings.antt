@@ -1,0 +1,122 @@
+-- What the table answers is what the history says.
+use Rattle.std.proofs.Common.{◌≡◌, ◌∷◌, [], false, slice_get, ℕ, zero, suc, ◌+◌, ◌-◌, ◌≤◌, ◌<◌, Option, Some, None, option_map, List, length, is_some, refl, ap, sym, subst, ◌∙◌, arith}
+use Rattle.std.specs.Option.{option_and_then}
+use Rattle.std.proofs.lemmas.Option.{slice_get_within}
+use Rattle.scope_rules.specs.declared.types.capacity.Limits.{Limits}
+use Rattle.scope_rules.specs.declared.types.records.Opening.{Opening}
+use Rattle.scope_rules.specs.declared.types.records.OwnCancel.{OwnCancel}
+use Rattle.scope_rules.specs.declared.types.records.Cut.{Cut}
+use Rattle.scope_rules.specs.Chains.{IsInward, shifted}
+use Rattle.scope_rules.specs.Search.{last_of}
+use Rattle.scope_rules.specs.History.{History, opening}
+use Rattle.scope_rules.specs.Scopes.{joined}
+use Rattle.scope_rules.specs.Scopes as rules
+use Rattle.scope_rules.specs.Cancels.{own, own_cut, cut, is_cancelled, deadline, counting_deadline, effective, move_of}
+use Rattle.scope_rules.specs.Legal.{Legal}
+use Rattle.scope_rules.proofs.Accepted.{entry_at}
+use Rattle.scope_rules.proofs.Innermosts.{opened_after}
+use Rattle.scope_rules.proofs.Nesting.{IsOpened, outer_opened, outer_inward}
+use Rattle.scope_rules.proofs.Staying.{own_unopened}
+use Rattle.scope_rules.proofs.NewScopes.{joined_opened, moved_opened}
+use Rattle.scope_rules.proofs.ShiftedChains.{cut_shifted, effective_shifted}
+use Rattle.cancel_tree.specs.declared.rows.Told.{Told}
+use Rattle.cancel_tree.specs.Rows as rows
+use Rattle.cancel_tree.specs.Rows.{outer_of, own_of, deadline_of, cut_of, effective_of}
+use Rattle.scope_cuts.specs.CutTables.{CutTable, HasRow}
+use Rattle.scope_cuts.specs.CutsOf.{IsToldOf, AreCutsOf}
+use Rattle.scope_cuts.proofs.OpenSteps.{none_by, false_by}
+
+entry_of : (told : List Told) (i : ℕ) → i < length told → (t : Told) × (slice_get told i ≡ Some t)
+entry_of [] i within = absurd (omega arith)
+entry_of (t ∷ ts) zero within = (t, refl)
+entry_of (t ∷ ts) (suc i) within = entry_of ts i (omega arith)
+
+-- a scope without a row was never opened
+unrowed : (h : History) (t : CutTable) (n : ℕ) → AreCutsOf h t → rows.row t.told n ≡ None → IsOpened h (t.before + n) → ⊥
+unrowed h t zero was none it = let number = opened_after h (t.before + 0) it.opened it.is in absurd (omega (arith, number.2, was.numbered))
+unrowed h t (suc i) was none it =
+    let number = opened_after h (t.before + suc i) it.opened it.is in
+    let entry = entry_of t.told i (omega (arith, number.1, number.2, was.numbered, was.count)) in
+    absurd (cc (none, entry.1))
+
+unopened : (h : History) (t : CutTable) (n : ℕ) → AreCutsOf h t → rows.row t.told n ≡ None → opening h (t.before + n) ≡ None
+unopened h t n was none = none_by (opening h (t.before + n)) (λ o is. unrowed h t n was none (record { opened = o; is = is }))
+
+outer_unopened : (h : History) (s : ℕ) → opening h s ≡ None → rules.outer h s ≡ None
+unfolding rules.outer
+outer_unopened h s none = rw none refl
+
+counting_unopened : (L : Limits) (h : History) (s : ℕ) → Legal L h → opening h s ≡ None → counting_deadline h s ≡ None
+unfolding counting_deadline deadline
+counting_unopened L h s legal none =
+    let never : IsOpened h s → ⊥ = λ it. absurd (cc (it.is, none)) in
+    let unjoined : joined h s ≡ false = false_by (joined h s) (λ is. never (joined_opened L h s legal is)) in
+    let unmoved : last_of (move_of s) h.events ≡ None = none_by (last_of (move_of s) h.events) (λ d is. never (moved_opened L h s d legal is)) in
+    rw unjoined (rw unmoved (rw none refl))
+
+-- each scope's outer scope, own cancel and deadline, whether it has a row or not
+pub outer_read : (h : History) (t : CutTable) → AreCutsOf h t → (n : ℕ) → rules.outer h (t.before + n) ≡ option_map (λ p. t.before + p) (outer_of t.told n)
+outer_read h t was n = by (rows.row t.told n) refl
+  where
+    by : (r : Option Told) → rows.row t.told n ≡ r → rules.outer h (t.before + n) ≡ option_map (λ p. t.before + p) (option_and_then rows.outer r)
+    by None is = outer_unopened h (t.before + n) (unopened h t n was is)
+    by (Some row) is = (was.rows n row is).outer
+
+pub own_read : (h : History) (t : CutTable) → AreCutsOf h t → (n : ℕ) → own_cut h (t.before + n) ≡ option_map (shifted t.before) (own_of t.told n)
+own_read h t was n = by (rows.row t.told n) refl
+  where
+    by : (r : Option Told) → rows.row t.told n ≡ r → own_cut h (t.before + n) ≡ option_map (shifted t.before) (option_and_then (λ (x : Told). x.own) r)
+    by None is = ap (option_map (λ (w : OwnCancel). rows.cut_at w.place (t.before + n) w.kind)) (own_unopened h (t.before + n) (own h (t.before + n)) (unopened h t n was is) refl)
+    by (Some row) is = (was.rows n row is).own
+
+pub deadline_read : (L : Limits) (h : History) (t : CutTable) → Legal L h → AreCutsOf h t → (n : ℕ) → counting_deadline h (t.before + n) ≡ deadline_of t.told n
+deadline_read L h t legal was n = by (rows.row t.told n) refl
+  where
+    by : (r : Option Told) → rows.row t.told n ≡ r → counting_deadline h (t.before + n) ≡ option_and_then (λ (x : Told). x.deadline) r
+    by None is = counting_unopened L h (t.before + n) legal (unopened h t n was is)
+    by (Some row) is = (was.rows n row is).deadline
+
+mapped : (b : ℕ) (o : Option ℕ) (p : ℕ) → o ≡ Some p → option_map (λ x. b + x) o ≡ Some (b + p)
+mapped b o p is = ap (option_map (λ x. b + x)) is
+
+told_inward : (L : Limits) (h : History) (t : CutTable) → Legal L h → AreCutsOf h t → IsInward (outer_of t.told)
+told_inward L h t legal was s p is =
+    let out = outer_opened L h (t.before + s) (t.before + p) legal (outer_read h t was s ∙ mapped t.before (outer_of t.told s) p is) in
+    let number = opened_after h (t.before + p) out.0.opened out.0.is in
+    (omega (arith, number.2, was.numbered), omega (arith, out.1.1))
+
+-- the cut of a scope
+pub cut_read : (L : Limits) (h : History) (t : CutTable) (n : ℕ) → Legal L h → AreCutsOf h t → cut h (t.before + n) ≡ option_map (shifted t.before) (cut_of t.told n)
+unfolding cut
+cut_read L h t n legal was =
+    cut_shifted t.before (outer_of t.told) (rules.outer h) (told_inward L h t legal was) (outer_inward L h legal) (outer_read h t was)
+    (own_of t.told) (own_cut h) n (own_read h t was)
+
+some_shifted : (b : ℕ) (o : Option Cut) → is_some (option_map (shifted b) o) ≡ is_some o
+some_shifted b None = refl
+some_shifted b (Some c) = refl
+
+-- whether it is cancelled
+pub cancelled_read : (L : Limits) (h : History) (t : CutTable) (n : ℕ) → Legal L h → AreCutsOf h t → is_cancelled h (t.before + n) ≡ is_some (cut_of t.told n)
+unfolding is_cancelled
+cancelled_read L h t n legal was = ap is_some (cut_read L h t n legal was) ∙ some_shifted t.before (cut_of t.told n)
+
+-- and the deadline in effect
+pub effective_read : (L : Limits) (h : History) (t : CutTable) (n : ℕ) → Legal L h → AreCutsOf h t → effective h (t.before + n) ≡ effective_of t.told n
+unfolding effective
+effective_read L h t n legal was =
+    effective_shifted t.before (outer_of t.told) (rules.outer h) (told_inward L h t legal was) (outer_inward L h legal) (outer_read h t was)
+    (own_of t.told) (own_cut h) (deadline_of t.told) (counting_deadline h) n (own_read h t was) (deadline_read L h t legal was)
+
+-- the number of a scope's row
+numbered : (t : CutTable) (s : ℕ) → HasRow t s → t.before + (s - t.before) ≡ s
+numbered t s has = omega (arith, has.after)
+
+pub cut_at_scope : (L : Limits) (h : History) (t : CutTable) (s : ℕ) → HasRow t s → Legal L h → AreCutsOf h t → cut h s ≡ option_map (shifted t.before) (cut_of t.told (s - t.before))
+cut_at_scope L h t s has legal was = ap (cut h) (sym (numbered t s has)) ∙ cut_read L h t (s - t.before) legal was
+
+pub cancelled_at_scope : (L : Limits) (h : History) (t : CutTable) (s : ℕ) → HasRow t s → Legal L h → AreCutsOf h t → is_cancelled h s ≡ is_some (cut_of t.told (s - t.before))
+cancelled_at_scope L h t s has legal was = ap (is_cancelled h) (sym (numbered t s has)) ∙ cancelled_read L h t (s - t.before) legal was
+
+pub effective_at_scope : (L : Limits) (h : History) (t : CutTable) (s : ℕ) → HasRow t s → Legal L h → AreCutsOf h t → effective h s ≡ effective_of t.told (s - t.before)
+effective_at_scope L h t s has legal was = ap (effective h) (sym (numbered t s has)) ∙ effective_read L h t (s - t.before) legal was

@@ -1,0 +1,2 @@
+pub mod CutTables
+pub mod CutsOf

@@ -1,0 +1,7 @@
+//! What cancels the scopes of a realm: the tree of its cancel scopes, the deadlines that are still to
+//! come, and the account of each scope's joiner.
+#![tactic(auto)]
+
+mod cuts;
+
+pub use cuts::Cuts;
