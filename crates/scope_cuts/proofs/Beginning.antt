@@ -1,11 +1,10 @@
 -- What is kept before the first event.
-use Rattle.std.proofs.Common.{◌≡◌, ℕ, zero, suc, Option, Some, None, [], length, refl, sym}
+use Rattle.std.proofs.Common.{◌≡◌, ℕ, zero, suc, Some, [], refl, sym}
 use Rattle.scope_rules.specs.Origin.{Origin}
-use Rattle.scope_rules.specs.History.{History, moment}
+use Rattle.scope_rules.specs.History.{moment}
 use Rattle.scope_rules.specs.Search.{last_of}
 use Rattle.cancel_tree.specs.declared.rows.Told.{Told}
 use Rattle.cancel_tree.specs.Rows as rows
-use Rattle.scope_cuts.specs.CutTables.{CutTable}
 use Rattle.scope_cuts.specs.CutsOf.{AreCutsOf}
 
 no_row : (n : ℕ) (t : Told) → rows.row [] n ≡ Some t → ⊥

@@ -1,17 +1,15 @@
 -- What a cancel, a move, a tick and the beginning of a close make of the table.
-use Rattle.std.proofs.Common.{◌≡◌, ◌≢◌, ◌⊎◌, inl, inr, slice_get, ℕ, ◌+◌, ◌-◌, ◌≤◌, ◌<◌, ◌==◌, ◌||◌, ◌&&◌, Bool, true, false, cond, eqb, nat_lt, nat_le, is_some, Option, Some, None, option_map, unwrap_or, [], ◌∷◌, List, length, refl, ap, sym, subst, ◌∙◌, arith}
+use Rattle.std.proofs.Common.{◌≡◌, ◌⊎◌, inl, inr, slice_get, ℕ, ◌+◌, ◌-◌, ◌==◌, ◌||◌, Bool, true, false, cond, nat_lt, is_some, Option, Some, None, option_map, length, refl, ap, sym, subst, ◌∙◌, arith}
 use Rattle.std.specs.Option.{option_or, option_map_or}
-use Rattle.std.proofs.lemmas.Bool.{eqb-true, eqb-false, eq-eqb, ne_eqb, le-leb, ltb-false}
+use Rattle.std.proofs.lemmas.Bool.{eq-eqb, le-leb, ltb-false}
 use Rattle.scope_rules.specs.declared.types.capacity.Limits.{Limits}
 use Rattle.scope_rules.specs.declared.types.answers.CauseKind.{CauseKind}
 use Rattle.scope_rules.specs.declared.types.answers.CauseKind.TheVariants.{Joiner, Deadline, Call, Close}
 use Rattle.scope_rules.specs.declared.types.records.Cut.{Cut}
-use Rattle.scope_rules.specs.declared.types.events.Event.{Event}
 use Rattle.scope_rules.specs.declared.types.events.Event.TheVariants.{Cancel, Move, Tick, BeginClose}
-use Rattle.scope_rules.specs.Chains.{shifted}
-use Rattle.scope_rules.specs.History.{History, followed, opening, opened_count, moment, is_open, tick_of}
-use Rattle.scope_rules.specs.Scopes.{joined, joins, covers}
-use Rattle.scope_rules.specs.Cancels.{own_cut, move_of, direct_kind, joiner_fires, deadline, counting_deadline}
+use Rattle.scope_rules.specs.History.{History, followed, moment}
+use Rattle.scope_rules.specs.Scopes.{joined, covers}
+use Rattle.scope_rules.specs.Cancels.{move_of, joiner_fires, deadline, counting_deadline}
 use Rattle.scope_rules.specs.Legal.{Legal}
 use Rattle.scope_rules.proofs.Prefixes.{option_or-none}
 use Rattle.scope_rules.proofs.Timed.{moment_grows, counting_grows}
@@ -20,11 +18,11 @@ use Rattle.cancel_tree.specs.declared.rows.Told.{Told}
 use Rattle.cancel_tree.specs.Rows as rows
 use Rattle.cancel_tree.specs.Rows.{changed, cut_at, with_own, with_deadline}
 use Rattle.scope_cuts.specs.CutTables.{CutTable, HasRow, to_come, cancelled}
-use Rattle.scope_cuts.specs.CutsOf.{IsToldOf, IsAccountOf, AreCutsOf}
+use Rattle.scope_cuts.specs.CutsOf.{IsToldOf, AreCutsOf}
 use Rattle.scope_cuts.proofs.OwnCuts.{kind_told, overdue_cancelled}
 use Rattle.scope_cuts.proofs.RowSteps.{row_next, row_stays, counting_same, own_some}
-use Rattle.scope_cuts.proofs.TableSteps.{HasStepped, table_next, accounts_stay, at_row, changed_rows}
-use Rattle.scope_cuts.proofs.EventSteps.{Row, row_of_scope, stepped_at, at_row_by, moment_same, other_row}
+use Rattle.scope_cuts.proofs.TableSteps.{HasStepped, table_next, accounts_stay, at_row}
+use Rattle.scope_cuts.proofs.EventSteps.{row_of_scope, stepped_at, at_row_by, moment_same, other_row}
 
 -- ---- a cancel
 
@@ -52,11 +50,11 @@ cancelled_next L h s old new legal was has is =
     table_next h e old new (at_row at.number f) was refl (stepped_at old new at.number f at.first before told)
     (moment_is ∙ (was.moment ∙ sym now)) (ap length accounts)
     (λ m row there row_is. at_row_by (λ k t. IsToldOf (followed h e) old.before (old.before + k) t) at.number f m row
-     (λ same.
-     let here : IsToldOf h old.before (old.before + at.number) row = subst (λ k. IsToldOf h old.before (old.before + k) row) same row_is in
-     row_next h e old.before at.number row (f row) here refl (counting_same h e old.before (old.before + at.number) row here refl refl)
-     (sym (ap (λ k. option_or row.own (option_map (λ x. cut_at place at.number x) (option_or k (cond (joiner_fires (followed h e) (old.before + at.number) e) (Some Joiner) (cond (is_past (moment (followed h e)) row.deadline) (Some Deadline) None))))) (call_here s (old.before + at.number) (sym at.is) None))))
-     (λ apart. row_stays L h e old.before m row legal row_is now refl refl (call_there s (old.before + m) (other_row old.before m at.number s at.is apart)) refl))
+    (λ same.
+    let here : IsToldOf h old.before (old.before + at.number) row = subst (λ k. IsToldOf h old.before (old.before + k) row) same row_is in
+    row_next h e old.before at.number row (f row) here refl (counting_same h e old.before (old.before + at.number) row here refl refl)
+    (sym (ap (λ k. option_or row.own (option_map (λ x. cut_at place at.number x) (option_or k (cond (joiner_fires (followed h e) (old.before + at.number) e) (Some Joiner) (cond (is_past (moment (followed h e)) row.deadline) (Some Deadline) None))))) (call_here s (old.before + at.number) (sym at.is) None))))
+    (λ apart. row_stays L h e old.before m row legal row_is now refl refl (call_there s (old.before + m) (other_row old.before m at.number s at.is apart)) refl))
     (λ i acc there. accounts_stay L h e old legal was (λ k. refl) i acc (sym (ap (λ xs. slice_get xs i) accounts) ∙ there))
 
 -- ---- a tick
@@ -92,6 +90,7 @@ ticked_own before now place n t had = by (is_past now t.deadline) refl
     with true o some = refl
     with false None some = absurd cc (some refl)
     with false (Some c) some = refl
+
     by : (b : Bool) → is_past now t.deadline ≡ b → (ticked before now place n t).own ≡ option_or t.own (option_map (λ k. cut_at place n k) (cond b (Some Deadline) None))
     by true is = with (passes before now t.deadline) t.own (λ kept. elim (past_split before now t.deadline is) [ inl past ↦ had past | inr passed ↦ absurd (apart kept passed) ])
       where
@@ -132,13 +131,13 @@ ticked_next L h now old new legal was stepped moment_is accounts =
     table_next h e old new (ticked old.moment now place) was refl stepped
     (moment_is ∙ sym at) (ap length accounts)
     (λ m row there row_is.
-     let s = old.before + m in
-     let deadline = ticked_deadline old.moment now place m row in
-     let own = ticked_own old.moment now place m row (λ past. past_has_own L h old.before s row legal row_is (sym (ap (λ x. is_past x row.deadline) was.moment) ∙ past)) in
-     row_next h e old.before m row (ticked old.moment now place m row) row_is (ticked_outer old.moment now place m row)
-     (counting_same h e old.before s row row_is refl refl ∙ sym deadline)
-     (own ∙ ap (λ x. option_or row.own (option_map (λ k. cut_at place m k) (kind_told None false x row.deadline))) (sym at)
-      ∙ ap (λ d. option_or row.own (option_map (λ k. cut_at place m k) (kind_told None false (moment (followed h e)) d))) (sym deadline)))
+    let s = old.before + m in
+    let deadline = ticked_deadline old.moment now place m row in
+    let own = ticked_own old.moment now place m row (λ past. past_has_own L h old.before s row legal row_is (sym (ap (λ x. is_past x row.deadline) was.moment) ∙ past)) in
+    row_next h e old.before m row (ticked old.moment now place m row) row_is (ticked_outer old.moment now place m row)
+    (counting_same h e old.before s row row_is refl refl ∙ sym deadline)
+    (own ∙ ap (λ x. option_or row.own (option_map (λ k. cut_at place m k) (kind_told None false x row.deadline))) (sym at)
+    ∙ ap (λ d. option_or row.own (option_map (λ k. cut_at place m k) (kind_told None false (moment (followed h e)) d))) (sym deadline)))
     (λ i acc there. accounts_stay L h e old legal was (λ k. refl) i acc (sym (ap (λ xs. slice_get xs i) accounts) ∙ there))
 
 -- ---- a move
@@ -165,6 +164,7 @@ moved_row h b n now d t was unjoined at = by (is_past now d) refl
   where
     same : moment (followed h (Move (b + n) d)) ≡ now
     same = moment_same h (Move (b + n) d) refl ∙ sym at
+
     by : (p : Bool) → is_past now d ≡ p → IsToldOf (followed h (Move (b + n) d)) b (b + n) (cond p (with_own (cut_at (length h.events) n Deadline) (with_deadline d t)) (with_deadline d t))
     by true past = row_next h (Move (b + n) d) b n t (with_own (cut_at (length h.events) n Deadline) (with_deadline d t)) was refl (counting_moved h (b + n) b d t was unjoined)
         (ap (λ x. option_or t.own (option_map (λ k. cut_at (length h.events) n k) (cond x (Some Deadline) None))) (sym (ap (λ m. is_past m d) same ∙ past)))
@@ -189,11 +189,11 @@ moved_next L h s d old new legal was has unjoined is =
     table_next h e old new (at_row at.number f) was refl (stepped_at old new at.number f at.first before told)
     (moment_is ∙ (was.moment ∙ sym now)) (ap length accounts)
     (λ m row there row_is. at_row_by (λ k t. IsToldOf (followed h e) old.before (old.before + k) t) at.number f m row
-     (λ same.
-     let here : IsToldOf h old.before (old.before + at.number) row = subst (λ k. IsToldOf h old.before (old.before + k) row) same row_is in
-     subst (λ k. IsToldOf (followed h (Move k d)) old.before (old.before + at.number) (f row)) at.is
-     (moved_row h old.before at.number old.moment d row here (subst (λ k. joined h k ≡ false) (sym at.is) unjoined) was.moment))
-     (λ apart. row_stays L h e old.before m row legal row_is now refl (moved_away s (old.before + m) d (other_row old.before m at.number s at.is apart)) refl refl))
+    (λ same.
+    let here : IsToldOf h old.before (old.before + at.number) row = subst (λ k. IsToldOf h old.before (old.before + k) row) same row_is in
+    subst (λ k. IsToldOf (followed h (Move k d)) old.before (old.before + at.number) (f row)) at.is
+    (moved_row h old.before at.number old.moment d row here (subst (λ k. joined h k ≡ false) (sym at.is) unjoined) was.moment))
+    (λ apart. row_stays L h e old.before m row legal row_is now refl (moved_away s (old.before + m) d (other_row old.before m at.number s at.is apart)) refl refl))
     (λ i acc there. accounts_stay L h e old legal was (λ k. refl) i acc (sym (ap (λ xs. slice_get xs i) accounts) ∙ there))
 
 -- ---- the beginning of a close

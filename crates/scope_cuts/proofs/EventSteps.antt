@@ -1,29 +1,23 @@
 -- What each kind of event makes of the table.
-use Rattle.std.proofs.Common.{◌≡◌, ◌≢◌, slice_get, ℕ, ◌+◌, ◌-◌, ◌≤◌, ◌<◌, ◌==◌, ◌||◌, ◌&&◌, Bool, true, false, cond, eqb, nat_lt, nat_le, is_some, Option, Some, None, option_map, unwrap_or, [], ◌∷◌, List, length, refl, ap, sym, subst, ◌∙◌, arith}
-use Rattle.std.specs.Option.{option_or, option_map_or}
+use Rattle.std.proofs.Common.{◌≡◌, ◌≢◌, slice_get, ℕ, ◌+◌, ◌-◌, ◌≤◌, ◌==◌, ◌||◌, Bool, true, false, cond, eqb, Option, Some, None, option_map, unwrap_or, length, refl, ap, sym, subst, ◌∙◌, arith}
 use Rattle.std.proofs.lemmas.Bool.{eqb-true, eqb-false, eq-eqb, ne_eqb}
 use Rattle.scope_rules.specs.declared.types.capacity.Limits.{Limits}
-use Rattle.scope_rules.specs.declared.types.answers.CauseKind.{CauseKind}
-use Rattle.scope_rules.specs.declared.types.answers.CauseKind.TheVariants.{Deadline, Call}
-use Rattle.scope_rules.specs.declared.types.records.Cut.{Cut}
 use Rattle.scope_rules.specs.declared.types.events.Event.{Event}
-use Rattle.scope_rules.specs.declared.types.events.Event.TheVariants.{Open, Fork, Reject, Start, Finish, Cancel, Move, Tick, Bind, Unbind, Join, BeginClose, EndClose}
-use Rattle.scope_rules.specs.History.{History, followed, opening, opened_count, moment, is_open, tick_of}
+use Rattle.scope_rules.specs.declared.types.events.Event.TheVariants.{Fork, Reject, Start, Bind, Unbind, Join, EndClose}
+use Rattle.scope_rules.specs.History.{History, followed, moment, is_open, tick_of}
 use Rattle.scope_rules.specs.Scopes.{joined, joins}
-use Rattle.scope_rules.specs.Completions.{completions, completion_of}
+use Rattle.scope_rules.specs.Completions.{completion_of}
 use Rattle.scope_rules.specs.Cancels.{move_of, direct_kind, joiner_fires, deadline, counting_deadline}
 use Rattle.scope_rules.specs.Legal.{Legal}
 use Rattle.scope_rules.proofs.Prefixes.{option_or-none}
 use Rattle.scope_rules.proofs.Timed.{moment_grows, counting_grows}
-use Rattle.deadline_core.specs.Moments.{is_past}
 use Rattle.cancel_tree.specs.declared.rows.Told.{Told}
 use Rattle.cancel_tree.specs.Rows as rows
 use Rattle.cancel_tree.specs.Rows.{changed, cut_at, with_own, with_deadline}
 use Rattle.cancel_tree.proofs.RowLaws.{altered_length}
 use Rattle.scope_cuts.specs.CutTables.{CutTable, HasRow}
-use Rattle.scope_cuts.specs.CutsOf.{IsToldOf, IsAccountOf, AreCutsOf}
-use Rattle.scope_cuts.proofs.OwnCuts.{kind_told, overdue_cancelled}
-use Rattle.scope_cuts.proofs.RowSteps.{row_next, row_stays, counting_same}
+use Rattle.scope_cuts.specs.CutsOf.{IsToldOf, AreCutsOf}
+use Rattle.scope_cuts.proofs.RowSteps.{row_next, row_stays}
 use Rattle.scope_cuts.proofs.TableSteps.{HasStepped, table_next, accounts_stay, at_row, changed_rows}
 
 -- events that neither open nor cancel, move no deadline, and end no task
@@ -134,9 +128,9 @@ joined_next L h a s old new legal was has is =
     table_next h e old new (at_row at.number (with_deadline None)) was refl (stepped_at old new at.number (with_deadline None) at.first before told)
     (moment_is ∙ (was.moment ∙ sym now)) (ap length accounts)
     (λ m row there row_is. at_row_by (λ k t. IsToldOf (followed h e) old.before (old.before + k) t) at.number (with_deadline None) m row
-     (λ same.
-     let here : IsToldOf h old.before (old.before + at.number) row = subst (λ k. IsToldOf h old.before (old.before + k) row) same row_is in
-     let gone : counting_deadline (followed h e) (old.before + at.number) ≡ None = subst (λ k. counting_deadline (followed h (Join a k)) (old.before + at.number) ≡ None) at.is (counting_joined h a old.before (old.before + at.number) row here) in
-     row_next h e old.before at.number row (with_deadline None row) here refl gone (sym (option_or-none row.own)))
-     (λ apart. row_stays L h e old.before m row legal row_is now (other_row old.before m at.number s at.is apart) refl refl refl))
+    (λ same.
+    let here : IsToldOf h old.before (old.before + at.number) row = subst (λ k. IsToldOf h old.before (old.before + k) row) same row_is in
+    let gone : counting_deadline (followed h e) (old.before + at.number) ≡ None = subst (λ k. counting_deadline (followed h (Join a k)) (old.before + at.number) ≡ None) at.is (counting_joined h a old.before (old.before + at.number) row here) in
+    row_next h e old.before at.number row (with_deadline None row) here refl gone (sym (option_or-none row.own)))
+    (λ apart. row_stays L h e old.before m row legal row_is now (other_row old.before m at.number s at.is apart) refl refl refl))
     (λ i acc there. accounts_stay L h e old legal was (λ k. refl) i acc (sym (ap (λ xs. slice_get xs i) accounts) ∙ there))

@@ -1,11 +1,10 @@
 -- What the end of a task makes of the table.
-use Rattle.std.proofs.Common.{◌≡◌, ◌≢◌, slice_get, ℕ, ◌+◌, ◌-◌, ◌≤◌, ◌<◌, ◌==◌, ◌&&◌, Bool, true, false, cond, eqb, Option, Some, None, option_map, [], ◌∷◌, ◌++◌, List, length, refl, ap, sym, subst, ◌∙◌, arith}
+use Rattle.std.proofs.Common.{◌≡◌, ◌≢◌, slice_get, ℕ, ◌+◌, ◌-◌, ◌==◌, ◌&&◌, Bool, true, false, cond, eqb, Option, Some, None, option_map, [], ◌∷◌, ◌++◌, length, refl, ap, sym, subst, ◌∙◌, arith}
 use Rattle.std.specs.Option.{option_or, option_map_or}
 use Rattle.std.specs.List.{cons_option}
 use Rattle.std.proofs.lemmas.Bool.{eqb-true, eqb-false, eq-eqb, ne_eqb}
 use Rattle.scope_rules.specs.declared.types.capacity.Limits.{Limits}
-use Rattle.scope_rules.specs.declared.types.answers.CauseKind.{CauseKind}
-use Rattle.scope_rules.specs.declared.types.answers.CauseKind.TheVariants.{Joiner, Deadline}
+use Rattle.scope_rules.specs.declared.types.answers.CauseKind.TheVariants.{Joiner}
 use Rattle.scope_rules.specs.declared.types.events.Event.{Event}
 use Rattle.scope_rules.specs.declared.types.events.Event.TheVariants.{Finish}
 use Rattle.scope_rules.specs.declared.types.values.Completion.{Completion}
@@ -14,12 +13,11 @@ use Rattle.scope_rules.specs.declared.types.records.Forking.{Forking}
 use Rattle.scope_rules.specs.Ends.{EndValue}
 use Rattle.scope_rules.specs.Joining.{fires}
 use Rattle.scope_rules.specs.History.{History, followed, opening, forking, moment}
-use Rattle.scope_rules.specs.Completions.{is_task_of, completions, completion_of, completes}
+use Rattle.scope_rules.specs.Completions.{is_task_of, completions, completion_of}
 use Rattle.scope_rules.specs.Cancels.{joiner_fires}
 use Rattle.scope_rules.specs.Legal.{Legal}
 use Rattle.scope_rules.proofs.Growing.{opening_stays, forking_stays}
 use Rattle.scope_rules.proofs.CompletionSteps.{completions_grow}
-use Rattle.deadline_core.specs.Moments.{is_past}
 use Rattle.cancel_tree.specs.declared.rows.Told.{Told}
 use Rattle.cancel_tree.specs.Rows as rows
 use Rattle.cancel_tree.specs.Rows.{changed, cut_at, with_own}
@@ -29,8 +27,8 @@ use Rattle.scope_cuts.specs.CutTables.{CutTable, HasRow, IsCounted, HasCounted, 
 use Rattle.scope_cuts.specs.CutsOf.{IsToldOf, IsAccountOf, AreCutsOf}
 use Rattle.scope_cuts.proofs.OwnCuts.{kind_told}
 use Rattle.scope_cuts.proofs.RowSteps.{row_next, row_stays, counting_same}
-use Rattle.scope_cuts.proofs.TableSteps.{HasStepped, account_stays, table_next, at_row, changed_rows}
-use Rattle.scope_cuts.proofs.EventSteps.{Row, row_of_scope, stepped_at, at_row_by, moment_same, other_row, map_id}
+use Rattle.scope_cuts.proofs.TableSteps.{account_stays, table_next, at_row}
+use Rattle.scope_cuts.proofs.EventSteps.{row_of_scope, stepped_at, at_row_by, moment_same, map_id}
 
 -- a task of the scope is so after its end
 task_then : (h : History) (e : Event) (k s : ℕ) (f : Forking) → forking h k ≡ Some f → is_task_of (followed h e) s k ≡ (f.scope == s)
@@ -86,6 +84,7 @@ counted_accounts L h k end f old mid legal was is has counts i a there = by (eqb
   where
     number : old.before + 1 + (f.scope - old.before - 1) ≡ f.scope
     number = omega (arith, has.after)
+
     by : (b : Bool) → eqb i (f.scope - old.before - 1) ≡ b → IsAccountOf (followed h (Finish k end)) (old.before + 1 + i) a
     by true at =
         let same : i ≡ f.scope - old.before - 1 = eqb-true i (f.scope - old.before - 1) at in
@@ -118,11 +117,11 @@ finished_next L h k end f old mid new true legal was is has counts says result =
     table_next h e old new (at_row at.number step) was refl (stepped_at old new at.number step at.first before told)
     (moment_is ∙ (was.moment ∙ sym now)) (ap length accounts ∙ counts.length)
     (λ m row there row_is. at_row_by (λ j t. IsToldOf (followed h e) old.before (old.before + j) t) at.number step m row
-     (λ same.
-     let here : IsToldOf h old.before (old.before + at.number) row = subst (λ j. IsToldOf h old.before (old.before + j) row) same row_is in
-     let opened : opening h f.scope ≡ Some here.opened = subst (λ x. opening h x ≡ Some here.opened) at.is here.is in
-     fired_row L h k end old.before at.number row legal here (subst (λ x. joiner_fires (followed h e) x e ≡ true) (sym at.is) (fires_here h k end f here.opened is opened ∙ sym (says here.opened opened))))
-     (λ apart. row_stays L h e old.before m row legal row_is now refl refl refl (other_fires h k (old.before + m) end f is (λ same. apart (omega (arith, same, at.is))))))
+    (λ same.
+    let here : IsToldOf h old.before (old.before + at.number) row = subst (λ j. IsToldOf h old.before (old.before + j) row) same row_is in
+    let opened : opening h f.scope ≡ Some here.opened = subst (λ x. opening h x ≡ Some here.opened) at.is here.is in
+    fired_row L h k end old.before at.number row legal here (subst (λ x. joiner_fires (followed h e) x e ≡ true) (sym at.is) (fires_here h k end f here.opened is opened ∙ sym (says here.opened opened))))
+    (λ apart. row_stays L h e old.before m row legal row_is now refl refl refl (other_fires h k (old.before + m) end f is (λ same. apart (omega (arith, same, at.is))))))
     (λ i acc there. counted_accounts L h k end f old mid legal was is has counts i acc (sym (ap (λ xs. slice_get xs i) accounts) ∙ there))
 finished_next L h k end f old mid new false legal was is has counts says result =
     let e = Finish k end in
@@ -139,6 +138,7 @@ finished_next L h k end f old mid new false legal was is has counts says result 
   where
     e : Event
     e = Finish k end
+
     by : (m : ℕ) (row : Told) → IsToldOf h old.before (old.before + m) row → (b : Bool) → eqb m (row_of_scope old f.scope has).number ≡ b → joiner_fires (followed h (Finish k end)) (old.before + m) (Finish k end) ≡ false
     by m row row_is true there =
         let at = row_of_scope old f.scope has in

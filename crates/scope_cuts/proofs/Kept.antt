@@ -1,19 +1,20 @@
 -- The index goes on as the rows do.
-use Rattle.std.proofs.Common.{◌≡◌, ◌≢◌, ℕ, zero, suc, [], ◌^◌, ◌+◌, ◌-◌, ◌≤◌, ◌<◌, Bool, true, false, cond, eqb, Option, Some, None, List, length, refl, ap, sym, ◌∙◌, arith}
+use Rattle.std.proofs.Common.{◌≡◌, ℕ, zero, suc, [], ◌∷◌, ◌++◌, length-append, add-one, ◌^◌, ◌+◌, ◌-◌, ◌≤◌, ◌<◌, Bool, true, false, cond, eqb, Option, Some, None, List, length, refl, ap, sym, ◌∙◌, arith}
 use Rattle.std.specs.Option.{option_and_then, option_map}
 use Rattle.std.specs.Ordering.{nat_cmp, eq_by_cmp}
 use Rattle.std.specs.Cmp.{nat_cmp_total}
 use Rattle.std.specs.FinMap as map
+use Rattle.std.proofs.lemmas.Option.{slice_get_past}
 use Rattle.std.proofs.lemmas.Bool.Decides.{nat_tests}
 use Rattle.std.proofs.lemmas.Bool.{eqb-true, lt-ltb, le-ltb}
 use Rattle.scope_rules.specs.declared.types.answers.CauseKind.{CauseKind}
 use Rattle.deadline_core.specs.Moments.{Moments}
 use Rattle.cancel_tree.specs.declared.rows.Told.{Told}
 use Rattle.cancel_tree.specs.Rows as rows
-use Rattle.cancel_tree.specs.Rows.{IsAdded, changed, cut_at, with_own, with_deadline, deadline_of}
+use Rattle.cancel_tree.specs.Rows.{IsAdded, new_row, changed, cut_at, with_own, with_deadline, deadline_of}
 use Rattle.cancel_tree.proofs.RowLaws.{altered_length, field_kept, row_changed, row_at}
 use Rattle.join_rules.specs.JoinerStanding.{JoinerStanding}
-use Rattle.scope_cuts.specs.CutTables.{AreKept, IsIndexed, to_come}
+use Rattle.scope_cuts.specs.CutTables.{AreKept, to_come}
 
 -- an own cancel leaves the deadlines
 pub kept_cancel : (before now n place : ℕ) (kind : CauseKind) (told : List Told) (accounts : List JoinerStanding) (moments : Moments) → 1 ≤ n → AreKept before now told accounts moments
@@ -35,6 +36,7 @@ deadline_put d told n m added = ap (option_and_then (λ (t : Told). t.deadline))
   where
     no_told : Told
     no_told = record { parent = None; shield = false; own = None; deadline = None }
+
     by : (b : Bool) → eqb m n ≡ b → (r : Option Told) → rows.row told m ≡ r → option_and_then (λ (t : Told). t.deadline) (cond b (option_map (with_deadline d) r) r) ≡ cond b d (option_and_then (λ (t : Told). t.deadline) r)
     by true at (Some t) is = refl
     by true at None is = absurd (cc (sym (row_at told n no_told added), ap (rows.row told) (sym (eqb-true m n at)), is))
@@ -104,3 +106,45 @@ kept_begun before now small = record {
     none : (n : ℕ) → to_come now (deadline_of [] n) ≡ None
     none zero = refl
     none (suc n) = refl
+
+deadline_added : (inside : Option ℕ) (shield : Bool) (told : List Told) (n : ℕ) → deadline_of (told ++ new_row inside shield ∷ []) n ≡ deadline_of told n
+deadline_added inside shield told zero = refl
+deadline_added inside shield [] (suc zero) = refl
+deadline_added inside shield [] (suc (suc i)) = refl
+deadline_added inside shield (t ∷ ts) (suc zero) = refl
+deadline_added inside shield (t ∷ ts) (suc (suc i)) = deadline_added inside shield ts (suc i)
+
+-- a scope without a deadline leaves the index
+pub kept_add : (before now : ℕ) (inside : Option ℕ) (shield : Bool) (account : JoinerStanding) (told : List Told) (accounts : List JoinerStanding) (moments : Moments) → before + length told + 1 < 2 ^ 32 → AreKept before now told accounts moments
+    → AreKept before now (told ++ new_row inside shield ∷ []) (accounts ++ account ∷ []) moments
+kept_add before now inside shield account told accounts moments small was = record {
+  rows = omega (arith, length-append accounts (account ∷ []), length-append told (new_row inside shield ∷ []), was.rows);
+  numbers = omega (arith, small, length-append told (new_row inside shield ∷ []));
+  indexed = λ n. was.indexed n ∙ ap (to_come now) (sym (deadline_added inside shield told n));
+}
+
+-- one with a deadline that is still to come is put into the index
+pub kept_add_before : (before now d : ℕ) (inside : Option ℕ) (shield : Bool) (account : JoinerStanding) (told : List Told) (accounts : List JoinerStanding) (moments : Moments) → before + length told + 1 < 2 ^ 32 → now < d → AreKept before now told accounts moments
+    → AreKept before now (changed (told ++ new_row inside shield ∷ []) (length told + 1) (with_deadline (Some d))) (accounts ++ account ∷ []) (map.insert moments (length told + 1) d)
+kept_add_before before now d inside shield account told accounts moments small coming was =
+    kept_move before now (length told + 1) d (told ++ new_row inside shield ∷ []) (accounts ++ account ∷ []) moments
+    (omega arith, omega (arith, length-append told (new_row inside shield ∷ []))) coming (kept_add before now inside shield account told accounts moments small was)
+
+no_deadline : (told : List Told) → deadline_of told (length told + 1) ≡ None
+no_deadline told = rw (add-one (length told)) (ap (option_and_then (λ (t : Told). t.deadline)) (slice_get_past told (length told) (omega arith)))
+
+out_again : (m : Moments) (k d n : ℕ) (b : Bool) → eqb n k ≡ b → map.get m k ≡ None → cond b None (cond b (Some d) (map.get m n)) ≡ map.get m n
+out_again m k d n true is none = sym (ap (map.get m) (eqb-true n k is) ∙ none)
+out_again m k d n false is none = refl
+
+-- what was put into the index for a scope that was then refused is taken out again
+pub kept_refused : (before now d : ℕ) (told : List Told) (accounts : List JoinerStanding) (moments : Moments) → AreKept before now told accounts moments → map.remove (map.insert moments (length told + 1) d) (length told + 1) ≡ moments
+kept_refused before now d told accounts moments was =
+    let n = length told + 1 in
+    let none : map.get moments n ≡ None = was.indexed n ∙ ap (to_come now) (no_deadline told) in
+    map.same_map nat_cmp_total map.nat_cmp-IsAntisymmetric _ _
+    (λ q.
+    map.get-remove nat_cmp_total (map.insert moments n d) n q
+    ∙ (ap (cond (eq_by_cmp nat_cmp q n) None) (map.get-insert nat_cmp_total moments n d q)
+    ∙ (ap (λ b. cond b None (cond b (Some d) (map.get moments q))) (tied q n)
+    ∙ out_again moments n d q (eqb q n) refl none)))

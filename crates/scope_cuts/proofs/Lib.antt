@@ -9,4 +9,5 @@ pub mod Readings
 pub mod Beginning
 pub mod Moves
 pub mod Passing
+pub mod Opens
 pub mod Kept

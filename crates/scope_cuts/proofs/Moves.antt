@@ -1,16 +1,14 @@
 -- A move of a deadline: taken away, still to come, or passed.
-use Rattle.std.proofs.Common.{◌≡◌, ℕ, zero, suc, ◌-◌, ◌<◌, ◌≤◌, Bool, true, false, cond, nat_le, Option, Some, None, List, [], ◌∷◌, length, refl, ap, sym, subst, ◌∙◌, arith}
+use Rattle.std.proofs.Common.{◌≡◌, ℕ, zero, suc, ◌-◌, ◌<◌, ◌≤◌, false, cond, nat_le, Option, Some, None, List, [], ◌∷◌, length, refl, ap, sym, subst, ◌∙◌, arith}
 use Rattle.std.proofs.lemmas.Bool.{le-leb, lt-leb}
-use Rattle.scope_rules.specs.declared.types.capacity.Limits.{Limits}
 use Rattle.scope_rules.specs.declared.types.answers.CauseKind.TheVariants.{Deadline}
-use Rattle.scope_rules.specs.History.{History}
 use Rattle.cancel_tree.specs.declared.rows.Told.{Told}
 use Rattle.cancel_tree.proofs.RowLaws.{altered_length}
 use Rattle.cancel_tree.proofs.LatestLaws.{latest_deadline}
 use Rattle.cancel_tree.specs.Rows.{IsLatest, altered, changed, cut_at, with_own, with_deadline}
 use Rattle.scope_cuts.specs.CutTables.{CutTable, HasRow, deadlined, cancelled}
-use Rattle.scope_cuts.specs.CutsOf.{AreCutsOf, IsMoved}
-use Rattle.scope_cuts.proofs.CancelSteps.{moved, moved_next}
+use Rattle.scope_cuts.specs.CutsOf.{IsMoved}
+use Rattle.scope_cuts.proofs.CancelSteps.{moved_next}
 
 altered_twice : (f g : Told → Told) (ts : List Told) (i : ℕ) → altered g (altered f ts i) i ≡ altered (λ t. g (f t)) ts i
 altered_twice f g [] i = refl
@@ -33,10 +31,10 @@ moved_past old mid new s d place has past between is L h legal was at unjoined =
     let n = s - old.before in
     moved_next L h s (Some d) old new legal was has unjoined
     (is
-     ∙ (ap (λ m. cancelled m s Deadline place) between
-     ∙ (ap (λ rs. record old { told = rs }) (altered_twice (with_deadline (Some d)) (with_own (cut_at place n Deadline)) old.told (n - 1))
-     ∙ (ap (λ p. record old { told = changed old.told n (λ t. with_own (cut_at p n Deadline) (with_deadline (Some d) t)) }) at
-     ∙ ap (λ b. record old { told = changed old.told n (λ t. cond b (with_own (cut_at (length h.events) n Deadline) (with_deadline (Some d) t)) (with_deadline (Some d) t)) }) (sym (le-leb d old.moment past))))))
+    ∙ (ap (λ m. cancelled m s Deadline place) between
+    ∙ (ap (λ rs. record old { told = rs }) (altered_twice (with_deadline (Some d)) (with_own (cut_at place n Deadline)) old.told (n - 1))
+    ∙ (ap (λ p. record old { told = changed old.told n (λ t. with_own (cut_at p n Deadline) (with_deadline (Some d) t)) }) at
+    ∙ ap (λ b. record old { told = changed old.told n (λ t. cond b (with_own (cut_at (length h.events) n Deadline) (with_deadline (Some d) t)) (with_deadline (Some d) t)) }) (sym (le-leb d old.moment past))))))
 
 -- a deadline that is set leaves the rows that there are
 pub has_deadlined : (old new : CutTable) (s : ℕ) (d : Option ℕ) → HasRow old s → new ≡ deadlined old s d → HasRow new s

@@ -1,15 +1,13 @@
 -- What an open makes of the table.
-use Rattle.std.proofs.Common.{◌≡◌, ◌≢◌, ◌⊎◌, inl, inr, slice_get, ℕ, zero, suc, ◌+◌, ◌-◌, ◌≤◌, ◌<◌, ◌||◌, ◌&&◌, Bool, true, false, cond, not, Option, Some, None, option_map, [], ◌∷◌, ◌++◌, List, length, refl, ap, sym, subst, ◌∙◌, arith, length-append}
+use Rattle.std.proofs.Common.{◌≡◌, inl, inr, slice_get, ℕ, zero, suc, ◌+◌, ◌||◌, Bool, true, false, cond, Option, Some, None, option_map, [], ◌∷◌, ◌++◌, length, refl, ap, sym, subst, ◌∙◌, arith, length-append}
 use Rattle.std.specs.Option.{option_or, option_map_or, option_and_then}
 use Rattle.scope_rules.specs.declared.types.capacity.Limits.{Limits}
-use Rattle.scope_rules.specs.declared.types.answers.CauseKind.{CauseKind}
-use Rattle.scope_rules.specs.declared.types.answers.CauseKind.TheVariants.{Joiner, Deadline}
+use Rattle.scope_rules.specs.declared.types.answers.CauseKind.TheVariants.{Deadline}
 use Rattle.scope_rules.specs.declared.types.events.Event.{Event}
 use Rattle.scope_rules.specs.declared.types.events.Event.TheVariants.{Open}
 use Rattle.scope_rules.specs.declared.types.events.Options.{Options}
 use Rattle.scope_rules.specs.declared.types.joiners.Policy.{Policy}
 use Rattle.scope_rules.specs.declared.types.records.Opening.{Opening}
-use Rattle.scope_rules.specs.declared.types.records.Forking.{Forking}
 use Rattle.scope_rules.specs.declared.types.records.OwnCancel.{OwnCancel}
 use Rattle.scope_rules.specs.declared.types.records.Cut.{Cut}
 use Rattle.scope_rules.specs.Chains.{shifted}
@@ -19,8 +17,8 @@ use Rattle.scope_rules.specs.Scopes.{joined, surrounding}
 use Rattle.scope_rules.specs.Scopes as rules
 use Rattle.scope_rules.specs.Completions.{completions}
 use Rattle.scope_rules.specs.Cancels.{own, own_cut, move_of, deadline, counting_deadline, joiner_fires}
-use Rattle.scope_rules.specs.Legal.{Accepts, Legal}
-use Rattle.scope_rules.proofs.Pushing.{before_last, legal_push}
+use Rattle.scope_rules.specs.Legal.{Legal}
+use Rattle.scope_rules.proofs.Pushing.{before_last}
 use Rattle.scope_rules.proofs.Earlier.{scope_given}
 use Rattle.scope_rules.proofs.Nesting.{IsOpened, forked_opened}
 use Rattle.scope_rules.proofs.Staying.{own_unopened}
@@ -37,7 +35,7 @@ use Rattle.cancel_tree.proofs.AddLaws.{push_cases}
 use Rattle.join_rules.specs.JoinerStanding.{JoinerStanding, StandsFor}
 use Rattle.scope_cuts.specs.CutTables.{CutTable}
 use Rattle.scope_cuts.specs.CutsOf.{IsToldOf, IsAccountOf, AreCutsOf}
-use Rattle.scope_cuts.proofs.OwnCuts.{kind_told, own_cut_next}
+use Rattle.scope_cuts.proofs.OwnCuts.{own_cut_next}
 use Rattle.scope_cuts.proofs.RowSteps.{row_stays}
 use Rattle.scope_cuts.proofs.TableSteps.{account_stays}
 use Rattle.scope_cuts.proofs.EventSteps.{moment_same}
@@ -144,18 +142,24 @@ opened_next L h a policy options old new parent account legal was around before 
   where
     e : Event
     e = Open a policy options
+
     now : moment (followed h (Open a policy options)) ≡ moment h
     now = moment_same h (Open a policy options) refl
+
     grown : opened_count (followed h (Open a policy options)) ≡ opened_count h + 1
     grown = count_push is_open h.events (Open a policy options)
+
     row : Told
     row = opened_row old.moment (length h.events) (length old.told + 1) parent options
+
     number : old.before + (length old.told + 1) ≡ scopes h + 1
     number = omega (arith, was.numbered, was.count)
+
     newest : IsToldOf (followed h (Open a policy options)) old.before (old.before + (length old.told + 1)) (opened_row old.moment (length h.events) (length old.told + 1) parent options)
     newest = subst (λ s. IsToldOf (followed h (Open a policy options)) old.before s (opened_row old.moment (length h.events) (length old.told + 1) parent options)) (sym number)
         (subst (λ m. IsToldOf (followed h (Open a policy options)) old.before (scopes h + 1) (opened_row m (length h.events) (length old.told + 1) parent options)) (sym was.moment)
         (new_row L h a old.before (length old.told + 1) policy options parent legal number around))
+
     row_at : (n : ℕ) (t : Told) → rows.row (old.told ++ opened_row old.moment (length h.events) (length old.told + 1) parent options ∷ []) n ≡ Some t → IsToldOf (followed h (Open a policy options)) old.before (old.before + n) t
     row_at zero t is = absurd cc
     row_at (suc i) t is =
@@ -165,6 +169,7 @@ opened_next L h a policy options old new parent account legal was around before 
               (subst (IsToldOf (followed h (Open a policy options)) old.before (old.before + (length old.told + 1))) (sym here.1) newest))
           | inr there ↦ row_stays L h (Open a policy options) old.before (suc i) t legal (was.rows (suc i) t there.1) now refl refl refl refl
         ]
+
     account_at : (i : ℕ) (x : JoinerStanding) → slice_get (old.accounts ++ account ∷ []) i ≡ Some x → IsAccountOf (followed h (Open a policy options)) (old.before + 1 + i) x
     account_at i x is =
         elim (push_cases old.accounts account i x is) [

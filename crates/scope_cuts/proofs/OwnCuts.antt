@@ -1,5 +1,5 @@
 -- The own cancel that one event more gives a scope, by its kind and the deadline that counts.
-use Rattle.std.proofs.Common.{◌≡◌, ℕ, ◌&&◌, Bool, true, false, cond, not, is_some, nat_le, Option, Some, None, option_map, [], ◌∷◌, length, refl, ap, sym, ◌∙◌}
+use Rattle.std.proofs.Common.{◌≡◌, ℕ, ◌&&◌, Bool, true, false, cond, not, is_some, nat_le, Option, Some, None, option_map, [], length, refl, ap, ◌∙◌}
 use Rattle.std.specs.Option.{option_or, option_map_or}
 use Rattle.scope_rules.specs.declared.types.capacity.Limits.{Limits}
 use Rattle.scope_rules.specs.declared.types.answers.CauseKind.{CauseKind}

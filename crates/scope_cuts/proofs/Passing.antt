@@ -1,22 +1,22 @@
 -- A tick takes the deadlines that it passes out of the index, one by one, and cancels their scopes.
-use Rattle.std.proofs.Common.{◌≡◌, ◌≢◌, ◌⊎◌, inl, inr, ℕ, zero, suc, slice_get, ◌+◌, ◌-◌, ◌≤◌, ◌<◌, ◌&&◌, Bool, true, false, cond, not, eqb, nat_lt, nat_le, Option, Some, None, option_map, is_some, List, length, refl, ap, sym, subst, ◌∙◌, arith}
+use Rattle.std.proofs.Common.{◌≡◌, ◌⊎◌, inl, inr, ℕ, zero, suc, slice_get, ◌-◌, ◌≤◌, ◌<◌, ◌&&◌, Bool, true, false, cond, not, eqb, nat_lt, Option, Some, None, option_map, is_some, List, length, refl, ap, sym, subst, ◌∙◌, arith}
 use Rattle.std.specs.Option.{option_and_then}
-use Rattle.std.specs.Ordering.{nat_cmp, eq_by_cmp}
+use Rattle.std.specs.Ordering.{nat_cmp}
 use Rattle.std.specs.Cmp.{nat_cmp_total}
 use Rattle.std.specs.FinMap as map
-use Rattle.std.proofs.lemmas.Bool.{eqb-true, eq-eqb, lt-ltb, le-ltb, le-leb, leb-true, leb-false, ltb-true, ltb-false}
+use Rattle.std.proofs.lemmas.Bool.{eqb-true, eq-eqb, le-ltb, le-leb, leb-true, leb-false, ltb-true, ltb-false}
 use Rattle.std.proofs.lemmas.Option.{slice_get_within}
 use Rattle.scope_rules.specs.declared.types.answers.CauseKind.TheVariants.{Deadline}
 use Rattle.deadline_core.specs.Moments.{Moments, is_past, is_due, IsFirstDue}
 use Rattle.cancel_tree.specs.declared.rows.Told.{Told}
 use Rattle.cancel_tree.specs.Rows as rows
 use Rattle.cancel_tree.specs.Rows.{IsAdded, IsLatest, changed, cut_at, with_own, deadline_of}
-use Rattle.cancel_tree.proofs.RowLaws.{altered_length, field_kept, row_changed}
+use Rattle.cancel_tree.proofs.RowLaws.{altered_length}
 use Rattle.cancel_tree.proofs.LatestLaws.{latest_cancel}
 use Rattle.join_rules.specs.JoinerStanding.{JoinerStanding}
 use Rattle.scope_cuts.specs.CutTables.{AreKept, to_come}
 use Rattle.scope_cuts.proofs.Kept.{tied}
-use Rattle.scope_cuts.proofs.CancelSteps.{passes, ticked}
+use Rattle.scope_cuts.proofs.CancelSteps.{ticked}
 use Rattle.scope_cuts.proofs.TableSteps.{changed_rows, at_row}
 
 -- the row's deadline has passed, and was taken out of the index
@@ -114,9 +114,10 @@ passing_step now place n first left old told passing due added =
     let due_left : is_due left now n ≡ true = due_true now due.deadline (map.get left n) due.first.stands due.past in
     let due_next : is_due next now n ≡ false = ap (is_past now) (removed_here left n) in
     let here : (k : ℕ) → eqb k n ≡ true → (is_taken now first left k ≡ false) × (is_taken now first next k ≡ true) = λ k is.
-        let same = eqb-true k n is in
-        (subst (λ j. is_taken now first left j ≡ false) (sym same) (ap (λ b. is_due first now n && not b) due_left ∙ and_false (is_due first now n)),
-         subst (λ j. is_taken now first next j ≡ true) (sym same) (ap (λ b. is_due first now n && not b) due_next ∙ ap (λ b. b && true) due_first)) in
+    let same = eqb-true k n is in (
+      subst (λ j. is_taken now first left j ≡ false) (sym same) (ap (λ b. is_due first now n && not b) due_left ∙ and_false (is_due first now n)),
+      subst (λ j. is_taken now first next j ≡ true) (sym same) (ap (λ b. is_due first now n && not b) due_next ∙ ap (λ b. b && true) due_first),
+    ) in
     let there : (k : ℕ) → eqb k n ≡ false → is_taken now first next k ≡ is_taken now first left k = λ k apart. ap (λ o. is_due first now k && not (is_past now o)) (removed_other left n k apart) in
     record {
       length = altered_length f told (n - 1) ∙ passing.length;
@@ -127,9 +128,9 @@ passing_step now place n first left old told passing due added =
       rest = λ k. elim (either k n) [
         | inl same ↦ inr (ap (map.get next) same ∙ removed_here left n, subst (λ j. is_due first now j ≡ true) (sym same) due_first)
         | inr apart ↦ elim (passing.rest k) [
-            | inl kept ↦ inl (removed_other left n k apart ∙ kept)
-            | inr gone ↦ inr (removed_other left n k apart ∙ gone.0, gone.1)
-          ]
+          | inl kept ↦ inl (removed_other left n k apart ∙ kept)
+          | inr gone ↦ inr (removed_other left n k apart ∙ gone.0, gone.1)
+        ]
       ];
       latest = latest_cancel told place place n Deadline added.0 (omega arith) passing.latest;
     }
@@ -137,6 +138,7 @@ passing_step now place n first left old told passing due added =
     and_false : (b : Bool) → (b && false) ≡ false
     and_false true = refl
     and_false false = refl
+
     either : (k n : ℕ) → (k ≡ n) ⊎ (eqb k n ≡ false)
     either k n = by (eqb k n) refl
       where
@@ -195,8 +197,10 @@ passing_ticked before at now place first left old told accounts kept passing non
     and_true : (b : Bool) → (b && not false) ≡ b
     and_true true = refl
     and_true false = refl
+
     taken : is_taken now first left n ≡ is_past now (to_come at (deadline_of old n))
     taken = ap (λ b. is_due first now n && not b) (none n) ∙ (and_true (is_due first now n) ∙ ap (is_past now) (kept.indexed n))
+
     by : (r : Option Told) → rows.row old n ≡ r → option_map (taken_step now place first left n) r ≡ option_map (ticked at now place n) r
     by None is = refl
     by (Some t) is = ap (λ b. Some (cond b (with_own (cut_at place n Deadline) t) t)) (taken ∙ ap (λ r. is_past now (to_come at (option_and_then (λ (x : Told). x.deadline) r))) is)

@@ -1,9 +1,7 @@
 -- What the table answers is what the history says.
-use Rattle.std.proofs.Common.{◌≡◌, ◌∷◌, [], false, slice_get, ℕ, zero, suc, ◌+◌, ◌-◌, ◌≤◌, ◌<◌, Option, Some, None, option_map, List, length, is_some, refl, ap, sym, subst, ◌∙◌, arith}
+use Rattle.std.proofs.Common.{◌≡◌, ◌∷◌, [], false, slice_get, ℕ, zero, suc, ◌+◌, ◌-◌, ◌<◌, Option, Some, None, option_map, List, length, is_some, refl, ap, sym, ◌∙◌, arith}
 use Rattle.std.specs.Option.{option_and_then}
-use Rattle.std.proofs.lemmas.Option.{slice_get_within}
 use Rattle.scope_rules.specs.declared.types.capacity.Limits.{Limits}
-use Rattle.scope_rules.specs.declared.types.records.Opening.{Opening}
 use Rattle.scope_rules.specs.declared.types.records.OwnCancel.{OwnCancel}
 use Rattle.scope_rules.specs.declared.types.records.Cut.{Cut}
 use Rattle.scope_rules.specs.Chains.{IsInward, shifted}
@@ -13,7 +11,6 @@ use Rattle.scope_rules.specs.Scopes.{joined}
 use Rattle.scope_rules.specs.Scopes as rules
 use Rattle.scope_rules.specs.Cancels.{own, own_cut, cut, is_cancelled, deadline, counting_deadline, effective, move_of}
 use Rattle.scope_rules.specs.Legal.{Legal}
-use Rattle.scope_rules.proofs.Accepted.{entry_at}
 use Rattle.scope_rules.proofs.Innermosts.{opened_after}
 use Rattle.scope_rules.proofs.Nesting.{IsOpened, outer_opened, outer_inward}
 use Rattle.scope_rules.proofs.Staying.{own_unopened}
@@ -23,7 +20,7 @@ use Rattle.cancel_tree.specs.declared.rows.Told.{Told}
 use Rattle.cancel_tree.specs.Rows as rows
 use Rattle.cancel_tree.specs.Rows.{outer_of, own_of, deadline_of, cut_of, effective_of}
 use Rattle.scope_cuts.specs.CutTables.{CutTable, HasRow}
-use Rattle.scope_cuts.specs.CutsOf.{IsToldOf, AreCutsOf}
+use Rattle.scope_cuts.specs.CutsOf.{AreCutsOf}
 use Rattle.scope_cuts.proofs.OpenSteps.{none_by, false_by}
 
 entry_of : (told : List Told) (i : ℕ) → i < length told → (t : Told) × (slice_get told i ≡ Some t)

@@ -1,5 +1,5 @@
 -- What one event more makes of the row of a scope.
-use Rattle.std.proofs.Common.{◌≡◌, ℕ, ◌+◌, ◌||◌, Bool, true, false, cond, is_some, Option, Some, None, option_map, [], ◌∷◌, length, refl, ap, sym, ◌∙◌}
+use Rattle.std.proofs.Common.{◌≡◌, ℕ, ◌+◌, ◌||◌, Bool, true, false, cond, is_some, Option, Some, None, option_map, length, refl, ap, sym, ◌∙◌}
 use Rattle.std.specs.Option.{option_or, option_map_or}
 use Rattle.scope_rules.specs.declared.types.capacity.Limits.{Limits}
 use Rattle.scope_rules.specs.declared.types.answers.CauseKind.{CauseKind}
@@ -7,7 +7,7 @@ use Rattle.scope_rules.specs.declared.types.answers.CauseKind.TheVariants.{Deadl
 use Rattle.scope_rules.specs.declared.types.events.Event.{Event}
 use Rattle.scope_rules.specs.declared.types.records.Cut.{Cut}
 use Rattle.scope_rules.specs.Chains.{shifted}
-use Rattle.scope_rules.specs.History.{History, followed, opening, moment}
+use Rattle.scope_rules.specs.History.{History, followed, moment}
 use Rattle.scope_rules.specs.Scopes.{joined, joins}
 use Rattle.scope_rules.specs.Cancels.{direct_kind, joiner_fires, own_cut, deadline, counting_deadline, move_of}
 use Rattle.scope_rules.specs.Legal.{Legal}
@@ -86,8 +86,8 @@ row_stays L h e b n t legal was same unjoined unmoved direct fires =
     let s = b + n in
     row_next h e b n t t was refl (counting_same h e b s t was unjoined unmoved)
     (none_told (length h.events) n (moment h) t.own t.deadline (is_past (moment h) t.deadline) refl
-     (λ past. own_some b t.own (ap is_some (sym was.own) ∙ overdue_cancelled L h s was.opened legal was.is (ap (is_past (moment h)) was.deadline ∙ past)))
-     ∙ kind_same)
+    (λ past. own_some b t.own (ap is_some (sym was.own) ∙ overdue_cancelled L h s was.opened legal was.is (ap (is_past (moment h)) was.deadline ∙ past)))
+    ∙ kind_same)
   where
     kind_same : option_or t.own (option_map (λ k. cut_at (length h.events) n k) (kind_told None false (moment h) t.deadline))
         ≡ option_or t.own (option_map (λ k. cut_at (length h.events) n k) (kind_told (direct_kind h (b + n) e) (joiner_fires (followed h e) (b + n) e) (moment (followed h e)) t.deadline))

@@ -1,18 +1,11 @@
 -- What one event more, which opens no scope, makes of the table.
-use Rattle.std.proofs.Common.{◌≡◌, ℕ, ◌+◌, ◌-◌, ◌≤◌, ◌<◌, ◌==◌, Bool, true, false, cond, eqb, suc, zero, Option, Some, None, option_map, [], ◌∷◌, ◌++◌, List, length, slice_get, refl, ap, sym, subst, ◌∙◌, arith}
-use Rattle.std.specs.Option.{option_or, option_map_or}
+use Rattle.std.proofs.Common.{◌≡◌, ℕ, ◌+◌, ◌≤◌, Bool, true, false, cond, eqb, Option, Some, None, option_map, [], ◌++◌, List, length, slice_get, refl, ap, sym, subst, ◌∙◌, arith}
 use Rattle.std.specs.List.{cons_option}
-use Rattle.std.proofs.lemmas.Bool.{eqb-true, ne_eqb}
 use Rattle.std.proofs.lemmas.List.{append-nil}
 use Rattle.scope_rules.specs.declared.types.capacity.Limits.{Limits}
-use Rattle.scope_rules.specs.declared.types.answers.CauseKind.{CauseKind}
-use Rattle.scope_rules.specs.declared.types.answers.CauseKind.TheVariants.{Deadline}
 use Rattle.scope_rules.specs.declared.types.events.Event.{Event}
-use Rattle.scope_rules.specs.declared.types.events.Event.TheVariants.{Cancel, Move, Tick, Join}
-use Rattle.scope_rules.specs.History.{History, followed, opening, opened_count, moment, is_open}
-use Rattle.scope_rules.specs.Scopes.{joins}
+use Rattle.scope_rules.specs.History.{History, followed, opened_count, moment, is_open}
 use Rattle.scope_rules.specs.Completions.{completions, completion_of}
-use Rattle.scope_rules.specs.Cancels.{move_of, direct_kind, joiner_fires}
 use Rattle.scope_rules.specs.Legal.{Legal}
 use Rattle.scope_rules.proofs.CompletionSteps.{completions_grow}
 use Rattle.scope_rules.proofs.Growing.{opening_stays}
@@ -20,7 +13,7 @@ use Rattle.scope_rules.proofs.Owing.{count_push}
 use Rattle.cancel_tree.specs.declared.rows.Told.{Told}
 use Rattle.cancel_tree.specs.Rows as rows
 use Rattle.cancel_tree.specs.Rows.{changed, cut_at}
-use Rattle.cancel_tree.proofs.RowLaws.{row_changed, altered_length}
+use Rattle.cancel_tree.proofs.RowLaws.{row_changed}
 use Rattle.join_rules.specs.JoinerStanding.{JoinerStanding, StandsFor}
 use Rattle.scope_cuts.specs.CutTables.{CutTable}
 use Rattle.scope_cuts.specs.CutsOf.{IsToldOf, IsAccountOf, AreCutsOf}

@@ -1,11 +1,11 @@
 -- What is kept of cancels: a row a scope of what the tree was told, an account a scope, and the moment.
 -- Rows count from 1, and `before` scopes were numbered before them.
-use Rattle.std.specs.Prelude.{◌≡◌, ◌≢◌, ℕ, ◌+◌, ◌-◌, ◌^◌, ◌<◌, ◌≤◌, true, nat_lt, Option, Some, None, List, [], ◌∷◌, ◌++◌, length, slice_get, if◌then◌else◌}
+use Rattle.std.specs.Prelude.{◌≡◌, ◌≢◌, ℕ, ◌+◌, ◌-◌, ◌^◌, ◌<◌, ◌≤◌, Bool, true, nat_lt, Option, Some, None, List, [], ◌∷◌, ◌++◌, length, slice_get, if◌then◌else◌}
 use Rattle.std.specs.FinMap as map
 use Rattle.deadline_core.specs.Moments.{Moments}
 use Rattle.scope_rules.specs.declared.types.answers.CauseKind.{CauseKind}
 use Rattle.cancel_tree.specs.declared.rows.Told.{Told}
-use Rattle.cancel_tree.specs.Rows.{deadline_of, changed, with_own, with_deadline, cut_at}
+use Rattle.cancel_tree.specs.Rows.{deadline_of, new_row, changed, with_own, with_deadline, cut_at}
 use Rattle.scope_rules.specs.declared.types.values.Completion.{Completion}
 use Rattle.join_rules.specs.JoinerStanding.{JoinerStanding, HasRoom, SameJoiner, SameButRoom}
 use Rattle.join_rules.specs.Totals.{counted}
@@ -47,6 +47,10 @@ cancelled t s kind place = record t { told = changed t.told (s - t.before) (with
 -- the table with the scope's deadline set so, or taken away
 abbrev pub deadlined : CutTable → ℕ → Option ℕ → CutTable
 deadlined t s deadline = record t { told = changed t.told (s - t.before) (with_deadline deadline) }
+
+-- the table with one scope more, which has no deadline
+abbrev pub with_scope : CutTable → Option ℕ → Bool → JoinerStanding → CutTable
+with_scope t inside shield account = record t { told = t.told ++ new_row inside shield ∷ []; accounts = t.accounts ++ account ∷ [] }
 
 -- the account with one completion more
 pub record IsCounted (old new : JoinerStanding) (d : Completion) : Type 0 where

@@ -4,8 +4,10 @@ use Rattle.scope_rules.specs.declared.types.records.Opening.{Opening}
 use Rattle.scope_rules.specs.Chains.{shifted}
 use Rattle.scope_rules.specs.History.{History, followed, opening, opened_count, moment}
 use Rattle.scope_rules.specs.declared.types.capacity.Limits.{Limits}
-use Rattle.scope_rules.specs.declared.types.events.Event.TheVariants.{Move}
-use Rattle.scope_rules.specs.Scopes.{joined}
+use Rattle.scope_rules.specs.declared.types.events.Event.TheVariants.{Open, Move}
+use Rattle.scope_rules.specs.declared.types.events.Options.{Options}
+use Rattle.scope_rules.specs.declared.types.joiners.Policy.{Policy}
+use Rattle.scope_rules.specs.Scopes.{joined, surrounding}
 use Rattle.scope_rules.specs.Legal.{Legal}
 use Rattle.scope_rules.specs.Scopes as scopes
 use Rattle.scope_rules.specs.Completions.{completions}
@@ -44,3 +46,8 @@ pub record AreCutsOf (h : History) (t : CutTable) : Type 0 where
 -- deadline at this place
 abbrev pub IsMoved : CutTable → CutTable → ℕ → Option ℕ → ℕ → Type 0
 IsMoved old new s deadline place = (L : Limits) (h : History) → Legal L h → AreCutsOf h old → place ≡ length h.events → joined h s ≡ false → AreCutsOf (followed h (Move s deadline)) new
+
+-- the same with the opening of a scope
+abbrev pub IsOpened : CutTable → CutTable → Option ℕ → Policy → Options → ℕ → Type 0
+IsOpened old new parent policy options place =
+    (L : Limits) (h : History) (actor : ℕ) → Legal L h → AreCutsOf h old → place ≡ length h.events → parent ≡ surrounding h actor → AreCutsOf (followed h (Open actor policy options)) new

@@ -8,10 +8,10 @@ ghost use Rattle.scope_rules.specs.History.{History, followed, moment};
 ghost use Rattle.scope_rules.specs.Scopes.{joined, surrounding};
 ghost use Rattle.scope_rules.specs.Cancels.{cut, cause, is_cancelled, effective};
 ghost use Rattle.scope_rules.specs.Legal.{Legal};
-ghost use Rattle.cancel_tree.specs.Rows.{IsLatest, level_in};
+ghost use Rattle.cancel_tree.specs.Rows.{IsAdded, IsLatest, level_in};
 ghost use Rattle.join_rules.specs.JoinerStanding.{HasRoom, StandsFor};
-ghost use Rattle.scope_cuts.specs.CutTables.{CutTable, HasRow, HasReserved, HasCounted, account_at, cancelled, deadlined};
-ghost use Rattle.scope_cuts.specs.CutsOf.{AreCutsOf, IsMoved};
+ghost use Rattle.scope_cuts.specs.CutTables.{CutTable, HasRow, HasReserved, HasCounted, account_at, cancelled, deadlined, with_scope};
+ghost use Rattle.scope_cuts.specs.CutsOf.{AreCutsOf, IsMoved, IsOpened};
 
 use cancel_tree::Tree;
 use deadline_core::Deadlines;
@@ -214,29 +214,77 @@ impl Cuts {
         requires level { level_in self.old.told (option_map (λ p. p - self.old.before) parent) ≤ LEVEL_LIMIT }
         requires number { self.old.before + length self.old.told + 1 < 2 ^ 32 }
         requires latest { IsLatest self.old.told place }
-        ensures opened { OnOk result ((L : Limits) (h : History) (actor : ℕ) → Legal L h → AreCutsOf h self.old → place ≡ length h.events → parent ≡ surrounding h actor → AreCutsOf (followed h (Event.Open actor policy options)) self.new) }
+        ensures opened { OnOk result (IsOpened self.old self.new parent policy options place) }
+        ensures refused { OnErr result (self.new ≡ self.old) }
+    {
+        let inside = row_of(self.before, parent);
+        let account = Account::new(self.alloc, policy, listed);
+        match options.deadline {
+            None => self.add(inside, options.shield, account)?,
+            Some(deadline) if deadline > self.moment => {
+                self.add_before(inside, options.shield, account, deadline)?
+            }
+            Some(deadline) => {
+                let scope = self.before + self.tree.len() as ScopeId + 1;
+                self.add(inside, options.shield, account)?;
+                self.pass_deadline(scope, deadline);
+                self.cancel(scope, CauseKind::Deadline, place);
+            }
+        }
+        Ok(())
+    }
+
+    /// Adds a scope without a deadline.
+    fn add(
+        &mut self,
+        inside: Option<ScopeId>,
+        shield: bool,
+        account: Account,
+    ) -> Result<(), AllocError>
+        requires there { IfSome inside (IsAdded self.old.told) }
+        requires level { level_in self.old.told inside ≤ LEVEL_LIMIT }
+        requires number { self.old.before + length self.old.told + 1 < 2 ^ 32 }
+        ensures added { OnOk result (self.new ≡ with_scope self.old inside shield account) }
         ensures refused { OnErr result (self.new ≡ self.old) }
     {
         self.accounts.reserve(1)?;
         let row = self.tree.len() as ScopeId + 1;
-        let inside = row_of(self.before, parent);
-        let coming = options.deadline.filter(|deadline| *deadline > self.moment);
-        if let Some(deadline) = coming {
-            self.deadlines.set(row, deadline)?;
-        }
-        if self.tree.add(row, inside, options.shield).is_err() {
-            self.deadlines.remove(row);
+        if self.tree.add(row, inside, shield).is_err() {
             return Err(AllocError);
         }
-        self.accounts
-            .push_reserved(Account::new(self.alloc, policy, listed));
-        if let Some(deadline) = options.deadline {
-            self.tree.set_deadline(row, deadline);
-            if deadline <= self.moment {
-                self.tree.cancel(row, CauseKind::Deadline, place as u64);
+        self.accounts.push_reserved(account);
+        Ok(())
+    }
+
+    /// Adds a scope with a deadline that is still to come.
+    fn add_before(
+        &mut self,
+        inside: Option<ScopeId>,
+        shield: bool,
+        account: Account,
+        deadline: u64,
+    ) -> Result<(), AllocError>
+        requires there { IfSome inside (IsAdded self.old.told) }
+        requires level { level_in self.old.told inside ≤ LEVEL_LIMIT }
+        requires number { self.old.before + length self.old.told + 1 < 2 ^ 32 }
+        requires coming { self.old.moment < deadline }
+        ensures added { OnOk result (self.new ≡ deadlined (with_scope self.old inside shield account) (self.old.before + (length self.old.told + 1)) (Some deadline)) }
+        ensures refused { OnErr result (self.new ≡ self.old) }
+    {
+        self.accounts.reserve(1)?;
+        let row = self.tree.len() as ScopeId + 1;
+        self.deadlines.set(row, deadline)?;
+        match self.tree.add(row, inside, shield) {
+            Ok(()) => {
+                self.tree.set_deadline(row, deadline);
+                self.accounts.push_reserved(account);
+                Ok(())
+            }
+            Err(_) => {
+                self.deadlines.remove(row);
+                Err(AllocError)
             }
         }
-        Ok(())
     }
 
     /// Makes room for so many more completions of the scope. Refused where memory is, and then nothing

@@ -1,10 +1,7 @@
-use Rattle.std.proofs.Common.{◌-◌, ◌≤◌, None, length, sym, ap, subst, arith, ◌∙◌}
-use Rattle.std.specs.FinMap as map
+use Rattle.std.proofs.Common.{◌-◌, None, sym, subst, arith}
 use Rattle.cancel_tree.specs.Rows.{IsAdded, changed, with_deadline}
-use Rattle.scope_cuts.specs.CutTables.{CutTable, HasRow, AreKept}
-use Rattle.scope_cuts.specs.CutsOf.{AreCutsOf}
+use Rattle.scope_cuts.specs.CutTables.{HasRow, AreKept}
 use Rattle.scope_cuts.proofs.Kept.{kept_join}
-use Rattle.scope_cuts.proofs.EventSteps.{joined_next}
 use Rattle.scope_cuts.proofs.cuts.Cuts.drop_deadline.Goals as goal
 
 pub invariant_of-self : goal.invariant_of-self
@@ -16,4 +13,3 @@ invariant_of-self c =
     subst (λ told. AreKept inside.before inside.moment told inside.accounts.items c.remove.new.self) (sym c.clear_deadline.ensures)
     (subst (AreKept inside.before inside.moment (changed inside.tree row (with_deadline None)) inside.accounts.items) (sym c.remove.ensures)
     (kept_join inside.before inside.moment row inside.tree inside.accounts.items inside.deadlines added c.self.invariant))
-

@@ -1,4 +1,4 @@
-use Rattle.std.proofs.Common.{◌≡◌, ◌≤◌, ◌<◌, None, Some, sym, subst, ◌∙◌}
+use Rattle.std.proofs.Common.{◌≡◌, ◌≤◌, ◌<◌, Some, sym, subst, ◌∙◌}
 use Rattle.scope_rules.proofs.Bound.{some_same}
 use Rattle.scope_cuts.specs.CutTables.{CutTable}
 use Rattle.scope_cuts.specs.CutsOf.{IsMoved}

@@ -1,5 +1,4 @@
-use Rattle.std.proofs.Common.{◌-◌, ◌≤◌, Some, length, sym, subst, arith}
-use Rattle.std.specs.FinMap as map
+use Rattle.std.proofs.Common.{◌-◌, ◌≤◌, Some, sym, subst, arith}
 use Rattle.cancel_tree.specs.Rows.{IsAdded, changed, with_deadline}
 use Rattle.scope_cuts.specs.CutTables.{CutTable, HasRow, AreKept}
 use Rattle.scope_cuts.proofs.Kept.{kept_past}

@@ -1,7 +1,6 @@
-use Rattle.std.proofs.Common.{◌≡◌, ◌≤◌, ◌<◌, refl, ap, sym, subst, ◌∙◌}
+use Rattle.std.proofs.Common.{◌≤◌, ◌<◌, refl, sym, subst}
 use Rattle.std.specs.FinMap as map
-use Rattle.deadline_core.specs.Moments.{IsFirstDue}
-use Rattle.cancel_tree.specs.Rows.{IsAdded, IsLatest}
+use Rattle.cancel_tree.specs.Rows.{IsLatest}
 use Rattle.scope_cuts.specs.CutTables.{CutTable, AreKept}
 use Rattle.scope_cuts.specs.CutsOf.{AreCutsOf}
 use Rattle.scope_cuts.proofs.CancelSteps.{ticked, ticked_next}
@@ -30,11 +29,12 @@ loop-row-smaller c =
 pub loop-row-preserved : goal.loop-row-preserved
 loop-row-preserved c =
     let first = c.self.inside.deadlines in
-    let added = next_added c.self.inside.before c.self.inside.moment c.args.now c.args.place first c.loop-row.self-inside.deadlines c.self.inside.tree c.loop-row.self-inside.tree c.self.inside.accounts.items c.in-Some.row c.self.invariant c.loop-row.invariant.0 c.in-Some.ensures.first in
-    (subst (λ m. IsPassing c.args.now c.args.place first m c.self.inside.tree c.cancel.new.self) (sym c.in-Some.ensures.removed)
-     (subst (IsPassing c.args.now c.args.place first (map.remove c.loop-row.self-inside.deadlines c.in-Some.row) c.self.inside.tree) (sym c.cancel.ensures)
-     (passing_step c.args.now c.args.place c.in-Some.row first c.loop-row.self-inside.deadlines c.self.inside.tree c.loop-row.self-inside.tree c.loop-row.invariant.0 c.in-Some.ensures.first added)),
-     c.loop-row.invariant.1)
+    let added = next_added c.self.inside.before c.self.inside.moment c.args.now c.args.place first c.loop-row.self-inside.deadlines c.self.inside.tree c.loop-row.self-inside.tree c.self.inside.accounts.items c.in-Some.row c.self.invariant c.loop-row.invariant.0 c.in-Some.ensures.first in (
+      subst (λ m. IsPassing c.args.now c.args.place first m c.self.inside.tree c.cancel.new.self) (sym c.in-Some.ensures.removed)
+          (subst (IsPassing c.args.now c.args.place first (map.remove c.loop-row.self-inside.deadlines c.in-Some.row) c.self.inside.tree) (sym c.cancel.ensures)
+          (passing_step c.args.now c.args.place c.in-Some.row first c.loop-row.self-inside.deadlines c.self.inside.tree c.loop-row.self-inside.tree c.loop-row.invariant.0 c.in-Some.ensures.first added)),
+      c.loop-row.invariant.1,
+    )
 
 pub invariant_of-self : goal.invariant_of-self
 invariant_of-self c =
