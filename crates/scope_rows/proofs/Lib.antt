@@ -5,3 +5,5 @@ pub mod Writing
 pub mod Frames
 pub mod Keeping
 pub mod JoinLaws
+pub mod CountMoves
+pub mod TaskLaws

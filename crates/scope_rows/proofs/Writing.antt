@@ -3,12 +3,13 @@ use Rattle.std.proofs.Common.{◌≡◌, ℕ, ◌-◌, ◌<◌, ◌≤◌, Optio
 use Rattle.std.specs.Option.{option_map_or}
 use Rattle.std.proofs.lemmas.Option.{slice_get-get_or}
 use Rattle.scope_rules.specs.declared.types.answers.Counts.{Counts}
-use Rattle.scope_rules.specs.declared.types.records.Forking.{Forking}
 use Rattle.scope_rows.specs.declared.records.ScopeRow.{ScopeRow}
 use Rattle.scope_rows.specs.declared.records.TaskRow.{TaskRow}
-use Rattle.scope_rows.specs.Table.{RowTable, place_of}
-use Rattle.scope_rows.specs.Steps.{altered, with_scope, with_inner}
+use Rattle.scope_rows.specs.Table.{RowTable, HasScope, HasTask, place_of, row_of, scope_of}
+use Rattle.scope_rows.specs.Steps.{altered, with_scope, recount, moved, no_counts}
+use Rattle.scope_rows.specs.Wants.{counts_of}
 use Rattle.scope_rows.proofs.Altering.{written}
+use Rattle.scope_rows.proofs.Places.{row_is}
 
 -- a row of a scope, changed
 pub scope_written : (f : ScopeRow → ScopeRow) (v t : RowTable) (s at : ℕ) (row : ScopeRow) → v ≡ t → at ≡ place_of t.scopes_before s → at < length t.scopes → row ≡ get_or v.scopes at row
@@ -17,3 +18,39 @@ scope_written f v t s at row same place within read =
     let length_is : length v.scopes ≡ length t.scopes = ap (λ (u : RowTable). length u.scopes) same in
     ap (λ rows. record v { scopes = rows }) (written f v.scopes at (place_of t.scopes_before s) row place (omega arith) read)
     ∙ ap (λ (u : RowTable). record u { scopes = altered f u.scopes (place_of t.scopes_before s) }) same
+
+-- what is read of a task's row
+read_scope : (v t : RowTable) (k at : ℕ) (read : TaskRow) → v ≡ t → HasTask t k → at ≡ place_of t.tasks_before k → at < length t.tasks → read ≡ get_or v.tasks at read → scope_of t k ≡ read.forking.scope
+read_scope v t k at read same has there within is =
+    let found : slice_get t.tasks (place_of t.tasks_before k) ≡ Some read =
+    ap (slice_get t.tasks) (sym there) ∙ (slice_get-get_or t.tasks at read within ∙ ap Some (ap (λ (u : RowTable). get_or u.tasks at read) (sym same) ∙ sym is)) in
+    ap (λ (o : Option TaskRow). option_map_or (λ (r : TaskRow). r.forking.scope) o 0) (row_is t.tasks_before t.tasks k has.0 ∙ found)
+
+-- the row of a task and the counts of its scope, changed
+pub move_written : (f : TaskRow → TaskRow) (g : Counts → Counts) (v t : RowTable) (k at of : ℕ) (read row : TaskRow) (scope : ScopeRow) (n : Counts) → v ≡ t → HasTask t k
+    → at ≡ place_of t.tasks_before k → at < length t.tasks → read ≡ get_or v.tasks at read → row ≡ get_or v.tasks at row
+    → of ≡ place_of t.scopes_before read.forking.scope → of < length t.scopes → scope ≡ get_or v.scopes of scope → n ≡ g scope.counts
+    → record v { tasks = set v.tasks at (f row); scopes = set v.scopes of (record scope { counts = n }) } ≡ moved t k f g
+move_written f g v t k at of read row scope n same has there within is_read is_row where_it inside is_scope counted =
+    let tasks_are : length v.tasks ≡ length t.tasks = ap (λ (u : RowTable). length u.tasks) same in
+    let scopes_are : length v.scopes ≡ length t.scopes = ap (λ (u : RowTable). length u.scopes) same in
+    let place : of ≡ place_of t.scopes_before (scope_of t k) = where_it ∙ ap (place_of t.scopes_before) (sym (read_scope v t k at read same has there within is_read)) in
+    ap (λ (m : Counts). record v { tasks = set v.tasks at (f row); scopes = set v.scopes of (record scope { counts = m }) }) counted
+    ∙ (ap (λ rows. record v { tasks = rows; scopes = set v.scopes of (recount g scope) }) (written f v.tasks at (place_of t.tasks_before k) row there (omega arith) is_row)
+    ∙ (ap (λ rows. record v { tasks = altered f v.tasks (place_of t.tasks_before k); scopes = rows }) (written (recount g) v.scopes of (place_of t.scopes_before (scope_of t k)) scope place (omega arith) is_scope)
+    ∙ ap (λ (u : RowTable). record u { tasks = altered f u.tasks (place_of t.tasks_before k); scopes = altered (recount g) u.scopes (place_of t.scopes_before (scope_of t k)) }) same))
+
+-- the counts that are read are those of the scope
+pub scope_counts : (v t : RowTable) (s at : ℕ) (scope : ScopeRow) → v ≡ t → HasScope t s → at ≡ place_of t.scopes_before s → at < length t.scopes → scope ≡ get_or v.scopes at scope → scope.counts ≡ counts_of t s
+scope_counts v t s at scope same has place within is =
+    let found : slice_get t.scopes (place_of t.scopes_before s) ≡ Some scope =
+    ap (slice_get t.scopes) (sym place) ∙ (slice_get-get_or t.scopes at scope within ∙ ap Some (ap (λ (u : RowTable). get_or u.scopes at scope) (sym same) ∙ sym is)) in
+    sym (ap (λ (o : Option ScopeRow). option_map_or (λ (r : ScopeRow). r.counts) o no_counts) (row_is t.scopes_before t.scopes s has.0 ∙ found))
+
+-- the counts that are read are those of the task's scope
+pub counts_read : (v t : RowTable) (k at of : ℕ) (read : TaskRow) (scope : ScopeRow) → v ≡ t → HasTask t k → HasScope t (scope_of t k)
+    → at ≡ place_of t.tasks_before k → at < length t.tasks → read ≡ get_or v.tasks at read
+    → of ≡ place_of t.scopes_before read.forking.scope → of < length t.scopes → scope ≡ get_or v.scopes of scope → scope.counts ≡ counts_of t (scope_of t k)
+counts_read v t k at of read scope same has has_scope there within is_read where_it inside is_scope =
+    let place : of ≡ place_of t.scopes_before (scope_of t k) = where_it ∙ ap (place_of t.scopes_before) (sym (read_scope v t k at read same has there within is_read)) in
+    scope_counts v t (scope_of t k) of scope same has_scope place inside is_scope

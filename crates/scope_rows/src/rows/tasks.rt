@@ -8,7 +8,7 @@ ghost use Rattle.scope_rules.specs.declared.types.capacity.Limits.{Limits};
 ghost use Rattle.scope_rules.specs.declared.types.events.Event.TheVariants.{Fork, Reject, Start, Finish};
 ghost use Rattle.scope_rows.specs.Agreement.{AreRowsOf};
 ghost use Rattle.scope_rows.specs.Table.{scope_of};
-ghost use Rattle.scope_rows.specs.Steps.{forked, rejected, started, finished, count_fork, state_at_end};
+ghost use Rattle.scope_rows.specs.Steps.{forked, rejected, started, finished, count_fork, count_reject, count_start, count_finish, state_at_end};
 ghost use Rattle.scope_rows.specs.Wants.{CanFork, CanBeTaken, CanFinish, HasCountRoom};
 
 use crate::records::TaskRow;
@@ -26,7 +26,8 @@ impl Rows {
         ensures agrees { (L : Limits) (h : History) → Legal L h → Accepts L h (Fork forking.actor forking.scope forking.label) → AreRowsOf h self.old → forking.place ≡ length h.events → cancelled ≡ is_cancelled h forking.scope → AreRowsOf (followed h (Fork forking.actor forking.scope forking.label)) self.new }
     {
         let of = self.scope_place(forking.scope);
-        self.scopes[of].counts = with_fork(self.scopes[of].counts, cancelled);
+        let row = &mut self.scopes[of];
+        row.counts = with_fork(row.counts, cancelled);
         self.tasks.push_reserved(TaskRow {
             forking,
             stage: if cancelled {
@@ -48,12 +49,8 @@ impl Rows {
         let at = self.task_place(task);
         let of = self.scope_place(self.tasks[at].forking.scope);
         self.tasks[at].stage = Stage::Never;
-        let counts = self.scopes[of].counts;
-        self.scopes[of].counts = Counts {
-            waiting: counts.waiting - 1,
-            never: counts.never + 1,
-            ..counts
-        };
+        let row = &mut self.scopes[of];
+        row.counts = with_reject(row.counts);
     }
 
     /// The task, which waits, runs.
@@ -65,12 +62,8 @@ impl Rows {
         let at = self.task_place(task);
         let of = self.scope_place(self.tasks[at].forking.scope);
         self.tasks[at].stage = Stage::Running;
-        let counts = self.scopes[of].counts;
-        self.scopes[of].counts = Counts {
-            waiting: counts.waiting - 1,
-            running: counts.running + 1,
-            ..counts
-        };
+        let row = &mut self.scopes[of];
+        row.counts = with_start(row.counts);
     }
 
     /// The task, which runs, ends. Where its scope is cancelled, the end can't be read.
@@ -81,15 +74,11 @@ impl Rows {
     {
         let at = self.task_place(task);
         let of = self.scope_place(self.tasks[at].forking.scope);
-        let row = &mut self.tasks[at];
-        row.stage = Stage::Finished;
-        row.state = state_at_end(end, cancelled);
-        let counts = self.scopes[of].counts;
-        self.scopes[of].counts = Counts {
-            running: counts.running - 1,
-            finished: counts.finished + 1,
-            ..counts
-        };
+        let ended = &mut self.tasks[at];
+        ended.stage = Stage::Finished;
+        ended.state = state_at_end(end, cancelled);
+        let row = &mut self.scopes[of];
+        row.counts = with_finish(row.counts);
     }
 }
 
@@ -108,6 +97,45 @@ fn with_fork(counts: Counts, cancelled: bool) -> Counts
             waiting: counts.waiting + 1,
             ..counts
         }
+    }
+}
+
+/// The counts where a task that waited never runs.
+fn with_reject(counts: Counts) -> Counts
+    requires waits { 1 ≤ counts.waiting }
+    requires room { HasCountRoom counts }
+    ensures { result ≡ count_reject counts }
+{
+    Counts {
+        waiting: counts.waiting - 1,
+        never: counts.never + 1,
+        ..counts
+    }
+}
+
+/// The counts where a task that waited runs.
+fn with_start(counts: Counts) -> Counts
+    requires waits { 1 ≤ counts.waiting }
+    requires room { HasCountRoom counts }
+    ensures { result ≡ count_start counts }
+{
+    Counts {
+        waiting: counts.waiting - 1,
+        running: counts.running + 1,
+        ..counts
+    }
+}
+
+/// The counts where a task that ran has finished.
+fn with_finish(counts: Counts) -> Counts
+    requires runs { 1 ≤ counts.running }
+    requires room { HasCountRoom counts }
+    ensures { result ≡ count_finish counts }
+{
+    Counts {
+        running: counts.running - 1,
+        finished: counts.finished + 1,
+        ..counts
     }
 }
 
