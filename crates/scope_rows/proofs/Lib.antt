@@ -7,3 +7,5 @@ pub mod Keeping
 pub mod JoinLaws
 pub mod CountMoves
 pub mod TaskLaws
+pub mod Unforked
+pub mod ForkLaws

@@ -1,15 +1,17 @@
 -- What is written into the rows is what a step makes of them.
-use Rattle.std.proofs.Common.{◌≡◌, ℕ, ◌-◌, ◌<◌, ◌≤◌, Option, Some, List, length, get_or, slice_get, set, refl, ap, sym, subst, ◌∙◌, arith}
+use Rattle.std.proofs.Common.{◌≡◌, ℕ, ◌-◌, ◌<◌, ◌≤◌, ◌==◌, Bool, true, false, cond, Option, Some, List, [], ◌∷◌, ◌++◌, length, get_or, slice_get, set, refl, ap, sym, subst, ◌∙◌, arith, inl, inr}
+use Rattle.std.proofs.lemmas.Bool.{eq-eqb}
 use Rattle.std.specs.Option.{option_map_or}
 use Rattle.std.proofs.lemmas.Option.{slice_get-get_or}
 use Rattle.scope_rules.specs.declared.types.answers.Counts.{Counts}
+use Rattle.scope_rules.specs.declared.types.records.Forking.{Forking}
 use Rattle.scope_rows.specs.declared.records.ScopeRow.{ScopeRow}
 use Rattle.scope_rows.specs.declared.records.TaskRow.{TaskRow}
-use Rattle.scope_rows.specs.Table.{RowTable, HasScope, HasTask, place_of, row_of, scope_of}
-use Rattle.scope_rows.specs.Steps.{altered, with_scope, recount, moved, no_counts}
+use Rattle.scope_rows.specs.Table.{RowTable, HasScope, HasTask, HasActor, place_of, row_of, scope_of}
+use Rattle.scope_rows.specs.Steps.{altered, with_scope, recount, moved, no_counts, forked, count_fork, new_task_row, with_inner, with_innermost}
 use Rattle.scope_rows.specs.Wants.{counts_of}
 use Rattle.scope_rows.proofs.Altering.{written}
-use Rattle.scope_rows.proofs.Places.{row_is}
+use Rattle.scope_rows.proofs.Places.{row_is, place_within}
 
 -- a row of a scope, changed
 pub scope_written : (f : ScopeRow → ScopeRow) (v t : RowTable) (s at : ℕ) (row : ScopeRow) → v ≡ t → at ≡ place_of t.scopes_before s → at < length t.scopes → row ≡ get_or v.scopes at row
@@ -54,3 +56,42 @@ pub counts_read : (v t : RowTable) (k at of : ℕ) (read : TaskRow) (scope : Sco
 counts_read v t k at of read scope same has has_scope there within is_read where_it inside is_scope =
     let place : of ≡ place_of t.scopes_before (scope_of t k) = where_it ∙ ap (place_of t.scopes_before) (sym (read_scope v t k at read same has there within is_read)) in
     scope_counts v t (scope_of t k) of scope same has_scope place inside is_scope
+
+-- the counts of a scope, changed
+pub counts_written : (g : Counts → Counts) (v t : RowTable) (s at : ℕ) (row : ScopeRow) (n : Counts) → v ≡ t → at ≡ place_of t.scopes_before s → at < length t.scopes → row ≡ get_or v.scopes at row → n ≡ g row.counts
+    → set v.scopes at (record row { counts = n }) ≡ altered (recount g) t.scopes (place_of t.scopes_before s)
+counts_written g v t s at row n same place within read counted =
+    let length_is : length v.scopes ≡ length t.scopes = ap (λ (u : RowTable). length u.scopes) same in
+    ap (λ (m : Counts). set v.scopes at (record row { counts = m })) counted
+    ∙ (written (recount g) v.scopes at (place_of t.scopes_before s) row place (omega arith) read
+    ∙ ap (λ (u : RowTable). altered (recount g) u.scopes (place_of t.scopes_before s)) same)
+
+-- the row of a new task, and the counts of its scope
+pub fork_written : (v t : RowTable) (f : Forking) (cancelled : Bool) (scopes : List ScopeRow) (tasks : List TaskRow) (room : ℕ) (row : TaskRow) → v ≡ t
+    → scopes ≡ altered (recount (count_fork cancelled)) t.scopes (place_of t.scopes_before f.scope) → tasks ≡ v.tasks ++ row ∷ [] → row ≡ new_task_row f cancelled → room ≡ v.task_room - 1
+    → record v { scopes = scopes; tasks = tasks; task_room = room } ≡ forked t f cancelled
+fork_written v t f cancelled scopes tasks room row same counted pushed is_new less =
+    ap (λ xs. record v { scopes = xs; tasks = tasks; task_room = room }) counted
+    ∙ (ap (λ ys. record v { scopes = altered (recount (count_fork cancelled)) t.scopes (place_of t.scopes_before f.scope); tasks = ys; task_room = room }) (pushed ∙ ap (λ (r : TaskRow). v.tasks ++ r ∷ []) is_new)
+    ∙ (ap (λ n. record v { scopes = altered (recount (count_fork cancelled)) t.scopes (place_of t.scopes_before f.scope); tasks = v.tasks ++ new_task_row f cancelled ∷ []; task_room = n }) less
+    ∙ ap (λ (u : RowTable). record u { scopes = altered (recount (count_fork cancelled)) t.scopes (place_of t.scopes_before f.scope); tasks = u.tasks ++ new_task_row f cancelled ∷ []; task_room = u.task_room - 1 }) same))
+
+-- ---- the innermost scope of a task
+
+inner_place : (t : RowTable) (a : ℕ) → (a == 0) ≡ false → HasActor t a → place_of t.tasks_before a < length t.tasks
+inner_place t a other (inl main) = absurd (cc (other, eq-eqb a 0 main))
+inner_place t a other (inr has) = place_within t.tasks_before (length t.tasks) a has.0 has.1
+
+pub inner_written : (v t : RowTable) (a at : ℕ) (row : TaskRow) (i : Option ℕ) → v ≡ t → (a == 0) ≡ false → HasActor t a → at ≡ place_of v.tasks_before a → row ≡ get_or v.tasks at row
+    → record v { tasks = set v.tasks at (with_inner i row) } ≡ with_innermost t a i
+inner_written v t a at row i same other has place read =
+    let within : place_of v.tasks_before a < length v.tasks = subst (λ (u : RowTable). place_of u.tasks_before a < length u.tasks) (sym same) (inner_place t a other has) in
+    ap (λ rows. record v { tasks = rows }) (written (with_inner i) v.tasks at (place_of v.tasks_before a) row place (omega arith) read)
+    ∙ (ap (λ (u : RowTable). record u { tasks = altered (with_inner i) u.tasks (place_of u.tasks_before a) }) same
+    ∙ ap (λ b. record t { main_innermost = cond b i t.main_innermost; tasks = cond b t.tasks (altered (with_inner i) t.tasks (place_of t.tasks_before a)) }) (sym other))
+
+-- and of main
+pub main_written : (v t : RowTable) (a : ℕ) (i : Option ℕ) → v ≡ t → (a == 0) ≡ true → record v { main_innermost = i } ≡ with_innermost t a i
+main_written v t a i same main =
+    ap (λ (u : RowTable). record u { main_innermost = i }) same
+    ∙ ap (λ b. record t { main_innermost = cond b i t.main_innermost; tasks = cond b t.tasks (altered (with_inner i) t.tasks (place_of t.tasks_before a)) }) (sym main)

@@ -8,7 +8,7 @@ ghost use Rattle.scope_rules.specs.declared.types.capacity.Limits.{Limits};
 ghost use Rattle.scope_rules.specs.declared.types.events.Event.TheVariants.{Fork, Reject, Start, Finish};
 ghost use Rattle.scope_rows.specs.Agreement.{AreRowsOf};
 ghost use Rattle.scope_rows.specs.Table.{scope_of};
-ghost use Rattle.scope_rows.specs.Steps.{forked, rejected, started, finished, count_fork, count_reject, count_start, count_finish, state_at_end};
+ghost use Rattle.scope_rows.specs.Steps.{forked, rejected, started, finished, count_fork, count_reject, count_start, count_finish, new_task_row, state_at_end};
 ghost use Rattle.scope_rows.specs.Wants.{CanFork, CanBeTaken, CanFinish, HasCountRoom};
 
 use crate::records::TaskRow;
@@ -28,16 +28,7 @@ impl Rows {
         let of = self.scope_place(forking.scope);
         let row = &mut self.scopes[of];
         row.counts = with_fork(row.counts, cancelled);
-        self.tasks.push_reserved(TaskRow {
-            forking,
-            stage: if cancelled {
-                Stage::Never
-            } else {
-                Stage::Waiting
-            },
-            state: State::Unavailable,
-            innermost: None,
-        });
+        self.tasks.push_reserved(new_row(forking, cancelled));
     }
 
     /// The task, which waits, gets no thread.
@@ -79,6 +70,22 @@ impl Rows {
         ended.state = state_at_end(end, cancelled);
         let row = &mut self.scopes[of];
         row.counts = with_finish(row.counts);
+    }
+}
+
+/// The row of a task that is forked so.
+fn new_row(forking: Forking, cancelled: bool) -> TaskRow
+    ensures { result ≡ new_task_row forking cancelled }
+{
+    TaskRow {
+        forking,
+        stage: if cancelled {
+            Stage::Never
+        } else {
+            Stage::Waiting
+        },
+        state: State::Unavailable,
+        innermost: None,
     }
 }
 
