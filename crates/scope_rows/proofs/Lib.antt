@@ -9,3 +9,4 @@ pub mod CountMoves
 pub mod TaskLaws
 pub mod Unforked
 pub mod ForkLaws
+pub mod Reading
