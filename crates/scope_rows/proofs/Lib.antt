@@ -10,3 +10,9 @@ pub mod TaskLaws
 pub mod Unforked
 pub mod ForkLaws
 pub mod Reading
+pub mod Empty
+pub mod Actors
+pub mod InnerMoves
+pub mod Unopened
+pub mod OpenLaws
+pub mod EndLaws

@@ -84,7 +84,8 @@ row_before before rows n within = by (nat_lt before n) refl
     by true test = absurd (omega (arith, ltb-true before n test))
     by false test = refl
 
-task_innermost : (L : Limits) (h : History) (t : RowTable) (a : ℕ) (o : Option TaskRow) → Legal L h → AreRowsOf h t → a ≢ 0 → task_row t a ≡ o → option_and_then (λ (r : TaskRow). r.innermost) o ≡ innermost h a
+-- what is read of a task, or of what is none
+pub task_innermost : (L : Limits) (h : History) (t : RowTable) (a : ℕ) (o : Option TaskRow) → Legal L h → AreRowsOf h t → a ≢ 0 → task_row t a ≡ o → option_and_then (λ (r : TaskRow). r.innermost) o ≡ innermost h a
 task_innermost L h t a (Some r) legal are other is = sym (task_row_says h t a r are is).innermost
 task_innermost L h t a None legal are other is =
     sym (unforked_innermost L h a legal other (λ it. absurd (cc (task_row_none h t a are is, it.is))))
