@@ -12,14 +12,13 @@ unfolding innermost latest
 no_innermost b a = refl
 
 -- the rows of no scope and no task, on a base with the numbers before
-pub rows_empty : (b : Origin) (scopes tasks scope_room task_room : ℕ) → b.scopes ≡ scopes → b.tasks ≡ tasks
-    → AreRowsOf (record { base = b; events = [] }) (record { scopes_before = scopes; tasks_before = tasks; main_innermost = None; scopes = []; tasks = []; scope_room = scope_room; task_room = task_room })
-rows_empty b scopes tasks scope_room task_room scopes_are tasks_are = record {
+pub rows_empty : (b : Origin) (t : RowTable) → t.scopes ≡ [] → t.tasks ≡ [] → t.main_innermost ≡ None → b.scopes ≡ t.scopes_before → b.tasks ≡ t.tasks_before → AreRowsOf (record { base = b; events = [] }) t
+rows_empty b t no_scopes no_tasks no_inner scopes_are tasks_are = record {
   scopes_before = sym scopes_are;
   tasks_before = sym tasks_are;
-  main = no_innermost b 0;
-  scope_count = refl;
-  task_count = refl;
-  scopes = λ i r at. absurd cc;
-  tasks = λ i r at. absurd cc;
+  main = no_innermost b 0 ∙ sym no_inner;
+  scope_count = ap length no_scopes;
+  task_count = ap length no_tasks;
+  scopes = λ i r at. let none : None ≡ Some r = ap (λ rows. slice_get rows i) (sym no_scopes) ∙ at in absurd cc;
+  tasks = λ i r at. let none : None ≡ Some r = ap (λ rows. slice_get rows i) (sym no_tasks) ∙ at in absurd cc;
 }

@@ -1,15 +1,15 @@
 -- What is written into the rows is what a step makes of them.
-use Rattle.std.proofs.Common.{◌≡◌, ℕ, ◌-◌, ◌<◌, ◌≤◌, ◌==◌, Bool, true, false, cond, Option, Some, List, [], ◌∷◌, ◌++◌, length, get_or, slice_get, set, refl, ap, sym, subst, ◌∙◌, arith, inl, inr}
+use Rattle.std.proofs.Common.{◌≡◌, ℕ, ◌+◌, ◌-◌, ◌<◌, ◌≤◌, ◌==◌, Bool, true, false, cond, Option, Some, List, [], ◌∷◌, ◌++◌, length, get_or, slice_get, set, refl, ap, sym, subst, ◌∙◌, arith, inl, inr}
 use Rattle.std.proofs.lemmas.Bool.{eq-eqb}
-use Rattle.std.specs.Option.{option_map_or}
+use Rattle.std.specs.Option.{option_map_or, option_and_then}
 use Rattle.std.proofs.lemmas.Option.{slice_get-get_or}
 use Rattle.scope_rules.specs.declared.types.answers.Counts.{Counts}
 use Rattle.scope_rules.specs.declared.types.records.Forking.{Forking}
+use Rattle.scope_rules.specs.declared.types.records.Opening.{Opening}
 use Rattle.scope_rows.specs.declared.records.ScopeRow.{ScopeRow}
 use Rattle.scope_rows.specs.declared.records.TaskRow.{TaskRow}
-use Rattle.scope_rows.specs.Table.{RowTable, HasScope, HasTask, HasActor, place_of, row_of, scope_of}
-use Rattle.scope_rows.specs.Steps.{altered, with_scope, recount, moved, no_counts, forked, count_fork, new_task_row, with_inner, with_innermost}
-use Rattle.scope_rows.specs.Wants.{counts_of}
+use Rattle.scope_rows.specs.Table.{RowTable, HasScope, HasTask, HasActor, place_of, row_of, scope_of, innermost_of}
+use Rattle.scope_rows.specs.Steps.{altered, with_scope, recount, moved, opened, new_scope_row, below_of, forked, count_fork, new_task_row, with_inner, with_innermost}
 use Rattle.scope_rows.proofs.Altering.{written}
 use Rattle.scope_rows.proofs.Places.{row_is, place_within}
 
@@ -42,29 +42,25 @@ move_written f g v t k at of read row scope n same has there within is_read is_r
     ∙ (ap (λ rows. record v { tasks = altered f v.tasks (place_of t.tasks_before k); scopes = rows }) (written (recount g) v.scopes of (place_of t.scopes_before (scope_of t k)) scope place (omega arith) is_scope)
     ∙ ap (λ (u : RowTable). record u { tasks = altered f u.tasks (place_of t.tasks_before k); scopes = altered (recount g) u.scopes (place_of t.scopes_before (scope_of t k)) }) same))
 
--- the counts that are read are those of the scope
-pub scope_counts : (v t : RowTable) (s at : ℕ) (scope : ScopeRow) → v ≡ t → HasScope t s → at ≡ place_of t.scopes_before s → at < length t.scopes → scope ≡ get_or v.scopes at scope → scope.counts ≡ counts_of t s
-scope_counts v t s at scope same has place within is =
-    let found : slice_get t.scopes (place_of t.scopes_before s) ≡ Some scope =
-    ap (slice_get t.scopes) (sym place) ∙ (slice_get-get_or t.scopes at scope within ∙ ap Some (ap (λ (u : RowTable). get_or u.scopes at scope) (sym same) ∙ sym is)) in
-    sym (ap (λ (o : Option ScopeRow). option_map_or (λ (r : ScopeRow). r.counts) o no_counts) (row_is t.scopes_before t.scopes s has.0 ∙ found))
+-- the row that is read is that of the scope
+scope_read : (v t : RowTable) (s at : ℕ) (row : ScopeRow) → v ≡ t → HasScope t s → at ≡ place_of t.scopes_before s → at < length t.scopes → row ≡ get_or v.scopes at row → row_of t.scopes_before t.scopes s ≡ Some row
+scope_read v t s at row same has place within is =
+    row_is t.scopes_before t.scopes s has.0
+    ∙ (ap (slice_get t.scopes) (sym place) ∙ (slice_get-get_or t.scopes at row within ∙ ap Some (ap (λ (u : RowTable). get_or u.scopes at row) (sym same) ∙ sym is)))
 
--- the counts that are read are those of the task's scope
-pub counts_read : (v t : RowTable) (k at of : ℕ) (read : TaskRow) (scope : ScopeRow) → v ≡ t → HasTask t k → HasScope t (scope_of t k)
-    → at ≡ place_of t.tasks_before k → at < length t.tasks → read ≡ get_or v.tasks at read
-    → of ≡ place_of t.scopes_before read.forking.scope → of < length t.scopes → scope ≡ get_or v.scopes of scope → scope.counts ≡ counts_of t (scope_of t k)
-counts_read v t k at of read scope same has has_scope there within is_read where_it inside is_scope =
-    let place : of ≡ place_of t.scopes_before (scope_of t k) = where_it ∙ ap (place_of t.scopes_before) (sym (read_scope v t k at read same has there within is_read)) in
-    scope_counts v t (scope_of t k) of scope same has_scope place inside is_scope
+-- what is read below the scope
+pub below_read : (v t : RowTable) (s at : ℕ) (row : ScopeRow) → v ≡ t → HasScope t s → at ≡ place_of t.scopes_before s → at < length t.scopes → row ≡ get_or v.scopes at row → row.below ≡ below_of t.scopes_before t.scopes s
+below_read v t s at row same has place within is = sym (ap (option_and_then (λ (r : ScopeRow). r.below)) (scope_read v t s at row same has place within is))
 
--- the counts of a scope, changed
-pub counts_written : (g : Counts → Counts) (v t : RowTable) (s at : ℕ) (row : ScopeRow) (n : Counts) → v ≡ t → at ≡ place_of t.scopes_before s → at < length t.scopes → row ≡ get_or v.scopes at row → n ≡ g row.counts
-    → set v.scopes at (record row { counts = n }) ≡ altered (recount g) t.scopes (place_of t.scopes_before s)
-counts_written g v t s at row n same place within read counted =
-    let length_is : length v.scopes ≡ length t.scopes = ap (λ (u : RowTable). length u.scopes) same in
-    ap (λ (m : Counts). set v.scopes at (record row { counts = m })) counted
-    ∙ (written (recount g) v.scopes at (place_of t.scopes_before s) row place (omega arith) read
-    ∙ ap (λ (u : RowTable). altered (recount g) u.scopes (place_of t.scopes_before s)) same)
+-- the row of a new scope, which is its actor's innermost
+pub open_written : (v t : RowTable) (o : Opening) (parent below : Option ℕ) (height : ℕ) (scopes : List ScopeRow) (room last : ℕ) → v ≡ t → scopes ≡ v.scopes ++ new_scope_row o parent below height ∷ [] → room ≡ v.scope_room - 1 → below ≡ innermost_of t o.actor → last ≡ t.scopes_before + length t.scopes
+    → with_innermost (record v { scopes = scopes; scope_room = room }) o.actor (Some (last + 1)) ≡ opened t o parent height
+open_written v t o parent below height scopes room last same pushed less is_below is_last =
+    ap (λ xs. with_innermost (record v { scopes = xs; scope_room = room }) o.actor (Some (last + 1))) pushed
+    ∙ (ap (λ n. with_innermost (record v { scopes = v.scopes ++ new_scope_row o parent below height ∷ []; scope_room = n }) o.actor (Some (last + 1))) less
+    ∙ (ap (λ b. with_innermost (record v { scopes = v.scopes ++ new_scope_row o parent b height ∷ []; scope_room = v.scope_room - 1 }) o.actor (Some (last + 1))) is_below
+    ∙ (ap (λ n. with_innermost (record v { scopes = v.scopes ++ new_scope_row o parent (innermost_of t o.actor) height ∷ []; scope_room = v.scope_room - 1 }) o.actor (Some (n + 1))) is_last
+    ∙ ap (λ (u : RowTable). with_innermost (record u { scopes = u.scopes ++ new_scope_row o parent (innermost_of t o.actor) height ∷ []; scope_room = u.scope_room - 1 }) o.actor (Some (t.scopes_before + length t.scopes + 1))) same)))
 
 -- the row of a new task, and the counts of its scope
 pub fork_written : (v t : RowTable) (f : Forking) (cancelled : Bool) (scopes : List ScopeRow) (tasks : List TaskRow) (room : ℕ) (row : TaskRow) → v ≡ t
