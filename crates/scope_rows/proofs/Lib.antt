@@ -16,3 +16,8 @@ pub mod InnerMoves
 pub mod Unopened
 pub mod OpenLaws
 pub mod EndLaws
+pub mod Marking
+pub mod Walks
+pub mod MarkLaws
+pub mod CloseLaws
+pub mod CloseWriting

@@ -68,9 +68,8 @@ impl Rows {
         let at = self.scope_place(scope);
         let from = self.innermost(actor);
         mark_closing(&mut self.scopes, self.scopes_before, from, scope);
-        if !is_this(from, scope) {
-            self.scopes[at].violated = true;
-        }
+        let out_of_order = !is_this(from, scope);
+        self.scopes[at].violated |= out_of_order;
     }
 
     /// The actor ends the close of its innermost scope. Its innermost is then the one below it.
