@@ -17,7 +17,7 @@ use Rattle.scope_rows.specs.Steps.{count_fork, count_reject, count_start, count_
 use Rattle.scope_rows.proofs.Frames.{counts_by, counts_same, tallies_of}
 
 -- whether a forked task is one of a scope at a stage
-unit_is : (h : History) (s : ℕ) (x : Stage) (k : ℕ) (f : Forking) (y : Stage) → forking h k ≡ Some f → stage h k ≡ y → is_at h s x k ≡ ((f.scope == s) && is_stage x y)
+pub unit_is : (h : History) (s : ℕ) (x : Stage) (k : ℕ) (f : Forking) (y : Stage) → forking h k ≡ Some f → stage h k ≡ y → is_at h s x k ≡ ((f.scope == s) && is_stage x y)
 unfolding is_task_of
 unit_is h s x k f y is at = rw is (rw at refl)
 

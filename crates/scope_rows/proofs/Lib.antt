@@ -21,3 +21,4 @@ pub mod Walks
 pub mod MarkLaws
 pub mod CloseLaws
 pub mod CloseWriting
+pub mod WantsMet

@@ -36,12 +36,12 @@ use Rattle.scope_rows.proofs.CountMoves.{NamesAlone, counts_elsewhere, counts_re
 use Rattle.scope_rules.proofs.Nesting.{IsOpened, forked_opened}
 
 -- what waits is at the stage of it
-waiting_is : (x : Stage) → is_waiting x ≡ true → x ≡ Waiting
+pub waiting_is : (x : Stage) → is_waiting x ≡ true → x ≡ Waiting
 waiting_is Waiting is = refl
 waiting_is _ is = absurd cc
 
 -- what runs is at the stage of it
-running_is : (x : Stage) → is_running x ≡ true → x ≡ Running
+pub running_is : (x : Stage) → is_running x ≡ true → x ≡ Running
 running_is Running is = refl
 running_is _ is = absurd cc
 

@@ -91,3 +91,12 @@ pub main_written : (v t : RowTable) (a : ℕ) (i : Option ℕ) → v ≡ t → (
 main_written v t a i same main =
     ap (λ (u : RowTable). record u { main_innermost = i }) same
     ∙ ap (λ b. record t { main_innermost = cond b i t.main_innermost; tasks = cond b t.tasks (altered (with_inner i) t.tasks (place_of t.tasks_before a)) }) (sym main)
+
+-- the counts of a scope, changed
+pub counts_written : (g : Counts → Counts) (v t : RowTable) (s at : ℕ) (row : ScopeRow) (n : Counts) → v ≡ t → at ≡ place_of t.scopes_before s → at < length t.scopes → row ≡ get_or v.scopes at row → n ≡ g row.counts
+    → set v.scopes at (record row { counts = n }) ≡ altered (recount g) t.scopes (place_of t.scopes_before s)
+counts_written g v t s at row n same place within read counted =
+    let length_is : length v.scopes ≡ length t.scopes = ap (λ (u : RowTable). length u.scopes) same in
+    ap (λ (m : Counts). set v.scopes at (record row { counts = m })) counted
+    ∙ (written (recount g) v.scopes at (place_of t.scopes_before s) row place (omega arith) read
+    ∙ ap (λ (u : RowTable). altered (recount g) u.scopes (place_of t.scopes_before s)) same)
