@@ -1,12 +1,12 @@
 -- The rows after the beginning of a close.
-use Rattle.std.proofs.Common.{◌≡◌, ◌≢◌, ℕ, ◌+◌, ◌≤◌, ◌<◌, ◌==◌, ◌&&◌, ◌||◌, Bool, true, false, not, Option, Some, None, length, slice_get, refl, ap, sym, subst, ◌∙◌, arith, inl, inr}
+use Rattle.std.proofs.Common.{◌≡◌, ◌≢◌, ℕ, ◌+◌, ◌≤◌, ◌==◌, ◌&&◌, ◌||◌, Bool, true, false, not, Option, Some, None, slice_get, refl, ap, sym, subst, ◌∙◌, arith, inl, inr}
 use Rattle.std.proofs.lemmas.Bool.{eq-eqb, ne_eqb, or_right}
 use Rattle.std.specs.Option.{option_map}
 use Rattle.scope_rules.specs.declared.types.capacity.Limits.{Limits}
 use Rattle.scope_rules.specs.declared.types.events.Event.TheVariants.{BeginClose}
 use Rattle.scope_rules.specs.declared.types.records.Opening.{Opening}
-use Rattle.scope_rules.specs.History.{History, before, followed, opening, is_open, is_fork}
-use Rattle.scope_rules.specs.Scopes.{innermost, closed, closing, covers}
+use Rattle.scope_rules.specs.History.{History, before, followed, is_open, is_fork}
+use Rattle.scope_rules.specs.Scopes.{innermost, closing, covers}
 use Rattle.scope_rules.specs.Checks.{is_innermost}
 use Rattle.scope_rules.specs.Verdicts.{violated, covers_another}
 use Rattle.scope_rules.specs.Legal.{Legal, Accepts}
@@ -19,7 +19,7 @@ use Rattle.scope_rules.proofs.VerdictSteps.{violated_grows, covers_by_innermost}
 use Rattle.scope_rows.specs.declared.records.ScopeRow.{ScopeRow}
 use Rattle.scope_rows.specs.Table.{RowTable, place_of, innermost_of}
 use Rattle.scope_rows.specs.Agreement.{AreRowsOf, IsScopeRow}
-use Rattle.scope_rows.specs.Steps.{altered, closing_row, violated_row, below_of, marked, marked_within, walk_length, is_this, close_begun}
+use Rattle.scope_rows.specs.Steps.{altered, closing_row, violated_row, marked, marked_within, walk_length, is_this, close_begun}
 use Rattle.scope_rows.proofs.Altering.{altered_length, altered_split}
 use Rattle.scope_rows.proofs.Places.{scope_at, number_at, number_apart}
 use Rattle.scope_rows.proofs.Frames.{scope_on, scope_kept, joining_same, closed_same, violated_same}

@@ -1,5 +1,5 @@
 -- What is written at the beginning of a close is what the step makes of the rows.
-use Rattle.std.proofs.Common.{◌≡◌, ℕ, ◌<◌, Bool, not, Option, List, [], ◌++◌, length, take, drop, get_or, set, refl, ap, sym, subst, ◌∙◌, arith}
+use Rattle.std.proofs.Common.{◌≡◌, ℕ, ◌<◌, Bool, not, Option, List, ◌++◌, length, take, drop, get_or, set, ap, ◌∙◌, arith}
 use Rattle.std.proofs.lemmas.List.{take_all, take-append-le}
 use Rattle.scope_rows.specs.declared.records.ScopeRow.{ScopeRow}
 use Rattle.scope_rows.specs.Table.{RowTable, place_of, innermost_of}

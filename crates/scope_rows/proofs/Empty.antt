@@ -2,7 +2,6 @@
 use Rattle.std.proofs.Common.{◌≡◌, ℕ, Some, None, [], length, slice_get, refl, ap, sym, ◌∙◌}
 use Rattle.scope_rules.specs.Origin.{Origin}
 use Rattle.scope_rules.specs.Search.{latest}
-use Rattle.scope_rules.specs.History.{History}
 use Rattle.scope_rules.specs.Scopes.{innermost}
 use Rattle.scope_rows.specs.Table.{RowTable}
 use Rattle.scope_rows.specs.Agreement.{AreRowsOf}

@@ -1,11 +1,11 @@
 -- The rows after the end of a close.
-use Rattle.std.proofs.Common.{◌≡◌, ◌≢◌, ℕ, ◌+◌, ◌==◌, ◌||◌, Bool, true, false, Some, Option, length, slice_get, refl, ap, sym, subst, ◌∙◌, inl, inr}
+use Rattle.std.proofs.Common.{◌≡◌, ◌≢◌, ℕ, ◌+◌, ◌||◌, true, Some, slice_get, refl, ap, sym, subst, ◌∙◌, inl, inr}
 use Rattle.std.proofs.lemmas.Bool.{eq-eqb, ne_eqb, or_right}
 use Rattle.std.specs.Option.{option_and_then}
 use Rattle.scope_rules.specs.declared.types.capacity.Limits.{Limits}
 use Rattle.scope_rules.specs.declared.types.events.Event.TheVariants.{EndClose}
 use Rattle.scope_rules.specs.declared.types.records.Opening.{Opening}
-use Rattle.scope_rules.specs.History.{History, before, followed, opening, is_open, is_fork}
+use Rattle.scope_rules.specs.History.{History, before, followed, is_open, is_fork}
 use Rattle.scope_rules.specs.Scopes.{innermost, closed}
 use Rattle.scope_rules.specs.Legal.{Legal, Accepts}
 use Rattle.scope_rules.proofs.InnermostEnds.{innermost_ended}
@@ -15,7 +15,7 @@ use Rattle.scope_rules.proofs.PassedRows.{end_close_passed}
 use Rattle.scope_rows.specs.declared.records.ScopeRow.{ScopeRow}
 use Rattle.scope_rows.specs.Table.{RowTable, place_of}
 use Rattle.scope_rows.specs.Agreement.{AreRowsOf, IsScopeRow}
-use Rattle.scope_rows.specs.Steps.{altered, closed_row, below_of, close_ended, with_scope}
+use Rattle.scope_rows.specs.Steps.{altered, closed_row, below_of, close_ended}
 use Rattle.scope_rows.proofs.Altering.{altered_length, altered_split}
 use Rattle.scope_rows.proofs.Places.{ScopeRowAt, scope_at, scope_row_is, number_at, number_apart}
 use Rattle.scope_rows.proofs.Frames.{scope_on, scope_kept, joining_same, closing_same, violated_same}

@@ -1,5 +1,5 @@
 -- The rows after a join.
-use Rattle.std.proofs.Common.{◌≡◌, ◌≢◌, ℕ, ◌+◌, ◌==◌, Bool, true, false, cond, Option, Some, None, Ok, length, slice_get, refl, ap, sym, subst, ◌∙◌, arith, inl, inr}
+use Rattle.std.proofs.Common.{◌≡◌, ◌≢◌, ℕ, ◌+◌, false, cond, Some, None, length, refl, ap, sym, subst, ◌∙◌, inl, inr}
 use Rattle.std.proofs.lemmas.Bool.{eq-eqb, ne_eqb}
 use Rattle.std.specs.Option.{option_or}
 use Rattle.scope_rules.specs.declared.types.capacity.Limits.{Limits}
@@ -16,7 +16,7 @@ use Rattle.scope_rules.proofs.Nesting.{IsOpened}
 use Rattle.scope_rows.specs.declared.records.ScopeRow.{ScopeRow}
 use Rattle.scope_rows.specs.Table.{RowTable, HasScope, place_of}
 use Rattle.scope_rows.specs.Agreement.{AreRowsOf, IsScopeRow}
-use Rattle.scope_rows.specs.Steps.{altered, joined_row, joined as joined_rows}
+use Rattle.scope_rows.specs.Steps.{joined_row, joined as joined_rows}
 use Rattle.scope_rows.proofs.Altering.{altered_length, altered_split}
 use Rattle.scope_rows.proofs.Places.{opened_has, number_at, number_apart}
 use Rattle.scope_rows.proofs.Joinings.{joining_grows, unjoined}

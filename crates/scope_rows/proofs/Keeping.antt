@@ -1,10 +1,10 @@
 -- How rows go on where no scope is opened and no task forked.
-use Rattle.std.proofs.Common.{◌≡◌, ◌≢◌, ℕ, ◌+◌, Bool, false, cond, Option, Some, List, length, slice_get, count_by, refl, ap, sym, ◌∙◌, arith}
+use Rattle.std.proofs.Common.{◌≡◌, ℕ, ◌+◌, Bool, false, cond, Option, Some, slice_get, count_by, refl, ap, sym, ◌∙◌, arith}
 use Rattle.scope_rules.specs.declared.types.capacity.Limits.{Limits}
 use Rattle.scope_rules.specs.declared.types.events.Event.{Event}
 use Rattle.scope_rules.specs.declared.types.events.Event.TheVariants.{Cancel, Move, Tick, Bind, Unbind}
 use Rattle.scope_rules.specs.declared.types.events.Binding.{Binding}
-use Rattle.scope_rules.specs.History.{History, followed, opened_count, forked_count, is_open, is_fork}
+use Rattle.scope_rules.specs.History.{History, followed, is_open, is_fork}
 use Rattle.scope_rules.specs.Scopes.{joins, begins_closing, ends, innermost}
 use Rattle.scope_rules.specs.Verdicts.{begins_for}
 use Rattle.scope_rules.specs.Tasks.{rejects, starts, finishes, counts}
@@ -12,10 +12,9 @@ use Rattle.scope_rules.specs.Legal.{Legal}
 use Rattle.scope_rules.proofs.InnermostSteps.{innermost_same}
 use Rattle.scope_rules.proofs.Owing.{count_push}
 use Rattle.scope_rules.proofs.TallySteps.{tally_stays}
-use Rattle.scope_rows.specs.declared.records.ScopeRow.{ScopeRow}
 use Rattle.scope_rows.specs.declared.records.TaskRow.{TaskRow}
 use Rattle.scope_rows.specs.Table.{RowTable}
-use Rattle.scope_rows.specs.Agreement.{AreRowsOf, IsScopeRow, IsTaskRow}
+use Rattle.scope_rows.specs.Agreement.{AreRowsOf, IsTaskRow}
 use Rattle.scope_rows.proofs.Frames.{scope_kept, task_kept, counts_same}
 
 -- a kind of event is counted no more often by an event of another kind
@@ -45,7 +44,8 @@ pub record IsQuiet (h : History) (e : Event) : Type 0 where
   pub violates_none : (s : ℕ) → begins_for h s e ≡ false
   pub ends_none : (s : ℕ) → ends s e ≡ false
 
-rows_quiet : (L : Limits) (h : History) (e : Event) (t : RowTable) → Legal L h → IsQuiet h e → AreRowsOf h t → AreRowsOf (followed h e) t
+-- such an event leaves the rows
+pub rows_quiet : (L : Limits) (h : History) (e : Event) (t : RowTable) → Legal L h → IsQuiet h e → AreRowsOf h t → AreRowsOf (followed h e) t
 rows_quiet L h e t legal quiet are =
     let inner : (a : ℕ) → innermost (followed h e) a ≡ innermost h a = λ a. innermost_same h e a quiet.opens_none quiet.ends_none in
     record {

@@ -1,20 +1,18 @@
 -- The scopes that the walk marks are those that the beginning of a close covers.
-use Rattle.std.proofs.Common.{◌≡◌, ◌≢◌, ℕ, zero, suc, ◌+◌, ◌-◌, ◌<◌, ◌≤◌, ◌==◌, ◌&&◌, ◌||◌, ◌⊎◌, Bool, true, false, not, cond, nat_lt, Option, Some, None, List, [], ◌∷◌, length, slice_get, refl, ap, sym, subst, ◌∙◌, arith, inl, inr}
+use Rattle.std.proofs.Common.{◌≡◌, ◌≢◌, ℕ, zero, suc, ◌+◌, ◌<◌, ◌≤◌, ◌==◌, ◌&&◌, ◌||◌, ◌⊎◌, Bool, true, false, not, cond, nat_lt, Option, Some, None, List, [], ◌∷◌, slice_get, refl, ap, sym, subst, ◌∙◌, arith, inl, inr}
 use Rattle.std.specs.Option.{option_map, option_and_then}
-use Rattle.std.proofs.lemmas.Bool.{eqb-true, eq-eqb, ne_eqb, ltb-true, lt-ltb, and_parts, and_from, or_cases, not-true, not_from_false, cases_eq, both_ways}
-use Rattle.scope_rules.specs.declared.types.capacity.Limits.{Limits}
+use Rattle.std.proofs.lemmas.Bool.{eqb-true, eq-eqb, ne_eqb, ltb-true, lt-ltb, and_parts, or_cases, not-true, cases_eq, both_ways}
 use Rattle.scope_rules.specs.declared.types.records.Opening.{Opening}
-use Rattle.scope_rules.specs.History.{History, before, opening}
-use Rattle.scope_rules.specs.Scopes.{closed, covers, have_one_opener, innermost}
-use Rattle.scope_rules.specs.Legal.{Legal}
+use Rattle.scope_rules.specs.History.{History, opening}
+use Rattle.scope_rules.specs.Scopes.{closed, covers, have_one_opener}
 use Rattle.scope_rules.proofs.Innermosts.{HasUnclosed}
 use Rattle.scope_rows.specs.declared.records.ScopeRow.{ScopeRow}
-use Rattle.scope_rows.specs.Table.{place_of, row_of}
-use Rattle.scope_rows.specs.Steps.{altered, below_of, closing_row, onward_from, marked_within, walk_length}
+use Rattle.scope_rows.specs.Table.{place_of}
+use Rattle.scope_rows.specs.Steps.{altered, below_of, closing_row, marked_within}
 use Rattle.scope_rows.proofs.Altering.{altered_other}
 use Rattle.scope_rows.proofs.Marking.{marked_none}
-use Rattle.scope_rows.proofs.Places.{place_at, number_at}
-use Rattle.scope_rows.proofs.Walks.{IsGreatestBelow, greatest_below}
+use Rattle.scope_rows.proofs.Places.{number_at}
+use Rattle.scope_rows.proofs.Walks.{IsGreatestBelow}
 
 -- the element at a changed place, if there is one
 altered_at : {R : Type 0} (f : R → R) (xs : List R) (i : ℕ) → slice_get (altered f xs i) i ≡ option_map f (slice_get xs i)
@@ -58,8 +56,7 @@ covered_unclosed h a s k it found =
       | inr after ↦
           let last = and_parts (nat_lt s k && not (closed h k)) (have_one_opener (opening h s) (opening h k)) after in
           let first = and_parts (nat_lt s k) (not (closed h k)) last.0 in
-          let opener = one_opener it.opened (opening h k) (rw it.is at last.1) in
-          (
+          let opener = one_opener it.opened (opening h k) (rw it.is at last.1) in (
             record { opened = opener.0; is = opener.1; by = opener.2 ∙ it.by; unclosed = not-true (closed h k) first.1 },
             let less = ltb-true s k first.0 in omega arith,
           )

@@ -1,6 +1,6 @@
 -- The walk that marks scopes as closing, step by step.
-use Rattle.std.proofs.Common.{◌≡◌, ◌≢◌, ℕ, zero, suc, ◌+◌, ◌-◌, ◌<◌, ◌≤◌, ◌==◌, Bool, true, false, cond, Option, Some, None, List, [], ◌∷◌, length, get_or, slice_get, set, IfSome, refl, ap, sym, subst, ◌∙◌, arith, inl, inr}
-use Rattle.std.specs.Option.{option_map, option_and_then}
+use Rattle.std.proofs.Common.{◌≡◌, ◌≢◌, ℕ, zero, suc, ◌+◌, ◌<◌, ◌≤◌, ◌==◌, Bool, true, false, cond, Option, Some, None, List, length, get_or, slice_get, set, IfSome, refl, ap, sym, subst, ◌∙◌, arith, inl, inr}
+use Rattle.std.specs.Option.{option_and_then}
 use Rattle.std.proofs.lemmas.Bool.{eq-eqb, ne_eqb}
 use Rattle.std.proofs.lemmas.Option.{slice_get-get_or}
 use Rattle.scope_rows.specs.declared.records.ScopeRow.{ScopeRow}
@@ -8,7 +8,7 @@ use Rattle.scope_rows.specs.Table.{IsNumbered, place_of, row_of}
 use Rattle.scope_rows.specs.Steps.{altered, below_of, closing_row, onward_from, marked_within, walk_length, marked}
 use Rattle.scope_rows.specs.Wants.{AreLinked}
 use Rattle.scope_rows.proofs.Altering.{altered_length, altered_split, altered_set}
-use Rattle.scope_rows.proofs.Places.{row_is, place_within, number_at}
+use Rattle.scope_rows.proofs.Places.{row_is, place_within}
 
 -- what is left to mark makes of the rows so far what there was to mark made of the rows at first
 pub record IsMarkedOn (before s : ℕ) (next : Option ℕ) (rows : List ScopeRow) (from : Option ℕ) (first : List ScopeRow) : Type 0 where

@@ -1,13 +1,11 @@
 -- The rows after an open.
-use Rattle.std.proofs.Common.{◌≡◌, ◌≢◌, ℕ, ◌+◌, Some, None, Option, [], ◌∷◌, ◌++◌, length, slice_get, refl, ap, sym, subst, ◌∙◌, arith, inl, inr, length-append}
+use Rattle.std.proofs.Common.{◌≡◌, ◌≢◌, ℕ, ◌+◌, Some, Option, [], ◌∷◌, ◌++◌, length, slice_get, refl, ap, sym, subst, ◌∙◌, arith, inl, inr, length-append}
 use Rattle.std.specs.Option.{option_and_then}
 use Rattle.scope_rules.specs.declared.types.capacity.Limits.{Limits}
-use Rattle.scope_rules.specs.declared.types.events.Event.{Event}
 use Rattle.scope_rules.specs.declared.types.events.Event.TheVariants.{Open}
 use Rattle.scope_rules.specs.declared.types.answers.Stage.TheVariants.{Never, Waiting, Running, Finished}
-use Rattle.scope_rules.specs.declared.types.records.Forking.{Forking}
 use Rattle.scope_rules.specs.declared.types.records.Opening.{Opening}
-use Rattle.scope_rules.specs.History.{History, before, followed, scopes, opened_count, opening, forking, is_open, is_fork}
+use Rattle.scope_rules.specs.History.{History, before, followed, scopes, opened_count, opening, is_open, is_fork}
 use Rattle.scope_rules.specs.Scopes.{innermost, surrounding, around, parent}
 use Rattle.scope_rules.specs.Bindings.{stack}
 use Rattle.scope_rules.specs.Legal.{Legal, Accepts}
@@ -18,7 +16,7 @@ use Rattle.scope_rules.proofs.Owing.{count_push}
 use Rattle.scope_rules.proofs.PassedRows.{open_passed}
 use Rattle.scope_rules.proofs.Pushing.{before_last}
 use Rattle.scope_rows.specs.declared.records.ScopeRow.{ScopeRow}
-use Rattle.scope_rows.specs.Table.{RowTable, HasActor, innermost_of}
+use Rattle.scope_rows.specs.Table.{RowTable, innermost_of}
 use Rattle.scope_rows.specs.Agreement.{AreRowsOf, IsScopeRow}
 use Rattle.scope_rows.specs.Steps.{new_scope_row, opened}
 use Rattle.scope_rows.proofs.Altering.{pushed_split}

@@ -1,10 +1,10 @@
 -- Where the row of a scope or a task stands.
-use Rattle.std.proofs.Common.{◌≡◌, ◌≢◌, ℕ, suc, ◌+◌, ◌-◌, ◌<◌, ◌≤◌, Bool, cond, nat_lt, Option, Some, None, List, length, slice_get, refl, ap, sym, ◌∙◌, arith, subst}
-use Rattle.std.specs.Option.{option_map_or, option_and_then}
+use Rattle.std.proofs.Common.{◌≡◌, ◌≢◌, ℕ, ◌+◌, ◌<◌, ◌≤◌, cond, Option, Some, None, List, length, slice_get, ap, sym, ◌∙◌, arith, subst}
+use Rattle.std.specs.Option.{option_map_or}
 use Rattle.std.proofs.lemmas.Bool.{lt-ltb}
 use Rattle.std.proofs.lemmas.Option.{slice_get_within}
 use Rattle.scope_rules.specs.declared.types.records.Forking.{Forking}
-use Rattle.scope_rules.specs.History.{History, opening, forking}
+use Rattle.scope_rules.specs.History.{History, forking}
 use Rattle.scope_rules.proofs.Nesting.{IsOpened}
 use Rattle.scope_rules.proofs.Forkings.{IsForked, forked_after}
 use Rattle.scope_rules.proofs.Innermosts.{opened_after}

@@ -1,6 +1,6 @@
 -- The rows after a reject, a start and an end of a task.
-use Rattle.std.proofs.Common.{◌≡◌, ◌≢◌, ℕ, ◌+◌, ◌==◌, Bool, true, false, cond, Some, length, slice_get, refl, ap, sym, subst, ◌∙◌, inl, inr}
-use Rattle.std.proofs.lemmas.Bool.{eq-eqb, ne_eqb, cases_eq}
+use Rattle.std.proofs.Common.{◌≡◌, ℕ, ◌+◌, ◌==◌, Bool, true, false, cond, Some, slice_get, refl, ap, sym, subst, ◌∙◌, inl, inr}
+use Rattle.std.proofs.lemmas.Bool.{eq-eqb, ne_eqb}
 use Rattle.scope_rules.specs.declared.types.capacity.Limits.{Limits}
 use Rattle.scope_rules.specs.declared.types.answers.Counts.{Counts}
 use Rattle.scope_rules.specs.declared.types.answers.Stage.{Stage}
@@ -17,7 +17,6 @@ use Rattle.scope_rules.specs.Verdicts.{begins_for}
 use Rattle.scope_rules.specs.Tasks.{stage, is_waiting, is_running, counts, state_by_end}
 use Rattle.scope_rules.specs.Legal.{Legal, Accepts}
 use Rattle.scope_rules.proofs.Accepted.{running_task}
-use Rattle.scope_rules.proofs.Forkings.{IsForked}
 use Rattle.scope_rules.proofs.InnermostSteps.{innermost_same}
 use Rattle.scope_rules.proofs.PassedRows.{start_passed, reject_passed, finish_passed}
 use Rattle.scope_rules.proofs.Stages.{waiting_forked, running_forked}
@@ -29,11 +28,11 @@ use Rattle.scope_rows.specs.Table.{RowTable, place_of, scope_of}
 use Rattle.scope_rows.specs.Agreement.{AreRowsOf, IsScopeRow, IsTaskRow}
 use Rattle.scope_rows.specs.Steps.{altered, recount, moved, stage_row, ended_row, state_at_end, rejected, started, finished, count_reject, count_start, count_finish}
 use Rattle.scope_rows.proofs.Altering.{altered_length, altered_split}
-use Rattle.scope_rows.proofs.Places.{scope_at, task_at, number_at, number_apart, scope_of_is, opened_has}
+use Rattle.scope_rows.proofs.Places.{task_at, number_at, number_apart, scope_of_is, opened_has}
 use Rattle.scope_rows.proofs.Frames.{scope_on, scope_kept, task_on, task_kept, joining_same, closing_same, closed_same, violated_same}
 use Rattle.scope_rows.proofs.Keeping.{count_same}
 use Rattle.scope_rows.proofs.CountMoves.{NamesAlone, counts_elsewhere, counts_rejected, counts_started, counts_finished}
-use Rattle.scope_rules.proofs.Nesting.{IsOpened, forked_opened}
+use Rattle.scope_rules.proofs.Nesting.{forked_opened}
 
 -- what waits is at the stage of it
 pub waiting_is : (x : Stage) → is_waiting x ≡ true → x ≡ Waiting

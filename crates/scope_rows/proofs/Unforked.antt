@@ -1,9 +1,8 @@
 -- Of a task that was never forked nothing is said.
-use Rattle.std.proofs.Common.{◌≡◌, ◌≢◌, ℕ, ◌+◌, ◌||◌, Bool, true, false, Some, None, Option, refl, ap, sym, ◌∙◌, arith, inl, inr, ◌⊎◌}
+use Rattle.std.proofs.Common.{◌≡◌, ◌≢◌, ℕ, ◌+◌, Bool, true, false, Some, None, Option, refl, ap, sym, ◌∙◌, arith, inl, inr, ◌⊎◌}
 use Rattle.std.proofs.lemmas.Bool.{false_from_ne_true}
 use Rattle.scope_rules.specs.declared.types.capacity.Limits.{Limits}
-use Rattle.scope_rules.specs.declared.types.records.Opening.{Opening}
-use Rattle.scope_rules.specs.History.{History, tasks, forking, opening}
+use Rattle.scope_rules.specs.History.{History, tasks, forking}
 use Rattle.scope_rules.specs.Scopes.{closed, innermost}
 use Rattle.scope_rules.specs.Tasks.{finished}
 use Rattle.scope_rules.specs.Legal.{Legal}

@@ -1,6 +1,6 @@
 -- What the walk down from an actor's innermost scope meets: each unclosed scope of the actor, from the
 -- latest down.
-use Rattle.std.proofs.Common.{◌≡◌, ℕ, ◌+◌, ◌<◌, ◌≤◌, false, Option, Some, None, length, refl, ap, sym, subst, ◌∙◌, arith}
+use Rattle.std.proofs.Common.{◌≡◌, ℕ, ◌<◌, ◌≤◌, false, Option, Some, arith}
 use Rattle.scope_rules.specs.declared.types.capacity.Limits.{Limits}
 use Rattle.scope_rules.specs.declared.types.records.Opening.{Opening}
 use Rattle.scope_rules.specs.History.{History, before, opening}
@@ -21,8 +21,7 @@ pub record IsGreatestBelow (h : History) (a t : ℕ) (o : Option ℕ) : Type 0 w
 below_unclosed : (L : Limits) (h : History) (t p : ℕ) (o : Opening) → Legal L h → opening h t ≡ Some o → closed h t ≡ false → innermost (before h o.place) o.actor ≡ Some p → HasUnclosed h o.actor p × (p < t)
 below_unclosed L h t p o legal is unclosed found =
     let it = innermost_unclosed (before h o.place) o.actor p found in
-    let number = opened_after (before h o.place) p it.opened it.is in
-    (
+    let number = opened_after (before h o.place) p it.opened it.is in (
       record { opened = it.opened; is = opening_later h o.place p it.opened it.is; by = it.by; unclosed = unclosed_around L h t p o legal is unclosed it },
       omega (arith, number.1, number.2, opening_number h t o is),
     )

@@ -1,28 +1,25 @@
 -- Rows that agree with a history give what each call wants, for an event that was accepted.
-use Rattle.std.proofs.Common.{◌≡◌, ◌≢◌, ℕ, zero, suc, ◌+◌, ◌<◌, ◌≤◌, ◌==◌, ◌&&◌, ◌^◌, Bool, true, false, cond, nat_lt, Option, Some, None, IfSome, List, [], ◌∷◌, length, slice_get, count_by, refl, ap, sym, subst, ◌∙◌, arith, inl, inr}
+use Rattle.std.proofs.Common.{◌≡◌, ℕ, zero, suc, ◌+◌, ◌≤◌, ◌&&◌, Bool, true, false, cond, Option, Some, None, IfSome, count_by, refl, ap, sym, subst, ◌∙◌, arith}
 use Rattle.std.proofs.lemmas.Bool.{eq-eqb, ltb-true}
 use Rattle.std.specs.Option.{option_map_or}
-use Rattle.std.specs.List.{range_with_len, list_any}
+use Rattle.std.specs.List.{range_with_len}
 use Rattle.scope_rules.specs.declared.types.capacity.Limits.{Limits}
-use Rattle.scope_rules.specs.declared.types.capacity.TheConstants.{GREATEST_NUMBER, TASK_LIMIT}
-use Rattle.scope_rules.specs.declared.types.answers.Counts.{Counts}
+use Rattle.scope_rules.specs.declared.types.capacity.TheConstants.{TASK_LIMIT}
 use Rattle.scope_rules.specs.declared.types.answers.Stage.{Stage}
 use Rattle.scope_rules.specs.declared.types.answers.Stage.TheVariants.{Never, Waiting, Running, Finished}
 use Rattle.scope_rules.specs.declared.types.events.Event.{Event}
 use Rattle.scope_rules.specs.declared.types.events.Event.TheVariants.{Open, Fork, Reject, Start, Finish, BeginClose, EndClose}
 use Rattle.scope_rules.specs.declared.types.records.Forking.{Forking}
-use Rattle.scope_rules.specs.declared.types.records.Opening.{Opening}
-use Rattle.scope_rules.specs.Origin.{Origin}
-use Rattle.scope_rules.specs.History.{History, before, followed, forked_count, tasks, task_numbers, opening, forking, is_fork, HasSmallNumbers}
+use Rattle.scope_rules.specs.History.{History, before, forked_count, task_numbers, forking, is_fork, HasSmallNumbers}
 use Rattle.scope_rules.specs.Scopes.{innermost}
 use Rattle.scope_rules.specs.Tasks.{stage, is_at, is_stage, counts}
 use Rattle.scope_rules.specs.Legal.{Legal, Accepts}
 use Rattle.scope_rules.proofs.Completions.{count_by-cons}
-use Rattle.scope_rules.proofs.Forkings.{IsForked, forked_after}
+use Rattle.scope_rules.proofs.Forkings.{forked_after}
 use Rattle.scope_rules.proofs.Growing.{opening_number}
 use Rattle.scope_rules.proofs.Heights.{range_any}
 use Rattle.scope_rules.proofs.Innermosts.{opened_after, innermost_unclosed}
-use Rattle.scope_rules.proofs.Nesting.{IsOpened, forked_opened}
+use Rattle.scope_rules.proofs.Nesting.{forked_opened}
 use Rattle.scope_rules.proofs.OneEventMore.{along}
 use Rattle.scope_rules.proofs.Owing.{count_push}
 use Rattle.scope_rules.proofs.PassedRows.{open_passed, fork_passed, start_passed, reject_passed, finish_passed, begin_close_passed, end_close_passed}
@@ -31,7 +28,7 @@ use Rattle.scope_rules.proofs.Stages.{waiting_forked, running_forked}
 use Rattle.scope_rules.proofs.Tallies.{any_counted}
 use Rattle.scope_rules.proofs.TallySteps.{tally}
 use Rattle.scope_rows.specs.declared.records.ScopeRow.{ScopeRow}
-use Rattle.scope_rows.specs.Table.{RowTable, HasScope, HasTask, scope_of, innermost_of}
+use Rattle.scope_rows.specs.Table.{RowTable, HasScope, scope_of, innermost_of}
 use Rattle.scope_rows.specs.Agreement.{AreRowsOf}
 use Rattle.scope_rows.specs.Steps.{no_counts}
 use Rattle.scope_rows.specs.Wants.{HasScopeNumbers, HasTaskNumbers, counts_of, HasCountRoom, CanOpen, CanFork, CanBeTaken, CanFinish, AreLinked, CanBeginClose, CanEndClose}

@@ -1,5 +1,5 @@
 -- What the calls want of the rows. Rows that agree with a history give it for each accepted event.
-use Rattle.std.specs.Prelude.{◌≡◌, ℕ, ◌+◌, ◌<◌, ◌≤◌, ◌^◌, Option, Some, IfSome, List, slice_get, length}
+use Rattle.std.specs.Prelude.{◌≡◌, ℕ, ◌+◌, ◌<◌, ◌≤◌, ◌^◌, Some, IfSome, List, slice_get, length}
 use Rattle.std.specs.Option.{option_map_or}
 use Rattle.scope_rules.specs.declared.types.answers.Counts.{Counts}
 use Rattle.scope_rows.specs.declared.records.ScopeRow.{ScopeRow}
