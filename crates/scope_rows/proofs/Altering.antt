@@ -3,16 +3,11 @@ use Rattle.std.proofs.Common.{◌≡◌, ◌≢◌, ℕ, zero, suc, ◌<◌, Som
 use Rattle.std.proofs.lemmas.Bool.{cases_eq}
 use Rattle.scope_rows.specs.Steps.{altered}
 
+-- a change leaves how many elements there are
 pub altered_length : {R : Type 0} (f : R → R) (xs : List R) (i : ℕ) → length (altered f xs i) ≡ length xs
 altered_length f [] i = refl
 altered_length f (x ∷ xs) zero = refl
 altered_length f (x ∷ xs) (suc i) = ap suc (altered_length f xs i)
-
--- the element there is changed
-pub altered_here : {R : Type 0} (f : R → R) (xs : List R) (i : ℕ) (x : R) → slice_get xs i ≡ Some x → slice_get (altered f xs i) i ≡ Some (f x)
-altered_here f [] i x at = absurd cc
-altered_here f (y ∷ xs) zero x at = let same : y ≡ x = cc in ap (λ z. Some (f z)) same
-altered_here f (y ∷ xs) (suc i) x at = altered_here f xs i x at
 
 -- the others stay
 pub altered_other : {R : Type 0} (f : R → R) (xs : List R) (i j : ℕ) → j ≢ i → slice_get (altered f xs i) j ≡ slice_get xs j
@@ -34,15 +29,13 @@ pub record IsChanged {R : Type 0} (f : R → R) (xs : List R) (i : ℕ) (y : R) 
   pub at : slice_get xs i ≡ Some was
   pub is : f was ≡ y
 
-element_at : {R : Type 0} (xs : List R) (i : ℕ) → i < length xs → (x : R) × (slice_get xs i ≡ Some x)
-element_at [] i within = absurd (omega arith)
-element_at (x ∷ xs) zero within = (x, refl)
-element_at (x ∷ xs) (suc i) within = element_at xs i (omega arith)
-
 -- there is an element at each place within the list
 pub there_is : {R : Type 0} (xs : List R) (i : ℕ) → i < length xs → (x : R) × (slice_get xs i ≡ Some x)
-there_is xs i within = element_at xs i within
+there_is [] i within = absurd (omega arith)
+there_is (x ∷ xs) zero within = (x, refl)
+there_is (x ∷ xs) (suc i) within = there_is xs i (omega arith)
 
+-- what a change leaves at its place was changed
 changed_by : {R : Type 0} (f : R → R) (xs : List R) (i : ℕ) (y : R) → slice_get (altered f xs i) i ≡ Some y → IsChanged f xs i y
 changed_by f [] i y at = absurd cc
 changed_by f (x ∷ xs) zero y at = record { was = x; at = refl; is = cc }
@@ -55,12 +48,6 @@ altered_split f xs i j y at =
       | inl same ↦ inl (same, changed_by f xs j y (ap (λ n. slice_get (altered f xs n) j) same ∙ at))
       | inr apart ↦ inr (apart, sym (altered_other f xs i j apart) ∙ at)
     ]
-
--- an element stays where one is put behind it
-pub pushed_before : {R : Type 0} (xs : List R) (x : R) (i : ℕ) (y : R) → slice_get xs i ≡ Some y → slice_get (xs ++ x ∷ []) i ≡ Some y
-pushed_before [] x i y at = absurd cc
-pushed_before (z ∷ xs) x zero y at = at
-pushed_before (z ∷ xs) x (suc i) y at = pushed_before xs x i y at
 
 -- what stands in a longer list stood there, or is the last
 pub pushed_split : {R : Type 0} (xs : List R) (x : R) (i : ℕ) (y : R) → slice_get (xs ++ x ∷ []) i ≡ Some y → (slice_get xs i ≡ Some y) ⊎ ((i ≡ length xs) × (x ≡ y))

@@ -47,11 +47,13 @@ record IsMade (f : ScopeRow → ScopeRow) (o : Option ScopeRow) (r : ScopeRow) :
   at : o ≡ Some was
   is : f was ≡ r
 
+-- what is there after a change was made of what was there
 made_by : (f : ScopeRow → ScopeRow) (o : Option ScopeRow) (r : ScopeRow) → option_map f o ≡ Some r → IsMade f o r
 made_by f None r found = absurd cc
 made_by f (Some x) r found = record { was = x; at = refl; is = cc }
 
 module _ (L : Limits) (h : History) (t : RowTable) (a s : ℕ) (legal : Legal L h) (ok : Accepts L h (BeginClose a s)) (are : AreRowsOf h t) where
+  -- the actor opened the scope, and hasn't closed it
   own : HasUnclosed h a s
   own =
       let row = begin_close_passed L h a s ok in
@@ -74,6 +76,7 @@ module _ (L : Limits) (h : History) (t : RowTable) (a s : ℕ) (legal : Legal L 
       subst (λ i. Marks h t.scopes_before s found.scope t.scopes (marked_within (walk_length i) t.scopes_before s i t.scopes)) (sym inner)
       (marks h a t.scopes_before s own (walk_length (Some found.scope)) found.scope t.scopes (innermost_unclosed h a found.scope found.is) found.least (omega arith) (are_below L h t a legal are))
 
+  -- what is covered is no later than the actor's innermost scope
   within : (k : ℕ) → covers h s k ≡ true → k ≤ (unclosed_innermost h a s own).scope
   within k covered =
       let found = unclosed_innermost h a s own in
@@ -91,6 +94,7 @@ module _ (L : Limits) (h : History) (t : RowTable) (a s : ℕ) (legal : Legal L 
       (closing_grows h e k ∙ (ap (λ b. closing h k || b) covered ∙ or_right (closing h k) true refl))
       (closed_same h e k refl ∙ it.closed) verdict (counts_kept L h e k legal refl (λ j. (refl, refl, refl)) ∙ it.counts)
 
+  -- the row of the scope itself
   begun_here : (r : ScopeRow) → IsScopeRow h s r → IsScopeRow (followed h (BeginClose a s)) s (violated_row (not (is_this (innermost_of t a) s)) (closing_row r))
   begun_here r it =
       let e = BeginClose a s in
@@ -98,6 +102,7 @@ module _ (L : Limits) (h : History) (t : RowTable) (a s : ℕ) (legal : Legal L 
       (violated_grows h e s ∙ (ap (λ b. violated h s || (b && covers_another h s)) (eq-eqb s s refl) ∙ (ap (λ b. b || covers_another h s) it.violated ∙ ap (λ b. r.violated || b) covers_is)))
       it
 
+  -- the row of another scope
   begun_elsewhere : (i : ℕ) (r : ScopeRow) (b : Bool) → covers h s ((t.scopes_before + 1) + i) ≡ b → (t.scopes_before + 1) + i ≢ s → slice_get (marked t.scopes_before s (innermost_of t a) t.scopes) i ≡ Some r
       → IsScopeRow (followed h (BeginClose a s)) ((t.scopes_before + 1) + i) r
   begun_elsewhere i r true covered apart at =
@@ -115,6 +120,7 @@ module _ (L : Limits) (h : History) (t : RowTable) (a s : ℕ) (legal : Legal L 
       let other : (s == k) ≡ false = ne_eqb s k (λ same. apart (sym same)) in
       scope_kept h e k r was refl uncovered refl (ap (λ b. b && covers_another h k) other) (counts_kept L h e k legal refl (λ j. (refl, refl, refl)))
 
+  -- the rows of all scopes
   begun_scopes : (i : ℕ) (r : ScopeRow) → slice_get (altered (violated_row (not (is_this (innermost_of t a) s))) (marked t.scopes_before s (innermost_of t a) t.scopes) (place_of t.scopes_before s)) i ≡ Some r
       → IsScopeRow (followed h (BeginClose a s)) (t.scopes_before + 1 + i) r
   begun_scopes i r at =

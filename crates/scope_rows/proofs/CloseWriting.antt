@@ -11,6 +11,7 @@ use Rattle.scope_rows.proofs.Marking.{marked_length}
 pub written_back : (old new : List ScopeRow) (n : ℕ) → length new ≡ n → take n (new ++ drop (length new) old) ≡ new
 written_back old new n same = take-append-le n new (drop (length new) old) (omega (arith, same)) ∙ take_all n new (omega (arith, same))
 
+-- the marks, and whether the close is out of order
 pub close_written : (v t : RowTable) (a s at : ℕ) (from : Option ℕ) (rows : List ScopeRow) (row : ScopeRow) (first : Bool) → v ≡ t → from ≡ innermost_of t a → rows ≡ marked v.scopes_before s from v.scopes
     → at ≡ place_of t.scopes_before s → at < length t.scopes → row ≡ get_or rows at row → first ≡ is_this from s
     → record v { scopes = set rows at (violated_row (not first) row) } ≡ close_begun t a s

@@ -27,6 +27,7 @@ pub record NamesAlone (e : Event) (k : ℕ) : Type 0 where
   pub others : (j : ℕ) → j ≢ k → (rejects j e ≡ false) × (starts j e ≡ false) × (finishes j e ≡ false)
 
 module _ (L : Limits) (h : History) (e : Event) (k : ℕ) (f : Forking) (old new : Stage) (legal : Legal L h) (is : forking h k ≡ Some f) (names : NamesAlone e k) (was : stage h k ≡ old) (now : stage (followed h e) k ≡ new) where
+  -- how a tally moves, in the scope of the task and elsewhere
   moved_by : (s : ℕ) (x : Stage) (b : Bool) → (f.scope == s) ≡ b → tally (followed h e) s x + cond {A = ℕ} (b && is_stage x old) 1 0 ≡ tally h s x + cond {A = ℕ} (b && is_stage x new) 1 0
   moved_by s x b of =
       ap (λ c. tally (followed h e) s x + cond {A = ℕ} c 1 0) (ap (λ d. d && is_stage x old) (sym of) ∙ sym (unit_is h s x k f old is was))

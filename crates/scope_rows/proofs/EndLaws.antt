@@ -28,6 +28,7 @@ pub below_is : (h : History) (t : RowTable) (s : ℕ) (it : ScopeRowAt h t s) �
 below_is h t s it = ap (option_and_then (λ (r : ScopeRow). r.below)) (scope_row_is h t s it)
 
 module _ (L : Limits) (h : History) (t : RowTable) (a s : ℕ) (legal : Legal L h) (ok : Accepts L h (EndClose a s)) (are : AreRowsOf h t) where
+  -- the row of the scope itself
   ended_here : (r : ScopeRow) → IsScopeRow h s r → IsScopeRow (followed h (EndClose a s)) s (closed_row r)
   ended_here r it =
       let e = EndClose a s in
@@ -36,13 +37,16 @@ module _ (L : Limits) (h : History) (t : RowTable) (a s : ℕ) (legal : Legal L 
       (closed_grows h e s ∙ (ap (λ b. closed h s || b) (eq-eqb s s refl) ∙ or_right (closed h s) true refl))
       (violated_same h e s refl ∙ it.violated) (counts_kept L h e s legal refl (λ j. (refl, refl, refl)) ∙ it.counts)
 
+  -- the row of another scope
   ended_elsewhere : (n : ℕ) (r : ScopeRow) → n ≢ s → IsScopeRow h n r → IsScopeRow (followed h (EndClose a s)) n r
   ended_elsewhere n r apart it =
       scope_kept h (EndClose a s) n r it refl refl (ne_eqb s n (λ same. apart (sym same))) refl (counts_kept L h (EndClose a s) n legal refl (λ j. (refl, refl, refl)))
 
+  -- the scope has a row
   row_at : ScopeRowAt h t s
   row_at = let owner = (end_close_passed L h a s ok).owner in scope_at h t s are (record { opened = owner.opened; is = owner.is })
 
+  -- the rows of all scopes
   ended_scopes : (i : ℕ) (r : ScopeRow) → slice_get (altered closed_row t.scopes (place_of t.scopes_before s)) i ≡ Some r → IsScopeRow (followed h (EndClose a s)) (t.scopes_before + 1 + i) r
   ended_scopes i r at =
       let e = EndClose a s in

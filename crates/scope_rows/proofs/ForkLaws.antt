@@ -32,10 +32,12 @@ use Rattle.scope_rows.proofs.CountMoves.{fork_elsewhere, fork_counted}
 use Rattle.scope_rows.proofs.Unforked.{next_unforked, unforked_innermost, unforked_unfinished}
 
 module _ (L : Limits) (h : History) (t : RowTable) (f : Forking) (cancelled : Bool) (legal : Legal L h) (ok : Accepts L h (Fork f.actor f.scope f.label)) (are : AreRowsOf h t) (at_end : f.place ≡ length h.events) (cut : cancelled ≡ is_cancelled h f.scope) where
+  -- the forking of the new task
   forking_is : forking (followed h (Fork f.actor f.scope f.label)) (tasks h + 1) ≡ Some f
   forking_is =
       next_forking h f.actor f.scope f.label ∙ ap (λ n. Some (record f { place = n })) (sym at_end)
 
+  -- its stage
   stage_is : stage (followed h (Fork f.actor f.scope f.label)) (tasks h + 1) ≡ cond cancelled Never Waiting
   stage_is = stage_forked L h f.actor f.scope f.label legal ok ∙ ap (λ b. cond b Never Waiting) (sym cut)
 
@@ -45,9 +47,11 @@ module _ (L : Limits) (h : History) (t : RowTable) (f : Forking) (cancelled : Bo
       no_ending (followed h (Fork f.actor f.scope f.label)) (tasks h + 1)
       (finished_grows h (Fork f.actor f.scope f.label) (tasks h + 1) ∙ or_from (finished h (tasks h + 1)) false (unforked_unfinished L h (tasks h + 1) legal (next_unforked h)) refl)
 
+  -- a fork leaves the innermost scopes
   inner : (a : ℕ) → innermost (followed h (Fork f.actor f.scope f.label)) a ≡ innermost h a
   inner a = innermost_same h (Fork f.actor f.scope f.label) a refl (λ n. refl)
 
+  -- the row of the new task is right
   new_row : IsTaskRow (followed h (Fork f.actor f.scope f.label)) (tasks h + 1) (new_task_row f cancelled)
   new_row = record {
     forking = forking_is;
@@ -56,6 +60,7 @@ module _ (L : Limits) (h : History) (t : RowTable) (f : Forking) (cancelled : Bo
     innermost = inner (tasks h + 1) ∙ unforked_innermost L h (tasks h + 1) legal (λ same. absurd (omega (arith, same))) (next_unforked h);
   }
 
+  -- the row of its scope
   scope_here : (s : ℕ) (r : ScopeRow) → (f.scope == s) ≡ true → IsScopeRow h s r → IsScopeRow (followed h (Fork f.actor f.scope f.label)) s (recount (count_fork cancelled) r)
   scope_here s r of it =
       let e = Fork f.actor f.scope f.label in
@@ -63,9 +68,11 @@ module _ (L : Limits) (h : History) (t : RowTable) (f : Forking) (cancelled : Bo
       (joining_same h e s refl ∙ it.joined) (closing_same h e s refl ∙ it.closing) (closed_same h e s refl ∙ it.closed) (violated_same h e s refl ∙ it.violated)
       (fork_counted L h f legal s r.counts cancelled of it.counts forking_is stage_is)
 
+  -- the row of another scope
   scope_elsewhere : (s : ℕ) (r : ScopeRow) → (f.scope == s) ≡ false → IsScopeRow h s r → IsScopeRow (followed h (Fork f.actor f.scope f.label)) s r
   scope_elsewhere s r other it = scope_kept h (Fork f.actor f.scope f.label) s r it refl refl refl refl (fork_elsewhere L h f legal s (cond cancelled Never Waiting) other forking_is stage_is)
 
+  -- the rows of all scopes
   forked_scopes : (i : ℕ) (r : ScopeRow) → slice_get (altered (recount (count_fork cancelled)) t.scopes (place_of t.scopes_before f.scope)) i ≡ Some r → IsScopeRow (followed h (Fork f.actor f.scope f.label)) (t.scopes_before + 1 + i) r
   forked_scopes i r at =
       let owner = (fork_passed L h f.actor f.scope f.label ok).owner in
@@ -80,6 +87,7 @@ module _ (L : Limits) (h : History) (t : RowTable) (f : Forking) (cancelled : Bo
             scope_elsewhere s r (ne_eqb f.scope s (λ same. apart (sym same))) (are.scopes i r other.1)
       ]
 
+  -- the rows of all tasks
   forked_tasks : (i : ℕ) (r : TaskRow) → slice_get (t.tasks ++ new_task_row f cancelled ∷ []) i ≡ Some r → IsTaskRow (followed h (Fork f.actor f.scope f.label)) (t.tasks_before + 1 + i) r
   forked_tasks i r at =
       elim (pushed_split t.tasks (new_task_row f cancelled) i r at) [

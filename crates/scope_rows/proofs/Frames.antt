@@ -49,6 +49,7 @@ scope_on h e s r j b c v n it joined closing closed violated counts =
       counts = counts;
     }
 
+-- an alternative that fails adds nothing
 pub or_from_none : (b c : Bool) → c ≡ false → (b || c) ≡ b
 or_from_none true c none = refl
 or_from_none false c none = none
@@ -57,12 +58,15 @@ or_from_none false c none = none
 pub joining_same : (h : History) (e : Event) (s : ℕ) → joins s e ≡ false → joining (followed h e) s ≡ joining h s
 joining_same h e s none = joining_grows h e s ∙ (ap (λ b. option_or (joining h s) (cond b (Some (length h.events)) None)) none ∙ option_or-none (joining h s))
 
+-- an event that begins no close of the scope leaves whether it is closing
 pub closing_same : (h : History) (e : Event) (s : ℕ) → begins_closing h s e ≡ false → closing (followed h e) s ≡ closing h s
 closing_same h e s none = closing_grows h e s ∙ or_from_none (closing h s) (begins_closing h s e) none
 
+-- an event that ends no close of the scope leaves whether it is closed
 pub closed_same : (h : History) (e : Event) (s : ℕ) → ends s e ≡ false → closed (followed h e) s ≡ closed h s
 closed_same h e s none = closed_grows h e s ∙ or_from_none (closed h s) (ends s e) none
 
+-- an event that begins no close of the scope for itself leaves whether it was out of order
 pub violated_same : (h : History) (e : Event) (s : ℕ) → begins_for h s e ≡ false → violated (followed h e) s ≡ violated h s
 violated_same h e s none = violated_grows h e s ∙ or_from_none (violated h s) (begins_for h s e) none
 
@@ -117,6 +121,7 @@ pub record AreTallies (h : History) (s : ℕ) (n : Counts) : Type 0 where
   pub running : tally h s Running ≡ n.running
   pub finished : tally h s Finished ≡ n.finished
 
+-- equal counts give equal tallies
 pub tallies_of : (h : History) (s : ℕ) (n : Counts) → counts h s ≡ n → AreTallies h s n
 unfolding counts
 tallies_of h s n is = record {

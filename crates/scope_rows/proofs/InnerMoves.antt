@@ -15,6 +15,7 @@ use Rattle.scope_rows.proofs.Altering.{altered_length, altered_split}
 use Rattle.scope_rows.proofs.Places.{number_at, number_apart}
 use Rattle.scope_rows.proofs.Frames.{task_moved, task_kept}
 
+-- an actor that is not main has a row
 not_main : (t : RowTable) (a : ℕ) → (a == 0) ≡ false → HasActor t a → HasTask t a
 not_main t a other (inl main) = absurd (cc (other, eq-eqb a 0 main))
 not_main t a other (inr has) = has
@@ -24,9 +25,11 @@ module _ (L : Limits) (h : History) (e : Event) (t : RowTable) (a : ℕ) (i : Op
   main_by true main = ap (innermost (followed h e)) (sym (eqb-true a 0 main)) ∙ now
   main_by false other = others 0 (λ same. absurd (cc (other, eq-eqb a 0 (sym same)))) ∙ are.main
 
+  -- main's innermost scope, in its own field
   pub main_moved : innermost (followed h e) 0 ≡ main_with t a i
   main_moved = main_by (a == 0) refl
 
+  -- the row of another task
   kept : (j : ℕ) (r : TaskRow) → slice_get t.tasks j ≡ Some r → (t.tasks_before + 1) + j ≢ a → IsTaskRow (followed h e) (t.tasks_before + 1 + j) r
   kept j r at apart =
       let k = (t.tasks_before + 1) + j in
@@ -46,6 +49,7 @@ module _ (L : Limits) (h : History) (e : Event) (t : RowTable) (a : ℕ) (i : Op
         | inr there ↦ kept j r there.1 (number_apart t.tasks_before j a task.0 there.0)
       ]
 
+  -- the rows of all tasks
   pub tasks_moved : (j : ℕ) (r : TaskRow) → slice_get (tasks_with t a i) j ≡ Some r → IsTaskRow (followed h e) (t.tasks_before + 1 + j) r
   tasks_moved = tasks_by (a == 0) refl
 
@@ -53,5 +57,6 @@ tasks_length_by : (b : Bool) (t : RowTable) (a : ℕ) (i : Option ℕ) → lengt
 tasks_length_by true t a i = refl
 tasks_length_by false t a i = altered_length (with_inner i) t.tasks (place_of t.tasks_before a)
 
+-- there are as many rows
 pub tasks_length : (t : RowTable) (a : ℕ) (i : Option ℕ) → length (tasks_with t a i) ≡ length t.tasks
 tasks_length t a i = tasks_length_by (a == 0) t a i

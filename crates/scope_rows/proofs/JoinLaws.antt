@@ -32,6 +32,7 @@ join_passed L h a s ok = (scope_passed h s (checks_at _ 1 _ ok.passed refl), not
 pub join_has : (L : Limits) (h : History) (t : RowTable) (a s : ℕ) → Accepts L h (Join a s) → AreRowsOf h t → HasScope t s
 join_has L h t a s ok are = opened_has h t s are (join_passed L h a s ok).0
 
+-- the row of the scope itself
 joined_here : (L : Limits) (h : History) (a s : ℕ) (r : ScopeRow) → Legal L h → joined h s ≡ false → IsScopeRow h s r → IsScopeRow (followed h (Join a s)) s (joined_row (length h.events) r)
 joined_here L h a s r legal none it =
     let e = Join a s in
@@ -39,6 +40,7 @@ joined_here L h a s r legal none it =
     (joining_grows h e s ∙ (ap (λ b. option_or (joining h s) (cond b (Some (length h.events)) None)) (eq-eqb s s refl) ∙ ap (λ o. option_or o (Some (length h.events))) (unjoined h s none)))
     (closing_same h e s refl ∙ it.closing) (closed_same h e s refl ∙ it.closed) (violated_same h e s refl ∙ it.violated) (counts_kept L h e s legal refl (λ j. (refl, refl, refl)) ∙ it.counts)
 
+-- the row of another scope
 joined_elsewhere : (L : Limits) (h : History) (a s n : ℕ) (r : ScopeRow) → Legal L h → n ≢ s → IsScopeRow h n r → IsScopeRow (followed h (Join a s)) n r
 joined_elsewhere L h a s n r legal apart it =
     scope_kept h (Join a s) n r it (ne_eqb s n (λ same. apart (sym same))) refl refl refl (counts_kept L h (Join a s) n legal refl (λ j. (refl, refl, refl)))

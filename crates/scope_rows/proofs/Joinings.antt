@@ -21,6 +21,7 @@ joining_grows h e s =
     (rw (earliest_same (joining_at (followed h e) s) (joining_at h s) (length h.events) (λ i within. ap (option_and_then (λ (x : Event). cond (joins s x) (Some i) None)) (get_push h.events e i within)))
     (ap (λ o. option_or (joining h s) (option_and_then (λ (x : Event). cond (joins s x) (Some (length h.events)) None) o)) (last_event h.events e)))
 
+-- there is one of two where there is the one or the other
 some_or : (o : Option ℕ) (b : Bool) (n : ℕ) → is_some (option_or o (cond b (Some n) None)) ≡ (is_some o || b)
 some_or None true n = refl
 some_or None false n = refl

@@ -32,6 +32,7 @@ below_by rows p i =
     kept None = refl
     kept (Some r) = refl
 
+-- and so do all
 below_kept : (b : ℕ) (rows : List ScopeRow) (p u : ℕ) → below_of b (altered closing_row rows p) u ≡ below_of b rows u
 below_kept b rows p u = by (nat_lt b u)
   where
@@ -62,6 +63,7 @@ covered_unclosed h a s k it found =
           )
     ]
 
+-- a later unclosed scope of the opener is covered
 covers_later : (h : History) (s k : ℕ) (o x : Opening) → opening h s ≡ Some o → opening h k ≡ Some x → x.actor ≡ o.actor → s < k → closed h k ≡ false → covers h s k ≡ true
 unfolding covers
 covers_later h s k o x is at by later unclosed =
@@ -70,6 +72,7 @@ covers_later h s k o x is at by later unclosed =
     let opener : (o.actor == x.actor) ≡ true = eq-eqb o.actor x.actor (sym by) in
     rw different (rw less (rw unclosed (rw is (rw at opener))))
 
+-- a scope is covered by its own close
 covers_same : (h : History) (s k : ℕ) → s ≡ k → covers h s k ≡ true
 unfolding covers
 covers_same h s k same = ap (λ b. b || (nat_lt s k && not (closed h k) && have_one_opener (opening h s) (opening h k))) (eq-eqb s k same)
@@ -87,9 +90,11 @@ pub record Marks (h : History) (b s n : ℕ) (rows marked : List ScopeRow) : Typ
   pub hit : (i : ℕ) → covers h s ((b + 1) + i) ≡ true → (b + 1) + i ≤ n → slice_get marked i ≡ option_map closing_row (slice_get rows i)
   pub missed : (i : ℕ) → (covers h s ((b + 1) + i) ≡ false) ⊎ (n < (b + 1) + i) → slice_get marked i ≡ slice_get rows i
 
+-- another number has another place
 other_place : (b i n : ℕ) → b < n → (b + 1) + i ≢ n → i ≢ place_of b n
 other_place b i n more apart same = apart (ap (λ j. (b + 1) + j) same ∙ number_at b n more)
 
+-- a number has its place
 same_place : (b i n : ℕ) → (b + 1) + i ≡ n → i ≡ place_of b n
 same_place b i n same = omega (arith, same)
 
@@ -134,6 +139,7 @@ module _ (h : History) (a b s : ℕ) (it : HasUnclosed h a s) where
       still_out i (inl uncovered) = inl uncovered
       still_out i (inr beyond) = inr (omega (arith, beyond, less))
 
+  -- the marks leave what is below
   below_on : (rows : List ScopeRow) (p : ℕ) → AreBelow h a b rows → AreBelow h a b (altered closing_row rows p)
   below_on rows p are u own = let was = are u own in (subst (IsGreatestBelow h a u) (sym (below_kept b rows p u)) was.0, was.1)
 

@@ -22,6 +22,7 @@ pub record IsWalked (before s : ℕ) (next : Option ℕ) (rows : List ScopeRow) 
   pub within : IfSome next (IsNumbered before rows)
   pub left : IsMarkedOn before s next rows from first
 
+-- nothing is marked at first
 pub walk_start : (before s : ℕ) (from : Option ℕ) (rows : List ScopeRow) → AreLinked before rows → IfSome from (IsNumbered before rows) → IsWalked before s from rows from rows
 unfolding marked
 walk_start before s from rows linked within = record {
@@ -35,6 +36,7 @@ pub marked_none : (n before s : ℕ) (rows : List ScopeRow) → marked_within n 
 marked_none zero before s rows = refl
 marked_none (suc n) before s rows = refl
 
+-- all is marked at the end
 pub walk_end : (before s : ℕ) (next : Option ℕ) (rows : List ScopeRow) (from : Option ℕ) (first : List ScopeRow) → next ≡ None → IsWalked before s next rows from first → rows ≡ marked before s from first
 walk_end before s next rows from first none so =
     sym (marked_none so.left.steps before s rows) ∙ (ap (λ o. marked_within so.left.steps before s o rows) (sym none) ∙ so.left.is)
@@ -51,6 +53,7 @@ linked_on before rows p linked i r b at below =
 row_there : (before : ℕ) (rows : List ScopeRow) (n : ℕ) (d : ScopeRow) → IsNumbered before rows n → row_of before rows n ≡ Some (get_or rows (place_of before n) d)
 row_there before rows n d has = row_is before rows n has.0 ∙ slice_get-get_or rows (place_of before n) d (place_within before (length rows) n has.0 has.1)
 
+-- what is below a scope, by its row
 pub below_there : (before : ℕ) (rows : List ScopeRow) (n : ℕ) (d : ScopeRow) → IsNumbered before rows n → below_of before rows n ≡ (get_or rows (place_of before n) d).below
 below_there before rows n d has = ap (option_and_then (λ (r : ScopeRow). r.below)) (row_there before rows n d has)
 
@@ -72,16 +75,19 @@ onward_below before s rows here b linked has is = by (here == s) is
             let it = linked (place_of before here) r b at below in
             (it.0, omega (arith, it.1, has.0))
 
+-- where the walk goes on there is a row
 within_on : (before : ℕ) (rows : List ScopeRow) (p here : ℕ) (next : Option ℕ) → IsNumbered before rows here → ((b : ℕ) → next ≡ Some b → (before < b) × (b < here)) → IfSome next (IsNumbered before (altered closing_row rows p))
 within_on before rows p here None has below = tt
 within_on before rows p here (Some b) has below =
     let it = below b refl in
     (it.0, omega (arith, it.1, has.1, altered_length closing_row rows p))
 
+-- and fewer scopes are left
 shorter : (here : ℕ) (next : Option ℕ) (before : ℕ) → ((b : ℕ) → next ≡ Some b → (before < b) × (b < here)) → walk_length next ≤ here
 shorter here None before below = omega arith
 shorter here (Some b) before below = omega (arith, (below b refl).1)
 
+-- one scope less is left to mark
 step_left : (n before s here : ℕ) (rows : List ScopeRow) (from : Option ℕ) (first : List ScopeRow) (next : Option ℕ) → next ≡ onward_from before s rows here → walk_length next ≤ here → here + 1 ≤ n
     → marked_within n before s (Some here) rows ≡ marked before s from first → IsMarkedOn before s next (altered closing_row rows (place_of before here)) from first
 step_left zero before s here rows from first next is shorter_by enough so = absurd (omega arith)

@@ -28,6 +28,7 @@ use Rattle.scope_rows.proofs.Unopened.{next_unopened, unopened_unsaid}
 use Rattle.scope_rows.proofs.Actors.{actor_has}
 
 module _ (L : Limits) (h : History) (t : RowTable) (o : Opening) (inside : Option ℕ) (height : ℕ) (legal : Legal L h) (ok : Accepts L h (Open o.actor o.policy o.options)) (are : AreRowsOf h t) (at_end : o.place ≡ length h.events) (parent_is : inside ≡ surrounding h o.actor) (height_is : height ≡ length (stack h o.actor)) where
+  -- the opening of the new scope
   opening_is : opening (followed h (Open o.actor o.policy o.options)) (scopes h + 1) ≡ Some o
   opening_is = next_opening h o.actor o.policy o.options ∙ ap (λ n. Some (record o { place = n })) (sym at_end)
 
@@ -35,16 +36,19 @@ module _ (L : Limits) (h : History) (t : RowTable) (o : Opening) (inside : Optio
   then_is : before (followed h (Open o.actor o.policy o.options)) o.place ≡ h
   then_is = ap (before (followed h (Open o.actor o.policy o.options))) at_end ∙ before_last h (Open o.actor o.policy o.options)
 
+  -- its parent
   parent_there : parent (followed h (Open o.actor o.policy o.options)) (scopes h + 1) ≡ inside
   unfolding parent
   parent_there =
       ap (option_and_then (around (followed h (Open o.actor o.policy o.options)))) opening_is
       ∙ (ap (λ (g : History). surrounding g o.actor) then_is ∙ sym parent_is)
 
+  -- no task was forked in it
   no_task : HasNoTask (followed h (Open o.actor o.policy o.options)) (scopes h + 1)
   no_task k f is =
       (unopened_unsaid L h (scopes h + 1) legal (next_unopened h)).tasks k f (sym (forking_same h (Open o.actor o.policy o.options) k refl) ∙ is)
 
+  -- its row is right
   new_row : IsScopeRow (followed h (Open o.actor o.policy o.options)) (scopes h + 1) (new_scope_row o inside (innermost_of t o.actor) height)
   new_row =
       let e = Open o.actor o.policy o.options in
@@ -62,6 +66,7 @@ module _ (L : Limits) (h : History) (t : RowTable) (o : Opening) (inside : Optio
         counts = counts_by (followed h e) s 0 0 0 0 (no_tally (followed h e) s Never no_task) (no_tally (followed h e) s Waiting no_task) (no_tally (followed h e) s Running no_task) (no_tally (followed h e) s Finished no_task);
       }
 
+  -- the rows of all scopes
   opened_scopes : (i : ℕ) (r : ScopeRow) → slice_get (t.scopes ++ new_scope_row o inside (innermost_of t o.actor) height ∷ []) i ≡ Some r → IsScopeRow (followed h (Open o.actor o.policy o.options)) (t.scopes_before + 1 + i) r
   opened_scopes i r at =
       let e = Open o.actor o.policy o.options in

@@ -2,7 +2,6 @@
 use Rattle.std.proofs.Common.{◌≡◌, ◌≢◌, ℕ, ◌+◌, ◌<◌, ◌≤◌, cond, Option, Some, None, List, length, slice_get, ap, sym, ◌∙◌, arith, subst}
 use Rattle.std.specs.Option.{option_map_or}
 use Rattle.std.proofs.lemmas.Bool.{lt-ltb}
-use Rattle.std.proofs.lemmas.Option.{slice_get_within}
 use Rattle.scope_rules.specs.declared.types.records.Forking.{Forking}
 use Rattle.scope_rules.specs.History.{History, forking}
 use Rattle.scope_rules.proofs.Nesting.{IsOpened}
@@ -10,7 +9,7 @@ use Rattle.scope_rules.proofs.Forkings.{IsForked, forked_after}
 use Rattle.scope_rules.proofs.Innermosts.{opened_after}
 use Rattle.scope_rows.specs.declared.records.ScopeRow.{ScopeRow}
 use Rattle.scope_rows.specs.declared.records.TaskRow.{TaskRow}
-use Rattle.scope_rows.specs.Table.{RowTable, IsNumbered, HasScope, HasTask, place_of, row_of, scope_row, task_row, scope_of}
+use Rattle.scope_rows.specs.Table.{RowTable, HasScope, HasTask, place_of, row_of, scope_row, task_row, scope_of}
 use Rattle.scope_rows.specs.Agreement.{AreRowsOf, IsScopeRow, IsTaskRow}
 use Rattle.scope_rows.proofs.Altering.{there_is}
 
@@ -22,17 +21,9 @@ place_within before len n more within = omega arith
 pub number_at : (before n : ℕ) → before < n → (before + 1) + place_of before n ≡ n
 number_at before n more = omega arith
 
--- the place of the number of a row
-pub place_at : (before i : ℕ) → place_of before ((before + 1) + i) ≡ i
-place_at before i = omega arith
-
 -- other numbers have other places
 pub number_apart : (before i n : ℕ) → before < n → i ≢ place_of before n → (before + 1) + i ≢ n
 number_apart before i n more apart same = apart (omega arith)
-
--- a row that is there is numbered
-pub numbered_at_place : {R : Type 0} (before : ℕ) (rows : List R) (i : ℕ) (r : R) → slice_get rows i ≡ Some r → IsNumbered before rows ((before + 1) + i)
-numbered_at_place before rows i r at = let within = slice_get_within rows i r at in (omega arith, omega arith)
 
 -- the row of a number after those before
 pub row_is : {R : Type 0} (before : ℕ) (rows : List R) (n : ℕ) → before < n → row_of before rows n ≡ slice_get rows (place_of before n)
@@ -86,9 +77,11 @@ forked_has h t k are it =
     let number = forked_after h k it.forked it.is in
     (omega (arith, number.2, are.tasks_before), omega (arith, number.1, number.2, are.tasks_before, are.task_count))
 
+-- a scope that was opened has a right row
 pub scope_at : (h : History) (t : RowTable) (s : ℕ) → AreRowsOf h t → IsOpened h s → ScopeRowAt h t s
 scope_at h t s are it = scope_there h t s are (opened_has h t s are it)
 
+-- a task that was forked has a right row
 pub task_at : (h : History) (t : RowTable) (k : ℕ) → AreRowsOf h t → IsForked h k → TaskRowAt h t k
 task_at h t k are it = task_there h t k are (forked_has h t k are it)
 
@@ -96,6 +89,7 @@ task_at h t k are it = task_there h t k are (forked_has h t k are it)
 pub scope_row_is : (h : History) (t : RowTable) (s : ℕ) (it : ScopeRowAt h t s) → scope_row t s ≡ Some it.row
 scope_row_is h t s it = row_is t.scopes_before t.scopes s it.has.0 ∙ it.at
 
+-- the row of a task that is asked for
 pub task_row_is : (h : History) (t : RowTable) (k : ℕ) (it : TaskRowAt h t k) → task_row t k ≡ Some it.row
 task_row_is h t k it = row_is t.tasks_before t.tasks k it.has.0 ∙ it.at
 

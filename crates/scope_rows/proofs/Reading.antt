@@ -39,11 +39,13 @@ row_after before rows n r is = by (nat_lt before n) refl is
     by true test found = (ltb-true before n test, found)
     by false test found = absurd cc
 
+-- a scope's row that is read is right
 pub scope_row_says : (h : History) (t : RowTable) (s : ℕ) (r : ScopeRow) → AreRowsOf h t → scope_row t s ≡ Some r → IsScopeRow h s r
 scope_row_says h t s r are is =
     let it = row_after t.scopes_before t.scopes s r is in
     subst (λ n. IsScopeRow h n r) (number_at t.scopes_before s it.0) (are.scopes (place_of t.scopes_before s) r it.1)
 
+-- a task's row that is read is right
 pub task_row_says : (h : History) (t : RowTable) (k : ℕ) (r : TaskRow) → AreRowsOf h t → task_row t k ≡ Some r → IsTaskRow h k r
 task_row_says h t k r are is =
     let it = row_after t.tasks_before t.tasks k r is in

@@ -57,6 +57,7 @@ pub record Moves (h : History) (e : Event) (k : ℕ) (f : Forking) (row : TaskRo
   pub elsewhere : (s : ℕ) → (f.scope == s) ≡ false → counts (followed h e) s ≡ counts h s
 
 module _ (L : Limits) (h : History) (e : Event) (t : RowTable) (k : ℕ) (f : Forking) (row : TaskRow → TaskRow) (g : Counts → Counts) (legal : Legal L h) (are : AreRowsOf h t) (is : forking h k ≡ Some f) (so : Moves h e k f row g) where
+  -- the innermost scopes stay
   inner : (a : ℕ) → innermost (followed h e) a ≡ innermost h a
   inner a = innermost_same h e a so.opens_none so.ends_none
 
@@ -71,6 +72,7 @@ module _ (L : Limits) (h : History) (e : Event) (t : RowTable) (k : ℕ) (f : Fo
   scope_elsewhere : (s : ℕ) (r : ScopeRow) → (f.scope == s) ≡ false → IsScopeRow h s r → IsScopeRow (followed h e) s r
   scope_elsewhere s r other it = scope_kept h e s r it (so.joins_none s) (so.begins_none s) (so.ends_none s) (so.violates_none s) (so.elsewhere s other)
 
+  -- the rows of all scopes
   moved_scopes : (i : ℕ) (r : ScopeRow) → slice_get (altered (recount g) t.scopes (place_of t.scopes_before (scope_of t k))) i ≡ Some r → IsScopeRow (followed h e) (t.scopes_before + 1 + i) r
   moved_scopes i r at =
       let of : scope_of t k ≡ f.scope = scope_of_is h t k f are is in
@@ -86,6 +88,7 @@ module _ (L : Limits) (h : History) (e : Event) (t : RowTable) (k : ℕ) (f : Fo
             scope_elsewhere s r (ne_eqb f.scope s (λ same. apart (sym same))) (are.scopes i r other.1)
       ]
 
+  -- the rows of all tasks
   moved_tasks : (i : ℕ) (r : TaskRow) → slice_get (altered row t.tasks (place_of t.tasks_before k)) i ≡ Some r → IsTaskRow (followed h e) (t.tasks_before + 1 + i) r
   moved_tasks i r at =
       let has = (task_at h t k are (record { forked = f; is = is })).has in
@@ -112,12 +115,15 @@ module _ (L : Limits) (h : History) (e : Event) (t : RowTable) (k : ℕ) (f : Fo
     tasks = moved_tasks;
   }
 
+-- a reject names its task alone
 names_rejected : (k : ℕ) → NamesAlone (Reject k) k
 names_rejected k = record { forks_none = refl; others = λ j apart. (ne_eqb k j (λ same. apart (sym same)), refl, refl) }
 
+-- and so does a start
 names_started : (k : ℕ) → NamesAlone (Start k) k
 names_started k = record { forks_none = refl; others = λ j apart. (refl, ne_eqb k j (λ same. apart (sym same)), refl) }
 
+-- and an end
 names_finished : (k : ℕ) (end : EndValue) → NamesAlone (Finish k end) k
 names_finished k end = record { forks_none = refl; others = λ j apart. (refl, refl, ne_eqb k j (λ same. apart (sym same))) }
 

@@ -1,5 +1,5 @@
 -- Of a task that was never forked nothing is said.
-use Rattle.std.proofs.Common.{◌≡◌, ◌≢◌, ℕ, ◌+◌, Bool, true, false, Some, None, Option, refl, ap, sym, ◌∙◌, arith, inl, inr, ◌⊎◌}
+use Rattle.std.proofs.Common.{◌≡◌, ◌≢◌, ℕ, ◌+◌, Bool, true, false, None, refl, ap, sym, ◌∙◌, arith, inl, inr, ◌⊎◌}
 use Rattle.std.proofs.lemmas.Bool.{false_from_ne_true}
 use Rattle.scope_rules.specs.declared.types.capacity.Limits.{Limits}
 use Rattle.scope_rules.specs.History.{History, tasks, forking}
@@ -38,11 +38,3 @@ unforked_innermost L h a legal other unforked =
 -- nor has it finished
 pub unforked_unfinished : (L : Limits) (h : History) (k : ℕ) → Legal L h → (IsForked h k → ⊥) → finished h k ≡ false
 unforked_unfinished L h k legal unforked = false_from_ne_true (finished h k) (λ so. unforked (finished_forked L h k legal so))
-
-none_by : (h : History) (k : ℕ) (o : Option _) → forking h k ≡ o → (IsForked h k → ⊥) → forking h k ≡ None
-none_by h k None is unforked = is
-none_by h k (Some f) is unforked = absurd (unforked (record { forked = f; is = is }))
-
--- a number that no task has
-pub unforked_none : (h : History) (k : ℕ) → (IsForked h k → ⊥) → forking h k ≡ None
-unforked_none h k unforked = none_by h k (forking h k) refl unforked

@@ -27,9 +27,11 @@ use Rattle.scope_rows.proofs.Joinings.{unjoined}
 pub next_unopened : (h : History) → IsOpened h (scopes h + 1) → ⊥
 next_unopened h it = let number = opened_after h (scopes h + 1) it.opened it.is in absurd (omega (arith, number.1, number.2))
 
+-- what was opened is opened after one event more
 stays_opened : (h : History) (e : Event) (s : ℕ) → IsOpened h s → IsOpened (followed h e) s
 stays_opened h e s it = record { opened = it.opened; is = opening_stays h e s it.opened it.is }
 
+-- what has an opener was opened
 one_opener : (h : History) (s : ℕ) (o p : Option Opening) → opening h s ≡ p → have_one_opener o p ≡ true → IsOpened h s
 one_opener h s None p is found = absurd cc
 one_opener h s (Some x) None is found = absurd cc
@@ -44,18 +46,21 @@ covered_opened h t s it found =
       | inr later ↦ one_opener h s (opening h t) (opening h s) refl (and_parts (nat_lt t s && not (closed h s)) (have_one_opener (opening h t) (opening h s)) later).1
     ]
 
+-- what the event begins to close was opened
 begun_opened : (L : Limits) (h : History) (e : Event) (s : ℕ) → Accepts L h e → begins_closing h s e ≡ true → IsOpened h s
 begun_opened L h (BeginClose actor scope) s ok it =
     let owner = (begin_close_passed L h actor scope ok).owner in
     covered_opened h scope s (record { opened = owner.opened; is = owner.is }) it
 begun_opened L h _ s ok it = absurd cc
 
+-- and so was the scope whose own close it begins
 begun_for_opened : (L : Limits) (h : History) (e : Event) (s : ℕ) → Accepts L h e → begins_for h s e ≡ true → IsOpened h s
 begun_for_opened L h (BeginClose actor scope) s ok it =
     let owner = (begin_close_passed L h actor scope ok).owner in
     subst (IsOpened h) (eqb-true scope s (and_parts (scope == s) (covers_another h s) it).0) (record { opened = owner.opened; is = owner.is })
 begun_for_opened L h _ s ok it = absurd cc
 
+-- each closing scope was opened
 ClosingIsOpened : History → Type 0
 ClosingIsOpened h = (s : ℕ) → closing h s ≡ true → IsOpened h s
 
@@ -73,6 +78,7 @@ pub closing_opened : (L : Limits) (h : History) (s : ℕ) → Legal L h → clos
 unfolding ClosingIsOpened
 closing_opened L h s legal it = along L ClosingIsOpened closing_start (λ g e lawful ok was. closing_step L g e ok was) h legal s it
 
+-- each scope whose close was out of order was opened
 ViolatedIsOpened : History → Type 0
 ViolatedIsOpened h = (s : ℕ) → violated h s ≡ true → IsOpened h s
 
@@ -98,6 +104,7 @@ pub record IsUnsaid (h : History) (s : ℕ) : Type 0 where
   pub violated : violated h s ≡ false
   pub tasks : (k : ℕ) (f : Forking) → forking h k ≡ Some f → f.scope ≢ s
 
+-- in a legal history nothing is said of a number that no scope has
 pub unopened_unsaid : (L : Limits) (h : History) (s : ℕ) → Legal L h → (IsOpened h s → ⊥) → IsUnsaid h s
 unopened_unsaid L h s legal none = record {
   joined = unjoined h s (false_from_ne_true (joined h s) (λ so. none (joined_opened L h s legal so)));

@@ -45,21 +45,25 @@ use Rattle.scope_rows.proofs.TaskLaws.{waiting_is, running_is}
 pub scope_numbers_fit : (h : History) (t : RowTable) → AreRowsOf h t → HasSmallNumbers h → HasScopeNumbers t
 scope_numbers_fit h t are small = omega (arith, are.scopes_before, are.scope_count, small.scopes)
 
+-- and its tasks
 pub task_numbers_fit : (h : History) (t : RowTable) → AreRowsOf h t → HasSmallNumbers h → HasTaskNumbers t
 task_numbers_fit h t are small = omega (arith, are.tasks_before, are.task_count, small.tasks)
 
 -- ---- counts
 
+-- one at the most is counted more
 one_more : (b : Bool) (m n : ℕ) → m ≤ n → cond {A = ℕ} b 1 0 + m ≤ n + 1
 one_more true m n less = omega (arith, less)
 one_more false m n less = omega (arith, less)
 
+-- no more numbers are counted than there are
 counted_within : (p : ℕ → Bool) (a n : ℕ) → count_by p (range_with_len a n) ≤ n
 counted_within p a zero = omega arith
 counted_within p a (suc n) =
     let rest = one_more (p a) (count_by p (range_with_len (a + 1) n)) n (counted_within p (a + 1) n) in
     omega (arith, count_by-cons p a (range_with_len (a + 1) n), rest)
 
+-- an accepted event keeps to the limit of tasks
 forks_step : (L : Limits) (h : History) (e : Event) → Accepts L h e → forked_count h ≤ L.tasks → forked_count h + cond {A = ℕ} (is_fork e) 1 0 ≤ L.tasks
 forks_step L h (Fork actor scope label) ok was = omega (arith, (fork_number L h actor scope label ok.passed).0)
 forks_step L h _ ok was = omega (arith, was)
@@ -100,12 +104,14 @@ counted_one h k f x is at same =
 
 -- ---- what the calls want
 
+-- what an open wants
 pub can_open : (L : Limits) (h : History) (t : RowTable) (a : ℕ) (policy options : _) → Accepts L h (Open a policy options) → AreRowsOf h t → CanOpen t a
 can_open L h t a policy options ok are = record {
   actor = actor_has h t a are (open_passed L h a policy options ok);
   number = let few = (open_number L h a policy options ok.passed).1 in omega (arith, are.scopes_before, are.scope_count, few);
 }
 
+-- what a fork wants
 pub can_fork : (L : Limits) (h : History) (t : RowTable) (a s : ℕ) (label : _) → Legal L h → Accepts L h (Fork a s label) → AreRowsOf h t → CanFork t s
 can_fork L h t a s label legal ok are =
     let owner = (fork_passed L h a s label ok).owner in
@@ -120,6 +126,7 @@ task_scope L h t k f legal are is = subst (HasScope t) (sym (scope_of_is h t k f
 counted_in : (L : Limits) (h : History) (t : RowTable) (k : ℕ) (f : Forking) (x : Stage) → Legal L h → AreRowsOf h t → forking h k ≡ Some f → stage h k ≡ x → is_stage x x ≡ true → 1 ≤ tally h (scope_of t k) x
 counted_in L h t k f x legal are is at same = subst (λ s. 1 ≤ tally h s x) (sym (scope_of_is h t k f are is)) (counted_one h k f x is at same)
 
+-- a task that waits can be taken
 can_be_taken : (L : Limits) (h : History) (t : RowTable) (k : ℕ) (f : Forking) → Legal L h → AreRowsOf h t → forking h k ≡ Some f → stage h k ≡ Waiting → CanBeTaken t k
 can_be_taken L h t k f legal are is at =
     let has = task_scope L h t k f legal are is in
@@ -130,18 +137,21 @@ can_be_taken L h t k f legal are is at =
       room = counts_have_room L h t (scope_of t k) legal are has;
     }
 
+-- what a reject wants
 pub can_reject : (L : Limits) (h : History) (t : RowTable) (k : ℕ) → Legal L h → Accepts L h (Reject k) → AreRowsOf h t → CanBeTaken t k
 can_reject L h t k legal ok are =
     let waits = reject_passed L h k ok in
     let it = waiting_forked h k waits in
     can_be_taken L h t k it.forked legal are it.is (waiting_is (stage h k) waits)
 
+-- what a start wants
 pub can_start : (L : Limits) (h : History) (t : RowTable) (k : ℕ) → Legal L h → Accepts L h (Start k) → AreRowsOf h t → CanBeTaken t k
 can_start L h t k legal ok are =
     let waits = start_passed L h k ok in
     let it = waiting_forked h k waits in
     can_be_taken L h t k it.forked legal are it.is (waiting_is (stage h k) waits)
 
+-- what an end wants
 pub can_finish : (L : Limits) (h : History) (t : RowTable) (k : ℕ) (end : _) → Legal L h → Accepts L h (Finish k end) → AreRowsOf h t → CanFinish t k
 can_finish L h t k end legal ok are =
     let runs = (finish_passed L h k end ok).runs in
@@ -163,10 +173,12 @@ rows_linked h t are i r b at below =
     let own = opening_number h ((t.scopes_before + 1) + i) r.opening it.opening in
     (omega (arith, number.2, are.scopes_before), omega (arith, number.1, number.2, own))
 
+-- an actor's innermost scope has a row
 inner_by : (h : History) (t : RowTable) (a : ℕ) (o : Option ℕ) → AreRowsOf h t → innermost h a ≡ o → IfSome o (HasScope t)
 inner_by h t a None are is = tt
 inner_by h t a (Some s) are is = let it = innermost_unclosed h a s is in opened_has h t s are (record { opened = it.opened; is = it.is })
 
+-- what the beginning of a close wants
 pub can_begin_close : (L : Limits) (h : History) (t : RowTable) (a s : ℕ) → Legal L h → Accepts L h (BeginClose a s) → AreRowsOf h t → CanBeginClose t a s
 can_begin_close L h t a s legal ok are =
     let row = begin_close_passed L h a s ok in
@@ -177,6 +189,7 @@ can_begin_close L h t a s legal ok are =
       inner = inner_by h t a (innermost_of t a) are (sym (innermost_says L h t a legal are));
     }
 
+-- what the end of a close wants
 pub can_end_close : (L : Limits) (h : History) (t : RowTable) (a s : ℕ) → Accepts L h (EndClose a s) → AreRowsOf h t → CanEndClose t a s
 can_end_close L h t a s ok are =
     let row = end_close_passed L h a s ok in

@@ -1,5 +1,5 @@
 -- What is written into the rows is what a step makes of them.
-use Rattle.std.proofs.Common.{◌≡◌, ℕ, ◌+◌, ◌-◌, ◌<◌, ◌==◌, Bool, true, false, cond, Option, Some, List, [], ◌∷◌, ◌++◌, length, get_or, slice_get, set, ap, sym, subst, ◌∙◌, arith, inl, inr}
+use Rattle.std.proofs.Common.{◌≡◌, ℕ, ◌+◌, ◌-◌, ◌<◌, ◌==◌, Bool, false, cond, Option, Some, List, [], ◌∷◌, ◌++◌, length, get_or, slice_get, set, ap, sym, subst, ◌∙◌, arith, inl, inr}
 use Rattle.std.proofs.lemmas.Bool.{eq-eqb}
 use Rattle.std.specs.Option.{option_map_or, option_and_then}
 use Rattle.std.proofs.lemmas.Option.{slice_get-get_or}
@@ -78,6 +78,7 @@ inner_place : (t : RowTable) (a : ℕ) → (a == 0) ≡ false → HasActor t a �
 inner_place t a other (inl main) = absurd (cc (other, eq-eqb a 0 main))
 inner_place t a other (inr has) = place_within t.tasks_before (length t.tasks) a has.0 has.1
 
+-- the row of a task, with another innermost scope
 pub inner_written : (v t : RowTable) (a at : ℕ) (row : TaskRow) (i : Option ℕ) → v ≡ t → (a == 0) ≡ false → HasActor t a → at ≡ place_of v.tasks_before a → row ≡ get_or v.tasks at row
     → record v { tasks = set v.tasks at (with_inner i row) } ≡ with_innermost t a i
 inner_written v t a at row i same other has place read =
@@ -85,12 +86,6 @@ inner_written v t a at row i same other has place read =
     ap (λ rows. record v { tasks = rows }) (written (with_inner i) v.tasks at (place_of v.tasks_before a) row place (omega arith) read)
     ∙ (ap (λ (u : RowTable). record u { tasks = altered (with_inner i) u.tasks (place_of u.tasks_before a) }) same
     ∙ ap (λ b. record t { main_innermost = cond b i t.main_innermost; tasks = cond b t.tasks (altered (with_inner i) t.tasks (place_of t.tasks_before a)) }) (sym other))
-
--- and of main
-pub main_written : (v t : RowTable) (a : ℕ) (i : Option ℕ) → v ≡ t → (a == 0) ≡ true → record v { main_innermost = i } ≡ with_innermost t a i
-main_written v t a i same main =
-    ap (λ (u : RowTable). record u { main_innermost = i }) same
-    ∙ ap (λ b. record t { main_innermost = cond b i t.main_innermost; tasks = cond b t.tasks (altered (with_inner i) t.tasks (place_of t.tasks_before a)) }) (sym main)
 
 -- the counts of a scope, changed
 pub counts_written : (g : Counts → Counts) (v t : RowTable) (s at : ℕ) (row : ScopeRow) (n : Counts) → v ≡ t → at ≡ place_of t.scopes_before s → at < length t.scopes → row ≡ get_or v.scopes at row → n ≡ g row.counts
