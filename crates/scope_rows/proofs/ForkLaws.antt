@@ -1,0 +1,112 @@
+-- The rows after a fork.
+use Rattle.std.proofs.Common.{◌≡◌, ℕ, ◌+◌, ◌==◌, Bool, true, false, cond, Option, Some, None, [], ◌∷◌, ◌++◌, length, slice_get, refl, ap, sym, subst, ◌∙◌, arith, inl, inr, length-append}
+use Rattle.std.proofs.lemmas.Bool.{eq-eqb, ne_eqb, or_from}
+use Rattle.std.specs.Option.{option_map_or}
+use Rattle.scope_rules.specs.declared.types.capacity.Limits.{Limits}
+use Rattle.scope_rules.specs.declared.types.answers.Stage.TheVariants.{Never, Waiting}
+use Rattle.scope_rules.specs.declared.types.answers.State.TheVariants.{Unavailable}
+use Rattle.scope_rules.specs.declared.types.events.Event.TheVariants.{Fork}
+use Rattle.scope_rules.specs.declared.types.records.Ending.{Ending}
+use Rattle.scope_rules.specs.declared.types.records.Forking.{Forking}
+use Rattle.scope_rules.specs.History.{History, followed, tasks, forked_count, forking, is_open, is_fork}
+use Rattle.scope_rules.specs.Scopes.{innermost}
+use Rattle.scope_rules.specs.Cancels.{is_cancelled}
+use Rattle.scope_rules.specs.Tasks.{stage, state_of, ending, finished}
+use Rattle.scope_rules.specs.Legal.{Legal, Accepts}
+use Rattle.scope_rules.proofs.InnermostSteps.{innermost_same}
+use Rattle.scope_rules.proofs.OneEventMore.{finished_grows}
+use Rattle.scope_rules.proofs.Owing.{count_push}
+use Rattle.scope_rules.proofs.PassedRows.{fork_passed}
+use Rattle.scope_rules.proofs.StageSteps.{next_forking, stage_forked}
+use Rattle.scope_rules.proofs.StateSteps.{no_ending, state_is}
+use Rattle.scope_rows.specs.declared.records.ScopeRow.{ScopeRow}
+use Rattle.scope_rows.specs.declared.records.TaskRow.{TaskRow}
+use Rattle.scope_rows.specs.Table.{RowTable, place_of}
+use Rattle.scope_rows.specs.Agreement.{AreRowsOf, IsScopeRow, IsTaskRow}
+use Rattle.scope_rows.specs.Steps.{altered, recount, count_fork, new_task_row, forked}
+use Rattle.scope_rows.proofs.Altering.{altered_length, altered_split, pushed_split}
+use Rattle.scope_rows.proofs.Places.{opened_has, number_at, number_apart}
+use Rattle.scope_rows.proofs.Frames.{scope_on, scope_kept, task_kept, joining_same, closing_same, closed_same, violated_same}
+use Rattle.scope_rows.proofs.Keeping.{count_same}
+use Rattle.scope_rows.proofs.CountMoves.{fork_elsewhere, fork_counted}
+use Rattle.scope_rows.proofs.Unforked.{next_unforked, unforked_innermost, unforked_unfinished}
+
+module _ (L : Limits) (h : History) (t : RowTable) (f : Forking) (cancelled : Bool) (legal : Legal L h) (ok : Accepts L h (Fork f.actor f.scope f.label)) (are : AreRowsOf h t) (at_end : f.place ≡ length h.events) (cut : cancelled ≡ is_cancelled h f.scope) where
+  -- the forking of the new task
+  forking_is : forking (followed h (Fork f.actor f.scope f.label)) (tasks h + 1) ≡ Some f
+  forking_is =
+      next_forking h f.actor f.scope f.label ∙ ap (λ n. Some (record f { place = n })) (sym at_end)
+
+  -- its stage
+  stage_is : stage (followed h (Fork f.actor f.scope f.label)) (tasks h + 1) ≡ cond cancelled Never Waiting
+  stage_is = stage_forked L h f.actor f.scope f.label legal ok ∙ ap (λ b. cond b Never Waiting) (sym cut)
+
+  -- the new task has not ended
+  unended : ending (followed h (Fork f.actor f.scope f.label)) (tasks h + 1) ≡ None
+  unended =
+      no_ending (followed h (Fork f.actor f.scope f.label)) (tasks h + 1)
+      (finished_grows h (Fork f.actor f.scope f.label) (tasks h + 1) ∙ or_from (finished h (tasks h + 1)) false (unforked_unfinished L h (tasks h + 1) legal (next_unforked h)) refl)
+
+  -- a fork leaves the innermost scopes
+  inner : (a : ℕ) → innermost (followed h (Fork f.actor f.scope f.label)) a ≡ innermost h a
+  inner a = innermost_same h (Fork f.actor f.scope f.label) a refl (λ n. refl)
+
+  -- the row of the new task is right
+  new_row : IsTaskRow (followed h (Fork f.actor f.scope f.label)) (tasks h + 1) (new_task_row f cancelled)
+  new_row = record {
+    forking = forking_is;
+    stage = stage_is;
+    state = state_is (followed h (Fork f.actor f.scope f.label)) (tasks h + 1) f forking_is ∙ ap (λ (o : Option Ending). option_map_or (state_of (followed h (Fork f.actor f.scope f.label)) f) o Unavailable) unended;
+    innermost = inner (tasks h + 1) ∙ unforked_innermost L h (tasks h + 1) legal (λ same. absurd (omega (arith, same))) (next_unforked h);
+  }
+
+  -- the row of its scope
+  scope_here : (s : ℕ) (r : ScopeRow) → (f.scope == s) ≡ true → IsScopeRow h s r → IsScopeRow (followed h (Fork f.actor f.scope f.label)) s (recount (count_fork cancelled) r)
+  scope_here s r of it =
+      let e = Fork f.actor f.scope f.label in
+      scope_on h e s r r.joined r.closing r.closed r.violated (count_fork cancelled r.counts) it
+      (joining_same h e s refl ∙ it.joined) (closing_same h e s refl ∙ it.closing) (closed_same h e s refl ∙ it.closed) (violated_same h e s refl ∙ it.violated)
+      (fork_counted L h f legal s r.counts cancelled of it.counts forking_is stage_is)
+
+  -- the row of another scope
+  scope_elsewhere : (s : ℕ) (r : ScopeRow) → (f.scope == s) ≡ false → IsScopeRow h s r → IsScopeRow (followed h (Fork f.actor f.scope f.label)) s r
+  scope_elsewhere s r other it = scope_kept h (Fork f.actor f.scope f.label) s r it refl refl refl refl (fork_elsewhere L h f legal s (cond cancelled Never Waiting) other forking_is stage_is)
+
+  -- the rows of all scopes
+  forked_scopes : (i : ℕ) (r : ScopeRow) → slice_get (altered (recount (count_fork cancelled)) t.scopes (place_of t.scopes_before f.scope)) i ≡ Some r → IsScopeRow (followed h (Fork f.actor f.scope f.label)) (t.scopes_before + 1 + i) r
+  forked_scopes i r at =
+      let owner = (fork_passed L h f.actor f.scope f.label ok).owner in
+      let has = opened_has h t f.scope are (record { opened = owner.opened; is = owner.is }) in
+      let s = (t.scopes_before + 1) + i in
+      elim (altered_split (recount (count_fork cancelled)) t.scopes (place_of t.scopes_before f.scope) i r at) [
+        | inl here ↦
+            let number : f.scope ≡ s = sym (ap (λ n. (t.scopes_before + 1) + n) here.0 ∙ number_at t.scopes_before f.scope has.0) in
+            subst (λ x. IsScopeRow (followed h (Fork f.actor f.scope f.label)) s x) here.1.is (scope_here s here.1.was (eq-eqb f.scope s number) (are.scopes i here.1.was here.1.at))
+        | inr other ↦
+            let apart = number_apart t.scopes_before i f.scope has.0 other.0 in
+            scope_elsewhere s r (ne_eqb f.scope s (λ same. apart (sym same))) (are.scopes i r other.1)
+      ]
+
+  -- the rows of all tasks
+  forked_tasks : (i : ℕ) (r : TaskRow) → slice_get (t.tasks ++ new_task_row f cancelled ∷ []) i ≡ Some r → IsTaskRow (followed h (Fork f.actor f.scope f.label)) (t.tasks_before + 1 + i) r
+  forked_tasks i r at =
+      elim (pushed_split t.tasks (new_task_row f cancelled) i r at) [
+        | inl old ↦ task_kept L h (Fork f.actor f.scope f.label) ((t.tasks_before + 1) + i) r legal (are.tasks i r old) refl refl refl (inner ((t.tasks_before + 1) + i))
+        | inr new ↦
+            let number : tasks h + 1 ≡ (t.tasks_before + 1) + i = omega (arith, new.0, are.tasks_before, are.task_count) in
+            subst (λ n. IsTaskRow (followed h (Fork f.actor f.scope f.label)) n r) number (subst (λ x. IsTaskRow (followed h (Fork f.actor f.scope f.label)) (tasks h + 1) x) new.1 new_row)
+      ]
+
+  -- the rows with the new task agree after the fork
+  pub rows_forked : AreRowsOf (followed h (Fork f.actor f.scope f.label)) (forked t f cancelled)
+  rows_forked = record {
+    scopes_before = are.scopes_before;
+    tasks_before = are.tasks_before;
+    main = inner 0 ∙ are.main;
+    scope_count = altered_length (recount (count_fork cancelled)) t.scopes (place_of t.scopes_before f.scope) ∙ (are.scope_count ∙ sym (count_same is_open h (Fork f.actor f.scope f.label) refl));
+    task_count =
+        let grown : forked_count (followed h (Fork f.actor f.scope f.label)) ≡ forked_count h + 1 = omega (arith, count_push is_fork h.events (Fork f.actor f.scope f.label)) in
+        omega (arith, length-append t.tasks (new_task_row f cancelled ∷ []), are.task_count, grown);
+    scopes = forked_scopes;
+    tasks = forked_tasks;
+  }

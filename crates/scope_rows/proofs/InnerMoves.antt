@@ -1,0 +1,62 @@
+-- The rows of tasks, and main's innermost scope, after an event that moves the innermost scope of one actor.
+use Rattle.std.proofs.Common.{◌≡◌, ◌≢◌, ℕ, ◌+◌, ◌==◌, Bool, true, false, cond, Option, Some, length, slice_get, refl, ap, sym, subst, ◌∙◌, arith, inl, inr}
+use Rattle.std.proofs.lemmas.Bool.{eqb-true, eq-eqb}
+use Rattle.scope_rules.specs.declared.types.capacity.Limits.{Limits}
+use Rattle.scope_rules.specs.declared.types.events.Event.{Event}
+use Rattle.scope_rules.specs.History.{History, followed}
+use Rattle.scope_rules.specs.Scopes.{innermost}
+use Rattle.scope_rules.specs.Tasks.{rejects, starts, finishes}
+use Rattle.scope_rules.specs.Legal.{Legal}
+use Rattle.scope_rows.specs.declared.records.TaskRow.{TaskRow}
+use Rattle.scope_rows.specs.Table.{RowTable, HasActor, HasTask, place_of}
+use Rattle.scope_rows.specs.Agreement.{AreRowsOf, IsTaskRow}
+use Rattle.scope_rows.specs.Steps.{altered, with_inner, main_with, tasks_with}
+use Rattle.scope_rows.proofs.Altering.{altered_length, altered_split}
+use Rattle.scope_rows.proofs.Places.{number_at, number_apart}
+use Rattle.scope_rows.proofs.Frames.{task_moved, task_kept}
+
+-- an actor that is not main has a row
+not_main : (t : RowTable) (a : ℕ) → (a == 0) ≡ false → HasActor t a → HasTask t a
+not_main t a other (inl main) = absurd (cc (other, eq-eqb a 0 main))
+not_main t a other (inr has) = has
+
+module _ (L : Limits) (h : History) (e : Event) (t : RowTable) (a : ℕ) (i : Option ℕ) (legal : Legal L h) (are : AreRowsOf h t) (has : HasActor t a) (none : (j : ℕ) → (rejects j e ≡ false) × (starts j e ≡ false) × (finishes j e ≡ false)) (now : innermost (followed h e) a ≡ i) (others : (b : ℕ) → b ≢ a → innermost (followed h e) b ≡ innermost h b) where
+  main_by : (b : Bool) → (a == 0) ≡ b → innermost (followed h e) 0 ≡ cond b i t.main_innermost
+  main_by true main = ap (innermost (followed h e)) (sym (eqb-true a 0 main)) ∙ now
+  main_by false other = others 0 (λ same. absurd (cc (other, eq-eqb a 0 (sym same)))) ∙ are.main
+
+  -- main's innermost scope, in its own field
+  pub main_moved : innermost (followed h e) 0 ≡ main_with t a i
+  main_moved = main_by (a == 0) refl
+
+  -- the row of another task
+  kept : (j : ℕ) (r : TaskRow) → slice_get t.tasks j ≡ Some r → (t.tasks_before + 1) + j ≢ a → IsTaskRow (followed h e) (t.tasks_before + 1 + j) r
+  kept j r at apart =
+      let k = (t.tasks_before + 1) + j in
+      let un = none k in
+      task_kept L h e k r legal (are.tasks j r at) un.0 un.1 un.2 (others k apart)
+
+  tasks_by : (b : Bool) → (a == 0) ≡ b → (j : ℕ) (r : TaskRow) → slice_get (cond b t.tasks (altered (with_inner i) t.tasks (place_of t.tasks_before a))) j ≡ Some r → IsTaskRow (followed h e) (t.tasks_before + 1 + j) r
+  tasks_by true main j r at = let zero_it : a ≡ 0 = eqb-true a 0 main in kept j r at (λ same. absurd (omega (arith, same, zero_it)))
+  tasks_by false other j r at =
+      let task = not_main t a other has in
+      elim (altered_split (with_inner i) t.tasks (place_of t.tasks_before a) j r at) [
+        | inl here ↦
+            let number : (t.tasks_before + 1) + j ≡ a = ap (λ n. (t.tasks_before + 1) + n) here.0 ∙ number_at t.tasks_before a task.0 in
+            let was = subst (λ n. IsTaskRow h n here.1.was) number (are.tasks j here.1.was here.1.at) in
+            let un = none a in
+            subst (λ n. IsTaskRow (followed h e) n r) (sym number) (subst (λ x. IsTaskRow (followed h e) a x) here.1.is (task_moved L h e a here.1.was i legal was un.0 un.1 un.2 now))
+        | inr there ↦ kept j r there.1 (number_apart t.tasks_before j a task.0 there.0)
+      ]
+
+  -- the rows of all tasks
+  pub tasks_moved : (j : ℕ) (r : TaskRow) → slice_get (tasks_with t a i) j ≡ Some r → IsTaskRow (followed h e) (t.tasks_before + 1 + j) r
+  tasks_moved = tasks_by (a == 0) refl
+
+tasks_length_by : (b : Bool) (t : RowTable) (a : ℕ) (i : Option ℕ) → length (cond b t.tasks (altered (with_inner i) t.tasks (place_of t.tasks_before a))) ≡ length t.tasks
+tasks_length_by true t a i = refl
+tasks_length_by false t a i = altered_length (with_inner i) t.tasks (place_of t.tasks_before a)
+
+-- there are as many rows
+pub tasks_length : (t : RowTable) (a : ℕ) (i : Option ℕ) → length (tasks_with t a i) ≡ length t.tasks
+tasks_length t a i = tasks_length_by (a == 0) t a i

@@ -1,0 +1,72 @@
+-- The rows after a join.
+use Rattle.std.proofs.Common.{◌≡◌, ◌≢◌, ℕ, ◌+◌, false, cond, Some, None, length, refl, ap, sym, subst, ◌∙◌, inl, inr}
+use Rattle.std.proofs.lemmas.Bool.{eq-eqb, ne_eqb}
+use Rattle.std.specs.Option.{option_or}
+use Rattle.scope_rules.specs.declared.types.capacity.Limits.{Limits}
+use Rattle.scope_rules.specs.declared.types.events.Event.TheVariants.{Join}
+use Rattle.scope_rules.specs.History.{History, followed, is_open, is_fork}
+use Rattle.scope_rules.specs.Scopes.{joined}
+use Rattle.scope_rules.specs.Outcomes.{joining}
+use Rattle.scope_rules.specs.Table.{check_of}
+use Rattle.scope_rules.specs.Legal.{Legal, Accepts}
+use Rattle.scope_rules.proofs.Accepted.{checks_at, not_refused}
+use Rattle.scope_rules.proofs.InnermostSteps.{innermost_same}
+use Rattle.scope_rules.proofs.NewScopes.{scope_passed}
+use Rattle.scope_rules.proofs.Nesting.{IsOpened}
+use Rattle.scope_rows.specs.declared.records.ScopeRow.{ScopeRow}
+use Rattle.scope_rows.specs.Table.{RowTable, HasScope, place_of}
+use Rattle.scope_rows.specs.Agreement.{AreRowsOf, IsScopeRow}
+use Rattle.scope_rows.specs.Steps.{joined_row, joined as joined_rows}
+use Rattle.scope_rows.proofs.Altering.{altered_length, altered_split}
+use Rattle.scope_rows.proofs.Places.{opened_has, number_at, number_apart}
+use Rattle.scope_rows.proofs.Joinings.{joining_grows, unjoined}
+use Rattle.scope_rows.proofs.Frames.{scope_on, scope_kept, closing_same, closed_same, violated_same}
+use Rattle.scope_rows.proofs.Keeping.{count_same, counts_kept, tasks_kept}
+
+-- what is accepted to be joined was opened, and isn't joined
+pub join_passed : (L : Limits) (h : History) (a s : ℕ) → Accepts L h (Join a s) → IsOpened h s × (joined h s ≡ false)
+unfolding check_of
+join_passed L h a s ok = (scope_passed h s (checks_at _ 1 _ ok.passed refl), not_refused _ _ (checks_at _ 4 _ ok.passed refl))
+
+-- rows that agree have a row of what is joined
+pub join_has : (L : Limits) (h : History) (t : RowTable) (a s : ℕ) → Accepts L h (Join a s) → AreRowsOf h t → HasScope t s
+join_has L h t a s ok are = opened_has h t s are (join_passed L h a s ok).0
+
+-- the row of the scope itself
+joined_here : (L : Limits) (h : History) (a s : ℕ) (r : ScopeRow) → Legal L h → joined h s ≡ false → IsScopeRow h s r → IsScopeRow (followed h (Join a s)) s (joined_row (length h.events) r)
+joined_here L h a s r legal none it =
+    let e = Join a s in
+    scope_on h e s r (Some (length h.events)) r.closing r.closed r.violated r.counts it
+    (joining_grows h e s ∙ (ap (λ b. option_or (joining h s) (cond b (Some (length h.events)) None)) (eq-eqb s s refl) ∙ ap (λ o. option_or o (Some (length h.events))) (unjoined h s none)))
+    (closing_same h e s refl ∙ it.closing) (closed_same h e s refl ∙ it.closed) (violated_same h e s refl ∙ it.violated) (counts_kept L h e s legal refl (λ j. (refl, refl, refl)) ∙ it.counts)
+
+-- the row of another scope
+joined_elsewhere : (L : Limits) (h : History) (a s n : ℕ) (r : ScopeRow) → Legal L h → n ≢ s → IsScopeRow h n r → IsScopeRow (followed h (Join a s)) n r
+joined_elsewhere L h a s n r legal apart it =
+    scope_kept h (Join a s) n r it (ne_eqb s n (λ same. apart (sym same))) refl refl refl (counts_kept L h (Join a s) n legal refl (λ j. (refl, refl, refl)))
+
+-- the rows with the place of the join agree after it
+pub rows_joined : (L : Limits) (h : History) (t : RowTable) (a s place : ℕ) → Legal L h → Accepts L h (Join a s) → AreRowsOf h t → place ≡ length h.events → AreRowsOf (followed h (Join a s)) (joined_rows t s place)
+rows_joined L h t a s place legal ok are now =
+    let e = Join a s in
+    let passed = join_passed L h a s ok in
+    let has = opened_has h t s are passed.0 in
+    let inner : (b : ℕ) → _ ≡ _ = λ b. innermost_same h e b refl (λ n. refl) in
+    record {
+      scopes_before = are.scopes_before;
+      tasks_before = are.tasks_before;
+      main = inner 0 ∙ are.main;
+      scope_count = altered_length (joined_row place) t.scopes (place_of t.scopes_before s) ∙ (are.scope_count ∙ sym (count_same is_open h e refl));
+      task_count = are.task_count ∙ sym (count_same is_fork h e refl);
+      scopes = λ i r at.
+          elim (altered_split (joined_row place) t.scopes (place_of t.scopes_before s) i r at) [
+            | inl here ↦
+                let number : (t.scopes_before + 1) + i ≡ s = ap (λ n. (t.scopes_before + 1) + n) here.0 ∙ number_at t.scopes_before s has.0 in
+                let was = subst (λ n. IsScopeRow h n here.1.was) number (are.scopes i here.1.was here.1.at) in
+                let new = joined_here L h a s here.1.was legal passed.1 was in
+                let row : joined_row (length h.events) here.1.was ≡ r = ap (λ n. joined_row n here.1.was) (sym now) ∙ here.1.is in
+                subst (λ n. IsScopeRow (followed h e) n r) (sym number) (subst (λ x. IsScopeRow (followed h e) s x) row new)
+            | inr there ↦ joined_elsewhere L h a s ((t.scopes_before + 1) + i) r legal (number_apart t.scopes_before i s has.0 there.0) (are.scopes i r there.1)
+          ];
+      tasks = tasks_kept L h e t legal are (λ j. (refl, refl, refl)) inner;
+    }

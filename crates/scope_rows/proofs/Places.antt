@@ -1,0 +1,102 @@
+-- Where the row of a scope or a task stands.
+use Rattle.std.proofs.Common.{◌≡◌, ◌≢◌, ℕ, ◌+◌, ◌<◌, ◌≤◌, cond, Option, Some, None, List, length, slice_get, ap, sym, ◌∙◌, arith, subst}
+use Rattle.std.specs.Option.{option_map_or}
+use Rattle.std.proofs.lemmas.Bool.{lt-ltb}
+use Rattle.scope_rules.specs.declared.types.records.Forking.{Forking}
+use Rattle.scope_rules.specs.History.{History, forking}
+use Rattle.scope_rules.proofs.Nesting.{IsOpened}
+use Rattle.scope_rules.proofs.Forkings.{IsForked, forked_after}
+use Rattle.scope_rules.proofs.Innermosts.{opened_after}
+use Rattle.scope_rows.specs.declared.records.ScopeRow.{ScopeRow}
+use Rattle.scope_rows.specs.declared.records.TaskRow.{TaskRow}
+use Rattle.scope_rows.specs.Table.{RowTable, HasScope, HasTask, place_of, row_of, scope_row, task_row, scope_of}
+use Rattle.scope_rows.specs.Agreement.{AreRowsOf, IsScopeRow, IsTaskRow}
+use Rattle.scope_rows.proofs.Altering.{there_is}
+
+-- the place of a number's row is within the rows
+pub place_within : (before len n : ℕ) → before < n → n ≤ before + len → place_of before n < len
+place_within before len n more within = omega arith
+
+-- the number of the row at a number's place
+pub number_at : (before n : ℕ) → before < n → (before + 1) + place_of before n ≡ n
+number_at before n more = omega arith
+
+-- other numbers have other places
+pub number_apart : (before i n : ℕ) → before < n → i ≢ place_of before n → (before + 1) + i ≢ n
+number_apart before i n more apart same = apart (omega arith)
+
+-- the row of a number after those before
+pub row_is : {R : Type 0} (before : ℕ) (rows : List R) (n : ℕ) → before < n → row_of before rows n ≡ slice_get rows (place_of before n)
+row_is before rows n more = ap (λ b. cond b (slice_get rows (place_of before n)) None) (lt-ltb before n more)
+
+-- the row of a scope, which says what the history says
+pub record ScopeRowAt (h : History) (t : RowTable) (s : ℕ) : Type 0 where
+  pub row : ScopeRow
+  pub at : slice_get t.scopes (place_of t.scopes_before s) ≡ Some row
+  pub says : IsScopeRow h s row
+  pub has : HasScope t s
+
+-- the row of a task, which says what the history says
+pub record TaskRowAt (h : History) (t : RowTable) (k : ℕ) : Type 0 where
+  pub row : TaskRow
+  pub at : slice_get t.tasks (place_of t.tasks_before k) ≡ Some row
+  pub says : IsTaskRow h k row
+  pub has : HasTask t k
+
+-- a scope of the rows has a right row
+pub scope_there : (h : History) (t : RowTable) (s : ℕ) → AreRowsOf h t → HasScope t s → ScopeRowAt h t s
+scope_there h t s are has =
+    let it = there_is t.scopes (place_of t.scopes_before s) (place_within t.scopes_before (length t.scopes) s has.0 has.1) in
+    record {
+      row = it.0;
+      at = it.1;
+      says = subst (λ n. IsScopeRow h n it.0) (number_at t.scopes_before s has.0) (are.scopes (place_of t.scopes_before s) it.0 it.1);
+      has = has;
+    }
+
+-- a task of the rows has a right row
+pub task_there : (h : History) (t : RowTable) (k : ℕ) → AreRowsOf h t → HasTask t k → TaskRowAt h t k
+task_there h t k are has =
+    let it = there_is t.tasks (place_of t.tasks_before k) (place_within t.tasks_before (length t.tasks) k has.0 has.1) in
+    record {
+      row = it.0;
+      at = it.1;
+      says = subst (λ n. IsTaskRow h n it.0) (number_at t.tasks_before k has.0) (are.tasks (place_of t.tasks_before k) it.0 it.1);
+      has = has;
+    }
+
+-- a scope that was opened has a row
+pub opened_has : (h : History) (t : RowTable) (s : ℕ) → AreRowsOf h t → IsOpened h s → HasScope t s
+opened_has h t s are it =
+    let number = opened_after h s it.opened it.is in
+    (omega (arith, number.2, are.scopes_before), omega (arith, number.1, number.2, are.scopes_before, are.scope_count))
+
+-- a task that was forked has a row
+pub forked_has : (h : History) (t : RowTable) (k : ℕ) → AreRowsOf h t → IsForked h k → HasTask t k
+forked_has h t k are it =
+    let number = forked_after h k it.forked it.is in
+    (omega (arith, number.2, are.tasks_before), omega (arith, number.1, number.2, are.tasks_before, are.task_count))
+
+-- a scope that was opened has a right row
+pub scope_at : (h : History) (t : RowTable) (s : ℕ) → AreRowsOf h t → IsOpened h s → ScopeRowAt h t s
+scope_at h t s are it = scope_there h t s are (opened_has h t s are it)
+
+-- a task that was forked has a right row
+pub task_at : (h : History) (t : RowTable) (k : ℕ) → AreRowsOf h t → IsForked h k → TaskRowAt h t k
+task_at h t k are it = task_there h t k are (forked_has h t k are it)
+
+-- the row that is asked for
+pub scope_row_is : (h : History) (t : RowTable) (s : ℕ) (it : ScopeRowAt h t s) → scope_row t s ≡ Some it.row
+scope_row_is h t s it = row_is t.scopes_before t.scopes s it.has.0 ∙ it.at
+
+-- the row of a task that is asked for
+pub task_row_is : (h : History) (t : RowTable) (k : ℕ) (it : TaskRowAt h t k) → task_row t k ≡ Some it.row
+task_row_is h t k it = row_is t.tasks_before t.tasks k it.has.0 ∙ it.at
+
+-- the scope of a task, by its row
+pub scope_of_is : (h : History) (t : RowTable) (k : ℕ) (f : Forking) → AreRowsOf h t → forking h k ≡ Some f → scope_of t k ≡ f.scope
+scope_of_is h t k f are is =
+    let it = task_at h t k are (record { forked = f; is = is }) in
+    let same : Some f ≡ Some it.row.forking = sym is ∙ it.says.forking in
+    let one : f ≡ it.row.forking = cc in
+    ap (λ (o : Option TaskRow). option_map_or (λ (r : TaskRow). r.forking.scope) o 0) (task_row_is h t k it) ∙ ap (λ (x : Forking). x.scope) (sym one)

@@ -1,0 +1,195 @@
+-- The rows after a reject, a start and an end of a task.
+use Rattle.std.proofs.Common.{◌≡◌, ℕ, ◌+◌, ◌==◌, Bool, true, false, cond, Some, slice_get, refl, ap, sym, subst, ◌∙◌, inl, inr}
+use Rattle.std.proofs.lemmas.Bool.{eq-eqb, ne_eqb}
+use Rattle.scope_rules.specs.declared.types.capacity.Limits.{Limits}
+use Rattle.scope_rules.specs.declared.types.answers.Counts.{Counts}
+use Rattle.scope_rules.specs.declared.types.answers.Stage.{Stage}
+use Rattle.scope_rules.specs.declared.types.answers.Stage.TheVariants.{Never, Waiting, Running, Finished}
+use Rattle.scope_rules.specs.declared.types.answers.State.TheVariants.{Unavailable}
+use Rattle.scope_rules.specs.declared.types.events.Event.{Event}
+use Rattle.scope_rules.specs.declared.types.events.Event.TheVariants.{Reject, Start, Finish}
+use Rattle.scope_rules.specs.declared.types.records.Forking.{Forking}
+use Rattle.scope_rules.specs.Ends.{EndValue}
+use Rattle.scope_rules.specs.History.{History, followed, forking, is_open, is_fork}
+use Rattle.scope_rules.specs.Scopes.{joins, begins_closing, ends, innermost}
+use Rattle.scope_rules.specs.Cancels.{is_cancelled}
+use Rattle.scope_rules.specs.Verdicts.{begins_for}
+use Rattle.scope_rules.specs.Tasks.{stage, is_waiting, is_running, counts, state_by_end}
+use Rattle.scope_rules.specs.Legal.{Legal, Accepts}
+use Rattle.scope_rules.proofs.Accepted.{running_task}
+use Rattle.scope_rules.proofs.InnermostSteps.{innermost_same}
+use Rattle.scope_rules.proofs.PassedRows.{start_passed, reject_passed, finish_passed}
+use Rattle.scope_rules.proofs.Stages.{waiting_forked, running_forked}
+use Rattle.scope_rules.proofs.StageSteps.{stage_started, stage_rejected, stage_finished}
+use Rattle.scope_rules.proofs.StateSteps.{state_stays, state_ended}
+use Rattle.scope_rows.specs.declared.records.ScopeRow.{ScopeRow}
+use Rattle.scope_rows.specs.declared.records.TaskRow.{TaskRow}
+use Rattle.scope_rows.specs.Table.{RowTable, place_of, scope_of}
+use Rattle.scope_rows.specs.Agreement.{AreRowsOf, IsScopeRow, IsTaskRow}
+use Rattle.scope_rows.specs.Steps.{altered, recount, moved, stage_row, ended_row, state_at_end, rejected, started, finished, count_reject, count_start, count_finish}
+use Rattle.scope_rows.proofs.Altering.{altered_length, altered_split}
+use Rattle.scope_rows.proofs.Places.{task_at, number_at, number_apart, scope_of_is, opened_has}
+use Rattle.scope_rows.proofs.Frames.{scope_on, scope_kept, task_on, task_kept, joining_same, closing_same, closed_same, violated_same}
+use Rattle.scope_rows.proofs.Keeping.{count_same}
+use Rattle.scope_rows.proofs.CountMoves.{NamesAlone, counts_elsewhere, counts_rejected, counts_started, counts_finished}
+use Rattle.scope_rules.proofs.Nesting.{forked_opened}
+
+-- what waits is at the stage of it
+pub waiting_is : (x : Stage) → is_waiting x ≡ true → x ≡ Waiting
+waiting_is Waiting is = refl
+waiting_is _ is = absurd cc
+
+-- what runs is at the stage of it
+pub running_is : (x : Stage) → is_running x ≡ true → x ≡ Running
+running_is Running is = refl
+running_is _ is = absurd cc
+
+-- an event that moves a task, and says nothing else
+pub record Moves (h : History) (e : Event) (k : ℕ) (f : Forking) (row : TaskRow → TaskRow) (g : Counts → Counts) : Type 0 where
+  pub names : NamesAlone e k
+  pub opens_none : is_open e ≡ false
+  pub joins_none : (s : ℕ) → joins s e ≡ false
+  pub begins_none : (s : ℕ) → begins_closing h s e ≡ false
+  pub violates_none : (s : ℕ) → begins_for h s e ≡ false
+  pub ends_none : (s : ℕ) → ends s e ≡ false
+  pub task : (r : TaskRow) → IsTaskRow h k r → IsTaskRow (followed h e) k (row r)
+  pub counted : (s : ℕ) (n : Counts) → (f.scope == s) ≡ true → counts h s ≡ n → counts (followed h e) s ≡ g n
+  pub elsewhere : (s : ℕ) → (f.scope == s) ≡ false → counts (followed h e) s ≡ counts h s
+
+module _ (L : Limits) (h : History) (e : Event) (t : RowTable) (k : ℕ) (f : Forking) (row : TaskRow → TaskRow) (g : Counts → Counts) (legal : Legal L h) (are : AreRowsOf h t) (is : forking h k ≡ Some f) (so : Moves h e k f row g) where
+  -- the innermost scopes stay
+  inner : (a : ℕ) → innermost (followed h e) a ≡ innermost h a
+  inner a = innermost_same h e a so.opens_none so.ends_none
+
+  -- the row of the task's scope
+  scope_here : (s : ℕ) (r : ScopeRow) → (f.scope == s) ≡ true → IsScopeRow h s r → IsScopeRow (followed h e) s (recount g r)
+  scope_here s r of it =
+      scope_on h e s r r.joined r.closing r.closed r.violated (g r.counts) it
+      (joining_same h e s (so.joins_none s) ∙ it.joined) (closing_same h e s (so.begins_none s) ∙ it.closing) (closed_same h e s (so.ends_none s) ∙ it.closed) (violated_same h e s (so.violates_none s) ∙ it.violated)
+      (so.counted s r.counts of it.counts)
+
+  -- the row of another
+  scope_elsewhere : (s : ℕ) (r : ScopeRow) → (f.scope == s) ≡ false → IsScopeRow h s r → IsScopeRow (followed h e) s r
+  scope_elsewhere s r other it = scope_kept h e s r it (so.joins_none s) (so.begins_none s) (so.ends_none s) (so.violates_none s) (so.elsewhere s other)
+
+  -- the rows of all scopes
+  moved_scopes : (i : ℕ) (r : ScopeRow) → slice_get (altered (recount g) t.scopes (place_of t.scopes_before (scope_of t k))) i ≡ Some r → IsScopeRow (followed h e) (t.scopes_before + 1 + i) r
+  moved_scopes i r at =
+      let of : scope_of t k ≡ f.scope = scope_of_is h t k f are is in
+      let has = opened_has h t f.scope are (forked_opened L h k f legal is) in
+      let there = subst (λ n. slice_get (altered (recount g) t.scopes (place_of t.scopes_before n)) i ≡ Some r) of at in
+      let s = (t.scopes_before + 1) + i in
+      elim (altered_split (recount g) t.scopes (place_of t.scopes_before f.scope) i r there) [
+        | inl here ↦
+            let number : f.scope ≡ s = sym (ap (λ n. (t.scopes_before + 1) + n) here.0 ∙ number_at t.scopes_before f.scope has.0) in
+            subst (λ x. IsScopeRow (followed h e) s x) here.1.is (scope_here s here.1.was (eq-eqb f.scope s number) (are.scopes i here.1.was here.1.at))
+        | inr other ↦
+            let apart = number_apart t.scopes_before i f.scope has.0 other.0 in
+            scope_elsewhere s r (ne_eqb f.scope s (λ same. apart (sym same))) (are.scopes i r other.1)
+      ]
+
+  -- the rows of all tasks
+  moved_tasks : (i : ℕ) (r : TaskRow) → slice_get (altered row t.tasks (place_of t.tasks_before k)) i ≡ Some r → IsTaskRow (followed h e) (t.tasks_before + 1 + i) r
+  moved_tasks i r at =
+      let has = (task_at h t k are (record { forked = f; is = is })).has in
+      let j = (t.tasks_before + 1) + i in
+      elim (altered_split row t.tasks (place_of t.tasks_before k) i r at) [
+        | inl here ↦
+            let number : j ≡ k = ap (λ n. (t.tasks_before + 1) + n) here.0 ∙ number_at t.tasks_before k has.0 in
+            let was = subst (λ n. IsTaskRow h n here.1.was) number (are.tasks i here.1.was here.1.at) in
+            subst (λ n. IsTaskRow (followed h e) n r) (sym number) (subst (λ x. IsTaskRow (followed h e) k x) here.1.is (so.task here.1.was was))
+        | inr other ↦
+            let un = so.names.others j (number_apart t.tasks_before i k has.0 other.0) in
+            task_kept L h e j r legal (are.tasks i r other.1) un.0 un.1 un.2 (inner j)
+      ]
+
+  -- the rows with the task moved agree after the event
+  pub rows_moved : AreRowsOf (followed h e) (moved t k row g)
+  rows_moved = record {
+    scopes_before = are.scopes_before;
+    tasks_before = are.tasks_before;
+    main = inner 0 ∙ are.main;
+    scope_count = altered_length (recount g) t.scopes (place_of t.scopes_before (scope_of t k)) ∙ (are.scope_count ∙ sym (count_same is_open h e so.opens_none));
+    task_count = altered_length row t.tasks (place_of t.tasks_before k) ∙ (are.task_count ∙ sym (count_same is_fork h e so.names.forks_none));
+    scopes = moved_scopes;
+    tasks = moved_tasks;
+  }
+
+-- a reject names its task alone
+names_rejected : (k : ℕ) → NamesAlone (Reject k) k
+names_rejected k = record { forks_none = refl; others = λ j apart. (ne_eqb k j (λ same. apart (sym same)), refl, refl) }
+
+-- and so does a start
+names_started : (k : ℕ) → NamesAlone (Start k) k
+names_started k = record { forks_none = refl; others = λ j apart. (refl, ne_eqb k j (λ same. apart (sym same)), refl) }
+
+-- and an end
+names_finished : (k : ℕ) (end : EndValue) → NamesAlone (Finish k end) k
+names_finished k end = record { forks_none = refl; others = λ j apart. (refl, refl, ne_eqb k j (λ same. apart (sym same))) }
+
+-- the rows agree after a reject
+pub rows_rejected : (L : Limits) (h : History) (t : RowTable) (k : ℕ) → Legal L h → Accepts L h (Reject k) → AreRowsOf h t → AreRowsOf (followed h (Reject k)) (rejected t k)
+rows_rejected L h t k legal ok are =
+    let e = Reject k in
+    let it = waiting_forked h k (reject_passed L h k ok) in
+    let was = waiting_is (stage h k) (reject_passed L h k ok) in
+    let now = stage_rejected L h k legal ok in
+    rows_moved L h e t k it.forked (stage_row Never) count_reject legal are it.is
+    (record {
+      names = names_rejected k;
+      opens_none = refl;
+      joins_none = λ s. refl;
+      begins_none = λ s. refl;
+      violates_none = λ s. refl;
+      ends_none = λ s. refl;
+      task = λ r says. task_on h e k r Never r.state r.innermost says now (state_stays L h e k r.forking legal says.forking refl ∙ says.state) (innermost_same h e k refl (λ n. refl) ∙ says.innermost);
+      counted = λ s n of had. counts_rejected L h e k it.forked s n legal it.is (names_rejected k) of had was now;
+      elsewhere = λ s other. counts_elsewhere L h e k it.forked Waiting Never legal it.is (names_rejected k) was now s other;
+    })
+
+-- and after a start
+pub rows_started : (L : Limits) (h : History) (t : RowTable) (k : ℕ) → Legal L h → Accepts L h (Start k) → AreRowsOf h t → AreRowsOf (followed h (Start k)) (started t k)
+rows_started L h t k legal ok are =
+    let e = Start k in
+    let it = waiting_forked h k (start_passed L h k ok) in
+    let was = waiting_is (stage h k) (start_passed L h k ok) in
+    let now = stage_started L h k legal ok in
+    rows_moved L h e t k it.forked (stage_row Running) count_start legal are it.is
+    (record {
+      names = names_started k;
+      opens_none = refl;
+      joins_none = λ s. refl;
+      begins_none = λ s. refl;
+      violates_none = λ s. refl;
+      ends_none = λ s. refl;
+      task = λ r says. task_on h e k r Running r.state r.innermost says now (state_stays L h e k r.forking legal says.forking refl ∙ says.state) (innermost_same h e k refl (λ n. refl) ∙ says.innermost);
+      counted = λ s n of had. counts_started L h e k it.forked s n legal it.is (names_started k) of had was now;
+      elsewhere = λ s other. counts_elsewhere L h e k it.forked Waiting Running legal it.is (names_started k) was now s other;
+    })
+
+-- and after an end, where it is known whether the task's scope is cancelled
+pub rows_finished : (L : Limits) (h : History) (t : RowTable) (k : ℕ) (end : EndValue) (cancelled : Bool) → Legal L h → Accepts L h (Finish k end) → AreRowsOf h t → cancelled ≡ is_cancelled h (scope_of t k)
+    → AreRowsOf (followed h (Finish k end)) (finished t k end cancelled)
+rows_finished L h t k end cancelled legal ok are cut =
+    let e = Finish k end in
+    let runs = (finish_passed L h k end ok).runs in
+    let it = running_forked h k runs in
+    let was = running_is (stage h k) runs in
+    let now = stage_finished L h k end legal ok in
+    let of : scope_of t k ≡ it.forked.scope = scope_of_is h t k it.forked are it.is in
+    let known : is_cancelled h it.forked.scope ≡ cancelled = ap (is_cancelled h) (sym of) ∙ sym cut in
+    rows_moved L h e t k it.forked (ended_row (state_at_end cancelled end)) count_finish legal are it.is
+    (record {
+      names = names_finished k end;
+      opens_none = refl;
+      joins_none = λ s. refl;
+      begins_none = λ s. refl;
+      violates_none = λ s. refl;
+      ends_none = λ s. refl;
+      task = λ r says.
+          task_on h e k r Finished (state_at_end cancelled end) r.innermost says now
+          (state_ended L h k end it.forked legal it.is (running_task h k runs) ∙ ap (λ b. cond b Unavailable (state_by_end end)) known)
+          (innermost_same h e k refl (λ n. refl) ∙ says.innermost);
+      counted = λ s n of_it had. counts_finished L h e k it.forked s n legal it.is (names_finished k end) of_it had was now;
+      elsewhere = λ s other. counts_elsewhere L h e k it.forked Running Finished legal it.is (names_finished k end) was now s other;
+    })

@@ -1,0 +1,40 @@
+-- Of a task that was never forked nothing is said.
+use Rattle.std.proofs.Common.{◌≡◌, ◌≢◌, ℕ, ◌+◌, Bool, true, false, None, refl, ap, sym, ◌∙◌, arith, inl, inr, ◌⊎◌}
+use Rattle.std.proofs.lemmas.Bool.{false_from_ne_true}
+use Rattle.scope_rules.specs.declared.types.capacity.Limits.{Limits}
+use Rattle.scope_rules.specs.History.{History, tasks, forking}
+use Rattle.scope_rules.specs.Scopes.{closed, innermost}
+use Rattle.scope_rules.specs.Tasks.{finished}
+use Rattle.scope_rules.specs.Legal.{Legal}
+use Rattle.scope_rules.proofs.ClosingOwners.{owners_act}
+use Rattle.scope_rules.proofs.Forkings.{IsForked, forked_after}
+use Rattle.scope_rules.proofs.Innermosts.{innermost_is_none}
+use Rattle.scope_rules.proofs.PassedRows.{IsActor}
+use Rattle.scope_rules.proofs.Stages.{running_forked}
+use Rattle.scope_rules.proofs.StageSteps.{finished_forked}
+
+-- the next number was given to no task
+pub next_unforked : (h : History) → IsForked h (tasks h + 1) → ⊥
+next_unforked h it = let number = forked_after h (tasks h + 1) it.forked it.is in absurd (omega (arith, number.1, number.2))
+
+-- who acts is main, or was forked
+pub actor_split : (h : History) (a : ℕ) → IsActor h a → (a ≡ 0) ⊎ IsForked h a
+actor_split h a acts = elim acts [ inl main ↦ inl main | inr runs ↦ inr (running_forked h a runs) ]
+
+closed_by : (b : Bool) → (b ≡ false → ⊥) → b ≡ true
+closed_by true not = refl
+closed_by false not = absurd (not refl)
+
+-- in a legal history what is neither main nor a forked task has no innermost scope
+pub unforked_innermost : (L : Limits) (h : History) (a : ℕ) → Legal L h → a ≢ 0 → (IsForked h a → ⊥) → innermost h a ≡ None
+unforked_innermost L h a legal other unforked =
+    innermost_is_none h a
+    (λ t o is by. closed_by (closed h t)
+    (λ unclosed. elim (actor_split h o.actor (owners_act L h t o legal is unclosed)) [
+      | inl main ↦ other (sym by ∙ main)
+      | inr forked ↦ unforked (record { forked = forked.forked; is = ap (forking h) (sym by) ∙ forked.is })
+    ]))
+
+-- nor has it finished
+pub unforked_unfinished : (L : Limits) (h : History) (k : ℕ) → Legal L h → (IsForked h k → ⊥) → finished h k ≡ false
+unforked_unfinished L h k legal unforked = false_from_ne_true (finished h k) (λ so. unforked (finished_forked L h k legal so))

@@ -1,0 +1,115 @@
+-- Of a scope that was never opened nothing is said.
+use Rattle.std.proofs.Common.{◌≡◌, ◌≢◌, ℕ, ◌+◌, ◌==◌, ◌&&◌, true, false, not, nat_lt, Option, Some, None, [], refl, sym, subst, ◌∙◌, arith, inl, inr}
+use Rattle.std.proofs.lemmas.Bool.{eqb-true, and_parts, or_cases, false_from_ne_true}
+use Rattle.scope_rules.specs.declared.types.capacity.Limits.{Limits}
+use Rattle.scope_rules.specs.declared.types.events.Event.{Event}
+use Rattle.scope_rules.specs.declared.types.events.Event.TheVariants.{BeginClose}
+use Rattle.scope_rules.specs.declared.types.records.Forking.{Forking}
+use Rattle.scope_rules.specs.declared.types.records.Opening.{Opening}
+use Rattle.scope_rules.specs.Origin.{Origin}
+use Rattle.scope_rules.specs.Search.{some_below}
+use Rattle.scope_rules.specs.History.{History, followed, scopes, opening, forking}
+use Rattle.scope_rules.specs.Scopes.{joined, closing, closed, covers, begins_closing, have_one_opener}
+use Rattle.scope_rules.specs.Outcomes.{joining}
+use Rattle.scope_rules.specs.Verdicts.{violated, begins_for, covers_another}
+use Rattle.scope_rules.specs.Legal.{Legal, Accepts}
+use Rattle.scope_rules.proofs.Growing.{opening_stays}
+use Rattle.scope_rules.proofs.Innermosts.{opened_after}
+use Rattle.scope_rules.proofs.InnermostSteps.{closed_opened}
+use Rattle.scope_rules.proofs.Nesting.{IsOpened, forked_opened}
+use Rattle.scope_rules.proofs.NewScopes.{joined_opened}
+use Rattle.scope_rules.proofs.OneEventMore.{along, closing_grows}
+use Rattle.scope_rules.proofs.PassedRows.{begin_close_passed}
+use Rattle.scope_rules.proofs.VerdictSteps.{violated_grows}
+use Rattle.scope_rows.proofs.Joinings.{unjoined}
+
+-- the next number was given to no scope
+pub next_unopened : (h : History) → IsOpened h (scopes h + 1) → ⊥
+next_unopened h it = let number = opened_after h (scopes h + 1) it.opened it.is in absurd (omega (arith, number.1, number.2))
+
+-- what was opened is opened after one event more
+stays_opened : (h : History) (e : Event) (s : ℕ) → IsOpened h s → IsOpened (followed h e) s
+stays_opened h e s it = record { opened = it.opened; is = opening_stays h e s it.opened it.is }
+
+-- what has an opener was opened
+one_opener : (h : History) (s : ℕ) (o p : Option Opening) → opening h s ≡ p → have_one_opener o p ≡ true → IsOpened h s
+one_opener h s None p is found = absurd cc
+one_opener h s (Some x) None is found = absurd cc
+one_opener h s (Some x) (Some y) is found = record { opened = y; is = is }
+
+-- what the beginning of the close of an opened scope covers was opened
+covered_opened : (h : History) (t s : ℕ) → IsOpened h t → covers h t s ≡ true → IsOpened h s
+unfolding covers
+covered_opened h t s it found =
+    elim (or_cases (t == s) (nat_lt t s && not (closed h s) && have_one_opener (opening h t) (opening h s)) found) [
+      | inl same ↦ subst (IsOpened h) (eqb-true t s same) it
+      | inr later ↦ one_opener h s (opening h t) (opening h s) refl (and_parts (nat_lt t s && not (closed h s)) (have_one_opener (opening h t) (opening h s)) later).1
+    ]
+
+-- what the event begins to close was opened
+begun_opened : (L : Limits) (h : History) (e : Event) (s : ℕ) → Accepts L h e → begins_closing h s e ≡ true → IsOpened h s
+begun_opened L h (BeginClose actor scope) s ok it =
+    let owner = (begin_close_passed L h actor scope ok).owner in
+    covered_opened h scope s (record { opened = owner.opened; is = owner.is }) it
+begun_opened L h _ s ok it = absurd cc
+
+-- and so was the scope whose own close it begins
+begun_for_opened : (L : Limits) (h : History) (e : Event) (s : ℕ) → Accepts L h e → begins_for h s e ≡ true → IsOpened h s
+begun_for_opened L h (BeginClose actor scope) s ok it =
+    let owner = (begin_close_passed L h actor scope ok).owner in
+    subst (IsOpened h) (eqb-true scope s (and_parts (scope == s) (covers_another h s) it).0) (record { opened = owner.opened; is = owner.is })
+begun_for_opened L h _ s ok it = absurd cc
+
+-- each closing scope was opened
+ClosingIsOpened : History → Type 0
+ClosingIsOpened h = (s : ℕ) → closing h s ≡ true → IsOpened h s
+
+closing_start : (b : Origin) → ClosingIsOpened (record { base = b; events = [] })
+unfolding ClosingIsOpened closing some_below
+closing_start b s so = absurd cc
+
+closing_step : (L : Limits) (h : History) (e : Event) → Accepts L h e → ClosingIsOpened h → ClosingIsOpened (followed h e)
+unfolding ClosingIsOpened
+closing_step L h e ok so s it =
+    stays_opened h e s (elim (or_cases (closing h s) (begins_closing h s e) (sym (closing_grows h e s) ∙ it)) [ inl old ↦ so s old | inr now ↦ begun_opened L h e s ok now ])
+
+-- in a legal history what is closing was opened
+pub closing_opened : (L : Limits) (h : History) (s : ℕ) → Legal L h → closing h s ≡ true → IsOpened h s
+unfolding ClosingIsOpened
+closing_opened L h s legal it = along L ClosingIsOpened closing_start (λ g e lawful ok was. closing_step L g e ok was) h legal s it
+
+-- each scope whose close was out of order was opened
+ViolatedIsOpened : History → Type 0
+ViolatedIsOpened h = (s : ℕ) → violated h s ≡ true → IsOpened h s
+
+violated_start : (b : Origin) → ViolatedIsOpened (record { base = b; events = [] })
+unfolding ViolatedIsOpened violated some_below
+violated_start b s so = absurd cc
+
+violated_step : (L : Limits) (h : History) (e : Event) → Accepts L h e → ViolatedIsOpened h → ViolatedIsOpened (followed h e)
+unfolding ViolatedIsOpened
+violated_step L h e ok so s it =
+    stays_opened h e s (elim (or_cases (violated h s) (begins_for h s e) (sym (violated_grows h e s) ∙ it)) [ inl old ↦ so s old | inr now ↦ begun_for_opened L h e s ok now ])
+
+-- in a legal history a scope whose close was out of order was opened
+pub violated_opened : (L : Limits) (h : History) (s : ℕ) → Legal L h → violated h s ≡ true → IsOpened h s
+unfolding ViolatedIsOpened
+violated_opened L h s legal it = along L ViolatedIsOpened violated_start (λ g e lawful ok was. violated_step L g e ok was) h legal s it
+
+-- nothing is said of a scope that was never opened
+pub record IsUnsaid (h : History) (s : ℕ) : Type 0 where
+  pub joined : joining h s ≡ None
+  pub closing : closing h s ≡ false
+  pub closed : closed h s ≡ false
+  pub violated : violated h s ≡ false
+  pub tasks : (k : ℕ) (f : Forking) → forking h k ≡ Some f → f.scope ≢ s
+
+-- in a legal history nothing is said of a number that no scope has
+pub unopened_unsaid : (L : Limits) (h : History) (s : ℕ) → Legal L h → (IsOpened h s → ⊥) → IsUnsaid h s
+unopened_unsaid L h s legal none = record {
+  joined = unjoined h s (false_from_ne_true (joined h s) (λ so. none (joined_opened L h s legal so)));
+  closing = false_from_ne_true (closing h s) (λ so. none (closing_opened L h s legal so));
+  closed = false_from_ne_true (closed h s) (λ so. none (closed_opened L h s legal so));
+  violated = false_from_ne_true (violated h s) (λ so. none (violated_opened L h s legal so));
+  tasks = λ k f is same. none (subst (IsOpened h) same (forked_opened L h k f legal is));
+}

@@ -1,0 +1,21 @@
+-- The scope's row says that it is closed, and its actor's innermost is the one below.
+use Rattle.std.proofs.Common.{ap, sym, subst, ◌∙◌}
+use Rattle.scope_rules.specs.declared.types.events.Event.TheVariants.{EndClose}
+use Rattle.scope_rules.specs.History.{followed}
+use Rattle.scope_rows.specs.Table.{RowTable}
+use Rattle.scope_rows.specs.Agreement.{AreRowsOf}
+use Rattle.scope_rows.specs.Steps.{with_innermost, with_scope, closed_row}
+use Rattle.scope_rows.proofs.EndLaws.{rows_ended}
+use Rattle.scope_rows.proofs.Writing.{scope_written, below_read}
+use Rattle.scope_rows.proofs.rows.Rows.end_close.Goals as goal
+
+pub returns-clause-rows : goal.returns-clause-rows
+returns-clause-rows c =
+    c.set_innermost.ensures
+    ∙ (ap (λ t. with_innermost t c.args.actor c.index.result.now.below) (scope_written closed_row _ c.args.self.now c.args.scope c.scope_place-at.result c.index_mut.result.now c.self.view_is c.scope_place-at.ensures.place c.scope_place-at.ensures.within c.index_mut.ensures.value)
+    ∙ ap (with_innermost (with_scope c.args.self.now c.args.scope closed_row) c.args.actor) (below_read _ c.args.self.now c.args.scope c.scope_place-at.result c.index.result.now c.self.view_is c.requires.scope c.scope_place-at.ensures.place c.scope_place-at.ensures.within c.index.ensures))
+
+pub returns-clause-agrees : goal.returns-clause-agrees
+returns-clause-agrees c = λ L h legal ok are.
+    subst (λ (t : RowTable). AreRowsOf (followed h (EndClose c.args.actor c.args.scope)) t) (sym (returns-clause-rows c))
+    (rows_ended L h c.args.self.now c.args.actor c.args.scope legal ok are)

@@ -1,0 +1,20 @@
+-- The task's row says how it ended, and the row of its scope counts it so.
+use Rattle.std.proofs.Common.{ap, sym, subst, ◌∙◌}
+use Rattle.scope_rules.specs.declared.types.events.Event.TheVariants.{Finish}
+use Rattle.scope_rules.specs.History.{followed}
+use Rattle.scope_rows.specs.Table.{RowTable}
+use Rattle.scope_rows.specs.Agreement.{AreRowsOf}
+use Rattle.scope_rows.specs.Steps.{ended_row, moved, count_finish}
+use Rattle.scope_rows.proofs.TaskLaws.{rows_finished}
+use Rattle.scope_rows.proofs.Writing.{move_written}
+use Rattle.scope_rows.proofs.rows.Rows.finish.Goals as goal
+
+pub returns-clause-rows : goal.returns-clause-rows
+returns-clause-rows c =
+    move_written (ended_row c.state_at_end-ended.result) count_finish _ c.args.self.now c.args.task c.task_place-at.result c.scope_place-of.result c.index.result.now c.index_mut-ended.result.now c.index_mut-row.result.now c.with_finish-row.result c.self.view_is c.requires.task
+    c.task_place-at.ensures.place c.task_place-at.ensures.within c.index.ensures c.index_mut-ended.ensures.value c.scope_place-of.ensures.place c.scope_place-of.ensures.within c.index_mut-row.ensures.value c.with_finish-row.ensures
+    ∙ ap (λ x. moved c.args.self.now c.args.task (ended_row x) count_finish) c.state_at_end-ended.ensures
+
+pub returns-clause-agrees : goal.returns-clause-agrees
+returns-clause-agrees c = λ L h legal ok are cut.
+    subst (λ (t : RowTable). AreRowsOf (followed h (Finish c.args.task c.args.end)) t) (sym (returns-clause-rows c)) (rows_finished L h c.args.self.now c.args.task c.args.end c.args.cancelled legal ok are cut)

@@ -1,0 +1,4 @@
+pub mod Table
+pub mod Agreement
+pub mod Steps
+pub mod Wants

@@ -1,0 +1,206 @@
+//! The rows, and what is asked of them.
+
+ghost use Rattle.std.specs.Prelude.{◌≡◌, ◌≤◌, ◌<◌, ◌+◌, MatchOption, None, [], OnOk, OnErr, length, slice_get, Some, option_map};
+ghost use Rattle.scope_rules.specs.Origin.{Origin};
+ghost use Rattle.scope_rules.specs.History.{History, opened_count, forked_count, scopes, tasks, opening, forking};
+ghost use Rattle.scope_rules.specs.Scopes.{innermost};
+ghost use Rattle.scope_rules.specs.Legal.{Legal};
+ghost use Rattle.scope_rules.specs.declared.types.capacity.Limits.{Limits};
+ghost use Rattle.scope_rows.specs.Agreement.{AreRowsOf, IsScopeRow, IsTaskRow};
+ghost use Rattle.scope_rows.specs.Table.{RowTable, HasScope, HasTask, HasActor, scope_row, task_row, innermost_of, empty_table, place_of};
+ghost use Rattle.scope_rows.specs.Steps.{restarted, with_innermost};
+ghost use Rattle.scope_rows.specs.Wants.{HasScopeNumbers, HasTaskNumbers};
+
+use crate::records::{ScopeRow, TaskRow};
+use scope_rules::types::values::MAIN;
+use scope_rules::{Actor, ScopeId, TaskId};
+use std::alloc::{AllocError, Global};
+use std::marker::Model;
+
+mod scopes;
+mod tasks;
+
+/// A row for each scope and each task since the base, and the innermost unclosed scope of each actor.
+/// Each call takes constant time, but for `begin_close`, which takes time by the scopes that it covers.
+#[derive(Drop)]
+pub struct Rows {
+    scopes_before: u32,
+    tasks_before: u32,
+    main_innermost: Option<ScopeId>,
+    scopes: Vec<ScopeRow>,
+    tasks: Vec<TaskRow>,
+}
+
+impl Model for Rows {
+    ghost use Rattle.std.specs.Prelude.{◌-◌, vec_capacity, vec_len};
+    ghost use Rattle.scope_rows.specs.Table.{RowTable};
+
+    ghost Value = { RowTable };
+
+    ghost view = { λ a. record { scopes_before = a.scopes_before; tasks_before = a.tasks_before; main_innermost = a.main_innermost; scopes = a.scopes.items; tasks = a.tasks.items; scope_room = vec_capacity a.scopes - vec_len a.scopes; task_room = vec_capacity a.tasks - vec_len a.tasks } };
+}
+
+impl Rows {
+    /// No rows, where no number was given before. It takes no memory; that of later calls comes from
+    /// `alloc`.
+    pub fn new(alloc: Global) -> Rows
+        ensures rows { result ≡ empty_table 0 0 }
+        ensures agrees { (base : Origin) → base.scopes ≡ 0 → base.tasks ≡ 0 → AreRowsOf (record { base = base; events = [] }) result }
+    {
+        Rows::with_base(alloc, 0, 0)
+    }
+
+    /// No rows, where so many scopes and tasks were numbered before. It takes no memory; that of later
+    /// calls comes from `alloc`.
+    pub fn with_base(alloc: Global, scopes_before: u32, tasks_before: u32) -> Rows
+        ensures rows { result ≡ empty_table scopes_before tasks_before }
+        ensures agrees { (base : Origin) → base.scopes ≡ scopes_before → base.tasks ≡ tasks_before → AreRowsOf (record { base = base; events = [] }) result }
+    {
+        Rows {
+            scopes_before,
+            tasks_before,
+            main_innermost: None,
+            scopes: Vec::new(alloc),
+            tasks: Vec::new(alloc),
+        }
+    }
+
+    /// The row of the scope, if it was opened since the base.
+    pub fn scope(&self, scope: ScopeId) -> Option<&ScopeRow>
+        ensures row { option_map (λ row. row.now) result ≡ scope_row self.now scope }
+        ensures agrees { (h : History) → AreRowsOf h self.now → MatchOption result (opening h scope ≡ None) (λ row. IsScopeRow h scope row.now) }
+    {
+        if scope <= self.scopes_before {
+            return None;
+        }
+        self.scopes.get((scope - self.scopes_before - 1) as usize)
+    }
+
+    /// The row of the task, if it was forked since the base.
+    pub fn task(&self, task: TaskId) -> Option<&TaskRow>
+        ensures row { option_map (λ row. row.now) result ≡ task_row self.now task }
+        ensures agrees { (h : History) → AreRowsOf h self.now → MatchOption result (forking h task ≡ None) (λ row. IsTaskRow h task row.now) }
+    {
+        if task <= self.tasks_before {
+            return None;
+        }
+        self.tasks.get((task - self.tasks_before - 1) as usize)
+    }
+
+    /// The latest scope that the actor opened and has not closed.
+    pub fn innermost(&self, actor: Actor) -> Option<ScopeId>
+        ensures row { result ≡ innermost_of self.now actor }
+        ensures agrees { (L : Limits) (h : History) → Legal L h → AreRowsOf h self.now → result ≡ innermost h actor }
+    {
+        if actor == MAIN {
+            return self.main_innermost;
+        }
+        match self.task(actor) {
+            Some(row) => row.innermost,
+            None => None,
+        }
+    }
+
+    /// How many scopes were opened since the base.
+    pub fn opened(&self) -> usize
+        ensures count { result ≡ length self.now.scopes }
+        ensures agrees { (h : History) → AreRowsOf h self.now → result ≡ opened_count h }
+    {
+        self.scopes.len()
+    }
+
+    /// How many tasks were forked since the base.
+    pub fn forked(&self) -> usize
+        ensures count { result ≡ length self.now.tasks }
+        ensures agrees { (h : History) → AreRowsOf h self.now → result ≡ forked_count h }
+    {
+        self.tasks.len()
+    }
+
+    /// The number of the last scope, the base's counted.
+    pub fn last_scope(&self) -> u32
+        requires { HasScopeNumbers self.now }
+        ensures number { result ≡ self.now.scopes_before + length self.now.scopes }
+        ensures agrees { (h : History) → AreRowsOf h self.now → result ≡ scopes h }
+    {
+        self.scopes_before + self.scopes.len() as u32
+    }
+
+    /// The number of the last task, the base's counted.
+    pub fn last_task(&self) -> u32
+        requires { HasTaskNumbers self.now }
+        ensures number { result ≡ self.now.tasks_before + length self.now.tasks }
+        ensures agrees { (h : History) → AreRowsOf h self.now → result ≡ tasks h }
+    {
+        self.tasks_before + self.tasks.len() as u32
+    }
+
+    /// Makes room for one scope more.
+    ///
+    /// # Errors
+    ///
+    /// Where memory is refused. Then nothing has changed.
+    pub fn reserve_scope(&mut self) -> Result<(), AllocError>
+        ensures ok { OnOk result (1 ≤ self.new.scope_room) }
+        ensures kept { self.new ≡ record self.old { scope_room = self.new.scope_room } }
+        ensures err { OnErr result (self.new ≡ self.old) }
+    {
+        self.scopes.reserve(1)
+    }
+
+    /// Makes room for one task more.
+    ///
+    /// # Errors
+    ///
+    /// Where memory is refused. Then nothing has changed.
+    pub fn reserve_task(&mut self) -> Result<(), AllocError>
+        ensures ok { OnOk result (1 ≤ self.new.task_room) }
+        ensures kept { self.new ≡ record self.old { task_room = self.new.task_room } }
+        ensures err { OnErr result (self.new ≡ self.old) }
+    {
+        self.tasks.reserve(1)
+    }
+
+    /// Leaves no rows, where so many scopes and tasks were numbered before. It keeps the memory, and
+    /// takes none.
+    pub fn restart(&mut self, scopes_before: u32, tasks_before: u32)
+        ensures rows { self.new ≡ restarted self.old scopes_before tasks_before }
+        ensures agrees { (base : Origin) → base.scopes ≡ scopes_before → base.tasks ≡ tasks_before → AreRowsOf (record { base = base; events = [] }) self.new }
+    {
+        self.scopes.clear();
+        self.tasks.clear();
+        self.main_innermost = None;
+        self.scopes_before = scopes_before;
+        self.tasks_before = tasks_before;
+    }
+
+    /// The place of the scope's row.
+    fn scope_place(&self, scope: ScopeId) -> usize
+        requires { HasScope self.now scope }
+        ensures place { result ≡ place_of self.now.scopes_before scope }
+        ensures within { result < length self.now.scopes }
+    {
+        (scope - self.scopes_before - 1) as usize
+    }
+
+    /// The place of the task's row.
+    fn task_place(&self, task: TaskId) -> usize
+        requires { HasTask self.now task }
+        ensures place { result ≡ place_of self.now.tasks_before task }
+        ensures within { result < length self.now.tasks }
+    {
+        (task - self.tasks_before - 1) as usize
+    }
+
+    /// Says what the actor's innermost scope is.
+    fn set_innermost(&mut self, actor: Actor, innermost: Option<ScopeId>)
+        requires { HasActor self.old actor }
+        ensures { self.new ≡ with_innermost self.old actor innermost }
+    {
+        if actor == MAIN {
+            self.main_innermost = innermost;
+        } else {
+            self.tasks[(actor - self.tasks_before - 1) as usize].innermost = innermost;
+        }
+    }
+}

@@ -1,0 +1,160 @@
+//! What the events of tasks make of the rows.
+
+ghost use Rattle.std.specs.Prelude.{◌≡◌, ◌≤◌, length};
+ghost use Rattle.scope_rules.specs.History.{History, followed};
+ghost use Rattle.scope_rules.specs.Cancels.{is_cancelled};
+ghost use Rattle.scope_rules.specs.Legal.{Legal, Accepts};
+ghost use Rattle.scope_rules.specs.declared.types.capacity.Limits.{Limits};
+ghost use Rattle.scope_rules.specs.declared.types.events.Event.TheVariants.{Fork, Reject, Start, Finish};
+ghost use Rattle.scope_rows.specs.Agreement.{AreRowsOf};
+ghost use Rattle.scope_rows.specs.Table.{scope_of};
+ghost use Rattle.scope_rows.specs.Steps.{forked, rejected, started, finished, count_fork, count_reject, count_start, count_finish, new_task_row, state_at_end};
+ghost use Rattle.scope_rows.specs.Wants.{CanFork, CanBeTaken, CanFinish, HasCountRoom};
+
+use crate::records::TaskRow;
+use crate::rows::Rows;
+use scope_rules::types::records::Forking;
+use scope_rules::{Counts, End, Stage, State, TaskId};
+
+impl Rows {
+    /// The row of the task that is forked so, which has the next number. Where its scope is cancelled
+    /// it never runs. There is room for it.
+    pub fn fork(&mut self, forking: Forking, cancelled: bool)
+        requires room { 1 ≤ self.old.task_room }
+        requires there { CanFork self.old forking.scope }
+        ensures rows { self.new ≡ forked self.old forking cancelled }
+        ensures agrees { (L : Limits) (h : History) → Legal L h → Accepts L h (Fork forking.actor forking.scope forking.label) → AreRowsOf h self.old → forking.place ≡ length h.events → cancelled ≡ is_cancelled h forking.scope → AreRowsOf (followed h (Fork forking.actor forking.scope forking.label)) self.new }
+    {
+        let of = self.scope_place(forking.scope);
+        let row = &mut self.scopes[of];
+        row.counts = with_fork(row.counts, cancelled);
+        self.tasks.push_reserved(new_row(forking, cancelled));
+    }
+
+    /// The task, which waits, gets no thread.
+    pub fn reject(&mut self, task: TaskId)
+        requires { CanBeTaken self.old task }
+        ensures rows { self.new ≡ rejected self.old task }
+        ensures agrees { (L : Limits) (h : History) → Legal L h → Accepts L h (Reject task) → AreRowsOf h self.old → AreRowsOf (followed h (Reject task)) self.new }
+    {
+        let at = self.task_place(task);
+        let of = self.scope_place(self.tasks[at].forking.scope);
+        self.tasks[at].stage = Stage::Never;
+        let row = &mut self.scopes[of];
+        row.counts = with_reject(row.counts);
+    }
+
+    /// The task, which waits, runs.
+    pub fn start(&mut self, task: TaskId)
+        requires { CanBeTaken self.old task }
+        ensures rows { self.new ≡ started self.old task }
+        ensures agrees { (L : Limits) (h : History) → Legal L h → Accepts L h (Start task) → AreRowsOf h self.old → AreRowsOf (followed h (Start task)) self.new }
+    {
+        let at = self.task_place(task);
+        let of = self.scope_place(self.tasks[at].forking.scope);
+        self.tasks[at].stage = Stage::Running;
+        let row = &mut self.scopes[of];
+        row.counts = with_start(row.counts);
+    }
+
+    /// The task, which runs, ends. Where its scope is cancelled, the end can't be read.
+    pub fn finish(&mut self, task: TaskId, end: End, cancelled: bool)
+        requires { CanFinish self.old task }
+        ensures rows { self.new ≡ finished self.old task end cancelled }
+        ensures agrees { (L : Limits) (h : History) → Legal L h → Accepts L h (Finish task end) → AreRowsOf h self.old → cancelled ≡ is_cancelled h (scope_of self.old task) → AreRowsOf (followed h (Finish task end)) self.new }
+    {
+        let at = self.task_place(task);
+        let of = self.scope_place(self.tasks[at].forking.scope);
+        let ended = &mut self.tasks[at];
+        ended.stage = Stage::Finished;
+        ended.state = state_at_end(end, cancelled);
+        let row = &mut self.scopes[of];
+        row.counts = with_finish(row.counts);
+    }
+}
+
+/// The row of a task that is forked so.
+fn new_row(forking: Forking, cancelled: bool) -> TaskRow
+    ensures { result ≡ new_task_row forking cancelled }
+{
+    TaskRow {
+        forking,
+        stage: if cancelled {
+            Stage::Never
+        } else {
+            Stage::Waiting
+        },
+        state: State::Unavailable,
+        innermost: None,
+    }
+}
+
+/// The counts with a task more, which never runs where its scope is cancelled.
+fn with_fork(counts: Counts, cancelled: bool) -> Counts
+    requires { HasCountRoom counts }
+    ensures { result ≡ count_fork cancelled counts }
+{
+    if cancelled {
+        Counts {
+            never: counts.never + 1,
+            ..counts
+        }
+    } else {
+        Counts {
+            waiting: counts.waiting + 1,
+            ..counts
+        }
+    }
+}
+
+/// The counts where a task that waited never runs.
+fn with_reject(counts: Counts) -> Counts
+    requires waits { 1 ≤ counts.waiting }
+    requires room { HasCountRoom counts }
+    ensures { result ≡ count_reject counts }
+{
+    Counts {
+        waiting: counts.waiting - 1,
+        never: counts.never + 1,
+        ..counts
+    }
+}
+
+/// The counts where a task that waited runs.
+fn with_start(counts: Counts) -> Counts
+    requires waits { 1 ≤ counts.waiting }
+    requires room { HasCountRoom counts }
+    ensures { result ≡ count_start counts }
+{
+    Counts {
+        waiting: counts.waiting - 1,
+        running: counts.running + 1,
+        ..counts
+    }
+}
+
+/// The counts where a task that ran has finished.
+fn with_finish(counts: Counts) -> Counts
+    requires runs { 1 ≤ counts.running }
+    requires room { HasCountRoom counts }
+    ensures { result ≡ count_finish counts }
+{
+    Counts {
+        running: counts.running - 1,
+        finished: counts.finished + 1,
+        ..counts
+    }
+}
+
+/// What can be read of a task that ends so: nothing, where its scope is cancelled.
+fn state_at_end(end: End, cancelled: bool) -> State
+    ensures { result ≡ state_at_end cancelled end }
+{
+    if cancelled {
+        return State::Unavailable;
+    }
+    match end {
+        Ok(value) => State::Success(value),
+        Err(fault) => State::Failed(fault),
+    }
+}
