@@ -1,0 +1,5 @@
+pub mod ListSteps
+pub mod Unforked
+pub mod Sights
+pub mod Steps
+pub mod Beginnings
