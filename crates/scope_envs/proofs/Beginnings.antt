@@ -1,18 +1,13 @@
--- Which environments a realm begins with, and which answers those that agree give.
+-- Which environments a realm begins with, and begins anew with after a retirement.
 use Rattle.std.proofs.Common.{◌≡◌, ℕ, [], refl, ap, sym, subst, ◌∙◌}
-use Rattle.scope_rules.specs.declared.types.names.Name.{Name}
-use Rattle.scope_rules.specs.declared.types.capacity.Limits.{Limits}
 use Rattle.scope_rules.specs.Origin.{Origin}
 use Rattle.scope_rules.specs.Search.{earliest}
 use Rattle.scope_rules.specs.History.{History, tasks, forking}
-use Rattle.scope_rules.specs.Bindings.{stack, bindings, bound_to}
+use Rattle.scope_rules.specs.Bindings.{stack}
 use Rattle.scope_rules.specs.Replies.{base_of}
-use Rattle.scope_rules.specs.Legal.{Legal}
-use Rattle.scoped_env.specs.Layers.{Layers, all_pairs}
-use Rattle.scope_envs.specs.EnvTable.{EnvTable, HasEnv, layers_in, beginning, restarted}
+use Rattle.scope_envs.specs.EnvTable.{EnvTable, beginning, restarted}
 use Rattle.scope_envs.specs.Agreement.{AreEnvsOf, layers_of}
-use Rattle.scope_envs.proofs.Sights.{layers_at, sees_layers, main_inherits_none}
-use Rattle.scope_envs.proofs.Steps.{layers_there}
+use Rattle.scope_envs.proofs.Sights.{layers_at, main_inherits_none}
 
 abbrev no_events : Origin → History
 no_events b = record { base = b; events = [] }
@@ -47,16 +42,3 @@ restarts h t u n is number agrees =
       count = refl;
       tasks = λ i e at. absurd cc;
     })
-
--- what a look-up finds is what the actor's bindings give
-pub seen_there : (L : Limits) (h : History) (t : EnvTable) (a : ℕ) (key : Name) → Legal L h → HasEnv t a → AreEnvsOf h t → bound_to key (all_pairs (layers_in t a)) ≡ bound_to key (bindings h a)
-seen_there L h t a key legal has agrees =
-    ap (λ (e : Layers). bound_to key (all_pairs e)) (layers_there h t a agrees has) ∙ ap (bound_to key) (sym (sees_layers L h a legal))
-
--- the own pairs that are kept are the actor's
-pub stack_there : (h : History) (t : EnvTable) (a : ℕ) → HasEnv t a → AreEnvsOf h t → (layers_in t a).stack ≡ stack h a
-stack_there h t a has agrees = ap (λ (e : Layers). e.stack) (layers_there h t a agrees has)
-
--- and so are main's
-pub main_there : (h : History) (t : EnvTable) → AreEnvsOf h t → t.main.stack ≡ stack h 0
-main_there h t agrees = ap (λ (e : Layers). e.stack) agrees.main

@@ -1,8 +1,8 @@
 -- How the environments that agree with a history go on by one event.
-use Rattle.std.proofs.Common.{◌≡◌, ◌≢◌, ℕ, ◌+◌, ◌<◌, ◌==◌, Bool, true, false, cond, Option, Some, None, Result, Ok, Err, List, [], ◌∷◌, ◌++◌, length, get_or, set, slice_get, refl, ap, sym, subst, ◌∙◌, arith, length-append, inl, inr}
+use Rattle.std.proofs.Common.{◌≡◌, ◌≢◌, ℕ, ◌+◌, ◌<◌, ◌==◌, Bool, true, false, cond, Option, Some, None, Result, Ok, Err, List, [], ◌∷◌, ◌++◌, length, set, slice_get, refl, ap, sym, subst, ◌∙◌, arith, length-append, inl, inr}
 use Rattle.std.proofs.lemmas.Bool.{eqb-true, eqb-false, eq-eqb}
 use Rattle.std.proofs.lemmas.List.{length-set}
-use Rattle.std.proofs.lemmas.Option.{slice_get-get_or, same_Some}
+use Rattle.std.proofs.lemmas.Option.{same_Some}
 use Rattle.std.specs.Option.{option_or}
 use Rattle.std.specs.Result.{OnOk}
 use Rattle.scope_rules.specs.declared.types.capacity.Limits.{Limits}
@@ -19,46 +19,13 @@ use Rattle.scope_rules.proofs.OneEventMore.{forking_grows, forking_same, forking
 use Rattle.scope_rules.proofs.Owing.{count_push}
 use Rattle.scope_rules.proofs.Pushing.{before_last}
 use Rattle.scope_rules.proofs.StackEvents.{stack_push, stacked_bind, stacked_bind_other, stacked_unbind, stacked_unbind_other}
-use Rattle.scoped_env.specs.Layers.{Layers, no_pairs, all_pairs, with_pair, without_last_pair, inheriting}
+use Rattle.scoped_env.specs.Layers.{Layers, all_pairs, with_pair, without_last_pair, inheriting}
 use Rattle.scope_envs.specs.EnvTable.{EnvTable, HasEnv, place_in, layers_in, with_layers, with_fork}
 use Rattle.scope_envs.specs.Agreement.{AreEnvsOf, inherited_as, inherited_by, layers_of, moves_envs}
 use Rattle.scope_envs.proofs.ListSteps.{slice_get-set_same, slice_get-set_other, get_of_push}
 use Rattle.scope_envs.proofs.Unforked.{unforked_stack}
+use Rattle.scope_envs.proofs.Held.{layers_there}
 use Rattle.scope_envs.proofs.Sights.{layers_at, sees_layers, layers_after}
-
--- ---- what a table that agrees holds
-
--- a task that was forked since the base has an environment
-pub has_env_of_task : (h : History) (t : EnvTable) (a : ℕ) (f : Forking) → AreEnvsOf h t → forking h a ≡ Some f → HasEnv t a
-has_env_of_task h t a f agrees is =
-    let it = forked_after h a f is in
-    record {
-      since = λ later. omega (arith, agrees.numbered, it.2);
-      within = omega (arith, agrees.numbered, agrees.count, it.1, it.2);
-    }
-
--- main has one
-pub has_env_of_main : (t : EnvTable) → HasEnv t 0
-has_env_of_main t = record { since = λ later. absurd (omega (arith, later)); within = omega arith }
-
-layers_by : Bool → EnvTable → ℕ → Layers
-layers_by b t a = cond b t.main (get_or t.tasks (place_in t a) no_pairs)
-
-layers_there_by : (h : History) (t : EnvTable) (a : ℕ) (b : Bool) → (a == 0) ≡ b → AreEnvsOf h t → HasEnv t a → layers_by b t a ≡ layers_of h a
-unfolding layers_by
-layers_there_by h t a true is agrees has = agrees.main ∙ ap (layers_of h) (sym (eqb-true a 0 is))
-layers_there_by h t a false is agrees has =
-    let other = eqb-false a 0 is in
-    let later : 0 < a = omega (arith, other) in
-    let since = has.since later in
-    let within : place_in t a < length t.tasks = omega (arith, since, has.within) in
-    let number : t.before + 1 + place_in t a ≡ a = omega (arith, since) in
-    agrees.tasks (place_in t a) _ (slice_get-get_or t.tasks (place_in t a) no_pairs within) ∙ ap (layers_of h) number
-
--- the pairs of an actor in a table that agrees
-pub layers_there : (h : History) (t : EnvTable) (a : ℕ) → AreEnvsOf h t → HasEnv t a → layers_in t a ≡ layers_of h a
-unfolding layers_by
-layers_there h t a agrees has = layers_there_by h t a (a == 0) refl agrees has
 
 -- ---- an event that is no fork
 
@@ -98,7 +65,7 @@ record ChangesOnly (h : History) (e : Event) (a : ℕ) (change : Layers → Laye
   changed : layers_of (followed h e) a ≡ change (layers_of h a)
   others : (b : ℕ) → a ≢ b → layers_of (followed h e) b ≡ layers_of h b
 
-with_by : Bool → EnvTable → ℕ → Layers → EnvTable
+abbrev with_by : Bool → EnvTable → ℕ → Layers → EnvTable
 with_by b t a e = cond b (record { before = t.before; main = e; tasks = t.tasks }) (record { before = t.before; main = t.main; tasks = set t.tasks (place_in t a) e })
 
 module _ (h : History) (e : Event) (t : EnvTable) (a : ℕ) (change : Layers → Layers) (only : ChangesOnly h e a change) (agrees : AreEnvsOf h t) (has : HasEnv t a) where
@@ -118,7 +85,6 @@ module _ (h : History) (e : Event) (t : EnvTable) (a : ℕ) (change : Layers →
       agrees.tasks i y old ∙ sym (only.others (t.before + 1 + i) other)
 
   changed_by : (b : Bool) → (a == 0) ≡ b → (x : Layers) → x ≡ change (layers_of h a) → AreEnvsOf (followed h e) (with_by b t a x)
-  unfolding with_by
   changed_by true is x made =
       let main : a ≡ 0 = eqb-true a 0 is in
       record {
@@ -139,7 +105,6 @@ module _ (h : History) (e : Event) (t : EnvTable) (a : ℕ) (change : Layers →
 
   -- the table in which the actor's pairs are changed so
   one_changed : AreEnvsOf (followed h e) (with_layers t a (change (layers_in t a)))
-  unfolding with_by
   one_changed = changed_by (a == 0) refl (change (layers_in t a)) (ap change (layers_there h t a agrees has))
 
 bind_changes : (h : History) (a : ℕ) (pair : Binding) → ChangesOnly h (Bind a pair) a (λ e. with_pair e pair)

@@ -1,6 +1,6 @@
 -- What the actor's environment finds is what the actor sees.
 use Rattle.std.proofs.Common.{rules, ◌∙◌}
-use Rattle.scope_envs.proofs.Beginnings.{seen_there}
+use Rattle.scope_envs.proofs.Held.{seen_there}
 use Rattle.scope_envs.proofs.envs.Envs.get.Goals as goal
 
 pub returns-clause-kept : goal.returns-clause-kept
