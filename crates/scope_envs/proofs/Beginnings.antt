@@ -9,9 +9,11 @@ use Rattle.scope_envs.specs.EnvTable.{EnvTable, beginning, restarted}
 use Rattle.scope_envs.specs.Agreement.{AreEnvsOf, layers_of}
 use Rattle.scope_envs.proofs.Sights.{layers_at, main_inherits_none}
 
+-- a realm that begins with the base
 abbrev no_events : Origin → History
 no_events b = record { base = b; events = [] }
 
+-- main has the pairs of the base there
 main_begins : (b : Origin) → layers_at [] b.binds ≡ layers_of (no_events b) 0
 unfolding forking earliest stack
 main_begins b = refl
@@ -26,6 +28,7 @@ begins b t is =
       tasks = λ i e at. absurd cc;
     })
 
+-- and main has the same before a retirement and after
 base_main : (h : History) (b : Origin) → b ≡ base_of h → layers_of h 0 ≡ layers_of (no_events b) 0
 unfolding base_of
 base_main h b is =

@@ -37,9 +37,11 @@ has_env_of_actor h t a agrees who =
       | inr runs ↦ let it = running_forked h a runs in has_env_of_task h t a it.forked agrees it.is
     ]
 
+-- the pairs of main, or of a task
 abbrev layers_by : Bool → EnvTable → ℕ → Layers
 layers_by b t a = cond b t.main (get_or t.tasks (place_in t a) no_pairs)
 
+-- they are those of the history
 layers_there_by : (h : History) (t : EnvTable) (a : ℕ) (b : Bool) → (a == 0) ≡ b → AreEnvsOf h t → HasEnv t a → layers_by b t a ≡ layers_of h a
 layers_there_by h t a true is agrees has = agrees.main ∙ ap (layers_of h) (sym (eqb-true a 0 is))
 layers_there_by h t a false is agrees has =

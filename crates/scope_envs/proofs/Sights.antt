@@ -28,9 +28,11 @@ sees_by L h zero None legal is = bindings_of_main h
 sees_by L h (suc n) None legal is =
     ap (λ o. option_map_or (λ (f : Forking). bindings_within (before h f.place) n f.actor) o [] ++ stack h (suc n)) is
 
+-- what an actor sees is all its pairs
 pub sees_layers : (L : Limits) (h : History) (a : ℕ) → Legal L h → bindings h a ≡ all_pairs (layers_of h a)
 sees_layers L h a legal = sees_by L h a (forking h a) legal refl
 
+-- where there was no fork nothing is inherited
 none_inherited : (h : History) (o : Option Forking) → ((f : Forking) → o ≡ Some f → ⊥) → inherited_as h o ≡ []
 none_inherited h None never = refl
 none_inherited h (Some f) never = absurd (never f refl)
@@ -39,6 +41,7 @@ none_inherited h (Some f) never = absurd (never f refl)
 pub main_inherits_none : (h : History) → inherited_by h 0 ≡ []
 main_inherits_none h = none_inherited h (forking h 0) (λ f is. main_unforked h 0 f refl is)
 
+-- one event more leaves what was seen before a fork
 inherited_before : (h : History) (e : Event) (o : Option Forking) → ((f : Forking) → o ≡ Some f → f.place < length h.events) → inherited_as (followed h e) o ≡ inherited_as h o
 inherited_before h e None within = refl
 inherited_before h e (Some f) within = ap (λ (g : History). bindings g f.actor) (before_push h e f.place (omega (arith, within f refl)))

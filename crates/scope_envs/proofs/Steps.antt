@@ -29,21 +29,25 @@ use Rattle.scope_envs.proofs.Sights.{layers_at, sees_layers, layers_after}
 
 -- ---- an event that is no fork
 
+-- an event that is no fork adds no task
 no_more_forks : (h : History) (e : Event) → is_fork e ≡ false → forked_count (followed h e) ≡ forked_count h
 no_more_forks h e other =
     let pushed = count_push is_fork h.events e in
     let none : cond {A = ℕ} (is_fork e) 1 0 ≡ 0 = ap (λ b. cond {A = ℕ} b 1 0) other in
     omega (arith, pushed, none)
 
+-- an event that leaves what is seen is no fork
 no_fork : (e : Event) → moves_envs e ≡ false → is_fork e ≡ false
 no_fork (Fork actor scope label) other = absurd cc
 no_fork _ other = refl
 
+-- and leaves the own pairs of each actor
 stack_unmoved : (a : ℕ) (bs : List Binding) (e : Event) → moves_envs e ≡ false → stacked a bs e ≡ bs
 stack_unmoved a bs (Bind by pair) other = absurd cc
 stack_unmoved a bs (Unbind by) other = absurd cc
 stack_unmoved a bs _ other = refl
 
+-- so all pairs of each actor stay
 layers_stay : (h : History) (e : Event) (a : ℕ) → moves_envs e ≡ false → layers_of (followed h e) a ≡ layers_of h a
 layers_stay h e a other =
     layers_after h e a (forking_same h e a (no_fork e other)) ∙ ap (layers_at (inherited_by h a)) (stack_unmoved a (stack h a) e other)
@@ -65,10 +69,12 @@ record ChangesOnly (h : History) (e : Event) (a : ℕ) (change : Layers → Laye
   changed : layers_of (followed h e) a ≡ change (layers_of h a)
   others : (b : ℕ) → a ≢ b → layers_of (followed h e) b ≡ layers_of h b
 
+-- the table with other pairs of main, or of a task
 abbrev with_by : Bool → EnvTable → ℕ → Layers → EnvTable
 with_by b t a e = cond b (record { before = t.before; main = e; tasks = t.tasks }) (record { before = t.before; main = t.main; tasks = set t.tasks (place_in t a) e })
 
 module _ (h : History) (e : Event) (t : EnvTable) (a : ℕ) (change : Layers → Layers) (only : ChangesOnly h e a change) (agrees : AreEnvsOf h t) (has : HasEnv t a) where
+  -- each task has its pairs after the event
   task_changed : (x : Layers) → x ≡ change (layers_of h a) → (i : ℕ) (y : Layers) (b : Bool) → 0 < a → (i == place_in t a) ≡ b → slice_get (set t.tasks (place_in t a) x) i ≡ Some y → y ≡ layers_of (followed h e) (t.before + 1 + i)
   task_changed x made i y true later is at =
       let since = has.since later in
@@ -84,6 +90,7 @@ module _ (h : History) (e : Event) (t : EnvTable) (a : ℕ) (change : Layers →
       let other : a ≢ t.before + 1 + i = λ (same : a ≡ t.before + 1 + i). apart (omega (arith, same)) in
       agrees.tasks i y old ∙ sym (only.others (t.before + 1 + i) other)
 
+  -- and so has main
   changed_by : (b : Bool) → (a == 0) ≡ b → (x : Layers) → x ≡ change (layers_of h a) → AreEnvsOf (followed h e) (with_by b t a x)
   changed_by true is x made =
       let main : a ≡ 0 = eqb-true a 0 is in
@@ -107,6 +114,7 @@ module _ (h : History) (e : Event) (t : EnvTable) (a : ℕ) (change : Layers →
   one_changed : AreEnvsOf (followed h e) (with_layers t a (change (layers_in t a)))
   one_changed = changed_by (a == 0) refl (change (layers_in t a)) (ap change (layers_there h t a agrees has))
 
+-- a bind changes the pairs of its actor alone
 bind_changes : (h : History) (a : ℕ) (pair : Binding) → ChangesOnly h (Bind a pair) a (λ e. with_pair e pair)
 bind_changes h a pair = record {
   no_fork = refl;
@@ -114,6 +122,7 @@ bind_changes h a pair = record {
   others = λ b apart. layers_after h (Bind a pair) b (forking_same h (Bind a pair) b refl) ∙ ap (layers_at (inherited_by h b)) (stacked_bind_other b a (stack h b) pair apart);
 }
 
+-- and so does an unbind
 unbind_changes : (h : History) (a : ℕ) → ChangesOnly h (Unbind a) a without_last_pair
 unbind_changes h a = record {
   no_fork = refl;
@@ -135,10 +144,12 @@ unbind_agrees h t u a has is agrees =
 -- ---- a fork
 
 module _ (L : Limits) (h : History) (t : EnvTable) (a s : ℕ) (label : Label) (legal : Legal L h) (has : HasEnv t a) (agrees : AreEnvsOf h t) where
+  -- the next number was not given yet
   next_unforked : (o : Option Forking) → forking h (tasks h + 1) ≡ o → forking h (tasks h + 1) ≡ None
   next_unforked None is = is
   next_unforked (Some f) is = let it = forked_after h (tasks h + 1) f is in absurd (omega (arith, it.1, it.2))
 
+  -- the fork gives it to the new task
   next_forked : forking (followed h (Fork a s label)) (tasks h + 1) ≡ Some (record { place = length h.events; actor = a; scope = s; label = label })
   next_forked =
       let none = next_unforked (forking h (tasks h + 1)) refl in
@@ -159,9 +170,11 @@ module _ (L : Limits) (h : History) (t : EnvTable) (a s : ℕ) (label : Label) (
       stack_push h (Fork a s label) (tasks h + 1) ∙ unforked_stack L h (tasks h + 1) legal (omega arith) (next_unforked (forking h (tasks h + 1)) refl) in
       ap (λ xs. layers_at xs (stack g (tasks h + 1))) inherits ∙ ap (layers_at (all_pairs (layers_in t a))) none
 
+  -- the pairs of the others stay
   others_stay : (b : ℕ) → tasks h + 1 ≢ b → layers_of (followed h (Fork a s label)) b ≡ layers_of h b
   others_stay b other = layers_after h (Fork a s label) b (forking_other h (Fork a s label) b other)
 
+  -- each task has its pairs after the fork, the new one too
   tasks_forked : (i : ℕ) (x : Layers) → slice_get (t.tasks ++ inheriting (layers_in t a) ∷ []) i ≡ Some x → x ≡ layers_of (followed h (Fork a s label)) (t.before + 1 + i)
   tasks_forked i x at =
       elim (get_of_push t.tasks (inheriting (layers_in t a)) x i at) [
@@ -173,6 +186,7 @@ module _ (L : Limits) (h : History) (t : EnvTable) (a s : ℕ) (label : Label) (
             new.1 ∙ (sym next_layers ∙ ap (layers_of (followed h (Fork a s label))) number)
       ]
 
+  -- the table with the new task
   one_forked : AreEnvsOf (followed h (Fork a s label)) (with_fork t a)
   one_forked = record {
     numbered = agrees.numbered;

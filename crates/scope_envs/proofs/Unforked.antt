@@ -43,14 +43,17 @@ unforked_before h e a (Some f) is none = let both : Some f ≡ None = sym (forki
 OthersHaveNone : History → Type 0
 OthersHaveNone h = (a : ℕ) → 0 < a → forking h a ≡ None → stack h a ≡ []
 
+-- so it is at the base
 others_start : (b : Origin) → OthersHaveNone (record { base = b; events = [] })
 unfolding OthersHaveNone stack
 others_start b a later none = ap (λ c. cond c b.binds []) (ne_eqb a 0 (omega (arith, later)))
 
+-- one of two that are the same
 one_of_both : {A : Type 0} (b : Bool) (x : A) → cond b x x ≡ x
 one_of_both true x = refl
 one_of_both false x = refl
 
+-- an accepted event gives no pair to who was never forked
 stacked_none : (L : Limits) (h : History) (e : Event) (a : ℕ) → Accepts L h e → 0 < a → forking h a ≡ None → stacked a [] e ≡ []
 stacked_none L h (Bind by pair) a ok later none =
     let apart : by ≡ a → ⊥ = λ (is : by ≡ a). never_acts h a (subst (IsActor h) is (binder_acts L h by pair ok)) later none in
@@ -58,6 +61,7 @@ stacked_none L h (Bind by pair) a ok later none =
 stacked_none L h (Unbind by) a ok later none = one_of_both (by == a) []
 stacked_none L h _ a ok later none = refl
 
+-- and each accepted event keeps it so
 others_step : (L : Limits) (h : History) (e : Event) → Accepts L h e → OthersHaveNone h → OthersHaveNone (followed h e)
 unfolding OthersHaveNone
 others_step L h e ok so a later none =
