@@ -39,6 +39,19 @@ impl Env {
         Env::above(SharedPairs::empty(), alloc)
     }
 
+    /// The environment of an actor that inherited nothing, and has bound these pairs, the latest
+    /// last. It is refused for memory alone.
+    pub fn with_stack(alloc: Global, stack: &[Binding]) -> Result<Env, AllocError>
+        ensures { IfOk result (λ env. env ≡ record { inherited = []; stack = stack.now }) }
+    {
+        let stack = Vec::from_slice(alloc, stack)?;
+        Ok(Env {
+            inherited: SharedPairs::empty(),
+            stack,
+            snapshot: None,
+        })
+    }
+
     /// The environment of an actor that has bound nothing itself.
     fn above(inherited: SharedPairs, alloc: Global) -> Env
         ensures { result ≡ record { inherited = inherited; stack = [] } }

@@ -3,6 +3,7 @@
 mod bindings;
 mod books;
 mod deadlines;
+mod envs;
 mod joiners;
 mod trees;
 mod types;

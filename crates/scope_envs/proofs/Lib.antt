@@ -1,0 +1,6 @@
+pub mod ListSteps
+pub mod Unforked
+pub mod Sights
+pub mod Held
+pub mod Steps
+pub mod Beginnings

@@ -1,0 +1,2 @@
+pub mod EnvTable
+pub mod Agreement
