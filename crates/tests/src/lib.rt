@@ -1,14 +1,12 @@
-//! Tests of what no contract says: that calls succeed where there is memory, at large sizes too;
-//! values from outside; threads; one part beside another; scripts from bytes to bytes. Each row of a
-//! table of scripts is run once through `run`, and its commands once on the plain evaluator.
+//! Tests of the script engine, of what no contract says: that runs succeed where there is memory, what
+//! streams that fail or are short make of them, and values from outside. Each row of a table of scripts
+//! is run once through `run`, and its commands once on the plain evaluator.
 #![tactic(auto)]
 
 #[cfg(test)]
 mod doubles;
 #[cfg(test)]
 mod engine;
-#[cfg(test)]
-mod parts;
 #[cfg(test)]
 mod plain;
 #[cfg(test)]

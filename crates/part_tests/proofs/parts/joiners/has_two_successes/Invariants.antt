@@ -1,7 +1,7 @@
 -- So many of what was looked at succeeded.
 use Rattle.std.proofs.Common.{◌≡◌, ◌≤◌, length, drop, count_by}
 use Rattle.scope_rules.specs.Joining.{has_succeeded}
-use Rattle.tests.proofs.parts.joiners.has_two_successes.Given as goal
+use Rattle.part_tests.proofs.parts.joiners.has_two_successes.Given as goal
 
 abbrev pub invariant-loop-left : goal.invariant-loop-left
 invariant-loop-left l = record {

@@ -3,8 +3,8 @@ use Rattle.std.proofs.Common.{◌≡◌, ◌+◌, ◌≤◌, ℕ, take, drop, co
 use Rattle.std.proofs.lemmas.List.Sums.{sum_by-take-drop}
 use Rattle.std.proofs.lemmas.Bool.Decides.{nat_tests}
 use Rattle.scope_rules.specs.Joining.{has_succeeded, meets}
-use Rattle.tests.proofs.parts.joiners.has_two_successes.Goals.{then-loop-left-test+else-found-lt2, else-loop-left-test}
-use Rattle.tests.proofs.parts.joiners.has_two_successes.Goals as goal
+use Rattle.part_tests.proofs.parts.joiners.has_two_successes.Goals.{then-loop-left-test+else-found-lt2, else-loop-left-test}
+use Rattle.part_tests.proofs.parts.joiners.has_two_successes.Goals as goal
 
 both_found : (found ahead behind all : ℕ) → ahead + behind ≡ all → found ≡ behind → found ≤ 2 → 2 ≤ found → nat_eq found 2 ≡ nat_le 2 all
 both_found found ahead behind all parts counted few enough = grind (arith, nat_tests)

@@ -1,7 +1,7 @@
 use Rattle.std.proofs.Common.{sym, subst, arith}
 use Rattle.cancel_tree.specs.Rows.{IsLatest}
 use Rattle.cancel_tree.proofs.LatestLaws.{latest_cancel}
-use Rattle.tests.proofs.parts.trees.driven.Driven.cancel.Goals as goal
+use Rattle.part_tests.proofs.parts.trees.driven.Driven.cancel.Goals as goal
 
 pub invariant_of-self : goal.invariant_of-self
 invariant_of-self c = record {
