@@ -86,6 +86,14 @@ next_outer h a policy options =
     ap (λ (o : Option Opening). option_and_then (λ (x : Opening). cond x.options.shield None (surrounding (before (followed h e) x.place) x.actor)) o) (next_opening h a policy options)
     ∙ ap (λ (g : History). cond options.shield None (surrounding g a)) (before_last h e)
 
+-- and what lies around it
+next_parent : (h : History) (a : ℕ) (policy : Policy) (options : Options) → rules.parent (followed h (Open a policy options)) (scopes h + 1) ≡ surrounding h a
+unfolding rules.parent
+next_parent h a policy options =
+    let e = Open a policy options in
+    ap (λ (o : Option Opening). option_and_then (λ (x : Opening). surrounding (before (followed h e) x.place) x.actor) o) (next_opening h a policy options)
+    ∙ ap (λ (g : History). surrounding g a) (before_last h e)
+
 shielded : (b : ℕ) (shield : Bool) (p : Option ℕ) → cond shield None (option_map (λ x. b + x) p) ≡ option_map (λ x. b + x) (cond shield None p)
 shielded b true p = refl
 shielded b false p = refl
@@ -107,6 +115,7 @@ new_row L h a b n policy options parent legal number around =
     record {
       opened = record { place = length h.events; actor = a; policy = policy; options = options };
       is = next_opening h a policy options;
+      parent = next_parent h a policy options ∙ around;
       outer = next_outer h a policy options ∙ (ap (λ p. cond options.shield None p) around ∙ shielded b options.shield parent);
       own =
           own_cut_next h e s _ (next_opening h a policy options)

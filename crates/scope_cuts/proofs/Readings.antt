@@ -1,6 +1,6 @@
 -- What the table answers is what the history says.
 use Rattle.std.proofs.Common.{◌≡◌, ◌∷◌, [], false, slice_get, ℕ, zero, suc, ◌+◌, ◌-◌, ◌<◌, Option, Some, None, option_map, List, length, is_some, refl, ap, sym, ◌∙◌, arith}
-use Rattle.std.specs.Option.{option_and_then}
+use Rattle.std.specs.Option.{option_and_then, option_map_or}
 use Rattle.scope_rules.specs.declared.types.capacity.Limits.{Limits}
 use Rattle.scope_rules.specs.declared.types.records.OwnCancel.{OwnCancel}
 use Rattle.scope_rules.specs.declared.types.records.Cut.{Cut}
@@ -13,12 +13,12 @@ use Rattle.scope_rules.specs.Cancels.{own, own_cut, cut, is_cancelled, deadline,
 use Rattle.scope_rules.specs.Legal.{Legal}
 use Rattle.scope_rules.proofs.Innermosts.{opened_after}
 use Rattle.scope_rules.proofs.Nesting.{IsOpened, outer_opened, outer_inward}
-use Rattle.scope_rules.proofs.Staying.{own_unopened}
+use Rattle.scope_rules.proofs.Staying.{own_place, own_unopened}
 use Rattle.scope_rules.proofs.NewScopes.{joined_opened, moved_opened}
 use Rattle.scope_rules.proofs.ShiftedChains.{cut_shifted, effective_shifted}
 use Rattle.cancel_tree.specs.declared.rows.Told.{Told}
 use Rattle.cancel_tree.specs.Rows as rows
-use Rattle.cancel_tree.specs.Rows.{outer_of, own_of, deadline_of, cut_of, effective_of}
+use Rattle.cancel_tree.specs.Rows.{IsLatest, parent_of, outer_of, own_of, deadline_of, cut_of, effective_of}
 use Rattle.scope_cuts.specs.CutTables.{CutTable, HasRow}
 use Rattle.scope_cuts.specs.CutsOf.{AreCutsOf}
 use Rattle.scope_cuts.proofs.OpenSteps.{none_by, false_by}
@@ -42,6 +42,10 @@ unopened h t n was none = none_by (opening h (t.before + n)) (λ o is. unrowed h
 outer_unopened : (h : History) (s : ℕ) → opening h s ≡ None → rules.outer h s ≡ None
 unfolding rules.outer
 outer_unopened h s none = rw none refl
+
+parent_unopened : (h : History) (s : ℕ) → opening h s ≡ None → rules.parent h s ≡ None
+unfolding rules.parent
+parent_unopened h s none = rw none refl
 
 counting_unopened : (L : Limits) (h : History) (s : ℕ) → Legal L h → opening h s ≡ None → counting_deadline h s ≡ None
 unfolding counting_deadline deadline
@@ -117,3 +121,36 @@ cancelled_at_scope L h t s has legal was = ap (is_cancelled h) (sym (numbered t 
 
 pub effective_at_scope : (L : Limits) (h : History) (t : CutTable) (s : ℕ) → HasRow t s → Legal L h → AreCutsOf h t → effective h s ≡ effective_of t.told (s - t.before)
 effective_at_scope L h t s has legal was = ap (effective h) (sym (numbered t s has)) ∙ effective_read L h t (s - t.before) legal was
+
+-- ---- what a caller who holds the agreement may ask
+
+-- an opened scope has a row
+pub has_row : (h : History) (t : CutTable) (s : ℕ) → AreCutsOf h t → IsOpened h s → HasRow t s
+has_row h t s was it =
+    let number = opened_after h s it.opened it.is in
+    record { after = omega (arith, number.2, was.numbered); within = omega (arith, number.1, number.2, was.numbered, was.count) }
+
+no_cut : (c : Cut) → None ≡ Some c → ⊥
+no_cut c is = absurd cc
+
+own_early : (h : History) (s : ℕ) (b : ℕ) (o : Option Cut) (c : Cut) → own_cut h s ≡ option_map (shifted b) o → o ≡ Some c → c.place < length h.events
+own_early h s b o c is some = within (own h s) refl
+  where
+    within : (w : Option OwnCancel) → own h s ≡ w → c.place < length h.events
+    within None none = absurd (no_cut (shifted b c) (sym (ap (option_map (λ (v : OwnCancel). rows.cut_at v.place s v.kind)) none) ∙ (is ∙ ap (option_map (shifted b)) some)))
+    within (Some w) found =
+        let place : w.place ≡ c.place = ap (λ (x : Option Cut). option_map_or (λ (y : Cut). y.place) x 0) (sym (ap (option_map (λ (v : OwnCancel). rows.cut_at v.place s v.kind)) found) ∙ (is ∙ ap (option_map (shifted b)) some)) in
+        let stands = (own_place h s w found).0 in
+        omega (arith, place, stands)
+
+-- each own cancel stands at an earlier place
+pub latest_place : (h : History) (t : CutTable) → AreCutsOf h t → IsLatest t.told (length h.events)
+latest_place h t was s c is = let early = own_early h (t.before + s) t.before (own_of t.told s) c (own_read h t was s) is in omega (arith, early)
+
+-- the parent of each scope, whether it has a row or not
+pub parent_read : (h : History) (t : CutTable) → AreCutsOf h t → (n : ℕ) → rules.parent h (t.before + n) ≡ option_map (λ p. t.before + p) (parent_of t.told n)
+parent_read h t was n = by (rows.row t.told n) refl
+  where
+    by : (r : Option Told) → rows.row t.told n ≡ r → rules.parent h (t.before + n) ≡ option_map (λ p. t.before + p) (option_and_then (λ (x : Told). x.parent) r)
+    by None is = parent_unopened h (t.before + n) (unopened h t n was is)
+    by (Some row) is = (was.rows n row is).parent

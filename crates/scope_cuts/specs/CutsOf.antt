@@ -17,11 +17,12 @@ use Rattle.cancel_tree.specs.Rows as rows
 use Rattle.join_rules.specs.JoinerStanding.{JoinerStanding, StandsFor}
 use Rattle.scope_cuts.specs.CutTables.{CutTable}
 
--- the row is that of scope s, where the rows are numbered after b: the scope outside, its own cancel,
--- and its deadline while that counts
+-- the row is that of scope s, where the rows are numbered after b: the scope around it, the one whose
+-- cancels reach it, its own cancel, and its deadline while that counts
 pub record IsToldOf (h : History) (b s : ℕ) (t : Told) : Type 0 where
   pub opened : Opening
   pub is : opening h s ≡ Some opened
+  pub parent : scopes.parent h s ≡ option_map (λ p. b + p) t.parent
   pub outer : scopes.outer h s ≡ option_map (λ p. b + p) (rows.outer t)
   pub own : own_cut h s ≡ option_map (shifted b) t.own
   pub deadline : counting_deadline h s ≡ t.deadline

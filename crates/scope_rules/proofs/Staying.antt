@@ -116,7 +116,8 @@ own_at_place h s i w is =
     let entry = and_then_some (λ (e : Event). option_map (λ (k : CauseKind). record { place = i; kind = k }) (kind_by h s i e)) (slice_get h.events i) w test.1 in
     (placed i (kind_by h s i entry.0) w entry.2, test.0)
 
-own_place : (h : History) (s : ℕ) (w : OwnCancel) → own h s ≡ Some w → (w.place < length h.events) × IsOpened h s
+-- an own cancel stands in the history, and its scope was opened
+pub own_place : (h : History) (s : ℕ) (w : OwnCancel) → own h s ≡ Some w → (w.place < length h.events) × IsOpened h s
 unfolding own
 own_place h s w is =
     let there = earliest_where (own_at h s) w (length h.events) is in
