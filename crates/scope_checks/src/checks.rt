@@ -1,3 +1,5 @@
+//! The checks, of which the table has rows: each passes, or gives its refusal.
+
 ghost use Rattle.std.specs.Prelude.{◌≡◌};
 ghost use Rattle.scope_rules.specs.Tasks.{stage, is_running, ready};
 ghost use Rattle.scope_rules.specs.Checks.{refuse_if, refuse_full, scope_check, task_check, actor_check, owns, owner_check, refuse_closing, refuse_joined, in_closing, is_innermost};

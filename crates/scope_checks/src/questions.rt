@@ -1,3 +1,5 @@
+//! What questions are refused for. None of them changes anything.
+
 ghost use Rattle.std.specs.Prelude.{◌≡◌};
 ghost use Rattle.scope_rules.specs.Table.{owns_task, task_joined, reading_check, until_check};
 ghost use Rattle.scope_rules.specs.Replies.{outcome_check};

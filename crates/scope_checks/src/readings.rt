@@ -1,3 +1,5 @@
+//! What the checks ask of a history, however its answers are kept.
+
 ghost use Rattle.std.specs.Prelude.{◌≡◌, length};
 ghost use Rattle.scope_rules.specs.History.{moment, opening, forking, scopes, tasks};
 ghost use Rattle.scope_rules.specs.Load.{load};
@@ -19,6 +21,7 @@ use scope_rules::types::values::{Actor, ScopeId, TaskId};
 pub trait Readings {
     ghost use Rattle.scope_rules.specs.History.{History};
 
+    // The history that the value is a reading of.
     ghost history: { Self → History };
 
     /// How many scopes were numbered before the history began: those of its base.

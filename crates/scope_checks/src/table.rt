@@ -1,3 +1,6 @@
+//! The table of checks: one function a row, which tries the checks in their order; and what a
+//! retirement, which is no event, is refused for.
+
 ghost use Rattle.std.specs.Prelude.{◌≡◌, ℕ, Option};
 ghost use Rattle.scope_rules.specs.declared.types.capacity.Limits.{Limits};
 ghost use Rattle.scope_rules.specs.declared.types.values.Label.{Label};
