@@ -3,13 +3,12 @@
 
 pub mod bindings;
 pub mod cancels;
-pub mod checks;
 pub mod completions;
 pub mod history;
 pub mod load;
 pub mod outcomes;
+pub mod readings;
 pub mod scopes;
-pub mod table;
 pub mod tasks;
 pub mod verdicts;
 pub mod view;

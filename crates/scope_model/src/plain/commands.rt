@@ -5,6 +5,7 @@ ghost use Rattle.scope_rules.specs.ClosingLaws.{IsWhole};
 ghost use Rattle.scope_rules.specs.Replies.{Answers, AnswersOrMemory, after, after_recording, after_retiring, next_scope, fork_reply, recording, base_of};
 
 use crate::plain::evaluator::Plain;
+use scope_checks::table;
 use scope_rules::types::answers::{Cancelling, ForkReply, Verdict};
 use scope_rules::types::bases::Base;
 use scope_rules::types::events::{Binding, Event, Options};
@@ -30,7 +31,7 @@ impl Plain {
         ensures history { self.new ≡ after self.old (Event.Open actor policy options) result }
     {
         let view = self.view();
-        view.open_row(&self.limits(), actor)?;
+        table::open_row(&view, &self.limits(), actor)?;
         let scope = view.scopes() + 1;
         self.try_append(Event::Open {
             actor,
@@ -50,7 +51,7 @@ impl Plain {
         ensures history { self.new ≡ after self.old (Event.Fork actor scope label) result }
     {
         let view = self.view();
-        view.fork_row(&self.limits(), actor, scope)?;
+        table::fork_row(&view, &self.limits(), actor, scope)?;
         let task = view.tasks() + 1;
         let reply = if view.is_cancelled(scope) {
             ForkReply::Never(task)
@@ -71,7 +72,7 @@ impl Plain {
         ensures answer { Answers (check_of self.old.limits self.old.history (Event.Reject task)) tt result }
         ensures history { self.new ≡ after self.old (Event.Reject task) result }
     {
-        self.view().waiting_row(task)?;
+        table::waiting_row(&self.view(), task)?;
         self.record(Event::Reject { task });
         Ok(())
     }
@@ -82,7 +83,7 @@ impl Plain {
         ensures answer { Answers (check_of self.old.limits self.old.history (Event.Start task)) tt result }
         ensures history { self.new ≡ after self.old (Event.Start task) result }
     {
-        self.view().waiting_row(task)?;
+        table::waiting_row(&self.view(), task)?;
         self.record(Event::Start { task });
         Ok(())
     }
@@ -93,7 +94,7 @@ impl Plain {
         ensures answer { Answers (check_of self.old.limits self.old.history (Event.Finish task end)) tt result }
         ensures history { self.new ≡ after self.old (Event.Finish task end) result }
     {
-        self.view().finish_row(task)?;
+        table::finish_row(&self.view(), task)?;
         self.record(Event::Finish { task, end });
         Ok(())
     }
@@ -107,7 +108,7 @@ impl Plain {
         ensures history { self.new ≡ after_recording self.old (Event.Cancel scope) result }
     {
         let view = self.view();
-        view.cancel_row(&self.limits(), scope)?;
+        table::cancel_row(&view, &self.limits(), scope)?;
         if view.is_cancelled(scope) {
             return Ok(Cancelling::Already);
         }
@@ -122,7 +123,7 @@ impl Plain {
         ensures answer { AnswersOrMemory (check_of self.old.limits self.old.history (Event.Move scope deadline)) tt result }
         ensures history { self.new ≡ after self.old (Event.Move scope deadline) result }
     {
-        self.view().move_row(&self.limits(), scope)?;
+        table::move_row(&self.view(), &self.limits(), scope)?;
         self.try_append(Event::Move { scope, deadline })
     }
 
@@ -132,7 +133,7 @@ impl Plain {
         ensures answer { AnswersOrMemory (check_of self.old.limits self.old.history (Event.Tick now)) tt result }
         ensures history { self.new ≡ after self.old (Event.Tick now) result }
     {
-        self.view().tick_row(&self.limits(), now)?;
+        table::tick_row(&self.view(), &self.limits(), now)?;
         self.try_append(Event::Tick { now })
     }
 
@@ -142,7 +143,7 @@ impl Plain {
         ensures answer { AnswersOrMemory (check_of self.old.limits self.old.history (Event.Bind actor (record { key = key; value = value }))) tt result }
         ensures history { self.new ≡ after self.old (Event.Bind actor (record { key = key; value = value })) result }
     {
-        self.view().bind_row(&self.limits(), actor)?;
+        table::bind_row(&self.view(), &self.limits(), actor)?;
         self.try_append(Event::Bind {
             actor,
             binding: Binding { key, value },
@@ -156,7 +157,7 @@ impl Plain {
         ensures answer { AnswersOrMemory (check_of self.old.limits self.old.history (Event.Unbind actor)) tt result }
         ensures history { self.new ≡ after self.old (Event.Unbind actor) result }
     {
-        self.view().unbind_row(&self.limits(), actor)?;
+        table::unbind_row(&self.view(), &self.limits(), actor)?;
         self.try_append(Event::Unbind { actor })
     }
 
@@ -168,7 +169,7 @@ impl Plain {
         ensures answer { Answers (check_of self.old.limits self.old.history (Event.Join actor scope)) tt result }
         ensures history { self.new ≡ after self.old (Event.Join actor scope) result }
     {
-        self.view().join_row(actor, scope)?;
+        table::join_row(&self.view(), actor, scope)?;
         self.record(Event::Join { actor, scope });
         Ok(())
     }
@@ -182,7 +183,7 @@ impl Plain {
         ensures history { self.new ≡ after_recording self.old (Event.BeginClose actor scope) result }
     {
         let view = self.view();
-        view.begin_close_row(actor, scope)?;
+        table::begin_close_row(&view, actor, scope)?;
         if view.closing(scope) {
             return Ok(Cancelling::Already);
         }
@@ -201,7 +202,7 @@ impl Plain {
         ensures whole { OnOk result (IsWhole self.new.history scope) }
     {
         let view = self.view();
-        view.end_close_row(actor, scope)?;
+        table::end_close_row(&view, actor, scope)?;
         let verdict = view.verdict(scope);
         self.record(Event::EndClose { actor, scope });
         Ok(verdict)
@@ -216,7 +217,7 @@ impl Plain {
         ensures history { self.new ≡ after_retiring self.old result }
     {
         let view = self.view();
-        view.retire_check(actor)?;
+        table::retire_check(&view, actor)?;
         let alloc = self.allocator();
         let (Ok(answered), Ok(kept)) = (view.base_after(alloc), view.base_after(alloc)) else {
             return Err(Refusal::Memory);

@@ -8,6 +8,7 @@ ghost use Rattle.scope_rules.specs.Table.{answering, until_check};
 ghost use Rattle.scope_rules.specs.Replies.{AnswersValue, result_reply, fault_reply, binding_reply, outcome_check};
 
 use crate::plain::evaluator::Plain;
+use scope_checks::{checks, questions};
 use scope_rules::types::answers::{Cause, Counts, Effective, Stage, State};
 use scope_rules::types::names::Name;
 use scope_rules::types::outcomes::Outcome;
@@ -22,7 +23,7 @@ impl Plain {
         ensures { result ≡ answering (task_check self.now.history task) (state self.now.history task) }
     {
         let view = self.view();
-        view.task_check(task)?;
+        checks::task_check(&view, task)?;
         Ok(view.state(task))
     }
 
@@ -31,7 +32,7 @@ impl Plain {
         ensures { result ≡ answering (task_check self.now.history task) (stage self.now.history task) }
     {
         let view = self.view();
-        view.task_check(task)?;
+        checks::task_check(&view, task)?;
         Ok(view.stage(task))
     }
 
@@ -44,7 +45,7 @@ impl Plain {
         ensures { result ≡ result_reply self.now.history actor task }
     {
         let view = self.view();
-        view.reading_check(actor, task)?;
+        questions::reading_check(&view, actor, task)?;
         match view.state(task) {
             State::Unavailable => Err(Refusal::Unavailable),
             State::Success(value) => Ok(value),
@@ -59,7 +60,7 @@ impl Plain {
         ensures { result ≡ fault_reply self.now.history actor task }
     {
         let view = self.view();
-        view.reading_check(actor, task)?;
+        questions::reading_check(&view, actor, task)?;
         match view.state(task) {
             State::Unavailable => Err(Refusal::Unavailable),
             State::Success(_) => Err(Refusal::NotFailed),
@@ -72,7 +73,7 @@ impl Plain {
         ensures { result ≡ answering (scope_check self.now.history scope) (cause self.now.history scope) }
     {
         let view = self.view();
-        view.scope_check(scope)?;
+        checks::scope_check(&view, scope)?;
         Ok(view.cause(scope))
     }
 
@@ -82,7 +83,7 @@ impl Plain {
         ensures { result ≡ answering (scope_check self.now.history scope) (cancelled_at self.now.history scope) }
     {
         let view = self.view();
-        view.scope_check(scope)?;
+        checks::scope_check(&view, scope)?;
         Ok(view.cancelled_at(scope))
     }
 
@@ -92,7 +93,7 @@ impl Plain {
         ensures { result ≡ answering (until_check self.now.history scope) (effective self.now.history scope) }
     {
         let view = self.view();
-        view.until_check(scope)?;
+        questions::until_check(&view, scope)?;
         Ok(view.effective(scope))
     }
 
@@ -102,7 +103,7 @@ impl Plain {
         ensures { result ≡ answering (scope_check self.now.history scope) (counts self.now.history scope) }
     {
         let view = self.view();
-        view.scope_check(scope)?;
+        checks::scope_check(&view, scope)?;
         Ok(view.counts(scope))
     }
 
@@ -113,7 +114,7 @@ impl Plain {
         ensures { result ≡ binding_reply self.now.history actor key.now }
     {
         let view = self.view();
-        view.actor_check(actor)?;
+        checks::actor_check(&view, actor)?;
         match view.binding(actor, key) {
             Some(value) => Ok(value),
             None => Err(Refusal::NotBound),
@@ -134,7 +135,7 @@ impl Plain {
         ensures { AnswersValue (outcome_check self.now.history scope) (outcome self.now.history scope) result }
     {
         let view = self.view();
-        view.outcome_check(scope)?;
+        questions::outcome_check(&view, scope)?;
         match view.outcome(self.allocator(), scope) {
             Ok(Some(outcome)) => Ok(outcome),
             Ok(None) => unreachable!(),

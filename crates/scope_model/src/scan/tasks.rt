@@ -2,7 +2,7 @@ ghost use Rattle.std.specs.Prelude.{◌≡◌, ◌<◌, ◌≤◌, ◌+◌, ◌^
 ghost use Rattle.std.specs.List.{list_all, range_with_len};
 ghost use Rattle.scope_rules.specs.History.{forked_count, task_numbers};
 ghost use Rattle.scope_rules.specs.Completions.{is_task_of};
-ghost use Rattle.scope_rules.specs.Tasks.{rejects, rejected, starts, started, finishes, finished, ending_of, ending_at, ending, stage_of, stage, is_never, is_waiting, is_running, is_finished, is_settled, state_by_end, state_of, state, is_at, is_stage, counts, is_unsettled, settled, ready};
+ghost use Rattle.scope_rules.specs.Tasks.{rejects, rejected, starts, started, finishes, finished, ending_of, ending_at, ending, stage_of, stage, is_never, is_waiting, is_running, is_finished, is_settled, state_by_end, state_of, state, is_at, is_stage, counts, is_unsettled, settled};
 
 use crate::scan::view::HistoryView;
 use scope_rules::types::answers::{Counts, Stage, State};
@@ -148,14 +148,6 @@ impl<'a> HistoryView<'a> {
             unsettled |= self.is_unsettled(scope, self.task_after(before));
         }
         !unsettled
-    }
-
-    /// Whether the scope may be joined: it is cancelled, or all its tasks are settled.
-    #[tactic(auto, unfolding(scope_rules::specs::Tasks::ready))]
-    pub fn ready(&self, scope: ScopeId) -> bool
-        ensures { result ≡ ready self.now scope }
-    {
-        self.is_cancelled(scope) || self.settled(scope)
     }
 }
 
