@@ -101,6 +101,22 @@ impl Rows {
         }
     }
 
+    /// How many scopes were numbered before.
+    pub fn scopes_before(&self) -> u32
+        ensures before { result ≡ self.now.scopes_before }
+        ensures agrees { (h : History) → AreRowsOf h self.now → result ≡ h.base.scopes }
+    {
+        self.scopes_before
+    }
+
+    /// How many tasks were numbered before.
+    pub fn tasks_before(&self) -> u32
+        ensures before { result ≡ self.now.tasks_before }
+        ensures agrees { (h : History) → AreRowsOf h self.now → result ≡ h.base.tasks }
+    {
+        self.tasks_before
+    }
+
     /// How many scopes were opened since the base.
     pub fn opened(&self) -> usize
         ensures count { result ≡ length self.now.scopes }

@@ -1,0 +1,14 @@
+use Rattle.std.proofs.Common.{Err, sym, subst, ap, ◌∙◌}
+use Rattle.scope_kept.specs.KeptTables.{KeptTable, IsKeptOf}
+use Rattle.scope_kept.proofs.Checked.{task_passes, task_absent}
+use Rattle.scope_kept.proofs.kept.Kept.task.Goals as goal
+
+pub returns-in-Some-clause-agrees : goal.returns-in-Some-clause-agrees
+returns-in-Some-clause-agrees c = λ h kept.
+    let row = c.in-Some.ensures.agrees h (subst (IsKeptOf h) (sym c.self.view_is) kept).rows in
+    (task_passes h c.args.task c.in-Some.row.now.forking row.forking, row)
+
+pub returns-in-None-clause-agrees : goal.returns-in-None-clause-agrees
+returns-in-None-clause-agrees c = λ h kept.
+    let rows = (subst (IsKeptOf h) (sym c.self.view_is) kept).rows in
+    task_absent h c.args.task c.tasks_before.result (c.tasks_before.ensures.agrees h rows) (c.in-None.ensures.agrees h rows) ∙ ap Err (sym c.absent.ensures)

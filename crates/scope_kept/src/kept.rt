@@ -1,0 +1,161 @@
+ghost use Rattle.std.specs.Prelude.{◌≡◌, Ok, Err, MatchResult, OnOk, option_map, max};
+ghost use Rattle.scope_rules.specs.declared.types.capacity.Limits.{Limits};
+ghost use Rattle.scope_rules.specs.History.{History, moment};
+ghost use Rattle.scope_rules.specs.Legal.{Legal};
+ghost use Rattle.scope_rules.specs.Cancels.{cause, cancelled_at, effective};
+ghost use Rattle.scope_rules.specs.Tasks.{stage, state, counts};
+ghost use Rattle.scope_rules.specs.Checks.{scope_check, task_check, actor_check};
+ghost use Rattle.scope_rules.specs.Table.{answering, until_check};
+ghost use Rattle.scope_rules.specs.Replies.{binding_reply};
+ghost use Rattle.scope_rows.specs.Agreement.{IsScopeRow, IsTaskRow};
+ghost use Rattle.scope_rows.specs.Table.{HasScope, HasTask, HasActor, scope_row, task_row};
+ghost use Rattle.scope_kept.specs.KeptTables.{IsKeptOf, absent};
+
+use scope_cuts::Cuts;
+use scope_envs::Envs;
+use scope_rows::{Rows, ScopeRow, TaskRow};
+use scope_rules::types::records::Cut;
+use scope_rules::{
+    Actor, Cause, Counts, Effective, Name, Refusal, ScopeId, Stage, State, TaskId, Value,
+};
+use std::marker::Model;
+
+/// What is kept of a realm's history, in three parts with the same scopes and tasks: rows, cancels and
+/// environments. Its answers are those of every history that it is kept of.
+#[derive(Drop)]
+pub struct Kept {
+    rows: Rows,
+    cuts: Cuts,
+    envs: Envs,
+}
+
+impl Model for Kept {
+    ghost use Rattle.scope_kept.specs.KeptTables.{KeptTable, AreAlike};
+
+    ghost Value = { KeptTable };
+
+    ghost view = { λ k. record { rows = k.rows; cuts = k.cuts; envs = k.envs } };
+
+    ghost invariant = { λ k. AreAlike k.rows k.cuts k.envs };
+}
+
+/// The rows that what is asked begins with.
+impl Kept {
+    /// The row of the scope, or why there is none.
+    pub(crate) fn scope(&self, scope: ScopeId) -> Result<&ScopeRow, Refusal>
+        ensures there { OnOk result (HasScope self.now.rows scope) }
+        ensures agrees { (h : History) → IsKeptOf h self.now → MatchResult result (λ row. (scope_check h scope ≡ Ok tt) × IsScopeRow h scope row.now) (λ refusal. scope_check h scope ≡ Err refusal) }
+    {
+        match self.rows.scope(scope) {
+            Some(row) => Ok(row),
+            None => Err(absent(scope, self.rows.scopes_before(), Refusal::NoScope)),
+        }
+    }
+
+    /// The row of the task, or why there is none.
+    pub(crate) fn task(&self, task: TaskId) -> Result<&TaskRow, Refusal>
+        ensures there { OnOk result (HasTask self.now.rows task) }
+        ensures agrees { (h : History) → IsKeptOf h self.now → MatchResult result (λ row. (task_check h task ≡ Ok tt) × IsTaskRow h task row.now) (λ refusal. task_check h task ≡ Err refusal) }
+    {
+        match self.rows.task(task) {
+            Some(row) => Ok(row),
+            None => Err(absent(task, self.rows.tasks_before(), Refusal::NoTask)),
+        }
+    }
+}
+
+/// The queries.
+impl Kept {
+    /// How far the task has come. Refused for an unknown task (`NoTask`, `Retired`).
+    pub fn stage(&self, task: TaskId) -> Result<Stage, Refusal>
+        ensures { (h : History) → IsKeptOf h self.now → result ≡ answering (task_check h task) (stage h task) }
+    {
+        Ok(self.task(task)?.stage)
+    }
+
+    /// What can be read of the task (JEP 505, `Subtask.state`). Refused for an unknown task (`NoTask`,
+    /// `Retired`).
+    pub fn state(&self, task: TaskId) -> Result<State, Refusal>
+        ensures { (h : History) → IsKeptOf h self.now → result ≡ answering (task_check h task) (state h task) }
+    {
+        Ok(self.task(task)?.state)
+    }
+
+    /// How many tasks of the scope are at each stage. Refused for an unknown scope (`NoScope`,
+    /// `Retired`).
+    pub fn counts(&self, scope: ScopeId) -> Result<Counts, Refusal>
+        ensures { (h : History) → IsKeptOf h self.now → result ≡ answering (scope_check h scope) (counts h scope) }
+    {
+        Ok(self.scope(scope)?.counts)
+    }
+
+    /// Why the scope is cancelled, if it is. Refused for an unknown scope (`NoScope`, `Retired`).
+    #[tactic(auto, unfolding(scope_rules::specs::Cancels::cause))]
+    pub fn cause(&self, scope: ScopeId) -> Result<Option<Cause>, Refusal>
+        ensures { (L : Limits) (h : History) → Legal L h → IsKeptOf h self.now → result ≡ answering (scope_check h scope) (cause h scope) }
+    {
+        self.scope(scope)?;
+        Ok(cause_of(self.cuts.cut(scope)))
+    }
+
+    /// The place of the event by which the scope became cancelled, if it is, counted from 0 since the
+    /// base. Refused for an unknown scope (`NoScope`, `Retired`).
+    #[tactic(auto, unfolding(scope_rules::specs::Cancels::cancelled_at))]
+    pub fn cancelled_at(&self, scope: ScopeId) -> Result<Option<usize>, Refusal>
+        ensures { (L : Limits) (h : History) → Legal L h → IsKeptOf h self.now → result ≡ answering (scope_check h scope) (cancelled_at h scope) }
+    {
+        let opened = self.scope(scope)?.opening.place;
+        Ok(place_since(opened, self.cuts.cut(scope)))
+    }
+
+    /// The earliest deadline in effect for the scope (Trio, `current_effective_deadline`), in
+    /// milliseconds. Refused for a scope that is unknown (`NoScope`, `Retired`) or closed (`Closed`).
+    #[tactic(auto, unfolding(scope_rules::specs::Table::until_check, scope_rules::specs::Checks::checks, scope_rules::specs::Checks::then_check))]
+    pub fn effective_deadline(&self, scope: ScopeId) -> Result<Effective, Refusal>
+        ensures { (L : Limits) (h : History) → Legal L h → IsKeptOf h self.now → result ≡ answering (until_check h scope) (effective h scope) }
+    {
+        let row = self.scope(scope)?;
+        if row.closed {
+            return Err(Refusal::Closed);
+        }
+        Ok(self.cuts.effective_deadline(scope))
+    }
+
+    /// The moment, in milliseconds.
+    pub fn moment(&self) -> u64
+        ensures { (h : History) → IsKeptOf h self.now → result ≡ moment h }
+    {
+        self.cuts.moment()
+    }
+}
+
+/// What the cut says of why.
+fn cause_of(cut: Option<Cut>) -> Option<Cause>
+    ensures { result ≡ option_map (λ c. c.cause) cut }
+{
+    match cut {
+        Some(cut) => Some(cut.cause),
+        None => None,
+    }
+}
+
+/// The place of the cut, or that of the opening where it is later.
+fn place_since(opened: usize, cut: Option<Cut>) -> Option<usize>
+    ensures { result ≡ option_map (λ c. max opened c.place) cut }
+{
+    match cut {
+        Some(cut) => Some(opened.max(cut.place)),
+        None => None,
+    }
+}
+
+/// Why there is no row of the number.
+fn absent(number: u32, before: u32, unknown: Refusal) -> Refusal
+    ensures { result ≡ absent number before unknown }
+{
+    if 0 < number && number <= before {
+        Refusal::Retired
+    } else {
+        unknown
+    }
+}

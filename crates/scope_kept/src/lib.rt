@@ -1,0 +1,6 @@
+//! What a book keeps of its history, without a list of events: it answers what is asked of a realm.
+#![tactic(auto)]
+
+mod kept;
+
+pub use kept::Kept;
