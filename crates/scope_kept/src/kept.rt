@@ -1,12 +1,13 @@
-ghost use Rattle.std.specs.Prelude.{◌≡◌, Ok, Err, MatchResult, OnOk, option_map, max};
+ghost use Rattle.std.specs.Prelude.{◌≡◌, Ok, Err, [], MatchResult, IfOk, OnOk, option_map, max};
 ghost use Rattle.scope_rules.specs.declared.types.capacity.Limits.{Limits};
 ghost use Rattle.scope_rules.specs.History.{History, moment};
 ghost use Rattle.scope_rules.specs.Legal.{Legal};
 ghost use Rattle.scope_rules.specs.Cancels.{cause, cancelled_at, effective};
 ghost use Rattle.scope_rules.specs.Tasks.{stage, state, counts};
-ghost use Rattle.scope_rules.specs.Checks.{scope_check, task_check, actor_check};
-ghost use Rattle.scope_rules.specs.Table.{answering, until_check};
-ghost use Rattle.scope_rules.specs.Replies.{binding_reply};
+ghost use Rattle.scope_rules.specs.Checks.{scope_check, task_check, actor_check, owns};
+ghost use Rattle.scope_rules.specs.Scopes.{joined};
+ghost use Rattle.scope_rules.specs.Table.{answering, checked_then, reading_check, until_check};
+ghost use Rattle.scope_rules.specs.Replies.{binding_reply, result_reply, fault_reply};
 ghost use Rattle.scope_rows.specs.Agreement.{IsScopeRow, IsTaskRow};
 ghost use Rattle.scope_rows.specs.Table.{HasScope, HasTask, HasActor, scope_row, task_row};
 ghost use Rattle.scope_kept.specs.KeptTables.{IsKeptOf, absent};
@@ -15,9 +16,12 @@ use scope_cuts::Cuts;
 use scope_envs::Envs;
 use scope_rows::{Rows, ScopeRow, TaskRow};
 use scope_rules::types::records::Cut;
+use scope_rules::types::values::MAIN;
 use scope_rules::{
-    Actor, Cause, Counts, Effective, Name, Refusal, ScopeId, Stage, State, TaskId, Value,
+    Actor, Base, Cause, Counts, Effective, Fault, Name, Refusal, ScopeId, Stage, State, TaskId,
+    Value,
 };
+use std::alloc::{AllocError, Global};
 use std::marker::Model;
 
 /// What is kept of a realm's history, in three parts with the same scopes and tasks: rows, cancels and
@@ -37,6 +41,33 @@ impl Model for Kept {
     ghost view = { λ k. record { rows = k.rows; cuts = k.cuts; envs = k.envs } };
 
     ghost invariant = { λ k. AreAlike k.rows k.cuts k.envs };
+}
+
+/// How what is kept begins.
+impl Kept {
+    ghost use Rattle.scope_rules.specs.Origin.{Origin, the_start};
+
+    /// What is kept of a fresh realm. It takes no memory; that of later calls comes from `alloc`.
+    pub fn new(alloc: Global) -> Kept
+        ensures { IsKeptOf (record { base = the_start; events = [] }) result }
+    {
+        Kept {
+            rows: Rows::new(alloc),
+            cuts: Cuts::new(alloc, 0, 0),
+            envs: Envs::new(alloc),
+        }
+    }
+
+    /// What is kept of a realm that begins with the base. Refused where memory is.
+    pub fn with_base(alloc: Global, base: &Base) -> Result<Kept, AllocError>
+        ensures { IfOk result (IsKeptOf (record { base = base.now; events = [] })) }
+    {
+        Ok(Kept {
+            rows: Rows::with_base(alloc, base.scopes(), base.tasks()),
+            cuts: Cuts::new(alloc, base.scopes(), base.moment()),
+            envs: Envs::with_base(alloc, base)?,
+        })
+    }
 }
 
 /// The rows that what is asked begins with.
@@ -61,6 +92,61 @@ impl Kept {
             Some(row) => Ok(row),
             None => Err(absent(task, self.rows.tasks_before(), Refusal::NoTask)),
         }
+    }
+}
+
+/// The checks of who asks.
+impl Kept {
+    /// The actor is main, or a task that runs.
+    #[tactic(auto, unfolding(scope_rules::specs::Checks::actor_check, scope_rules::specs::Checks::checks, scope_rules::specs::Checks::then_check))]
+    pub(crate) fn actor(&self, actor: Actor) -> Result<(), Refusal>
+        ensures there { OnOk result (HasActor self.now.rows actor) }
+        ensures agrees { (h : History) → IsKeptOf h self.now → result ≡ actor_check h actor }
+    {
+        if actor == MAIN {
+            return Ok(());
+        }
+        match self.task(actor)?.stage {
+            Stage::Running => Ok(()),
+            _ => Err(Refusal::WrongStage),
+        }
+    }
+
+    /// Whether the actor opened the scope.
+    #[tactic(auto, unfolding(scope_rules::specs::Checks::owns))]
+    fn owns(&self, actor: Actor, scope: ScopeId) -> bool
+        ensures { (h : History) → IsKeptOf h self.now → result ≡ owns h actor scope }
+    {
+        match self.rows.scope(scope) {
+            Some(row) => row.opening.actor == actor,
+            None => false,
+        }
+    }
+
+    /// Whether the scope is joined.
+    fn joined(&self, scope: ScopeId) -> bool
+        ensures { (L : Limits) (h : History) → Legal L h → IsKeptOf h self.now → result ≡ joined h scope }
+    {
+        match self.rows.scope(scope) {
+            Some(row) => row.joined.is_some(),
+            None => false,
+        }
+    }
+
+    /// The state of the task, if the actor may read it: the owner of its scope, after the join.
+    #[tactic(auto, unfolding(scope_rules::specs::Table::reading_check, scope_rules::specs::Checks::checks, scope_rules::specs::Checks::then_check))]
+    fn readable(&self, actor: Actor, task: TaskId) -> Result<State, Refusal>
+        ensures { (L : Limits) (h : History) → Legal L h → IsKeptOf h self.now → result ≡ checked_then (reading_check h actor task) (Ok (state h task)) }
+    {
+        self.actor(actor)?;
+        let row = self.task(task)?;
+        if !self.owns(actor, row.forking.scope) {
+            return Err(Refusal::NotOwner);
+        }
+        if !self.joined(row.forking.scope) {
+            return Err(Refusal::NotJoined);
+        }
+        Ok(row.state)
     }
 }
 
@@ -119,6 +205,44 @@ impl Kept {
             return Err(Refusal::Closed);
         }
         Ok(self.cuts.effective_deadline(scope))
+    }
+
+    /// The value of the task, read by the owner of its scope after the join (JEP 505, `Subtask.get`).
+    /// Refused where the actor is no running task or main, for a task that is unknown (`NoTask`,
+    /// `Retired`) or of another's scope (`NotOwner`), before the join (`NotJoined`), and for one that
+    /// can't be read (`Unavailable`) or failed (`NotSuccess`).
+    #[tactic(auto, unfolding(scope_rules::specs::Replies::result_reply))]
+    pub fn result(&self, actor: Actor, task: TaskId) -> Result<Value, Refusal>
+        ensures { (L : Limits) (h : History) → Legal L h → IsKeptOf h self.now → result ≡ result_reply h actor task }
+    {
+        match self.readable(actor, task)? {
+            State::Success(value) => Ok(value),
+            State::Failed(_) => Err(Refusal::NotSuccess),
+            State::Unavailable => Err(Refusal::Unavailable),
+        }
+    }
+
+    /// The fault of the task, read by the owner of its scope after the join (JEP 505,
+    /// `Subtask.exception`). Refused as `result` is, and for a task that succeeded (`NotFailed`).
+    #[tactic(auto, unfolding(scope_rules::specs::Replies::fault_reply))]
+    pub fn fault(&self, actor: Actor, task: TaskId) -> Result<Fault, Refusal>
+        ensures { (L : Limits) (h : History) → Legal L h → IsKeptOf h self.now → result ≡ fault_reply h actor task }
+    {
+        match self.readable(actor, task)? {
+            State::Failed(fault) => Ok(fault),
+            State::Success(_) => Err(Refusal::NotFailed),
+            State::Unavailable => Err(Refusal::Unavailable),
+        }
+    }
+
+    /// What the actor sees the key bound to (JEP 506, `ScopedValue.get`). Refused where the actor is no
+    /// running task or main, and where nothing is bound to the key (`NotBound`).
+    #[tactic(auto, unfolding(scope_rules::specs::Replies::binding_reply))]
+    pub fn binding(&self, actor: Actor, key: &Name) -> Result<Value, Refusal>
+        ensures { (L : Limits) (h : History) → Legal L h → IsKeptOf h self.now → result ≡ binding_reply h actor key.now }
+    {
+        self.actor(actor)?;
+        self.envs.get(actor, *key).ok_or(Refusal::NotBound)
     }
 
     /// The moment, in milliseconds.

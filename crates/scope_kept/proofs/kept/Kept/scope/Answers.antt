@@ -1,5 +1,5 @@
 use Rattle.std.proofs.Common.{Err, sym, subst, ap, ◌∙◌}
-use Rattle.scope_kept.specs.KeptTables.{KeptTable, IsKeptOf}
+use Rattle.scope_kept.specs.KeptTables.{IsKeptOf}
 use Rattle.scope_kept.proofs.Checked.{scope_passes, scope_absent}
 use Rattle.scope_kept.proofs.kept.Kept.scope.Goals as goal
 

@@ -1,5 +1,5 @@
 use Rattle.std.proofs.Common.{Err, sym, subst, ap, ◌∙◌}
-use Rattle.scope_kept.specs.KeptTables.{KeptTable, IsKeptOf}
+use Rattle.scope_kept.specs.KeptTables.{IsKeptOf}
 use Rattle.scope_kept.proofs.Checked.{task_passes, task_absent}
 use Rattle.scope_kept.proofs.kept.Kept.task.Goals as goal
 

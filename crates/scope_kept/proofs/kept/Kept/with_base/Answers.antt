@@ -1,0 +1,18 @@
+use Rattle.std.proofs.Common.{[], sym}
+use Rattle.scope_kept.proofs.Alike.{alike}
+use Rattle.scope_kept.proofs.kept.Kept.with_base.Goals as goal
+
+pub invariant_of-result : goal.invariant_of-result
+invariant_of-result c =
+    let base = c.args.base.now in
+    alike (record { base = base; events = [] }) c.with_base.result c.new.result c.in_ok-with_base.field-0
+    (c.with_base.ensures.agrees base (sym c.scopes.ensures) (sym c.tasks.ensures)) (c.new.ensures base (sym c.scopes-2.ensures) (sym c.moment.ensures)) c.in_ok-with_base.ensures.agrees
+
+pub returns : goal.returns
+returns c =
+    let base = c.args.base.now in
+    record {
+      rows = c.with_base.ensures.agrees base (sym c.scopes.ensures) (sym c.tasks.ensures);
+      cuts = c.new.ensures base (sym c.scopes-2.ensures) (sym c.moment.ensures);
+      envs = c.in_ok-with_base.ensures.agrees;
+    }
