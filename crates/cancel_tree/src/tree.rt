@@ -6,7 +6,7 @@ ghost use Rattle.scope_rules.specs.declared.types.capacity.TheConstants.{LEVEL_L
 ghost use Rattle.scope_rules.specs.Chains.{IsInward, chain_by, least_on, nearer, onward, sooner};
 ghost use Rattle.scope_rules.specs.Earliest.{IsEarliest};
 ghost use Rattle.cancel_tree.specs.Reach.{is_at_or_before, last_inner};
-ghost use Rattle.cancel_tree.specs.Rows.{IsAdded, IsLatest, cause_of, place_of, cut_of, own_of, outer_of, deadline_of, effective_of, level_in, new_row, with_own, with_deadline, changed, cut_at};
+ghost use Rattle.cancel_tree.specs.Rows.{IsAdded, IsLatest, cause_of, place_of, cut_of, own_of, outer_of, deadline_of, effective_of, level_of, level_in, new_row, with_own, with_deadline, changed, cut_at};
 
 use crate::rows::{Links, Told};
 use crate::spread::spread;
@@ -112,13 +112,21 @@ impl Tree {
         self.told.len()
     }
 
+    /// How many scopes lie around one another down to this one, itself included.
+    pub fn level(&self, scope: ScopeId) -> u32
+        requires { IsAdded self.now scope }
+        ensures { result ≡ level_of self.now scope }
+    {
+        self.links[(scope - 1) as usize].level
+    }
+
     /// How many scopes lie around one another down to the parent, itself included.
     fn level_around(&self, parent: Option<ScopeId>) -> u32
         requires { IfSome parent (IsAdded self.now) }
         ensures { result + 1 ≡ level_in self.now parent }
     {
         match parent {
-            Some(parent) => self.links[(parent - 1) as usize].level,
+            Some(parent) => self.level(parent),
             None => 0,
         }
     }

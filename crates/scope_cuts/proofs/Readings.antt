@@ -12,13 +12,22 @@ use Rattle.scope_rules.specs.Scopes as rules
 use Rattle.scope_rules.specs.Cancels.{own, own_cut, cut, is_cancelled, deadline, counting_deadline, effective, move_of}
 use Rattle.scope_rules.specs.Legal.{Legal}
 use Rattle.scope_rules.proofs.Innermosts.{opened_after}
-use Rattle.scope_rules.proofs.Nesting.{IsOpened, outer_opened, outer_inward}
+use Rattle.std.proofs.lemmas.List.{length-map}
+use Rattle.std.specs.Option.{IfSome}
+use Rattle.scope_rules.specs.Chains.{chain_by}
+use Rattle.scope_rules.specs.History.{before}
+use Rattle.scope_rules.specs.Scopes.{around, surrounding, level, next_level}
+use Rattle.scope_rules.proofs.Openings.{and_then_some}
+use Rattle.scope_rules.proofs.Parents.{parent_smaller}
+use Rattle.scope_rules.proofs.Levels.{parent_inward}
+use Rattle.scope_rules.proofs.ShiftedChains.{chain_shifted}
+use Rattle.scope_rules.proofs.Nesting.{IsOpened, opened_before, legal_before, surrounding_opened, outer_opened, outer_inward}
 use Rattle.scope_rules.proofs.Staying.{own_place, own_unopened}
 use Rattle.scope_rules.proofs.NewScopes.{joined_opened, moved_opened}
 use Rattle.scope_rules.proofs.ShiftedChains.{cut_shifted, effective_shifted}
 use Rattle.cancel_tree.specs.declared.rows.Told.{Told}
 use Rattle.cancel_tree.specs.Rows as rows
-use Rattle.cancel_tree.specs.Rows.{IsLatest, parent_of, outer_of, own_of, deadline_of, cut_of, effective_of}
+use Rattle.cancel_tree.specs.Rows.{IsLatest, level_of, level_in, parent_of, outer_of, own_of, deadline_of, cut_of, effective_of}
 use Rattle.scope_cuts.specs.CutTables.{CutTable, HasRow}
 use Rattle.scope_cuts.specs.CutsOf.{AreCutsOf}
 use Rattle.scope_cuts.proofs.OpenSteps.{none_by, false_by}
@@ -154,3 +163,36 @@ parent_read h t was n = by (rows.row t.told n) refl
     by : (r : Option Told) → rows.row t.told n ≡ r → rules.parent h (t.before + n) ≡ option_map (λ p. t.before + p) (option_and_then (λ (x : Told). x.parent) r)
     by None is = parent_unopened h (t.before + n) (unopened h t n was is)
     by (Some row) is = (was.rows n row is).parent
+
+-- ---- levels
+
+-- the parent of a scope was opened before it
+parent_opened : (L : Limits) (h : History) (s p : ℕ) → Legal L h → rules.parent h s ≡ Some p → IsOpened h p
+unfolding rules.parent
+parent_opened L h s p legal is =
+    let there = and_then_some (around h) (opening h s) p is in
+    opened_before h there.0.place p (surrounding_opened L (before h there.0.place) there.0.actor p (legal_before L h there.0.place legal) there.2)
+
+parents_inward : (L : Limits) (h : History) (t : CutTable) → Legal L h → AreCutsOf h t → IsInward (parent_of t.told)
+parents_inward L h t legal was s p is =
+    let out : rules.parent h (t.before + s) ≡ Some (t.before + p) = parent_read h t was s ∙ mapped t.before (parent_of t.told s) p is in
+    let it = parent_opened L h (t.before + s) (t.before + p) legal out in
+    let number = opened_after h (t.before + p) it.opened it.is in
+    let less = parent_smaller L h (t.before + s) (t.before + p) legal out in
+    (omega (arith, number.2, was.numbered), omega (arith, less.1))
+
+pub level_read : (L : Limits) (h : History) (t : CutTable) (n : ℕ) → Legal L h → AreCutsOf h t → level h (t.before + n) ≡ level_of t.told n
+unfolding level
+level_read L h t n legal was =
+    ap length (chain_shifted t.before (parent_of t.told) (rules.parent h) (parents_inward L h t legal was) (parent_inward L h legal) (parent_read h t was) n)
+    ∙ length-map (chain_by (parent_of t.told) n) (λ p. t.before + p)
+
+pub level_at_scope : (L : Limits) (h : History) (t : CutTable) (s : ℕ) → HasRow t s → Legal L h → AreCutsOf h t → level h s ≡ level_of t.told (s - t.before)
+level_at_scope L h t s has legal was = ap (level h) (sym (numbered t s has)) ∙ level_read L h t (s - t.before) legal was
+
+-- what is opened next lies no deeper in the tree than by the rules
+pub level_in_read : (L : Limits) (h : History) (t : CutTable) (a : ℕ) (parent : Option ℕ) → Legal L h → AreCutsOf h t → parent ≡ surrounding h a → IfSome parent (HasRow t) → level_in t.told (option_map (λ p. p - t.before) parent) ≡ next_level h a
+unfolding next_level
+level_in_read L h t a None legal was is has = ap (λ (o : Option ℕ). option_map_or (λ p. level h p + 1) o 1) is
+level_in_read L h t a (Some p) legal was is has =
+    ap (λ n. n + 1) (sym (level_at_scope L h t p has legal was)) ∙ ap (λ (o : Option ℕ). option_map_or (λ q. level h q + 1) o 1) is

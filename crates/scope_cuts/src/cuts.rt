@@ -5,7 +5,7 @@ ghost use Rattle.scope_rules.specs.declared.types.events.Event.{Event};
 ghost use Rattle.scope_rules.specs.declared.types.capacity.TheConstants.{LEVEL_LIMIT, TASK_LIMIT};
 ghost use Rattle.scope_rules.specs.Origin.{Origin};
 ghost use Rattle.scope_rules.specs.History.{History, followed, moment};
-ghost use Rattle.scope_rules.specs.Scopes.{joined, surrounding};
+ghost use Rattle.scope_rules.specs.Scopes.{joined, level, surrounding};
 ghost use Rattle.scope_rules.specs.Cancels.{cut, cause, is_cancelled, effective};
 ghost use Rattle.scope_rules.specs.Legal.{Legal};
 ghost use Rattle.cancel_tree.specs.Rows.{IsAdded, IsLatest, level_in};
@@ -79,6 +79,15 @@ impl Cuts {
         ensures { (L : Limits) (h : History) → Legal L h → AreCutsOf h self.now → result ≡ effective h scope }
     {
         self.tree.effective_deadline(scope - self.before)
+    }
+
+    /// The level of the scope: how many scopes lie around one another down to it, itself included.
+    #[tactic(auto, using(crate::proofs::Readings::level_at_scope))]
+    pub fn level(&self, scope: ScopeId) -> u32
+        requires { HasRow self.now scope }
+        ensures { (L : Limits) (h : History) → Legal L h → AreCutsOf h self.now → result ≡ level h scope }
+    {
+        self.tree.level(scope - self.before)
     }
 
     /// The account of the scope's joiner.

@@ -99,7 +99,7 @@ surrounding_by L h a p None legal is found = forked_by L h a p (forking h a) leg
 surrounding_by L h a p (Some q) legal is found = innermost_opened h a p (is ∙ found)
 
 -- what surrounds an actor was opened
-surrounding_opened : (L : Limits) (h : History) (a p : ℕ) → Legal L h → surrounding h a ≡ Some p → IsOpened h p
+pub surrounding_opened : (L : Limits) (h : History) (a p : ℕ) → Legal L h → surrounding h a ≡ Some p → IsOpened h p
 unfolding surrounding
 surrounding_opened L h a p legal found = surrounding_by L h a p (innermost h a) legal refl found
 
