@@ -28,9 +28,9 @@ use std::marker::Model;
 /// environments. Its answers are those of every history that it is kept of.
 #[derive(Drop)]
 pub struct Kept {
-    rows: Rows,
-    cuts: Cuts,
-    envs: Envs,
+    pub(crate) rows: Rows,
+    pub(crate) cuts: Cuts,
+    pub(crate) envs: Envs,
 }
 
 impl Model for Kept {
@@ -124,7 +124,7 @@ impl Kept {
     }
 
     /// Whether the scope is joined.
-    fn joined(&self, scope: ScopeId) -> bool
+    pub(crate) fn joined(&self, scope: ScopeId) -> bool
         ensures { (L : Limits) (h : History) → Legal L h → IsKeptOf h self.now → result ≡ joined h scope }
     {
         match self.rows.scope(scope) {

@@ -2,5 +2,8 @@
 #![tactic(auto)]
 
 mod kept;
+mod readings;
+mod realm;
 
 pub use kept::Kept;
+pub use realm::KeptRealm;
