@@ -7,12 +7,7 @@ use Rattle.scope_rules.specs.declared.types.records.Forking.{Forking}
 use Rattle.scope_rules.specs.History.{History, opening, forking}
 use Rattle.scope_rules.specs.Checks.{Checked, refuse_if, scope_check, task_check}
 use Rattle.scope_rules.proofs.Innermosts.{opened_after}
-use Rattle.scope_rules.specs.declared.types.capacity.Limits.{Limits}
-use Rattle.scope_rules.specs.Legal.{Legal}
-use Rattle.scope_rules.specs.Scopes.{joined}
-use Rattle.scope_rules.proofs.NewScopes.{joined_opened}
 use Rattle.scope_rules.proofs.Forkings.{forked_after}
-use Rattle.scope_cuts.proofs.OpenSteps.{false_by}
 use Rattle.scope_kept.specs.KeptTables.{absent}
 
 not_retired : (n b : ℕ) → b < n → (nat_lt 0 n && nat_le n b) ≡ false
@@ -59,7 +54,3 @@ task_absent h k b same none =
     by : (x : Bool) → cond {A = Checked} x (Err Retired) (Err NoTask) ≡ Err (cond x Retired NoTask)
     by true = refl
     by false = refl
-
--- what was never opened isn't joined
-pub unjoined : (L : Limits) (h : History) (s : ℕ) → Legal L h → opening h s ≡ None → joined h s ≡ false
-unjoined L h s legal none = false_by (joined h s) (λ is. let it = joined_opened L h s legal is in absurd (cc (it.is, none)))

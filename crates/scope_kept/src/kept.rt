@@ -5,7 +5,6 @@ ghost use Rattle.scope_rules.specs.Legal.{Legal};
 ghost use Rattle.scope_rules.specs.Cancels.{cause, cancelled_at, effective};
 ghost use Rattle.scope_rules.specs.Tasks.{stage, state, counts};
 ghost use Rattle.scope_rules.specs.Checks.{scope_check, task_check, actor_check, owns};
-ghost use Rattle.scope_rules.specs.Scopes.{joined};
 ghost use Rattle.scope_rules.specs.Table.{answering, checked_then, reading_check, until_check};
 ghost use Rattle.scope_rules.specs.Replies.{binding_reply, result_reply, fault_reply};
 ghost use Rattle.scope_rows.specs.Agreement.{IsScopeRow, IsTaskRow};
@@ -119,16 +118,6 @@ impl Kept {
     {
         match self.rows.scope(scope) {
             Some(row) => row.opening.actor == actor,
-            None => false,
-        }
-    }
-
-    /// Whether the scope is joined.
-    pub(crate) fn joined(&self, scope: ScopeId) -> bool
-        ensures { (L : Limits) (h : History) → Legal L h → IsKeptOf h self.now → result ≡ joined h scope }
-    {
-        match self.rows.scope(scope) {
-            Some(row) => row.joined.is_some(),
             None => false,
         }
     }

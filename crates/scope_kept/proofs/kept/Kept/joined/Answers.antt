@@ -1,7 +1,7 @@
 use Rattle.std.proofs.Common.{is_some, sym, subst, ap, ◌∙◌}
 use Rattle.scope_kept.specs.KeptTables.{IsKeptOf}
 use Rattle.scope_rows.proofs.Joinings.{joined_is_some}
-use Rattle.scope_kept.proofs.Checked.{unjoined}
+use Rattle.scope_kept.proofs.NeverOpened.{unjoined}
 use Rattle.scope_kept.proofs.kept.Kept.joined.Goals as goal
 
 pub returns-in-Some : goal.returns-in-Some
