@@ -1,14 +1,15 @@
 -- Of a scope that was never opened, and of a task that was never forked, nothing is said.
-use Rattle.std.proofs.Common.{◌≡◌, ℕ, ◌+◌, ◌==◌, ◌&&◌, Bool, true, false, cond, not, is_some, nat_lt, Option, Some, None, refl, ap, sym, ◌∙◌, arith}
+use Rattle.std.proofs.Common.{◌≡◌, ℕ, ◌+◌, ◌==◌, ◌&&◌, Bool, true, false, cond, not, is_some, nat_lt, Option, Some, None, length, refl, ap, sym, ◌∙◌, arith}
 use Rattle.std.proofs.lemmas.Bool.Decides.{nat_tests}
 use Rattle.std.specs.Option.{option_map_or}
 use Rattle.scope_rules.specs.declared.types.capacity.Limits.{Limits}
 use Rattle.scope_rules.specs.declared.types.answers.Stage.TheVariants.{Never, Waiting, Running}
 use Rattle.scope_rules.specs.declared.types.answers.Counts.{Counts}
+use Rattle.scope_rules.specs.declared.types.records.Opening.{Opening}
 use Rattle.scope_rules.specs.declared.types.records.Forking.{Forking}
 use Rattle.scope_rules.specs.declared.types.records.Cut.{Cut}
-use Rattle.scope_rules.specs.History.{History, opening, forking}
-use Rattle.scope_rules.specs.Scopes.{joined, closing, closed}
+use Rattle.scope_rules.specs.History.{History, before, opening, forking}
+use Rattle.scope_rules.specs.Scopes.{joined, closing, closed, innermost, surrounding, level, next_level}
 use Rattle.scope_rules.specs.Cancels.{cut, is_cancelled}
 use Rattle.scope_rules.specs.Tasks.{stage, stage_of, settled, counts}
 use Rattle.scope_rules.specs.Legal.{Legal}
@@ -17,6 +18,9 @@ use Rattle.scope_rules.proofs.Staying.{cut_opened}
 use Rattle.scope_rules.proofs.NewScopes.{HasNoTask, joined_opened, no_tally}
 use Rattle.scope_rules.proofs.InnermostSteps.{closed_opened}
 use Rattle.scope_rules.proofs.Tallies.{settled_by_counts}
+use Rattle.scope_rules.specs.Bindings.{stack, bound_as_at, bound_as_opened, holds_last}
+use Rattle.scope_rules.proofs.Bound.{stack_then, is_held, held_by_innermost}
+use Rattle.scope_kept.specs.KeptTables.{opened_as_high}
 use Rattle.scope_rows.proofs.Unopened.{closing_opened}
 use Rattle.scope_cuts.proofs.OpenSteps.{none_by, false_by}
 
@@ -63,3 +67,23 @@ settled_alone L h s legal none =
 pub never_staged : (h : History) (k : ℕ) → forking h k ≡ None → stage h k ≡ Never
 unfolding stage
 never_staged h k none = ap (λ (o : Option Forking). option_map_or (stage_of h k) o Never) none
+
+-- ---- what is opened next
+
+pub next_level_in : (h : History) (a s : ℕ) → surrounding h a ≡ Some s → next_level h a ≡ level h s + 1
+unfolding next_level
+next_level_in h a s is = ap (λ (o : Option ℕ). option_map_or (λ p. level h p + 1) o 1) is
+
+pub held_where : (L : Limits) (h : History) (a s : ℕ) → Legal L h → innermost h a ≡ Some s → holds_last h a ≡ opened_as_high h a s
+held_where L h a s legal is = held_by_innermost L h a legal ∙ ap (is_held h a) is
+
+pub held_by_none : (L : Limits) (h : History) (a : ℕ) → Legal L h → innermost h a ≡ None → holds_last h a ≡ false
+held_by_none L h a legal is = held_by_innermost L h a legal ∙ ap (is_held h a) is
+
+pub unbound_alone : (h : History) (a s : ℕ) → opening h s ≡ None → bound_as_opened h a s ≡ false
+unfolding bound_as_opened
+unbound_alone h a s none = ap (λ (o : Option Opening). option_map_or (bound_as_at h a) o false) none
+
+-- heights that are kept are compared as those of the stacks
+pub same_height : (h : History) (a : ℕ) (o : Opening) (now then : ℕ) → now ≡ length (stack h a) → length (stack (before h o.place) o.actor) ≡ then → o.actor ≡ a → (now == then) ≡ (length (stack h a) == length (stack_then h o))
+same_height h a o now then is was owner = ap (λ n. n == then) is ∙ ap (λ n. length (stack h a) == n) (sym was)

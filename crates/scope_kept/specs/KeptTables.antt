@@ -1,8 +1,10 @@
 -- What is kept of a history, and when.
-use Rattle.std.specs.Prelude.{◌≡◌, ℕ, ◌&&◌, nat_lt, nat_le, length, if◌then◌else◌}
+use Rattle.std.specs.Prelude.{◌≡◌, ℕ, Bool, false, ◌&&◌, nat_lt, nat_le, length, if◌then◌else◌}
 use Rattle.scope_rules.specs.declared.types.refusals.Refusal.{Refusal}
 use Rattle.scope_rules.specs.declared.types.refusals.Refusal.TheVariants.{Retired}
-use Rattle.scope_rules.specs.History.{History}
+use Rattle.std.specs.Option.{option_map_or}
+use Rattle.scope_rules.specs.History.{History, before, opening}
+use Rattle.scope_rules.specs.Bindings.{stack}
 use Rattle.scope_rows.specs.Table.{RowTable}
 use Rattle.scope_rows.specs.Agreement.{AreRowsOf}
 use Rattle.scope_envs.specs.EnvTable.{EnvTable}
@@ -32,3 +34,7 @@ pub record AreAlike (rows : RowTable) (cuts : CutTable) (envs : EnvTable) : Type
 -- why there is no row of the number: it was given before, or it is unknown
 abbrev pub absent : ℕ → ℕ → Refusal → Refusal
 absent n before unknown = if nat_lt 0 n && nat_le n before then Retired else unknown
+
+-- the actor has at most as many own pairs as the opener of the scope had at its opening
+abbrev pub opened_as_high : History → ℕ → ℕ → Bool
+opened_as_high h a s = option_map_or (λ o. nat_le (length (stack h a)) (length (stack (before h o.place) o.actor))) (opening h s) false

@@ -1,16 +1,18 @@
 //! What the checks ask of what is kept. Of a scope or task without a row it says what the rules say of
 //! one that was never opened or forked.
 
-ghost use Rattle.std.specs.Prelude.{◌≡◌, ◌==◌, ◌&&◌, length};
+ghost use Rattle.std.specs.Prelude.{◌≡◌, ◌==◌, ◌&&◌, ◌<◌, ◌^◌, ◌+◌, IsSome, length};
 ghost use Rattle.scope_rules.specs.declared.types.capacity.Limits.{Limits};
-ghost use Rattle.scope_rules.specs.History.{History};
+ghost use Rattle.scope_rules.specs.History.{History, opening};
 ghost use Rattle.scope_rules.specs.Legal.{Legal};
-ghost use Rattle.scope_rules.specs.Scopes.{joined, closing, closed, surrounding, next_level};
+ghost use Rattle.scope_rules.specs.Scopes.{joined, closing, closed, forked_in, surrounding, level, next_level};
 ghost use Rattle.scope_rules.specs.Cancels.{is_cancelled};
 ghost use Rattle.scope_rules.specs.Tasks.{stage, settled};
-ghost use Rattle.scope_rules.specs.Bindings.{stack};
+ghost use Rattle.scope_rules.specs.Bindings.{stack, bound_as_opened, holds_last};
+ghost use Rattle.scope_rules.specs.Checks.{owner_check, refuse_closing};
+ghost use Rattle.scope_checks.specs.Passes.{Passes};
 ghost use Rattle.scope_rows.specs.Table.{HasActor};
-ghost use Rattle.scope_kept.specs.KeptTables.{IsKeptOf};
+ghost use Rattle.scope_kept.specs.KeptTables.{IsKeptOf, opened_as_high};
 
 use crate::kept::Kept;
 use scope_rules::{Actor, Counts, ScopeId, Stage, TaskId};
@@ -76,12 +78,91 @@ impl Kept {
         }
     }
 
+    /// The scope that the actor was forked in, if it is a task.
+    #[tactic(auto, unfolding(scope_rules::specs::Scopes::forked_in))]
+    fn forked_in(&self, actor: Actor) -> Option<ScopeId>
+        ensures { (h : History) → IsKeptOf h self.now → result ≡ forked_in h actor }
+    {
+        match self.rows.task(actor) {
+            Some(row) => Some(row.forking.scope),
+            None => None,
+        }
+    }
+
+    /// The scope that lies around whatever the actor opens next.
+    #[tactic(auto, unfolding(scope_rules::specs::Scopes::surrounding))]
+    pub(crate) fn surrounding(&self, actor: Actor) -> Option<ScopeId>
+        ensures { (L : Limits) (h : History) → Legal L h → IsKeptOf h self.now → result ≡ surrounding h actor }
+    {
+        match self.rows.innermost(actor) {
+            Some(scope) => Some(scope),
+            None => self.forked_in(actor),
+        }
+    }
+
+    /// The level of the scope, or 0 where it has no row.
+    fn level(&self, scope: ScopeId) -> u64
+        ensures agrees { (L : Limits) (h : History) → Legal L h → IsKeptOf h self.now → IsSome (opening h scope) → result ≡ level h scope }
+        ensures small { result < 2 ^ 32 }
+    {
+        match self.rows.scope(scope) {
+            Some(_) => u64::from(self.cuts.level(scope)),
+            None => 0,
+        }
+    }
+
+    /// The level of what the actor opens next: 1 where nothing lies around it.
+    #[tactic(auto, unfolding(scope_rules::specs::Scopes::next_level))]
+    pub(crate) fn next_level(&self, actor: Actor) -> u64
+        ensures { (L : Limits) (h : History) → Legal L h → IsKeptOf h self.now → result ≡ next_level h actor }
+    {
+        match self.surrounding(actor) {
+            Some(scope) => self.level(scope) + 1,
+            None => 1,
+        }
+    }
+
     /// How many own pairs the actor has.
     pub(crate) fn stack_len(&self, actor: Actor) -> usize
         requires { HasActor self.now.rows actor }
         ensures { (h : History) → IsKeptOf h self.now → result ≡ length (stack h actor) }
     {
         self.envs.stack_len(actor)
+    }
+
+    /// Whether the actor's bindings are those at the opening of the scope, which is its own and not
+    /// closing: the pairs of then still stand, so heights tell.
+    pub(crate) fn bound_as_opened(&self, actor: Actor, scope: ScopeId) -> bool
+        requires { HasActor self.now.rows actor }
+        ensures { (L : Limits) (h : History) → Legal L h → IsKeptOf h self.now → Passes (owner_check h actor scope) → Passes (refuse_closing h scope) → result ≡ bound_as_opened h actor scope }
+    {
+        match self.rows.scope(scope) {
+            Some(row) => self.stack_len(actor) == row.height,
+            None => false,
+        }
+    }
+
+    /// Whether a scope that the actor has not closed was opened while its last pair stood: the innermost
+    /// one was, where any was.
+    pub(crate) fn holds_last(&self, actor: Actor) -> bool
+        requires { HasActor self.now.rows actor }
+        ensures { (L : Limits) (h : History) → Legal L h → IsKeptOf h self.now → result ≡ holds_last h actor }
+    {
+        match self.rows.innermost(actor) {
+            Some(scope) => self.is_as_high(actor, scope),
+            None => false,
+        }
+    }
+
+    /// Whether the actor has at most as many own pairs as at the opening of the scope.
+    fn is_as_high(&self, actor: Actor, scope: ScopeId) -> bool
+        requires { HasActor self.now.rows actor }
+        ensures { (h : History) → IsKeptOf h self.now → result ≡ opened_as_high h actor scope }
+    {
+        match self.rows.scope(scope) {
+            Some(row) => self.stack_len(actor) <= row.height,
+            None => false,
+        }
     }
 }
 
