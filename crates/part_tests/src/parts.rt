@@ -5,6 +5,7 @@ mod books;
 mod deadlines;
 mod envs;
 mod joiners;
+mod kept;
 mod trees;
 mod types;
 

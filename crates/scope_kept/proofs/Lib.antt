@@ -1,3 +1,4 @@
 pub mod Checked
 pub mod Alike
 pub mod NeverOpened
+pub mod ActorsThere

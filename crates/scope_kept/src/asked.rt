@@ -3,9 +3,9 @@
 
 ghost use Rattle.std.specs.Prelude.{◌≡◌, ◌==◌, ◌&&◌, ◌<◌, ◌^◌, ◌+◌, IsSome, length};
 ghost use Rattle.scope_rules.specs.declared.types.capacity.Limits.{Limits};
-ghost use Rattle.scope_rules.specs.History.{History, opening};
+ghost use Rattle.scope_rules.specs.History.{History, opening, forking};
 ghost use Rattle.scope_rules.specs.Legal.{Legal};
-ghost use Rattle.scope_rules.specs.Scopes.{joined, closing, closed, forked_in, surrounding, level, next_level};
+ghost use Rattle.scope_rules.specs.Scopes.{innermost, joined, closing, closed, forked_in, surrounding, level, next_level};
 ghost use Rattle.scope_rules.specs.Cancels.{is_cancelled};
 ghost use Rattle.scope_rules.specs.Tasks.{stage, settled};
 ghost use Rattle.scope_rules.specs.Bindings.{stack, bound_as_opened, holds_last};
@@ -15,9 +15,37 @@ ghost use Rattle.scope_rows.specs.Table.{HasActor};
 ghost use Rattle.scope_kept.specs.KeptTables.{IsKeptOf, opened_as_high};
 
 use crate::kept::Kept;
+use scope_rules::types::records::{Forking, Opening};
 use scope_rules::{Actor, Counts, ScopeId, Stage, TaskId};
 
 impl Kept {
+    /// The opening of the scope, if it was opened since the base.
+    pub(crate) fn opening(&self, scope: ScopeId) -> Option<Opening>
+        ensures { (h : History) → IsKeptOf h self.now → result ≡ opening h scope }
+    {
+        match self.rows.scope(scope) {
+            Some(row) => Some(row.opening),
+            None => None,
+        }
+    }
+
+    /// The forking of the task, if it was forked since the base.
+    pub(crate) fn forking(&self, task: TaskId) -> Option<Forking>
+        ensures { (h : History) → IsKeptOf h self.now → result ≡ forking h task }
+    {
+        match self.rows.task(task) {
+            Some(row) => Some(row.forking),
+            None => None,
+        }
+    }
+
+    /// The actor's innermost scope: the latest that it opened and has not closed.
+    pub(crate) fn innermost(&self, actor: Actor) -> Option<ScopeId>
+        ensures { (L : Limits) (h : History) → Legal L h → IsKeptOf h self.now → result ≡ innermost h actor }
+    {
+        self.rows.innermost(actor)
+    }
+
     /// Whether the scope is joined.
     pub(crate) fn joined(&self, scope: ScopeId) -> bool
         ensures { (L : Limits) (h : History) → Legal L h → IsKeptOf h self.now → result ≡ joined h scope }

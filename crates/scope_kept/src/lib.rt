@@ -3,5 +3,8 @@
 
 mod asked;
 mod kept;
+mod readings;
+mod realm;
 
 pub use kept::Kept;
+pub use realm::KeptRealm;

@@ -1,5 +1,4 @@
-use Rattle.std.proofs.Common.{◌≡◌, ℕ, ◌==◌, false, length, sym, subst, ap, ◌∙◌}
-use Rattle.scope_rules.specs.Bindings.{stack, bound_as_opened}
+use Rattle.std.proofs.Common.{sym, subst, ◌∙◌}
 use Rattle.scope_checks.proofs.PassedReadings.{passed_bound, passed_owner}
 use Rattle.scope_kept.specs.KeptTables.{IsKeptOf}
 use Rattle.scope_kept.proofs.NeverOpened.{unbound_alone, same_height}

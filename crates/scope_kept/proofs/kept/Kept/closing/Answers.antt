@@ -1,4 +1,4 @@
-use Rattle.std.proofs.Common.{sym, subst, ◌∙◌}
+use Rattle.std.proofs.Common.{sym, subst}
 use Rattle.scope_kept.specs.KeptTables.{IsKeptOf}
 use Rattle.scope_kept.proofs.NeverOpened.{not_closing}
 use Rattle.scope_kept.proofs.kept.Kept.closing.Goals as goal

@@ -1,4 +1,4 @@
-use Rattle.std.proofs.Common.{sym, subst, ◌∙◌}
+use Rattle.std.proofs.Common.{sym, subst}
 use Rattle.scope_kept.specs.KeptTables.{IsKeptOf}
 use Rattle.scope_kept.proofs.NeverOpened.{uncancelled}
 use Rattle.scope_kept.proofs.kept.Kept.is_cancelled.Goals as goal
