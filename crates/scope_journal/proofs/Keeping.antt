@@ -1,5 +1,5 @@
 -- One accepted event more keeps what a journal keeps, and so does a retirement.
-use Rattle.std.proofs.Common.{◌≡◌, ℕ, ◌+◌, ◌<◌, ◌≤◌, ◌^◌, Option, List, [], ◌∷◌, ◌++◌, length, refl, arith, length-append}
+use Rattle.std.proofs.Common.{◌≡◌, ℕ, ◌+◌, ◌<◌, ◌≤◌, Option, List, [], ◌∷◌, length, refl, arith, length-append}
 use Rattle.scope_rules.specs.declared.types.capacity.Limits.{Limits}
 use Rattle.scope_rules.specs.declared.types.capacity.TheConstants.{LOAD_LIMIT, GREATEST_NUMBER}
 use Rattle.scope_rules.specs.declared.types.events.Event.{Event}
@@ -23,12 +23,6 @@ kept_push L h e capacity more units kept ok enough = record {
   counted = omega (arith, kept.counted, load_push h e);
 }
 
--- an accepted event that costs nothing keeps what is kept
-pub kept_free : (L : Limits) (h : History) (e : Event) (capacity units : ℕ) → JournalKeeps L h capacity units → Accepts L h e → weight e ≡ 0 → JournalKeeps L (followed h e) capacity units
-kept_free L h e capacity units kept ok free =
-    let same : units + weight e ≡ units = omega (arith, free) in
-    rw same at (kept_push L h e capacity capacity units kept ok (omega (arith, kept.room, free)))
-
 -- what is kept has small numbers
 pub kept_small : (L : Limits) (h : History) (capacity units : ℕ) → JournalKeeps L h capacity units → L.load ≤ LOAD_LIMIT → HasSmallNumbers h
 kept_small L h capacity units kept limit = record {
@@ -37,13 +31,9 @@ kept_small L h capacity units kept limit = record {
   tasks = omega (arith, kept.within.tasks_fit);
 }
 
--- there is room for an event that costs nothing
-pub kept_room : (L : Limits) (h : History) (e : Event) (capacity units : ℕ) → JournalKeeps L h capacity units → Accepts L h e → weight e ≡ 0 → length h.events < capacity
-kept_room L h e capacity units kept ok free = omega (arith, kept.covered, kept.room, owed_event L h e ok, free)
-
--- the load of a history with an accepted event more is above its length
-pub kept_more : (L : Limits) (h : History) (e : Event) (capacity units : ℕ) → JournalKeeps L h capacity units → Accepts L h e → length h.events + 1 ≤ load h + weight e
-kept_more L h e capacity units kept ok = omega (arith, kept.covered, owed_event L h e ok)
+-- there is room for an event, with room for its load
+pub kept_room : (L : Limits) (h : History) (e : Event) (capacity units : ℕ) → JournalKeeps L h capacity units → Accepts L h e → load h + weight e ≤ capacity → length h.events < capacity
+kept_room L h e capacity units kept ok enough = omega (arith, kept.covered, enough, owed_event L h e ok)
 
 missing_none : (mark : Event → Option ℕ) (es : List Event) → missing mark [] es ≡ 0
 unfolding missing

@@ -1,10 +1,22 @@
--- What a journal keeps true of its realm.
-use Rattle.std.specs.Prelude.{◌≡◌, ℕ, ◌+◌, ◌≤◌, length}
+-- What a journal is: its realm, and its room. And what it keeps true of them.
+use Rattle.std.specs.Prelude.{◌≡◌, ℕ, ◌+◌, ◌≤◌, length, Result, Ok, Err}
 use Rattle.scope_rules.specs.declared.types.capacity.Limits.{Limits}
 use Rattle.scope_rules.specs.History.{History}
 use Rattle.scope_rules.specs.Load.{load}
 use Rattle.scope_rules.specs.Legal.{Legal, IsWithin}
 use Rattle.scope_rules.specs.Owed.{owed}
+use Rattle.scope_rules.specs.declared.types.refusals.Refusal.{Refusal}
+use Rattle.scope_rules.specs.Replies.{Realm}
+
+-- the realm, and how many units of load its next events may cost without memory
+pub record JournalTable : Type 0 where
+  pub realm : Realm
+  pub spare : ℕ
+
+-- the realm of the journal that was answered
+abbrev pub realm_given : Result JournalTable Refusal → Result Realm Refusal
+realm_given (Ok j) = Ok j.realm
+realm_given (Err r) = Err r
 
 -- its history is legal and within the limits, the units are its load, and there is room for that, which
 -- covers what is there and what may still come at no cost

@@ -1,12 +1,13 @@
-ghost use Rattle.std.specs.Prelude.{◌≡◌, MatchResult};
+ghost use Rattle.std.specs.Prelude.{◌≡◌, ◌≤◌, ◌-◌, OnOk, OnErr, MatchResult};
 ghost use Rattle.scope_rules.specs.History.{HasSmallNumbers};
 ghost use Rattle.scope_rules.specs.Legal.{Accepts, Legal, IsWithin};
 ghost use Rattle.scope_rules.specs.Load.{weight, load};
 ghost use Rattle.scope_rules.specs.Replies.{with_event, starting, base_check, base_of, AnswersOrMemory};
+ghost use Rattle.scope_journal.specs.JournalKeeps.{realm_given};
 
 use crate::weights::weight;
 use scope_rules::{Base, Event, Limits, Refusal};
-use std::alloc::Global;
+use std::alloc::{AllocError, Global};
 use std::marker::Model;
 
 /// A realm's limits, its base and its events since. They are always a legal history within the limits,
@@ -21,13 +22,12 @@ pub struct Journal {
 }
 
 impl Model for Journal {
-    ghost use Rattle.scope_rules.specs.Replies.{Realm};
-    ghost use Rattle.std.specs.Prelude.{vec_capacity};
-    ghost use Rattle.scope_journal.specs.JournalKeeps.{JournalKeeps};
+    ghost use Rattle.std.specs.Prelude.{◌-◌, vec_capacity};
+    ghost use Rattle.scope_journal.specs.JournalKeeps.{JournalTable, JournalKeeps};
 
-    ghost Value = { Realm };
+    ghost Value = { JournalTable };
 
-    ghost view = { λ j. record { limits = j.limits; history = record { base = j.base; events = j.events.items } } };
+    ghost view = { λ j. record { realm = record { limits = j.limits; history = record { base = j.base; events = j.events.items } }; spare = vec_capacity j.events - j.load } };
 
     ghost invariant = { λ j. JournalKeeps j.limits (record { base = j.base; events = j.events.items }) (vec_capacity j.events) j.load };
 }
@@ -37,7 +37,7 @@ impl Journal {
 
     /// The journal of a fresh realm. It takes no memory; that of later calls comes from `alloc`.
     pub fn new(alloc: Global, limits: Limits) -> Journal
-        ensures { result ≡ starting limits the_start }
+        ensures { result.realm ≡ starting limits the_start }
     {
         Journal {
             limits,
@@ -50,7 +50,7 @@ impl Journal {
     /// The journal of a realm that begins with the base, as a retirement leaves it. Refused where the
     /// base has more pairs than the limit of load (`TooMany`), and where memory is refused (`Memory`).
     pub fn with_base(alloc: Global, limits: Limits, base: Base) -> Result<Journal, Refusal>
-        ensures { AnswersOrMemory (base_check limits base) (starting limits base) result }
+        ensures { AnswersOrMemory (base_check limits base) (starting limits base) (realm_given result) }
     {
         let _numbers = (base.scopes(), base.tasks());
         let pairs = base.binds().len();
@@ -76,16 +76,16 @@ impl Journal {
     /// The realm's limits. It also says of the history that it is legal, and within the limits: the
     /// load and the numbers too, the base's counted.
     pub fn limits(&self) -> Limits
-        ensures limits { result ≡ self.now.limits }
-        ensures legal { Legal self.now.limits self.now.history }
-        ensures within { IsWithin self.now.limits self.now.history }
+        ensures limits { result ≡ self.now.realm.limits }
+        ensures legal { Legal self.now.realm.limits self.now.realm.history }
+        ensures within { IsWithin self.now.realm.limits self.now.realm.history }
     {
         self.limits
     }
 
     /// What the history begins with.
     pub fn base(&self) -> &Base
-        ensures { result.now ≡ self.now.history.base }
+        ensures { result.now ≡ self.now.realm.history.base }
     {
         &self.base
     }
@@ -93,17 +93,32 @@ impl Journal {
     /// The events since, in order. It also says that places and numbers fit 32 bits.
     #[tactic(auto, using(crate::proofs::Keeping::kept_small))]
     pub fn events(&self) -> &[Event]
-        ensures events { result.now ≡ self.now.history.events }
-        ensures small { HasSmallNumbers self.now.history }
+        ensures events { result.now ≡ self.now.realm.history.events }
+        ensures small { HasSmallNumbers self.now.realm.history }
     {
         &self.events
     }
 
     /// The load so far: a unit for each pair of the base, and what the events cost.
     pub fn load(&self) -> u64
-        ensures { result ≡ load self.now.history }
+        ensures { result ≡ load self.now.realm.history }
     {
         self.load
+    }
+
+    /// Makes room for events that cost so much, in units of load.
+    ///
+    /// # Errors
+    ///
+    /// Where memory is refused. Then nothing has changed.
+    pub fn reserve(&mut self, units: u64) -> Result<(), AllocError>
+        requires { units ≤ 4 }
+        ensures ok { OnOk result (units ≤ self.new.spare) }
+        ensures kept { self.new.realm ≡ self.old.realm }
+        ensures err { OnErr result (self.new ≡ self.old) }
+    {
+        let more = (self.load + units) as usize - self.events.len();
+        self.events.reserve(more)
     }
 
     /// Appends the event, which was accepted.
@@ -112,33 +127,33 @@ impl Journal {
     ///
     /// `Memory` where memory is refused. Then nothing has changed.
     pub fn append(&mut self, event: Event) -> Result<(), Refusal>
-        requires { Accepts self.old.limits self.old.history event }
-        ensures answer { MatchResult result (λ _. self.new ≡ with_event self.old event) (λ refusal. (refusal ≡ Refusal.Memory) × (self.new ≡ self.old)) }
+        requires { Accepts self.old.realm.limits self.old.realm.history event }
+        ensures answer { MatchResult result (λ _. self.new.realm ≡ with_event self.old.realm event) (λ refusal. (refusal ≡ Refusal.Memory) × (self.new ≡ self.old)) }
     {
-        let load = self.load + weight(&event);
-        let more = load as usize - self.events.len();
-        let Ok(()) = self.events.reserve(more) else {
+        if self.reserve(weight(&event)).is_err() {
             return Err(Refusal::Memory);
-        };
-        self.events.push_reserved(event);
-        self.load = load;
+        }
+        self.record(event);
         Ok(())
     }
 
-    /// Appends the event, which was accepted and costs nothing, so that there is room for it.
+    /// Appends the event, which was accepted, and for which there is room: one that costs nothing always
+    /// has it.
     pub fn record(&mut self, event: Event)
-        requires accepted { Accepts self.old.limits self.old.history event }
-        requires free { weight event ≡ 0 }
-        ensures added { self.new ≡ with_event self.old event }
-        ensures legal { Legal self.new.limits self.new.history }
+        requires accepted { Accepts self.old.realm.limits self.old.realm.history event }
+        requires room { weight event ≤ self.old.spare }
+        ensures added { self.new.realm ≡ with_event self.old.realm event }
+        ensures room { self.new.spare ≡ self.old.spare - weight event }
+        ensures legal { Legal self.new.realm.limits self.new.realm.history }
     {
+        self.load += weight(&event);
         self.events.push_reserved(event);
     }
 
     /// Leaves the base alone, which is that of the history.
     pub fn restart(&mut self, base: Base)
-        requires { base ≡ base_of self.old.history }
-        ensures { self.new ≡ starting self.old.limits base }
+        requires { base ≡ base_of self.old.realm.history }
+        ensures { self.new.realm ≡ starting self.old.realm.limits base }
     {
         self.events.clear();
         self.load = base.binds().len() as u64;

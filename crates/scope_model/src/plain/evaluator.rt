@@ -24,7 +24,7 @@ impl Model for Plain {
 
     ghost Value = { Realm };
 
-    ghost view = { λ p. p.journal };
+    ghost view = { λ p. p.journal.realm };
 }
 
 impl Plain {
