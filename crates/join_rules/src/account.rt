@@ -1,11 +1,14 @@
-ghost use Rattle.std.specs.Prelude.{◌≡◌, ◌+◌, ◌<◌, ◌≤◌, ◌∷◌, [], ◌++◌, OnOk, OnErr, IsOk, true, false, if◌then◌else◌, is_ok, ◌&&◌, vec_len};
+ghost use Rattle.std.specs.Prelude.{◌≡◌, ◌+◌, ◌<◌, ◌≤◌, ◌∷◌, [], ◌++◌, OnOk, OnErr, IsOk, true, false, if◌then◌else◌, is_ok, ◌&&◌, vec_len, List};
 ghost use Rattle.scope_rules.specs.declared.types.capacity.TheConstants.{TASK_LIMIT};
 ghost use Rattle.std.specs.Vec.{vec_capacity};
 ghost use Rattle.join_rules.specs.Totals.{counted, totals_of, totals_fire};
 ghost use Rattle.join_rules.specs.Entries.{MayBeAsked};
-ghost use Rattle.join_rules.specs.JoinerStanding.{HasRoom, SameJoiner, SameButRoom};
+ghost use Rattle.scope_rules.specs.Joining.{fires};
+ghost use Rattle.scope_rules.specs.declared.types.values.Completion.{Completion};
+ghost use Rattle.join_rules.specs.JoinerStanding.{StandsFor, HasRoom, SameJoiner, SameButRoom};
 
 use crate::tally::Tally;
+use crate::until::StoredTest;
 use scope_rules::{Completion, Policy};
 use std::alloc::{AllocError, Global};
 use std::marker::Model;
@@ -92,6 +95,28 @@ impl Account {
             Policy::AwaitAll => false,
             Policy::Until(rule) => self.tally.meets(rule),
         }
+    }
+
+    /// Whether the joiner fires at the latest completion, for every list of completions that gives what
+    /// is kept. Where the list is kept, and the joiner waits until the rule of the closure given is met,
+    /// the closure is shown the list and answers; otherwise the totals answer.
+    pub fn fires_by(&self, test: Option<&StoredTest>) -> bool
+        requires few { self.now.totals.completions ≤ TASK_LIMIT }
+        ensures { (list : List Completion) → StandsFor self.now list → result ≡ fires self.now.policy list }
+    {
+        match test {
+            Some(stored) if self.listed && self.policy == Policy::Until(stored.rule()) => {
+                stored.ask(self.seen())
+            }
+            _ => self.fires(),
+        }
+    }
+
+    /// Whether the list of completions is kept, for a caller's closure to be shown it.
+    pub fn listed(&self) -> bool
+        ensures { result ≡ self.now.has_closure }
+    {
+        self.listed
     }
 
     /// The joiner as plain data.

@@ -34,10 +34,14 @@ impl Progress {
         ensures stands { StandsFor (standing_of result) [] }
     {
         let policy = joiner.policy();
-        let test = joiner.into_test();
+        let listed = joiner.asks_closure();
         Progress {
-            account: Account::new(alloc, policy, test.is_some()),
-            test,
+            account: Account::new(alloc, policy, listed),
+            test: if listed {
+                Some(joiner.into_test())
+            } else {
+                None
+            },
         }
     }
 
@@ -126,9 +130,6 @@ impl Progress {
         requires { (standing_of self.now).totals.completions ≤ TASK_LIMIT }
         ensures { (list : List Completion) → StandsFor (standing_of self.now) list → result ≡ fires (standing_of self.now).policy list }
     {
-        match &self.test {
-            Some(stored) => stored.ask(self.account.seen()),
-            None => self.account.fires(),
-        }
+        self.account.fires_by(self.test.as_ref())
     }
 }

@@ -1,5 +1,4 @@
-ghost use Rattle.std.specs.Prelude.{◌≡◌, is_some};
-ghost use Rattle.std.specs.Option.{ForSome};
+ghost use Rattle.std.specs.Prelude.{◌≡◌, true};
 ghost use Rattle.scope_rules.specs.declared.types.joiners.Policy.TheVariants.{Until};
 
 use crate::until::{StoredTest, UntilTest};
@@ -36,14 +35,25 @@ impl Joiner {
         }
     }
 
-    /// The closure of the caller's that the joiner asks, if there is one.
-    pub(crate) fn into_test(self) -> Option<StoredTest>
-        ensures closure { is_some result ≡ asks_closure self }
-        ensures rule { ForSome result (λ stored. policy_of self ≡ Until stored.rule) }
+    /// Whether the joiner asks a closure of the caller's, which `into_test` gives.
+    pub fn asks_closure(&self) -> bool
+        ensures { result ≡ asks_closure self.now }
     {
         match self {
-            Joiner::Until(UntilTest::Closure(stored)) => Some(stored),
-            _ => None,
+            Joiner::Until(UntilTest::Closure(_)) => true,
+            _ => false,
+        }
+    }
+
+    /// The closure of the caller's that the joiner asks. What else there is of the joiner is plain data,
+    /// which `policy` tells.
+    pub fn into_test(self) -> StoredTest
+        requires { asks_closure self ≡ true }
+        ensures { policy_of self ≡ Until result.rule }
+    {
+        match self {
+            Joiner::Until(UntilTest::Closure(stored)) => stored,
+            _ => unreachable!(),
         }
     }
 }

@@ -17,8 +17,15 @@ pub struct StoredTest {
 }
 
 impl StoredTest {
-    /// What the closure answers of these completions.
-    pub(crate) fn ask(&self, completions: &[Completion]) -> bool
+    /// The rule that the closure agrees with.
+    pub fn rule(&self) -> Rule
+        ensures { result ≡ self.now.rule }
+    {
+        self.rule
+    }
+
+    /// What the closure answers of these completions: whether they meet its rule.
+    pub fn ask(&self, completions: &[Completion]) -> bool
         requires { MayBeAsked completions.now }
         ensures { result ≡ meets self.now.rule completions.now }
     {
@@ -64,7 +71,7 @@ impl UntilTest {
     {
         match self {
             Self::Plain(rule) => *rule,
-            Self::Closure(stored) => stored.rule,
+            Self::Closure(stored) => stored.rule(),
         }
     }
 }
