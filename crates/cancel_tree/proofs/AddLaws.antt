@@ -20,11 +20,11 @@ use Rattle.scope_rules.proofs.Prefixes.{get_push}
 
 -- ---- one more at the end
 
-push_here : {A : Type 0} (xs : List A) (x : A) → slice_get (xs ++ x ∷ []) (length xs) ≡ Some x
+pub push_here : {A : Type 0} (xs : List A) (x : A) → slice_get (xs ++ x ∷ []) (length xs) ≡ Some x
 push_here [] x = refl
 push_here (y ∷ xs) x = push_here xs x
 
-push_length : {A : Type 0} (xs : List A) (x : A) → length (xs ++ x ∷ []) ≡ suc (length xs)
+pub push_length : {A : Type 0} (xs : List A) (x : A) → length (xs ++ x ∷ []) ≡ suc (length xs)
 push_length [] x = refl
 push_length (y ∷ xs) x = ap suc (push_length xs x)
 
@@ -111,9 +111,9 @@ no_inner outer inward s n h (Some c) e = absurd (let f = last_inner_found outer 
 
 -- ---- the tree
 
-module _ (told : List Told) (links : List Links) (cuts : List (Option Cut)) (kept : AreColumns told links cuts) (parent : Option ℕ) (shield : Bool) (there : IfSome parent (IsAdded told)) (d : Links) where
+module _ (told : List Told) (links : List Links) (cuts : List (Option Cut)) (kept : AreColumns told links cuts) (parent : Option ℕ) (shield : Bool) (opened : ℕ) (there : IfSome parent (IsAdded told)) (d : Links) where
   abbrev r : Told
-  r = new_row parent shield
+  r = new_row parent shield opened
 
   abbrev pub new : List Told
   new = told ++ r ∷ []
@@ -127,11 +127,11 @@ module _ (told : List Told) (links : List Links) (cuts : List (Option Cut)) (kep
   abbrev pub cut : Option Cut
   cut = option_and_then (cut_of told) (outer r)
 
-  row_before : (t : ℕ) → t ≤ n → row new t ≡ row told t
+  pub row_before : (t : ℕ) → t ≤ n → row new t ≡ row told t
   row_before zero h = refl
   row_before (suc i) h = get_push told r i (omega arith)
 
-  row_here : row new (suc n) ≡ Some r
+  pub row_here : row new (suc n) ≡ Some r
   row_here = push_here told r
 
   outers : (t : ℕ) → t ≤ n → outer_of new t ≡ outer_of told t
@@ -156,7 +156,7 @@ module _ (told : List Told) (links : List Links) (cuts : List (Option Cut)) (kep
   added_parent p None h e = absurd (some_none p e)
   added_parent p (Some q) h e = subst (IsAdded told) (same_Some q p e) h
 
-  inward_new : IsInward (parent_of new)
+  pub inward_new : IsInward (parent_of new)
   inward_new zero p e = absurd (some_none p e)
   inward_new (suc i) p e =
       elim (cases_lt i n) [
@@ -238,10 +238,10 @@ module _ (told : List Told) (links : List Links) (cuts : List (Option Cut)) (kep
             old.level ∙ kept.levels i old.old old.at ∙ sym (ap length (chain_kept (parent_of told) (parent_of new) kept.inward n parents inward_new (suc i) (omega arith) le)))
       ]
 
-  cut_before : (t : ℕ) → 1 ≤ t → t ≤ n → cut_of new t ≡ cut_of told t
+  pub cut_before : (t : ℕ) → 1 ≤ t → t ≤ n → cut_of new t ≡ cut_of told t
   cut_before t h k = cut_kept (outer_of told) (outer_of new) inwards n outers (outer_inward new inward_new) (own_of told) (own_of new) owns t h k
 
-  cut_here : cut_of new (suc n) ≡ cut
+  pub cut_here : cut_of new (suc n) ≡ cut
   cut_here =
       cut_law (outer_of new) (outer_inward new inward_new) (own_of new) (suc n)
       ∙ ap (λ o. nearer o (option_and_then (cut_of new) (outer_of new (suc n)))) own_here
@@ -292,47 +292,47 @@ pub put_linked : (links links_new : List Links) (added x : Links) (p scope : ℕ
 put_linked links links_new added x p scope same at is =
     λ i. set (same i) (p - 1) (record ((at ∙ ap (λ ls. get_or ls (p - 1) x) same) i) { first_inner = Some (is i) })
 
-pub link_is : (told : List Told) (parent : Option ℕ) (shield : Bool) (around : ℕ) (next o : Option ℕ) → around + 1 ≡ level_in told parent → o ≡ outer (new_row parent shield)
+pub link_is : (told : List Told) (parent : Option ℕ) (shield : Bool) (opened : ℕ) (around : ℕ) (next o : Option ℕ) → around + 1 ≡ level_in told parent → o ≡ outer (new_row parent shield opened)
     → next ≡ option_and_then (λ s. last_inner (outer_of told) s (length told)) o
-    → (let l : Links = record { level = around + 1; first_inner = None; next_inner = next } in l) ≡ record { level = level_in told parent; first_inner = None; next_inner = option_and_then (λ s. last_inner (outer_of told) s (length told)) (outer (new_row parent shield)) }
-link_is told parent shield around next o level is at =
+    → (let l : Links = record { level = around + 1; first_inner = None; next_inner = next } in l) ≡ record { level = level_in told parent; first_inner = None; next_inner = option_and_then (λ s. last_inner (outer_of told) s (length told)) (outer (new_row parent shield opened)) }
+link_is told parent shield opened around next o level is at =
     λ i. record { level = level i; first_inner = None; next_inner = (at ∙ ap (option_and_then (λ s. last_inner (outer_of told) s (length told))) is) i }
 
 -- the columns with the new row, as they are written
-module _ (ts told told_new : List Told) (links links_new : List Links) (cuts cuts_new : List (Option Cut)) (is : told ≡ ts) (kept : AreColumns told links cuts) (parent : Option ℕ) (shield : Bool) (there : IfSome parent (IsAdded ts))
+module _ (ts told told_new : List Told) (links links_new : List Links) (cuts cuts_new : List (Option Cut)) (is : told ≡ ts) (kept : AreColumns told links cuts) (parent : Option ℕ) (shield : Bool) (opened : ℕ) (there : IfSome parent (IsAdded ts))
     (around : ℕ) (next o : Option ℕ) (k : Option Cut) (b : Bool) (done : b ≡ true)
-    (a : told_new ≡ cond b (told ++ new_row parent shield ∷ []) told)
+    (a : told_new ≡ cond b (told ++ new_row parent shield opened ∷ []) told)
     (l : links_new ≡ cond b (links ++ (let x : Links = record { level = around + 1; first_inner = None; next_inner = next } in x) ∷ []) links)
     (u : cuts_new ≡ cond b (cuts ++ k ∷ []) cuts)
-    (level : around + 1 ≡ level_in ts parent) (at : o ≡ outer (new_row parent shield)) (after : next ≡ option_and_then (λ s. last_inner (outer_of ts) s (length ts)) o) (cut_is : k ≡ option_and_then (cut_of ts) o) where
+    (level : around + 1 ≡ level_in ts parent) (at : o ≡ outer (new_row parent shield opened)) (after : next ≡ option_and_then (λ s. last_inner (outer_of ts) s (length ts)) o) (cut_is : k ≡ option_and_then (cut_of ts) o) where
   there_told : IfSome parent (IsAdded told)
   there_told = subst (λ xs. IfSome parent (IsAdded xs)) (sym is) there
 
   abbrev the_link : Links
-  the_link = record { level = level_in told parent; first_inner = None; next_inner = option_and_then (λ s. last_inner (outer_of told) s (length told)) (outer (new_row parent shield)) }
+  the_link = record { level = level_in told parent; first_inner = None; next_inner = option_and_then (λ s. last_inner (outer_of told) s (length told)) (outer (new_row parent shield opened)) }
 
   abbrev the_cut : Option Cut
-  the_cut = option_and_then (cut_of told) (outer (new_row parent shield))
+  the_cut = option_and_then (cut_of told) (outer (new_row parent shield opened))
 
-  told_is : told_new ≡ told ++ new_row parent shield ∷ []
-  told_is = a ∙ ap (λ c. cond c (told ++ new_row parent shield ∷ []) told) done
+  told_is : told_new ≡ told ++ new_row parent shield opened ∷ []
+  told_is = a ∙ ap (λ c. cond c (told ++ new_row parent shield opened ∷ []) told) done
 
   links_are : links_new ≡ links ++ the_link ∷ []
   links_are =
       l ∙ ap (λ c. cond c (links ++ (let x : Links = record { level = around + 1; first_inner = None; next_inner = next } in x) ∷ []) links) done
-      ∙ ap (λ x. links ++ x ∷ []) (link_is told parent shield around next o (level ∙ ap (λ xs. level_in xs parent) (sym is)) at (after ∙ ap (λ xs. option_and_then (λ s. last_inner (outer_of xs) s (length xs)) o) (sym is)))
+      ∙ ap (λ x. links ++ x ∷ []) (link_is told parent shield opened around next o (level ∙ ap (λ xs. level_in xs parent) (sym is)) at (after ∙ ap (λ xs. option_and_then (λ s. last_inner (outer_of xs) s (length xs)) o) (sym is)))
 
   cuts_are : cuts_new ≡ cuts ++ the_cut ∷ []
   cuts_are = u ∙ ap (λ c. cond c (cuts ++ k ∷ []) cuts) done ∙ ap (λ x. cuts ++ x ∷ []) (cut_is ∙ ap (λ xs. option_and_then (cut_of xs) o) (sym is) ∙ ap (option_and_then (cut_of told)) at)
 
-  kept_at : (d : Links) → AreColumns (told ++ new_row parent shield ∷ []) (relinked (outer (new_row parent shield)) links the_link d) (cuts ++ the_cut ∷ [])
-  kept_at d = kept_add told links cuts kept parent shield there_told d
+  kept_at : (d : Links) → AreColumns (told ++ new_row parent shield opened ∷ []) (relinked (outer (new_row parent shield opened)) links the_link d) (cuts ++ the_cut ∷ [])
+  kept_at d = kept_add told links cuts kept parent shield opened there_told d
 
-  kept_columns : (ls : List Links) (d : Links) → ls ≡ relinked (outer (new_row parent shield)) links the_link d → AreColumns told_new ls cuts_new
+  kept_columns : (ls : List Links) (d : Links) → ls ≡ relinked (outer (new_row parent shield opened)) links the_link d → AreColumns told_new ls cuts_new
   kept_columns ls d e =
       subst (λ xs. AreColumns xs ls cuts_new) (sym told_is)
-      (subst (λ xs. AreColumns (told ++ new_row parent shield ∷ []) ls xs) (sym cuts_are)
-      (subst (λ xs. AreColumns (told ++ new_row parent shield ∷ []) xs (cuts ++ the_cut ∷ [])) (sym e) (kept_at d)))
+      (subst (λ xs. AreColumns (told ++ new_row parent shield opened ∷ []) ls xs) (sym cuts_are)
+      (subst (λ xs. AreColumns (told ++ new_row parent shield opened ∷ []) xs (cuts ++ the_cut ∷ [])) (sym e) (kept_at d)))
 
   pub kept_alone : Links → o ≡ None → AreColumns told_new links_new cuts_new
   kept_alone d none = kept_columns links_new d (links_are ∙ ap (λ x. relinked x links the_link d) (sym none ∙ at))

@@ -13,7 +13,7 @@ use Rattle.cancel_tree.specs.Reach.{reached, IsSpread, is_at_or_before}
 use Rattle.cancel_tree.specs.Columns.{IsLinked, AreColumns}
 use Rattle.std.proofs.lemmas.List.{get_or_default}
 use Rattle.cancel_tree.proofs.RowLaws.{changed_set, changed_same, row_at, altered_length, field_kept, field_at, row_changed, outer_inward}
-use Rattle.cancel_tree.proofs.CutLaws.{cut_put, cut_stays}
+use Rattle.cancel_tree.proofs.CutLaws.{cut_put, cut_stays, cut_bounded, reached_cut}
 
 pub kept_from : (told new : List Told) (links : List Links) (cuts cuts_new : List (Option Cut)) → length new ≡ length told → parent_of new ≡ parent_of told → outer_of new ≡ outer_of told → length cuts_new ≡ length cuts
     → ((s : ℕ) (c : Cut) → own_of new s ≡ Some c → c.cause.scope ≡ s) → ((i : ℕ) → i < length told → slice_get cuts_new i ≡ Some (cut_of new (suc i))) → AreColumns told links cuts → AreColumns new links cuts_new
@@ -68,7 +68,7 @@ module _ (told : List Told) (links : List Links) (cuts : List (Option Cut)) (s n
   was : own_of told s ≡ None
   was = field_at (λ t. t.own) told s d added ∙ none
 
-  now : own_of new s ≡ Some m
+  pub now : own_of new s ≡ Some m
   now =
       ap (option_and_then (λ (t : Told). t.own)) (row_changed f told s s added.0)
       ∙ ap (λ b. option_and_then (λ (t : Told). t.own) (cond b (option_map f (row told s)) (row told s))) (eq-eqb s s refl)
@@ -100,6 +100,23 @@ module _ (told : List Told) (links : List Links) (cuts : List (Option Cut)) (s n
   kept_by cuts_new len put =
       kept_from told new links cuts cuts_new (altered_length f told (s - 1)) parents outers len named (λ i lt. put i lt ∙ (λ j. Some (cut_by (sym outers j) (own_of new) (suc i)))) kept
 
+  -- the cuts after a cancel that is not later than the cause
+  pub cuts_put : is_at_or_before n (cut_of told s) ≡ true → (t : ℕ) → 1 ≤ t → cut_of new t ≡ cond (reached (outer_of told) (own_of new) s 0 t) (Some m) (cut_of told t)
+  cuts_put first t le = (λ j. cut_by (outers j) (own_of new) t) ∙ cut_put (outer_of told) inward (own_of told) (own_of new) s m added.0 was now others latest.own (not_before n (cut_of told s) first) t le
+
+  -- what such a cancel reaches had the cut of the scope, if any, and that is at its place
+  pub cut_replaced : is_at_or_before n (cut_of told s) ≡ true → (t : ℕ) → 1 ≤ t → reached (outer_of told) (own_of new) s 0 t ≡ true → (c : Cut) → cut_of told t ≡ Some c → c.place ≡ n
+  cut_replaced first t le there c e =
+      let before : n ≤ c.place = not_before n (cut_of told s) first c (sym (reached_cut (outer_of told) inward (own_of told) (own_of new) s m added.0 was now others t le there) ∙ e) in
+      let after : c.place ≤ n = cut_bounded (outer_of told) inward (own_of told) n latest.own t le c e in
+      omega arith
+
+  -- and one that is later leaves them
+  pub cuts_later : is_at_or_before n (cut_of told s) ≡ false → (t : ℕ) → 1 ≤ t → cut_of new t ≡ cut_of told t
+  cuts_later after t le =
+      let before = some_from_false n (cut_of told s) after in
+      (λ j. cut_by (outers j) (own_of new) t) ∙ cut_stays (outer_of told) inward (own_of told) (own_of new) s m added.0 was now others before.0 before.1 before.2 t le
+
   -- a cancel that comes after the cause leaves all cuts
   pub kept_later : is_at_or_before n (cut_of told s) ≡ false → AreColumns new links cuts
   kept_later after =
@@ -114,7 +131,7 @@ module _ (told : List Told) (links : List Links) (cuts : List (Option Cut)) (s n
       ∙ (λ j. cond (reached (outers j) (own_of new) s 0 (suc i)) (Some (Some m)) (slice_get cuts i))
       ∙ ap (cond (reached (outer_of told) (own_of new) s 0 (suc i)) (Some (Some m))) (kept.cut i lt)
       ∙ in_some (reached (outer_of told) (own_of new) s 0 (suc i)) (Some m) (cut_of told (suc i))
-      ∙ ap Some (sym (cut_put (outer_of told) inward (own_of told) (own_of new) s m added.0 was now others latest (not_before n (cut_of told s) first) (suc i) (omega arith))))
+      ∙ ap Some (sym (cut_put (outer_of told) inward (own_of told) (own_of new) s m added.0 was now others latest.own (not_before n (cut_of told s) first) (suc i) (omega arith))))
 
 -- what the walk wrote back
 pub written_back : {A : Type 0} (old new : List A) (n : ℕ) → length new ≡ n → take n (new ++ drop (length new) old) ≡ new

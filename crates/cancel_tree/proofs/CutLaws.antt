@@ -108,7 +108,7 @@ module _ (outer : ℕ → Option ℕ) (inward : IsInward outer) (own new : ℕ �
       cut_law outer inward own t ∙ ap (λ o. nearer o (far (outer t))) none ∙ ap far e
 
   -- what is reached had the cut of the scope
-  reached_cut : (t : ℕ) → 1 ≤ t → R t ≡ true → cut t ≡ cut s
+  pub reached_cut : (t : ℕ) → 1 ≤ t → R t ≡ true → cut t ≡ cut s
   reached_cut =
       along outer inward (λ t. R t ≡ true → cut t ≡ cut s)
       (λ t k ih r. elim (cases_eq t s) [

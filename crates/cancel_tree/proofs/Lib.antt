@@ -7,3 +7,7 @@ pub mod AddLaws
 pub mod LeastLaws
 pub mod LatestLaws
 pub mod CauseLaws
+pub mod ListLaws
+pub mod RunLaws
+pub mod ListedLaws
+pub mod OrderLaws

@@ -8,6 +8,8 @@ use Rattle.scope_rules.specs.Chains.{IsInward}
 use Rattle.cancel_tree.specs.Reach.{reached, last_inner, IsSpread}
 use Rattle.cancel_tree.specs.declared.rows.Links.{Links}
 use Rattle.cancel_tree.specs.Columns.{IsLinked}
+use Rattle.cancel_tree.specs.declared.listed.Listed.{Listed}
+use Rattle.cancel_tree.specs.Listed.{IsListOf, IsGrown}
 use Rattle.cancel_tree.proofs.ReachLaws.{reached_skip, reached_start, reached_step, last_inner_found, last_inner_after, last_inner_place, place}
 
 -- the number from which on the inner scopes were visited
@@ -20,6 +22,11 @@ pub record IsSpreadUpTo (outer : ℕ → Option ℕ) (own : ℕ → Option Cut) 
   pub spread : IsSpread (reached outer own s (bound next)) cut old new
   pub inner : (c : ℕ) → next ≡ Some c → outer c ≡ Some s
   pub within : (c : ℕ) → next ≡ Some c → (1 ≤ c) × (c ≤ length old)
+
+-- what has a cut is listed, and more are listed than at the start
+pub record IsListedSoFar (cuts : List (Option Cut)) (old new : Listed) : Type 0 where
+  pub whole : IsListOf cuts new.scopes.items
+  pub grown : IsGrown old new
 
 eqb_suc : (i j : ℕ) → eqb (suc i) (suc j) ≡ eqb i j
 eqb_suc i j = grind (arith, nat_tests)

@@ -1,5 +1,5 @@
 -- What a tree keeps beside what it was told.
-use Rattle.std.specs.Prelude.{◌≡◌, ℕ, suc, ◌<◌, ◌≤◌, Option, Some, List, length, slice_get}
+use Rattle.std.specs.Prelude.{◌≡◌, ℕ, suc, ◌<◌, Option, Some, List, length, slice_get}
 use Rattle.scope_rules.specs.declared.types.records.Cut.{Cut}
 use Rattle.cancel_tree.specs.declared.rows.Told.{Told}
 use Rattle.cancel_tree.specs.declared.rows.Links.{Links}

@@ -1,3 +1,6 @@
 pub mod Rows
 pub mod Reach
 pub mod Columns
+pub mod Order
+pub mod Listed
+pub mod Lending

@@ -1,5 +1,5 @@
 -- What a tree was told: a row for each scope, in order of their numbers, which count from 1.
-use Rattle.std.specs.Prelude.{◌≡◌, ℕ, zero, suc, ◌+◌, ◌-◌, ◌≤◌, Bool, cond, is_some, Option, Some, None, List, [], ◌∷◌, length, slice_get}
+use Rattle.std.specs.Prelude.{◌≡◌, ℕ, zero, suc, ◌+◌, ◌-◌, ◌≤◌, max, Bool, cond, Option, Some, None, List, [], ◌∷◌, length, slice_get}
 use Rattle.std.specs.Option.{option_and_then, option_map, option_or}
 use Rattle.scope_rules.specs.declared.types.answers.Cause.{Cause}
 use Rattle.scope_rules.specs.declared.types.answers.CauseKind.{CauseKind}
@@ -61,15 +61,24 @@ place_of told s = option_map (λ c. c.place) (cut_of told s)
 abbrev pub effective_of : List Told → ℕ → Effective
 effective_of told s = effective_by (outer_of told) (own_of told) (deadline_of told) s
 
--- no own cancel stands at a later place
-abbrev pub IsLatest : List Told → ℕ → Type 0
-IsLatest told place = (s : ℕ) (c : Cut) → own_of told s ≡ Some c → c.place ≤ place
+-- the place of its opening
+abbrev pub opened_of : List Told → ℕ → Option ℕ
+opened_of told s = option_map (λ t. t.opened) (row told s)
+
+-- the place at which it became cancelled, not before its opening
+abbrev pub cancelled_at : List Told → ℕ → Option ℕ
+cancelled_at told s = option_and_then (λ n. option_map (λ c. max n c.place) (cut_of told s)) (opened_of told s)
+
+-- no own cancel and no opening stands at a later place
+pub record IsLatest (told : List Told) (place : ℕ) : Type 0 where
+  pub own : (s : ℕ) (c : Cut) → own_of told s ≡ Some c → c.place ≤ place
+  pub opening : (s n : ℕ) → opened_of told s ≡ Some n → n ≤ place
 
 -- ---- what the calls make of the rows
 
--- a scope that nothing was told of but where it is
-abbrev pub new_row : Option ℕ → Bool → Told
-new_row parent shield = record { parent = parent; shield = shield; own = None; deadline = None }
+-- a scope that nothing was told of but where it is, opened at this place
+abbrev pub new_row : Option ℕ → Bool → ℕ → Told
+new_row parent shield opened = record { parent = parent; shield = shield; opened = opened; own = None; deadline = None }
 
 -- a cancel of the scope, at this place
 abbrev pub cut_at : ℕ → ℕ → CauseKind → Cut

@@ -8,6 +8,8 @@ use scope_rules::types::records::Cut;
 pub struct Told {
     pub parent: Option<ScopeId>,
     pub shield: bool,
+    /// The place of its opening.
+    pub opened: usize,
     pub own: Option<Cut>,
     pub deadline: Option<u64>,
 }

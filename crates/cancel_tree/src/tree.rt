@@ -1,4 +1,5 @@
-ghost use Rattle.std.specs.Prelude.{◌≡◌, ℕ, ◌+◌, ◌<◌, ◌≤◌, ◌++◌, ◌∷◌, [], length, is_some, is_ok, IfSome, IfOk, IfErr, OnOk, OnErr, Some, None, if◌then◌else◌, nat_lt};
+ghost use Rattle.std.specs.Prelude.{◌≡◌, ℕ, ◌+◌, ◌<◌, ◌≤◌, ◌++◌, ◌∷◌, [], length, is_some, is_ok, IfSome, IfOk, IfErr, OnOk, OnErr, Some, None, if◌then◌else◌, nat_lt, List, drop};
+ghost use Rattle.std.specs.Borrow.{sem};
 ghost use Rattle.scope_rules.specs.declared.types.refusals.Refusal.TheVariants.{TooDeep, Memory};
 ghost use Rattle.std.specs.List.{Contains};
 ghost use Rattle.std.specs.Option.{option_and_then};
@@ -7,7 +8,10 @@ ghost use Rattle.scope_rules.specs.Chains.{IsInward, chain_by, least_on, nearer,
 ghost use Rattle.scope_rules.specs.Earliest.{IsEarliest};
 ghost use Rattle.cancel_tree.specs.Reach.{is_at_or_before, last_inner};
 ghost use Rattle.cancel_tree.specs.Rows.{IsAdded, IsLatest, cause_of, place_of, cut_of, own_of, outer_of, deadline_of, effective_of, level_of, level_in, new_row, with_own, with_deadline, changed, cut_at};
+ghost use Rattle.cancel_tree.specs.Order.{IsCancelOrder};
+ghost use Rattle.cancel_tree.specs.Lending.{KeepsTold};
 
+use crate::listed::Listed;
 use crate::rows::{Links, Told};
 use crate::spread::spread;
 use scope_rules::types::capacity::LEVEL_LIMIT;
@@ -17,25 +21,27 @@ use std::alloc::{AllocError, Global};
 use std::marker::Model;
 
 /// The tree of a realm's scopes, which are numbered from 1 in order of opening.
-/// Its calls take constant time, but for `cancel`, which takes time by the scopes that it reaches, and
-/// `effective_deadline`, which goes outwards along the chain.
+/// Its calls take constant time, but for `cancel`, which takes time by the scopes that it reaches,
+/// `effective_deadline`, which goes outwards along the chain, and the sorting of the scopes that one
+/// event cancelled: when `cancelled_since` asks for them, or when the next event cancels a scope.
 #[derive(Drop)]
 pub struct Tree {
     told: Vec<Told>,
     links: Vec<Links>,
     cuts: Vec<Option<Cut>>,
+    listed: Listed,
 }
 
 impl Model for Tree {
     ghost use Rattle.std.specs.Prelude.{List};
     ghost use Rattle.cancel_tree.specs.declared.rows.Told.{Told as Row};
-    ghost use Rattle.cancel_tree.specs.Columns.{AreColumns};
+    ghost use Rattle.cancel_tree.specs.Listed.{AreKept};
 
     ghost Value = { List Row };
 
     ghost view = { λ a. a.told.items };
 
-    ghost invariant = { λ a. AreColumns a.told.items a.links.items a.cuts.items };
+    ghost invariant = { λ a. AreKept a.told.items a.links.items a.cuts.items a.listed };
 }
 
 impl Tree {
@@ -47,11 +53,13 @@ impl Tree {
             told: Vec::new(alloc),
             links: Vec::new(alloc),
             cuts: Vec::new(alloc),
+            listed: Listed::new(alloc),
         }
     }
 
     /// Adds the scope, which has the next number, inside `parent`, or outside all others. Where the
-    /// parent is cancelled and no shield is in the way, it is cancelled from the start.
+    /// parent is cancelled and no shield is in the way, it is cancelled from the start. `opened` is the
+    /// place of its opening, which never falls from one call to the next, nor below that of a cancel.
     ///
     /// # Errors
     ///
@@ -62,10 +70,12 @@ impl Tree {
         scope: ScopeId,
         parent: Option<ScopeId>,
         shield: bool,
+        opened: usize,
     ) -> Result<(), Refusal>
         requires next { scope ≡ length self.old + 1 }
         requires there { IfSome parent (IsAdded self.old) }
-        ensures added { OnOk result (self.new ≡ self.old ++ new_row parent shield ∷ []) }
+        requires latest { IsLatest self.old opened }
+        ensures added { OnOk result (self.new ≡ self.old ++ new_row parent shield opened ∷ []) }
         ensures level { OnOk result (level_in self.old parent ≤ LEVEL_LIMIT) }
         ensures refused { IfErr result (λ refusal. refusal ≡ (if nat_lt LEVEL_LIMIT (level_in self.old parent) then TooDeep else Memory)) }
         ensures unchanged { OnErr result (self.new ≡ self.old) }
@@ -77,6 +87,7 @@ impl Tree {
         let told = Told {
             parent,
             shield,
+            opened,
             own: None,
             deadline: None,
         };
@@ -87,6 +98,9 @@ impl Tree {
             next_inner: self.last_inner(outer),
         };
         let cut = self.cut_from(outer);
+        if self.listed.make_room(self.told.len() + 1).is_err() {
+            return Err(Refusal::Memory);
+        }
         if append(
             &mut self.told,
             &mut self.links,
@@ -99,6 +113,7 @@ impl Tree {
         {
             return Err(Refusal::Memory);
         }
+        self.listed.add(scope, cut.is_some(), opened);
         if let Some(outer) = outer {
             self.links[(outer - 1) as usize].first_inner = Some(scope);
         }
@@ -237,8 +252,28 @@ impl Tree {
         let is_cause = is_at_or_before(number, self.cuts[place]);
         self.told[place].own = Some(cut);
         if is_cause {
-            spread(&self.told, &self.links, &mut self.cuts, scope, cut);
+            self.listed.begin(number as usize);
+            spread(
+                &self.told,
+                &self.links,
+                &mut self.cuts,
+                &mut self.listed,
+                scope,
+                cut,
+            );
         }
+    }
+
+    /// The cancelled scopes in order of their cancellation, those that one event cancelled by their
+    /// numbers, from the n-th on, from 0: none where no more than n are cancelled. It takes no memory,
+    /// and time by the scopes that were cancelled since it was last called, with those of the last event
+    /// before them.
+    pub fn cancelled_since(&mut self, n: usize) -> &[ScopeId]
+        ensures* kept { sem 𝓛 (KeepsTold self.entry) }
+        ensures order { (list : List ℕ) × IsCancelOrder self.old list × (result.now ≡ drop n list) }
+    {
+        self.listed.order();
+        self.listed.since(n)
     }
 }
 
@@ -329,6 +364,13 @@ impl Tree {
     /// The cause of a scope is a scope on its chain.
     pub fn cause_is_on_the_chain(&self, scope: ScopeId)
         ensures { IfSome (cause_of self.now scope) (λ cause. Contains (chain_by (outer_of self.now) scope) cause.scope) }
+    {
+        let _told = &self.told;
+    }
+
+    /// There is one list of the cancelled scopes in order of their cancellation.
+    pub fn cancel_order_is_one(&self)
+        ensures { (one other : List ℕ) → IsCancelOrder self.now one → IsCancelOrder self.now other → one ≡ other }
     {
         let _told = &self.told;
     }

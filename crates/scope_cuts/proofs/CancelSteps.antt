@@ -52,7 +52,7 @@ cancelled_next L h s old new legal was has is =
     (λ m row there row_is. at_row_by (λ k t. IsToldOf (followed h e) old.before (old.before + k) t) at.number f m row
     (λ same.
     let here : IsToldOf h old.before (old.before + at.number) row = subst (λ k. IsToldOf h old.before (old.before + k) row) same row_is in
-    row_next h e old.before at.number row (f row) here refl refl (counting_same h e old.before (old.before + at.number) row here refl refl)
+    row_next h e old.before at.number row (f row) here refl refl refl (counting_same h e old.before (old.before + at.number) row here refl refl)
     (sym (ap (λ k. option_or row.own (option_map (λ x. cut_at place at.number x) (option_or k (cond (joiner_fires (followed h e) (old.before + at.number) e) (Some Joiner) (cond (is_past (moment (followed h e)) row.deadline) (Some Deadline) None))))) (call_here s (old.before + at.number) (sym at.is) None))))
     (λ apart. row_stays L h e old.before m row legal row_is now refl refl (call_there s (old.before + m) (other_row old.before m at.number s at.is apart)) refl))
     (λ i acc there. accounts_stay L h e old legal was (λ k. refl) i acc (sym (ap (λ xs. slice_get xs i) accounts) ∙ there))
@@ -120,6 +120,13 @@ ticked_parent before now place n t = by (passes before now t.deadline)
     by true = refl
     by false = refl
 
+ticked_opened : (before now place n : ℕ) (t : Told) → (ticked before now place n t).opened ≡ t.opened
+ticked_opened before now place n t = by (passes before now t.deadline)
+  where
+    by : (b : Bool) → (cond b (with_own (cut_at place n Deadline) t) t).opened ≡ t.opened
+    by true = refl
+    by false = refl
+
 ticked_deadline : (before now place n : ℕ) (t : Told) → (ticked before now place n t).deadline ≡ t.deadline
 ticked_deadline before now place n t = by (passes before now t.deadline)
   where
@@ -141,7 +148,7 @@ ticked_next L h now old new legal was stepped moment_is accounts =
     let s = old.before + m in
     let deadline = ticked_deadline old.moment now place m row in
     let own = ticked_own old.moment now place m row (λ past. past_has_own L h old.before s row legal row_is (sym (ap (λ x. is_past x row.deadline) was.moment) ∙ past)) in
-    row_next h e old.before m row (ticked old.moment now place m row) row_is (ticked_parent old.moment now place m row) (ticked_outer old.moment now place m row)
+    row_next h e old.before m row (ticked old.moment now place m row) row_is (ticked_parent old.moment now place m row) (ticked_outer old.moment now place m row) (ticked_opened old.moment now place m row)
     (counting_same h e old.before s row row_is refl refl ∙ sym deadline)
     (own ∙ ap (λ x. option_or row.own (option_map (λ k. cut_at place m k) (kind_told None false x row.deadline))) (sym at)
     ∙ ap (λ d. option_or row.own (option_map (λ k. cut_at place m k) (kind_told None false (moment (followed h e)) d))) (sym deadline)))
@@ -173,9 +180,9 @@ moved_row h b n now d t was unjoined at = by (is_past now d) refl
     same = moment_same h (Move (b + n) d) refl ∙ sym at
 
     by : (p : Bool) → is_past now d ≡ p → IsToldOf (followed h (Move (b + n) d)) b (b + n) (cond p (with_own (cut_at (length h.events) n Deadline) (with_deadline d t)) (with_deadline d t))
-    by true past = row_next h (Move (b + n) d) b n t (with_own (cut_at (length h.events) n Deadline) (with_deadline d t)) was refl refl (counting_moved h (b + n) b d t was unjoined)
+    by true past = row_next h (Move (b + n) d) b n t (with_own (cut_at (length h.events) n Deadline) (with_deadline d t)) was refl refl refl (counting_moved h (b + n) b d t was unjoined)
         (ap (λ x. option_or t.own (option_map (λ k. cut_at (length h.events) n k) (cond x (Some Deadline) None))) (sym (ap (λ m. is_past m d) same ∙ past)))
-    by false past = row_next h (Move (b + n) d) b n t (with_deadline d t) was refl refl (counting_moved h (b + n) b d t was unjoined)
+    by false past = row_next h (Move (b + n) d) b n t (with_deadline d t) was refl refl refl (counting_moved h (b + n) b d t was unjoined)
         (sym (option_or-none t.own) ∙ ap (λ x. option_or t.own (option_map (λ k. cut_at (length h.events) n k) (cond x (Some Deadline) None))) (sym (ap (λ m. is_past m d) same ∙ past)))
 
 pub moved_next : (L : Limits) (h : History) (s : ℕ) (d : Option ℕ) (old new : CutTable) → Legal L h → AreCutsOf h old → HasRow old s → joined h s ≡ false
@@ -224,7 +231,7 @@ closing_next L h a s old new legal was stepped moment_is accounts =
     by : (m : ℕ) (row : Told) → IsToldOf h old.before (old.before + m) row → (c : Bool) → covers h s (old.before + m) ≡ c
         → IsToldOf (followed h (BeginClose a s)) old.before (old.before + m) (cond c (with_own (cut_at (length h.events) m Close) row) row)
     by m row row_is true covered =
-        row_next h (BeginClose a s) old.before m row (with_own (cut_at (length h.events) m Close) row) row_is refl refl (counting_same h (BeginClose a s) old.before (old.before + m) row row_is refl refl)
+        row_next h (BeginClose a s) old.before m row (with_own (cut_at (length h.events) m Close) row) row_is refl refl refl (counting_same h (BeginClose a s) old.before (old.before + m) row row_is refl refl)
         (ap (λ c. option_or row.own (option_map (λ k. cut_at (length h.events) m k) (kind_told (cond c (Some Close) None) false (moment (followed h (BeginClose a s))) row.deadline))) (sym covered))
     by m row row_is false covered =
         row_stays L h (BeginClose a s) old.before m row legal row_is (moment_same h (BeginClose a s) refl) refl refl (ap (λ c. cond c (Some Close) None) covered) refl

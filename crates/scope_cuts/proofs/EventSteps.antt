@@ -131,6 +131,6 @@ joined_next L h a s old new legal was has is =
     (λ same.
     let here : IsToldOf h old.before (old.before + at.number) row = subst (λ k. IsToldOf h old.before (old.before + k) row) same row_is in
     let gone : counting_deadline (followed h e) (old.before + at.number) ≡ None = subst (λ k. counting_deadline (followed h (Join a k)) (old.before + at.number) ≡ None) at.is (counting_joined h a old.before (old.before + at.number) row here) in
-    row_next h e old.before at.number row (with_deadline None row) here refl refl gone (sym (option_or-none row.own)))
+    row_next h e old.before at.number row (with_deadline None row) here refl refl refl gone (sym (option_or-none row.own)))
     (λ apart. row_stays L h e old.before m row legal row_is now (other_row old.before m at.number s at.is apart) refl refl refl))
     (λ i acc there. accounts_stay L h e old legal was (λ k. refl) i acc (sym (ap (λ xs. slice_get xs i) accounts) ∙ there))

@@ -73,7 +73,7 @@ fired_row : (L : Limits) (h : History) (k : ℕ) (end : EndValue) (b n : ℕ) (t
     → IsToldOf (followed h (Finish k end)) b (b + n) (with_own (cut_at (length h.events) n Joiner) t)
 fired_row L h k end b n t legal was fired =
     let e = Finish k end in
-    row_next h e b n t (with_own (cut_at (length h.events) n Joiner) t) was refl refl (counting_same h e b (b + n) t was refl refl)
+    row_next h e b n t (with_own (cut_at (length h.events) n Joiner) t) was refl refl refl (counting_same h e b (b + n) t was refl refl)
     (sym (ap (λ j. option_or t.own (option_map (λ x. cut_at (length h.events) n x) (kind_told None j (moment (followed h e)) t.deadline))) fired))
 
 -- the accounts, once that of the task's scope has the completion

@@ -35,7 +35,7 @@ deadline_put : (d : Option ℕ) (told : List Told) (n m : ℕ) → IsAdded told 
 deadline_put d told n m added = ap (option_and_then (λ (t : Told). t.deadline)) (row_changed (with_deadline d) told n m added.0) ∙ by (eqb m n) refl (rows.row told m) refl
   where
     no_told : Told
-    no_told = record { parent = None; shield = false; own = None; deadline = None }
+    no_told = record { parent = None; shield = false; opened = 0; own = None; deadline = None }
 
     by : (b : Bool) → eqb m n ≡ b → (r : Option Told) → rows.row told m ≡ r → option_and_then (λ (t : Told). t.deadline) (cond b (option_map (with_deadline d) r) r) ≡ cond b d (option_and_then (λ (t : Told). t.deadline) r)
     by true at (Some t) is = refl
@@ -107,28 +107,28 @@ kept_begun before now small = record {
     none zero = refl
     none (suc n) = refl
 
-deadline_added : (inside : Option ℕ) (shield : Bool) (told : List Told) (n : ℕ) → deadline_of (told ++ new_row inside shield ∷ []) n ≡ deadline_of told n
-deadline_added inside shield told zero = refl
-deadline_added inside shield [] (suc zero) = refl
-deadline_added inside shield [] (suc (suc i)) = refl
-deadline_added inside shield (t ∷ ts) (suc zero) = refl
-deadline_added inside shield (t ∷ ts) (suc (suc i)) = deadline_added inside shield ts (suc i)
+deadline_added : (inside : Option ℕ) (shield : Bool) (opened : ℕ) (told : List Told) (n : ℕ) → deadline_of (told ++ new_row inside shield opened ∷ []) n ≡ deadline_of told n
+deadline_added inside shield opened told zero = refl
+deadline_added inside shield opened [] (suc zero) = refl
+deadline_added inside shield opened [] (suc (suc i)) = refl
+deadline_added inside shield opened (t ∷ ts) (suc zero) = refl
+deadline_added inside shield opened (t ∷ ts) (suc (suc i)) = deadline_added inside shield opened ts (suc i)
 
 -- a scope without a deadline leaves the index
-pub kept_add : (before now : ℕ) (inside : Option ℕ) (shield : Bool) (account : JoinerStanding) (told : List Told) (accounts : List JoinerStanding) (moments : Moments) → before + length told + 1 < 2 ^ 32 → AreKept before now told accounts moments
-    → AreKept before now (told ++ new_row inside shield ∷ []) (accounts ++ account ∷ []) moments
-kept_add before now inside shield account told accounts moments small was = record {
-  rows = omega (arith, length-append accounts (account ∷ []), length-append told (new_row inside shield ∷ []), was.rows);
-  numbers = omega (arith, small, length-append told (new_row inside shield ∷ []));
-  indexed = λ n. was.indexed n ∙ ap (to_come now) (sym (deadline_added inside shield told n));
+pub kept_add : (before now : ℕ) (inside : Option ℕ) (shield : Bool) (opened : ℕ) (account : JoinerStanding) (told : List Told) (accounts : List JoinerStanding) (moments : Moments) → before + length told + 1 < 2 ^ 32 → AreKept before now told accounts moments
+    → AreKept before now (told ++ new_row inside shield opened ∷ []) (accounts ++ account ∷ []) moments
+kept_add before now inside shield opened account told accounts moments small was = record {
+  rows = omega (arith, length-append accounts (account ∷ []), length-append told (new_row inside shield opened ∷ []), was.rows);
+  numbers = omega (arith, small, length-append told (new_row inside shield opened ∷ []));
+  indexed = λ n. was.indexed n ∙ ap (to_come now) (sym (deadline_added inside shield opened told n));
 }
 
 -- one with a deadline that is still to come is put into the index
-pub kept_add_before : (before now d : ℕ) (inside : Option ℕ) (shield : Bool) (account : JoinerStanding) (told : List Told) (accounts : List JoinerStanding) (moments : Moments) → before + length told + 1 < 2 ^ 32 → now < d → AreKept before now told accounts moments
-    → AreKept before now (changed (told ++ new_row inside shield ∷ []) (length told + 1) (with_deadline (Some d))) (accounts ++ account ∷ []) (map.insert moments (length told + 1) d)
-kept_add_before before now d inside shield account told accounts moments small coming was =
-    kept_move before now (length told + 1) d (told ++ new_row inside shield ∷ []) (accounts ++ account ∷ []) moments
-    (omega arith, omega (arith, length-append told (new_row inside shield ∷ []))) coming (kept_add before now inside shield account told accounts moments small was)
+pub kept_add_before : (before now d : ℕ) (inside : Option ℕ) (shield : Bool) (opened : ℕ) (account : JoinerStanding) (told : List Told) (accounts : List JoinerStanding) (moments : Moments) → before + length told + 1 < 2 ^ 32 → now < d → AreKept before now told accounts moments
+    → AreKept before now (changed (told ++ new_row inside shield opened ∷ []) (length told + 1) (with_deadline (Some d))) (accounts ++ account ∷ []) (map.insert moments (length told + 1) d)
+kept_add_before before now d inside shield opened account told accounts moments small coming was =
+    kept_move before now (length told + 1) d (told ++ new_row inside shield opened ∷ []) (accounts ++ account ∷ []) moments
+    (omega arith, omega (arith, length-append told (new_row inside shield opened ∷ []))) coming (kept_add before now inside shield opened account told accounts moments small was)
 
 no_deadline : (told : List Told) → deadline_of told (length told + 1) ≡ None
 no_deadline told = rw (add-one (length told)) (ap (option_and_then (λ (t : Told). t.deadline)) (slice_get_past told (length told) (omega arith)))

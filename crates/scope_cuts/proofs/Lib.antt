@@ -11,3 +11,4 @@ pub mod Moves
 pub mod Passing
 pub mod Opens
 pub mod Kept
+mod CancelOrders

@@ -42,7 +42,7 @@ use Rattle.scope_cuts.proofs.EventSteps.{moment_same}
 
 -- the row of a scope that is opened: with its own cancel, where its deadline has passed
 abbrev pub opened_row : ℕ → ℕ → ℕ → Option ℕ → Options → Told
-opened_row now place n parent options = record { parent = parent; shield = options.shield; own = cond (is_past now options.deadline) (Some (cut_at place n Deadline)) None; deadline = options.deadline }
+opened_row now place n parent options = record { parent = parent; shield = options.shield; opened = place; own = cond (is_past now options.deadline) (Some (cut_at place n Deadline)) None; deadline = options.deadline }
 
 -- the number of the next scope was not given yet
 next_unopened : (h : History) → IsOpened h (scopes h + 1) → ⊥
@@ -115,6 +115,7 @@ new_row L h a b n policy options parent legal number around =
     record {
       opened = record { place = length h.events; actor = a; policy = policy; options = options };
       is = next_opening h a policy options;
+      place = refl;
       parent = next_parent h a policy options ∙ around;
       outer = next_outer h a policy options ∙ (ap (λ p. cond options.shield None p) around ∙ shielded b options.shield parent);
       own =

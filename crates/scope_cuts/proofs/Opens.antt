@@ -46,12 +46,12 @@ opened_with old new parent policy options place account there rule stands before
     (told ∙ ap (λ x. old.told ++ opened_row old.moment x (length old.told + 1) (option_map (λ p. p - old.before) parent) options ∷ []) at) accounts rule stands
 
 row_by : ℕ → ℕ → ℕ → Option ℕ → Bool → Option ℕ → Bool → Told
-row_by now place n parent shield deadline past = record { parent = parent; shield = shield; own = cond past (Some (cut_at place n Deadline)) None; deadline = deadline }
+row_by now place n parent shield deadline past = record { parent = parent; shield = shield; opened = place; own = cond past (Some (cut_at place n Deadline)) None; deadline = deadline }
 
 -- opened without a deadline
 pub opened_plain : (old new : CutTable) (parent : Option ℕ) (policy : Policy) (options : Options) (place : ℕ) (account : JoinerStanding)
     → IfSome parent (HasRow old) → account.policy ≡ policy → StandsFor account [] → options.deadline ≡ None
-    → new ≡ with_scope old (option_map (λ p. p - old.before) parent) options.shield account
+    → new ≡ with_scope old (option_map (λ p. p - old.before) parent) options.shield place account
     → IsOpened old new parent policy options place
 unfolding row_by
 opened_plain old new parent policy options place account there rule stands none is =
@@ -62,7 +62,7 @@ opened_plain old new parent policy options place account there rule stands none 
 -- opened with a deadline that is still to come
 pub opened_coming : (old new : CutTable) (parent : Option ℕ) (policy : Policy) (options : Options) (place d : ℕ) (account : JoinerStanding)
     → IfSome parent (HasRow old) → account.policy ≡ policy → StandsFor account [] → options.deadline ≡ Some d → old.moment < d
-    → new ≡ deadlined (with_scope old (option_map (λ p. p - old.before) parent) options.shield account) (old.before + (length old.told + 1)) (Some d)
+    → new ≡ deadlined (with_scope old (option_map (λ p. p - old.before) parent) options.shield place account) (old.before + (length old.told + 1)) (Some d)
     → IsOpened old new parent policy options place
 unfolding row_by
 opened_coming old new parent policy options place d account there rule stands deadline coming is =
@@ -70,34 +70,34 @@ opened_coming old new parent policy options place d account there rule stands de
     let n : (old.before + (length old.told + 1)) - old.before ≡ length old.told + 1 = omega arith in
     opened_with old new parent policy options place account there rule stands (ap (λ (t : CutTable). t.before) is) (ap (λ (t : CutTable). t.moment) is) (ap (λ (t : CutTable). t.accounts) is)
     (ap (λ (t : CutTable). t.told) is
-    ∙ (changed_last (with_deadline (Some d)) old.told (new_row inside options.shield) ((old.before + (length old.told + 1)) - old.before) n
+    ∙ (changed_last (with_deadline (Some d)) old.told (new_row inside options.shield place) ((old.before + (length old.told + 1)) - old.before) n
     ∙ (ap (λ b. old.told ++ row_by old.moment place (length old.told + 1) inside options.shield (Some d) b ∷ []) (sym (lt-leb d old.moment coming))
     ∙ ap (λ x. old.told ++ row_by old.moment place (length old.told + 1) inside options.shield x (is_past old.moment x) ∷ []) (sym deadline))))
 
 -- opened with a deadline that has passed
 pub opened_past : (old mid next new : CutTable) (parent : Option ℕ) (policy : Policy) (options : Options) (place d s : ℕ) (account : JoinerStanding)
     → IfSome parent (HasRow old) → account.policy ≡ policy → StandsFor account [] → options.deadline ≡ Some d → d ≤ old.moment → s ≡ old.before + (length old.told + 1)
-    → mid ≡ with_scope old (option_map (λ p. p - old.before) parent) options.shield account
+    → mid ≡ with_scope old (option_map (λ p. p - old.before) parent) options.shield place account
     → next ≡ deadlined mid s (Some d) → new ≡ cancelled next s Deadline place
     → IsOpened old new parent policy options place
 unfolding row_by
 opened_past old mid next new parent policy options place d s account there rule stands deadline past number added given is =
     let inside = option_map (λ p. p - old.before) parent in
-    let whole : new ≡ cancelled (deadlined (with_scope old inside options.shield account) s (Some d)) s Deadline place = is ∙ ap (λ t. cancelled t s Deadline place) (given ∙ ap (λ t. deadlined t s (Some d)) added) in
+    let whole : new ≡ cancelled (deadlined (with_scope old inside options.shield place account) s (Some d)) s Deadline place = is ∙ ap (λ t. cancelled t s Deadline place) (given ∙ ap (λ t. deadlined t s (Some d)) added) in
     let n : s - old.before ≡ length old.told + 1 = omega (arith, number) in
     let f = with_own (cut_at place (s - old.before) Deadline) in
     opened_with old new parent policy options place account there rule stands (ap (λ (t : CutTable). t.before) whole) (ap (λ (t : CutTable). t.moment) whole) (ap (λ (t : CutTable). t.accounts) whole)
     (ap (λ (t : CutTable). t.told) whole
-    ∙ (ap (λ rs. changed rs (s - old.before) f) (changed_last (with_deadline (Some d)) old.told (new_row inside options.shield) (s - old.before) n)
-    ∙ (changed_last f old.told (with_deadline (Some d) (new_row inside options.shield)) (s - old.before) n
+    ∙ (ap (λ rs. changed rs (s - old.before) f) (changed_last (with_deadline (Some d)) old.told (new_row inside options.shield place) (s - old.before) n)
+    ∙ (changed_last f old.told (with_deadline (Some d) (new_row inside options.shield place)) (s - old.before) n
     ∙ (ap (λ m. old.told ++ row_by old.moment place m inside options.shield (Some d) true ∷ []) n
     ∙ (ap (λ b. old.told ++ row_by old.moment place (length old.told + 1) inside options.shield (Some d) b ∷ []) (sym (le-leb d old.moment past))
     ∙ ap (λ x. old.told ++ row_by old.moment place (length old.told + 1) inside options.shield x (is_past old.moment x) ∷ []) (sym deadline))))))
 
 -- the new scope has a row
-pub has_added : (old new : CutTable) (inside : Option ℕ) (shield : Bool) (account : JoinerStanding) (s : ℕ) → s ≡ old.before + (length old.told + 1) → new ≡ with_scope old inside shield account → HasRow new s
-has_added old new inside shield account s number is =
-    subst (λ t. HasRow t s) (sym is) (record { after = omega (arith, number); within = omega (arith, number, length-append old.told (new_row inside shield ∷ [])) })
+pub has_added : (old new : CutTable) (inside : Option ℕ) (shield : Bool) (place : ℕ) (account : JoinerStanding) (s : ℕ) → s ≡ old.before + (length old.told + 1) → new ≡ with_scope old inside shield place account → HasRow new s
+has_added old new inside shield place account s number is =
+    subst (λ t. HasRow t s) (sym is) (record { after = omega (arith, number); within = omega (arith, number, length-append old.told (new_row inside shield place ∷ [])) })
 
-pub latest_added : (old new : CutTable) (inside : Option ℕ) (shield : Bool) (account : JoinerStanding) (place : ℕ) → new ≡ with_scope old inside shield account → IsLatest old.told place → IsLatest new.told place
-latest_added old new inside shield account place is latest = subst (λ (t : CutTable). IsLatest t.told place) (sym is) (latest_add old.told place inside shield latest)
+pub latest_added : (old new : CutTable) (inside : Option ℕ) (shield : Bool) (account : JoinerStanding) (place : ℕ) → new ≡ with_scope old inside shield place account → IsLatest old.told place → IsLatest new.told place
+latest_added old new inside shield account place is latest = subst (λ (t : CutTable). IsLatest t.told place) (sym is) (latest_add old.told place inside shield place (omega arith) latest)

@@ -1,5 +1,5 @@
 -- What the table answers is what the history says.
-use Rattle.std.proofs.Common.{◌≡◌, ◌∷◌, [], false, slice_get, ℕ, zero, suc, ◌+◌, ◌-◌, ◌<◌, Option, Some, None, option_map, List, length, is_some, refl, ap, sym, ◌∙◌, arith}
+use Rattle.std.proofs.Common.{◌≡◌, ◌∷◌, [], false, slice_get, ℕ, zero, suc, ◌+◌, ◌-◌, ◌<◌, ◌≤◌, Option, Some, None, option_map, List, length, is_some, refl, ap, sym, ◌∙◌, arith}
 use Rattle.std.specs.Option.{option_and_then, option_map_or}
 use Rattle.scope_rules.specs.declared.types.capacity.Limits.{Limits}
 use Rattle.scope_rules.specs.declared.types.records.OwnCancel.{OwnCancel}
@@ -12,6 +12,8 @@ use Rattle.scope_rules.specs.Scopes as rules
 use Rattle.scope_rules.specs.Cancels.{own, own_cut, cut, is_cancelled, deadline, counting_deadline, effective, move_of}
 use Rattle.scope_rules.specs.Legal.{Legal}
 use Rattle.scope_rules.proofs.Innermosts.{opened_after}
+use Rattle.scope_rules.proofs.Earlier.{opening_within}
+use Rattle.std.proofs.lemmas.Option.{same_Some}
 use Rattle.std.proofs.lemmas.List.{length-map}
 use Rattle.std.specs.Option.{IfSome}
 use Rattle.scope_rules.specs.Chains.{chain_by}
@@ -45,10 +47,10 @@ unrowed h t (suc i) was none it =
     let entry = entry_of t.told i (omega (arith, number.1, number.2, was.numbered, was.count)) in
     absurd (cc (none, entry.1))
 
-unopened : (h : History) (t : CutTable) (n : ℕ) → AreCutsOf h t → rows.row t.told n ≡ None → opening h (t.before + n) ≡ None
+pub unopened : (h : History) (t : CutTable) (n : ℕ) → AreCutsOf h t → rows.row t.told n ≡ None → opening h (t.before + n) ≡ None
 unopened h t n was none = none_by (opening h (t.before + n)) (λ o is. unrowed h t n was none (record { opened = o; is = is }))
 
-outer_unopened : (h : History) (s : ℕ) → opening h s ≡ None → rules.outer h s ≡ None
+pub outer_unopened : (h : History) (s : ℕ) → opening h s ≡ None → rules.outer h s ≡ None
 unfolding rules.outer
 outer_unopened h s none = rw none refl
 
@@ -152,9 +154,21 @@ own_early h s b o c is some = within (own h s) refl
         let stands = (own_place h s w found).0 in
         omega (arith, place, stands)
 
--- each own cancel stands at an earlier place
+-- each own cancel and each opening stands at an earlier place
 pub latest_place : (h : History) (t : CutTable) → AreCutsOf h t → IsLatest t.told (length h.events)
-latest_place h t was s c is = let early = own_early h (t.before + s) t.before (own_of t.told s) c (own_read h t was s) is in omega (arith, early)
+latest_place h t was = record {
+  own = λ s c is. let early = own_early h (t.before + s) t.before (own_of t.told s) c (own_read h t was s) is in omega (arith, early);
+  opening = λ s n is. by s n (rows.row t.told s) refl is;
+}
+  where
+    by : (s n : ℕ) (r : Option Told) → rows.row t.told s ≡ r → option_map (λ (x : Told). x.opened) r ≡ Some n → n ≤ length h.events
+    by s n None at is = absurd cc
+    by s n (Some row) at is =
+        let there = was.rows s row at in
+        let early = opening_within h (t.before + s) there.opened there.is in
+        let place = there.place in
+        let same : row.opened ≡ n = same_Some row.opened n is in
+        omega arith
 
 -- the parent of each scope, whether it has a row or not
 pub parent_read : (h : History) (t : CutTable) → AreCutsOf h t → (n : ℕ) → rules.parent h (t.before + n) ≡ option_map (λ p. t.before + p) (parent_of t.told n)

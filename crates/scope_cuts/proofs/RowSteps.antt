@@ -29,17 +29,18 @@ map_or_shifted b place n None (Some k) = refl
 
 -- the row of a scope with the event's own cancel, and with the deadline that counts by then
 pub row_next : (h : History) (e : Event) (b n : ℕ) (old new : Told) → IsToldOf h b (b + n) old
-    → new.parent ≡ old.parent → rows.outer new ≡ rows.outer old
+    → new.parent ≡ old.parent → rows.outer new ≡ rows.outer old → new.opened ≡ old.opened
     → counting_deadline (followed h e) (b + n) ≡ new.deadline
     → new.own ≡ option_or old.own (option_map (λ k. cut_at (length h.events) n k) (kind_told (direct_kind h (b + n) e) (joiner_fires (followed h e) (b + n) e) (moment (followed h e)) new.deadline))
     → IsToldOf (followed h e) b (b + n) new
-row_next h e b n old new was parent outer deadline own =
+row_next h e b n old new was parent outer place_is deadline own =
     let s = b + n in
     let opened = opening_stays h e s was.opened was.is in
     let place = length h.events in
     record {
       opened = was.opened;
       is = opened;
+      place = was.place ∙ sym place_is;
       parent = parent_stays h e s (record { opened = was.opened; is = was.is }) ∙ (was.parent ∙ ap (option_map (λ p. b + p)) (sym parent));
       outer = outer_stays h e s (record { opened = was.opened; is = was.is }) ∙ (was.outer ∙ ap (option_map (λ p. b + p)) (sym outer));
       own =
@@ -86,7 +87,7 @@ pub row_stays : (L : Limits) (h : History) (e : Event) (b n : ℕ) (t : Told) �
     → IsToldOf (followed h e) b (b + n) t
 row_stays L h e b n t legal was same unjoined unmoved direct fires =
     let s = b + n in
-    row_next h e b n t t was refl refl (counting_same h e b s t was unjoined unmoved)
+    row_next h e b n t t was refl refl refl (counting_same h e b s t was unjoined unmoved)
     (none_told (length h.events) n (moment h) t.own t.deadline (is_past (moment h) t.deadline) refl
     (λ past. own_some b t.own (ap is_some (sym was.own) ∙ overdue_cancelled L h s was.opened legal was.is (ap (is_past (moment h)) was.deadline ∙ past)))
     ∙ kind_same)

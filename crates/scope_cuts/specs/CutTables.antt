@@ -48,9 +48,13 @@ cancelled t s kind place = record t { told = changed t.told (s - t.before) (with
 abbrev pub deadlined : CutTable → ℕ → Option ℕ → CutTable
 deadlined t s deadline = record t { told = changed t.told (s - t.before) (with_deadline deadline) }
 
--- the table with one scope more, which has no deadline
-abbrev pub with_scope : CutTable → Option ℕ → Bool → JoinerStanding → CutTable
-with_scope t inside shield account = record t { told = t.told ++ new_row inside shield ∷ []; accounts = t.accounts ++ account ∷ [] }
+-- the table with one scope more, opened at the place, which has no deadline
+abbrev pub with_scope : CutTable → Option ℕ → Bool → ℕ → JoinerStanding → CutTable
+with_scope t inside shield place account = record t { told = t.told ++ new_row inside shield place ∷ []; accounts = t.accounts ++ account ∷ [] }
+
+-- the accounts, and one more behind them
+abbrev pub AreOneMore : List JoinerStanding → List JoinerStanding → Type 0
+AreOneMore old new = (account : JoinerStanding) × (new ≡ old ++ account ∷ [])
 
 -- the account with one completion more
 pub record IsCounted (old new : JoinerStanding) (d : Completion) : Type 0 where

@@ -1,5 +1,5 @@
 -- When what is kept of cancels is a history's.
-use Rattle.std.specs.Prelude.{◌≡◌, ℕ, ◌+◌, false, Option, Some, option_map, length, slice_get}
+use Rattle.std.specs.Prelude.{◌≡◌, ℕ, ◌+◌, false, Option, Some, option_map, List, length, slice_get}
 use Rattle.scope_rules.specs.declared.types.records.Opening.{Opening}
 use Rattle.scope_rules.specs.Chains.{shifted}
 use Rattle.scope_rules.specs.History.{History, followed, opening, opened_count, moment}
@@ -11,17 +11,19 @@ use Rattle.scope_rules.specs.Scopes.{joined, surrounding}
 use Rattle.scope_rules.specs.Legal.{Legal}
 use Rattle.scope_rules.specs.Scopes as scopes
 use Rattle.scope_rules.specs.Completions.{completions}
-use Rattle.scope_rules.specs.Cancels.{own_cut, counting_deadline}
+use Rattle.scope_rules.specs.Cancels.{own_cut, counting_deadline, is_cancelled, cancelled_at}
 use Rattle.cancel_tree.specs.declared.rows.Told.{Told}
 use Rattle.cancel_tree.specs.Rows as rows
+use Rattle.cancel_tree.specs.Order.{IsInOrder}
 use Rattle.join_rules.specs.JoinerStanding.{JoinerStanding, StandsFor}
 use Rattle.scope_cuts.specs.CutTables.{CutTable}
 
 -- the row is that of scope s, where the rows are numbered after b: the scope around it, the one whose
--- cancels reach it, its own cancel, and its deadline while that counts
+-- cancels reach it, the place of its opening, its own cancel, and its deadline while that counts
 pub record IsToldOf (h : History) (b s : ℕ) (t : Told) : Type 0 where
   pub opened : Opening
   pub is : opening h s ≡ Some opened
+  pub place : opened.place ≡ t.opened
   pub parent : scopes.parent h s ≡ option_map (λ p. b + p) t.parent
   pub outer : scopes.outer h s ≡ option_map (λ p. b + p) (rows.outer t)
   pub own : own_cut h s ≡ option_map (shifted b) t.own
@@ -52,3 +54,7 @@ IsMoved old new s deadline place = (L : Limits) (h : History) → Legal L h → 
 abbrev pub IsOpened : CutTable → CutTable → Option ℕ → Policy → Options → ℕ → Type 0
 IsOpened old new parent policy options place =
     (L : Limits) (h : History) (actor : ℕ) → Legal L h → AreCutsOf h old → place ≡ length h.events → parent ≡ surrounding h actor → AreCutsOf (followed h (Open actor policy options)) new
+
+-- the list is that of the history's cancelled scopes in order of their cancellation
+abbrev pub IsCancelOrderOf : History → List ℕ → Type 0
+IsCancelOrderOf h list = IsInOrder (is_cancelled h) (cancelled_at h) list

@@ -1,2 +1,4 @@
 pub mod CutTables
 pub mod CutsOf
+pub mod Lent
+pub mod Lending

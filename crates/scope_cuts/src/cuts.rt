@@ -1,5 +1,5 @@
 ghost use Rattle.scope_rules.specs.Chains.{shifted};
-ghost use Rattle.std.specs.Prelude.{◌≡◌, ℕ, ◌+◌, ◌-◌, ◌^◌, ◌<◌, ◌≤◌, [], false, Option, Some, None, IfSome, OnOk, OnErr, option_map, length, slice_get};
+ghost use Rattle.std.specs.Prelude.{◌≡◌, ℕ, ◌+◌, ◌-◌, ◌^◌, ◌<◌, ◌≤◌, [], false, Option, Some, None, IfSome, OnOk, OnErr, option_map, List, drop, length, slice_get};
 ghost use Rattle.scope_rules.specs.declared.types.capacity.Limits.{Limits};
 ghost use Rattle.scope_rules.specs.declared.types.events.Event.{Event};
 ghost use Rattle.scope_rules.specs.declared.types.capacity.TheConstants.{LEVEL_LIMIT, TASK_LIMIT};
@@ -10,9 +10,13 @@ ghost use Rattle.scope_rules.specs.Cancels.{cut, cause, is_cancelled, effective}
 ghost use Rattle.scope_rules.specs.Legal.{Legal};
 ghost use Rattle.cancel_tree.specs.Rows.{IsAdded, IsLatest, level_in};
 ghost use Rattle.join_rules.specs.JoinerStanding.{HasRoom, StandsFor};
-ghost use Rattle.scope_cuts.specs.CutTables.{CutTable, HasRow, HasReserved, HasCounted, account_at, cancelled, deadlined, with_scope};
-ghost use Rattle.scope_cuts.specs.CutsOf.{AreCutsOf, IsMoved, IsOpened};
+ghost use Rattle.scope_cuts.specs.CutTables.{CutTable, HasRow, HasReserved, HasCounted, AreOneMore, account_at, cancelled, deadlined, with_scope};
+ghost use Rattle.scope_cuts.specs.CutsOf.{AreCutsOf, IsCancelOrderOf, IsMoved, IsOpened};
+ghost use Rattle.scope_cuts.specs.Lending.{KeepsTable};
+ghost use Rattle.scope_cuts.specs.Lent.{scopes_of};
+ghost use Rattle.std.specs.Borrow.{sem};
 
+use crate::cancelled::CancelledScopes;
 use cancel_tree::Tree;
 use deadline_core::Deadlines;
 use join_rules::Account;
@@ -81,6 +85,18 @@ impl Cuts {
         self.tree.effective_deadline(scope - self.before)
     }
 
+    /// The cancelled scopes in order of their cancellation, those that one event cancelled by their
+    /// numbers, from the n-th on, from 0: none where no more than n are cancelled. It takes no memory,
+    /// and time by the scopes that were cancelled since it was last called, with those of the last event
+    /// before them.
+    pub fn cancelled_since(&mut self, n: usize) -> CancelledScopes<'_>
+        ensures* kept { sem 𝓛 (KeepsTable self.entry) }
+        ensures order { (L : Limits) (h : History) → Legal L h → AreCutsOf h self.old → (list : List ℕ) × IsCancelOrderOf h list × (scopes_of result ≡ drop n list) }
+    {
+        let before = self.before;
+        CancelledScopes::new(before, self.tree.cancelled_since(n))
+    }
+
     /// The level of the scope: how many scopes lie around one another down to it, itself included.
     #[tactic(auto, using(crate::proofs::Readings::level_at_scope))]
     pub fn level(&self, scope: ScopeId) -> u32
@@ -131,7 +147,8 @@ impl Cuts {
     #[tactic(auto, using(crate::proofs::EventSteps::joined_next))]
     pub fn join(&mut self, scope: ScopeId)
         requires { HasRow self.old scope }
-        ensures { (L : Limits) (h : History) (actor : ℕ) → Legal L h → AreCutsOf h self.old → AreCutsOf (followed h (Event.Join actor scope)) self.new }
+        ensures agrees { (L : Limits) (h : History) (actor : ℕ) → Legal L h → AreCutsOf h self.old → AreCutsOf (followed h (Event.Join actor scope)) self.new }
+        ensures accounts { self.new.accounts ≡ self.old.accounts }
     {
         self.drop_deadline(scope);
     }
@@ -148,6 +165,7 @@ impl Cuts {
         requires row { HasRow self.old scope }
         requires latest { IsLatest self.old.told place }
         ensures moved { OnOk result (IsMoved self.old self.new scope deadline place) }
+        ensures accounts { self.new.accounts ≡ self.old.accounts }
         ensures refused { OnErr result (self.new ≡ self.old) }
     {
         match deadline {
@@ -200,7 +218,8 @@ impl Cuts {
     pub fn tick(&mut self, now: u64, place: usize)
         requires forward { self.old.moment ≤ now }
         requires latest { IsLatest self.old.told place }
-        ensures { (L : Limits) (h : History) → Legal L h → AreCutsOf h self.old → place ≡ length h.events → AreCutsOf (followed h (Event.Tick now)) self.new }
+        ensures agrees { (L : Limits) (h : History) → Legal L h → AreCutsOf h self.old → place ≡ length h.events → AreCutsOf (followed h (Event.Tick now)) self.new }
+        ensures accounts { self.new.accounts ≡ self.old.accounts }
     {
         while let Some(row) = self.deadlines.pop_expired(now) {
             self.tree.cancel(row, CauseKind::Deadline, place as u64);
@@ -224,18 +243,19 @@ impl Cuts {
         requires number { self.old.before + length self.old.told + 1 < 2 ^ 32 }
         requires latest { IsLatest self.old.told place }
         ensures opened { OnOk result (IsOpened self.old self.new parent policy options place) }
+        ensures accounts { OnOk result (AreOneMore self.old.accounts self.new.accounts) }
         ensures refused { OnErr result (self.new ≡ self.old) }
     {
         let inside = row_of(self.before, parent);
         let account = Account::new(self.alloc, policy, listed);
         match options.deadline {
-            None => self.add(inside, options.shield, account)?,
+            None => self.add(inside, options.shield, place, account)?,
             Some(deadline) if deadline > self.moment => {
-                self.add_before(inside, options.shield, account, deadline)?
+                self.add_before(inside, options.shield, place, account, deadline)?
             }
             Some(deadline) => {
                 let scope = self.before + self.tree.len() as ScopeId + 1;
-                self.add(inside, options.shield, account)?;
+                self.add(inside, options.shield, place, account)?;
                 self.pass_deadline(scope, deadline);
                 self.cancel(scope, CauseKind::Deadline, place);
             }
@@ -248,17 +268,19 @@ impl Cuts {
         &mut self,
         inside: Option<ScopeId>,
         shield: bool,
+        place: usize,
         account: Account,
     ) -> Result<(), AllocError>
         requires there { IfSome inside (IsAdded self.old.told) }
         requires level { level_in self.old.told inside ≤ LEVEL_LIMIT }
         requires number { self.old.before + length self.old.told + 1 < 2 ^ 32 }
-        ensures added { OnOk result (self.new ≡ with_scope self.old inside shield account) }
+        requires latest { IsLatest self.old.told place }
+        ensures added { OnOk result (self.new ≡ with_scope self.old inside shield place account) }
         ensures refused { OnErr result (self.new ≡ self.old) }
     {
         self.accounts.reserve(1)?;
         let row = self.tree.len() as ScopeId + 1;
-        if self.tree.add(row, inside, shield).is_err() {
+        if self.tree.add(row, inside, shield, place).is_err() {
             return Err(AllocError);
         }
         self.accounts.push_reserved(account);
@@ -270,20 +292,22 @@ impl Cuts {
         &mut self,
         inside: Option<ScopeId>,
         shield: bool,
+        place: usize,
         account: Account,
         deadline: u64,
     ) -> Result<(), AllocError>
         requires there { IfSome inside (IsAdded self.old.told) }
         requires level { level_in self.old.told inside ≤ LEVEL_LIMIT }
         requires number { self.old.before + length self.old.told + 1 < 2 ^ 32 }
+        requires latest { IsLatest self.old.told place }
         requires coming { self.old.moment < deadline }
-        ensures added { OnOk result (self.new ≡ deadlined (with_scope self.old inside shield account) (self.old.before + (length self.old.told + 1)) (Some deadline)) }
+        ensures added { OnOk result (self.new ≡ deadlined (with_scope self.old inside shield place account) (self.old.before + (length self.old.told + 1)) (Some deadline)) }
         ensures refused { OnErr result (self.new ≡ self.old) }
     {
         self.accounts.reserve(1)?;
         let row = self.tree.len() as ScopeId + 1;
         self.deadlines.set(row, deadline)?;
-        match self.tree.add(row, inside, shield) {
+        match self.tree.add(row, inside, shield, place) {
             Ok(()) => {
                 self.tree.set_deadline(row, deadline);
                 self.accounts.push_reserved(account);

@@ -2,6 +2,8 @@
 //! come, and the account of each scope's joiner.
 #![tactic(auto)]
 
+mod cancelled;
 mod cuts;
 
+pub use cancelled::CancelledScopes;
 pub use cuts::Cuts;

@@ -6,8 +6,9 @@ use Rattle.cancel_tree.specs.declared.rows.Told.{Told}
 use Rattle.scope_rules.specs.declared.types.records.Cut.{Cut}
 use Rattle.cancel_tree.specs.Rows.{outer_of, own_of, IsAdded}
 use Rattle.cancel_tree.specs.Reach.{last_inner}
-use Rattle.cancel_tree.proofs.SpreadLaws.{IsSpreadUpTo, first_link, next_link, next_falls, fewer, spread_start, spread_past, spread_inner}
+use Rattle.cancel_tree.proofs.SpreadLaws.{IsSpreadUpTo, IsListedSoFar, first_link, next_link, next_falls, fewer, spread_start, spread_past, spread_inner}
 use Rattle.cancel_tree.proofs.RowLaws.{field_at}
+use Rattle.cancel_tree.proofs.ListLaws.{grown_twice}
 use Rattle.cancel_tree.proofs.spread.+spread.Goals as goal
 use Rattle.cancel_tree.proofs.spread.+spread.Goals.{then-is_none, else-is_none}
 
@@ -18,19 +19,26 @@ pub loop-next-init : goal.loop-next-init
 loop-next-init t c =
     let r = c.requires in
     let told = c.args.told.now in
-    spread_start (outer_of told) r.inward (own_of told) c.args.scope c.args.cut c.args.cuts.now _
-    (first_link (outer_of told) c.args.links.now no_links c.args.scope r.linked r.added.0 (omega (arith, r.added.1, r.rows)) ∙ ap (last_inner (outer_of told) c.args.scope) (r.rows ∙ sym r.columns))
-    r.added.0 (omega (arith, r.added.1, r.columns))
+    let following : Option ℕ = (get_or c.args.links.now (c.args.scope - 1) no_links).first_inner in (
+      subst (IsSpreadUpTo (outer_of told) (own_of told) c.args.scope following c.args.cut c.args.cuts.now) (sym c.put.ensures.put)
+          (spread_start (outer_of told) r.inward (own_of told) c.args.scope c.args.cut c.args.cuts.now following
+          (first_link (outer_of told) c.args.links.now no_links c.args.scope r.linked r.added.0 (omega (arith, r.added.1, r.rows)) ∙ ap (last_inner (outer_of told) c.args.scope) (r.rows ∙ sym r.columns))
+          r.added.0 (omega (arith, r.added.1, r.columns))),
+      record { whole = c.put.ensures.whole; grown = c.put.ensures.grown },
+    )
 
 pub spread-requires : goal.spread-requires
 spread-requires t c =
     let r = c.requires in
     let told = c.args.told.now in
-    let within = c.loop-next.invariant.within c.in-Some.inner c.in-Some.is in
-    let inward = r.inward c.in-Some.inner c.args.scope (c.loop-next.invariant.inner c.in-Some.inner c.in-Some.is) in
-    let measure : length told - c.args.scope ≡ t = c.decreases in (
+    let done = c.loop-next.invariant.0 in
+    let so_far = c.loop-next.invariant.1 in
+    let within = done.within c.in-Some.inner c.in-Some.is in
+    let inward = r.inward c.in-Some.inner c.args.scope (done.inner c.in-Some.inner c.in-Some.is) in
+    let measure : length told - c.args.scope ≡ t = c.decreases in
+    let columns : length c.loop-next.cuts ≡ length c.args.cuts.now = c.loop-next.auto.cuts ∙ ap length c.put.ensures.put ∙ length-set _ _ _ in (
       subst (λ m. length told - c.in-Some.inner < m) measure (fewer (length told) c.args.scope c.in-Some.inner inward.1 (omega (arith, within.1, r.columns))),
-      ((within.0, omega (arith, within.1, r.columns)), (r.rows, (c.loop-next.auto.cuts ∙ length-set _ _ _ ∙ r.columns, (r.inward, r.linked)))),
+      ((within.0, omega (arith, within.1, r.columns)), (r.rows, (columns ∙ r.columns, (r.inward, (r.linked, (so_far.whole, omega (arith, columns, r.room, so_far.grown.room))))))),
     )
 
 pub loop-next-smaller : goal.loop-next-smaller
@@ -38,9 +46,9 @@ loop-next-smaller t c =
     let r = c.requires in
     let told = c.args.told.now in
     let inner = c.in-Some.inner in
-    let within = c.loop-next.invariant.within inner c.in-Some.is in
+    let within = c.loop-next.invariant.0.within inner c.in-Some.is in
     next_falls (outer_of told) c.args.scope inner _ c.loop-next.next
-    (next_link (outer_of told) c.args.links.now no_links inner c.args.scope r.linked within.0 (omega (arith, within.1, r.columns, r.rows)) (c.loop-next.invariant.inner inner c.in-Some.is))
+    (next_link (outer_of told) c.args.links.now no_links inner c.args.scope r.linked within.0 (omega (arith, within.1, r.columns, r.rows)) (c.loop-next.invariant.0.inner inner c.in-Some.is))
     c.in-Some.is within.0
 
 none_test : (told : List Told) (c : ℕ) (d : Told) (b : Bool) → IsAdded told c → is_some (get_or told (c - 1) d).own ≡ not b → is_none (own_of told c) ≡ b
@@ -51,23 +59,32 @@ none_test told c d b h e = ap is_none (field_at (λ t. t.own) told c d h) ∙ by
     by o false e = ap not e
 
 abbrev no_told : Told
-no_told = record { parent = None; shield = false; own = None; deadline = None }
+no_told = record { parent = None; shield = false; opened = 0; own = None; deadline = None }
 
 pub loop-next-preserved : goal.loop-next-preserved
 loop-next-preserved t c =
     let r = c.requires in
     let told = c.args.told.now in
-    let done = c.loop-next.invariant in
+    let done = c.loop-next.invariant.0 in
+    let so_far = c.loop-next.invariant.1 in
     let inner = c.in-Some.inner in
     let within = done.within inner c.in-Some.is in
     let next = next_link (outer_of told) c.args.links.now no_links inner c.args.scope r.linked within.0 (omega (arith, within.1, r.columns, r.rows)) (done.inner inner c.in-Some.is) in
     let added : IsAdded told inner = (within.0, omega (arith, within.1, r.columns)) in
     let here = subst (λ o. IsSpreadUpTo (outer_of told) (own_of told) c.args.scope o c.args.cut c.args.cuts.now c.loop-next.cuts) c.in-Some.is done in
     let following : Option ℕ = (get_or c.args.links.now (inner - 1) no_links).next_inner in
+    let columns : length c.loop-next.cuts ≡ length c.args.cuts.now = c.loop-next.auto.cuts ∙ ap length c.put.ensures.put ∙ length-set _ _ _ in
     elim c.if-is_none.branch [
-      | then-is_none w ↦ spread_inner (outer_of told) r.inward (own_of told) c.args.scope inner c.args.cut c.args.cuts.now following next c.loop-next.cuts c.if-is_none.cuts
-          (c.loop-next.auto.cuts ∙ length-set _ _ _) (none_test told inner no_told true added (c.is_none.ensures ∙ ap not w.if-is_none.true)) here
-          (λ i lt. ap (λ cs. slice_get cs i) w.cuts-is ∙ w.spread.ensures i lt)
-      | else-is_none w ↦ subst (λ cs. IsSpreadUpTo (outer_of told) (own_of told) c.args.scope following c.args.cut c.args.cuts.now cs) (sym w.cuts-is)
-          (spread_past (outer_of told) r.inward (own_of told) c.args.scope inner c.args.cut c.args.cuts.now following next c.loop-next.cuts (none_test told inner no_told false added (c.is_none.ensures ∙ ap not w.if-is_none.false)) here)
+      | then-is_none w ↦ (
+        spread_inner (outer_of told) r.inward (own_of told) c.args.scope inner c.args.cut c.args.cuts.now following next c.loop-next.cuts c.if-is_none.cuts
+            columns (none_test told inner no_told true added (c.is_none.ensures ∙ ap not w.if-is_none.true)) here
+            (λ i lt. ap (λ cs. slice_get cs i) w.cuts-is ∙ w.spread.ensures.spread i lt),
+        subst (λ cs. IsListedSoFar cs c.args.listed.now c.if-is_none.listed) (sym w.cuts-is) (subst (IsListedSoFar w.spread.new.cuts c.args.listed.now) (sym w.listed-is)
+            (record { whole = w.spread.ensures.whole; grown = grown_twice c.args.listed.now c.loop-next.listed w.spread.new.listed so_far.grown w.spread.ensures.grown })),
+      )
+      | else-is_none w ↦ (
+        subst (λ cs. IsSpreadUpTo (outer_of told) (own_of told) c.args.scope following c.args.cut c.args.cuts.now cs) (sym w.cuts-is)
+            (spread_past (outer_of told) r.inward (own_of told) c.args.scope inner c.args.cut c.args.cuts.now following next c.loop-next.cuts (none_test told inner no_told false added (c.is_none.ensures ∙ ap not w.if-is_none.false)) here),
+        subst (λ cs. IsListedSoFar cs c.args.listed.now c.if-is_none.listed) (sym w.cuts-is) (subst (IsListedSoFar c.loop-next.cuts c.args.listed.now) (sym w.listed-is) so_far),
+      )
     ]

@@ -2,7 +2,7 @@
 use Rattle.std.proofs.Common.{◌-◌, length}
 use Rattle.cancel_tree.specs.Rows.{outer_of, own_of}
 use Rattle.cancel_tree.proofs.ReachLaws.{place}
-use Rattle.cancel_tree.proofs.SpreadLaws.{IsSpreadUpTo}
+use Rattle.cancel_tree.proofs.SpreadLaws.{IsSpreadUpTo, IsListedSoFar}
 use Rattle.cancel_tree.proofs.spread.+spread.Given as goal
 
 -- the scopes that are left inside a scope have greater numbers than it
@@ -10,7 +10,7 @@ abbrev pub decreases-spread : goal.decreases-spread
 decreases-spread l = length l.told.now - l.scope
 
 abbrev pub invariant-loop-next : goal.invariant-loop-next
-invariant-loop-next l = IsSpreadUpTo (outer_of l.told) (own_of l.told) l.scope l.next l.cut l.fn.cuts l.cuts
+invariant-loop-next l = IsSpreadUpTo (outer_of l.told) (own_of l.told) l.scope l.next l.cut l.fn.cuts l.cuts × IsListedSoFar l.cuts l.fn.listed l.listed
 
 abbrev pub decreases-loop-next : goal.decreases-loop-next
 decreases-loop-next l = place l.next

@@ -7,7 +7,7 @@ use Rattle.cancel_tree.proofs.LeastLaws.{least_step, least_falls}
 use Rattle.cancel_tree.proofs.tree.least_deadline.Goals as goal
 
 abbrev no_told : Told
-no_told = record { parent = None; shield = false; own = None; deadline = None }
+no_told = record { parent = None; shield = false; opened = 0; own = None; deadline = None }
 
 pub loop-next-smaller : goal.loop-next-smaller
 loop-next-smaller c =

@@ -10,5 +10,5 @@ pub returns-clause-within : goal.returns-clause-within
 returns-clause-within c =
     let told = c.self.inside.told.items in
     let added = subst (λ ts. IsAdded ts c.args.scope) (sym c.self.view_is) c.requires in
-    let read = c.index.ensures ∙ kept_cut told c.self.inside.links.items c.self.inside.cuts.items c.args.scope c.index.result.now added c.self.invariant in
-    subst (λ o. IfSome o (λ cut. cut.cause.scope ≤ c.args.scope)) (sym read) (cut_within told c.args.scope c.self.invariant.named (outer_inward told c.self.invariant.inward))
+    let read = c.index.ensures ∙ kept_cut told c.self.inside.links.items c.self.inside.cuts.items c.args.scope c.index.result.now added c.self.invariant.columns in
+    subst (λ o. IfSome o (λ cut. cut.cause.scope ≤ c.args.scope)) (sym read) (cut_within told c.args.scope c.self.invariant.columns.named (outer_inward told c.self.invariant.columns.inward))

@@ -7,5 +7,5 @@ use Rattle.cancel_tree.proofs.tree.Tree.first_cut_is_own_or_outer.Goals as goal
 
 pub returns : goal.returns
 returns c =
-    let inward = subst (λ ts. IsInward (outer_of ts)) c.self.view_is (outer_inward c.self.inside.told.items c.self.invariant.inward) in
+    let inward = subst (λ ts. IsInward (outer_of ts)) c.self.view_is (outer_inward c.self.inside.told.items c.self.invariant.columns.inward) in
     cut_law (outer_of c.args.self.now) inward (own_of c.args.self.now) c.args.scope

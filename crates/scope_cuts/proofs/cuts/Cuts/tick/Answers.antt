@@ -45,8 +45,8 @@ invariant_of-self c =
     (subst (λ xs. AreKept inside.before c.args.now c.loop-row.self-inside.tree xs c.loop-row.self-inside.deadlines) (sym c.loop-row.invariant.1.1)
     (passing_kept inside.before inside.moment c.args.now c.args.place inside.deadlines c.loop-row.self-inside.deadlines inside.tree c.loop-row.self-inside.tree inside.accounts.items on c.self.invariant c.loop-row.invariant.0 c.in_default.ensures.none)))
 
-pub returns : goal.returns
-returns c = λ L h legal was at.
+pub returns-clause-agrees : goal.returns-clause-agrees
+returns-clause-agrees c = λ L h legal was at.
     let inside = c.self.inside in
     let was_inside = subst (AreCutsOf h) (sym c.self.view_is) was in
     let rows = passing_ticked inside.before inside.moment c.args.now c.args.place inside.deadlines c.loop-row.self-inside.deadlines inside.tree c.loop-row.self-inside.tree inside.accounts.items c.self.invariant c.loop-row.invariant.0 c.in_default.ensures.none in

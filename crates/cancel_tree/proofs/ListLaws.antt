@@ -1,0 +1,258 @@
+-- Lists of scopes: how often each stands in one, and in which order.
+use Rattle.std.proofs.Common.{◌≡◌, inl, inr, ℕ, zero, suc, ◌+◌, ◌<◌, ◌≤◌, Bool, true, false, cond, eqb, Option, Some, None, is_some, List, [], ◌∷◌, ◌++◌, length, slice_get, get_or, set, All, AllPairs, Contains, count_by, refl, ap, sym, ◌∙◌, subst, arith}
+use Rattle.std.specs.Option.{option_and_then}
+use Rattle.std.proofs.lemmas.Bool.{ne_eqb, eq-eqb, cases_eq, cases_lt}
+use Rattle.std.proofs.lemmas.Option.{slice_get_past, slice_get-get_or}
+use Rattle.std.proofs.lemmas.List.Elements.{All-head, All-tail, All-append, All-from_get_or, Contains-get_or}
+use Rattle.std.proofs.lemmas.List.Kept.{AllPairs-cons}
+use Rattle.std.proofs.lemmas.List.Sums.{sum_by-cons, sum_by-append, sum_by_push, sum_by-set, count_by-le-length}
+use Rattle.std.proofs.lemmas.List.Sorted.{sum_by-IsPermutation, length_permutation}
+use Rattle.std.specs.Prelude.{IsPermutation}
+use Rattle.scope_rules.specs.declared.types.records.Cut.{Cut}
+use Rattle.scope_rules.proofs.Prefixes.{get_push}
+use Rattle.cancel_tree.specs.Listed.{times, IsOnce, is_cut, IsListOf, IsGrown}
+use Rattle.cancel_tree.specs.declared.listed.Listed.{Listed}
+use Rattle.std.proofs.lemmas.List.{append-nil, append_assoc}
+use Rattle.cancel_tree.proofs.SpreadLaws.{slice_get-set}
+use Rattle.cancel_tree.proofs.AddLaws.{push_length, push_here}
+
+-- ---- how often
+
+abbrev one : ℕ → ℕ → ℕ
+one s t = cond (eqb t s) 1 0
+
+one_is : (s t : ℕ) → s ≡ t → one s t ≡ 1
+one_is s t e = ap (λ b. cond b 1 0) (eq-eqb t s (sym e))
+
+times_cons : (s t : ℕ) (xs : List ℕ) → times s (t ∷ xs) ≡ one s t + times s xs
+times_cons s t xs = sum_by-cons (one s) t xs
+
+pub times_append : (s : ℕ) (xs ys : List ℕ) → times s (xs ++ ys) ≡ times s xs + times s ys
+times_append s xs ys = sum_by-append (one s) xs ys
+
+pub times_moved : (s : ℕ) (xs ys : List ℕ) → IsPermutation xs ys → times s ys ≡ times s xs
+times_moved s xs ys h = sum_by-IsPermutation (one s) xs ys h
+
+-- what stands in a list stands there once or more
+pub contains_times : (xs : List ℕ) (s : ℕ) → Contains xs s → 1 ≤ times s xs
+contains_times [] s (k, lt, e) = absurd (omega (arith, lt))
+contains_times (x ∷ xs) s (zero, lt, e) = let a : one s x ≡ 1 = one_is s x (sym e) in let b = times_cons s x xs in omega arith
+contains_times (x ∷ xs) s (suc k, lt, e) = let a : 1 ≤ times s xs = contains_times xs s (k, omega (arith, lt), e) in let b = times_cons s x xs in omega arith
+
+pub times_contains : (xs : List ℕ) (s : ℕ) → 1 ≤ times s xs → Contains xs s
+times_contains [] s h = absurd (omega (arith, h))
+times_contains (x ∷ xs) s h =
+    elim (cases_eq x s) [
+      | inl e ↦ (zero, omega arith, e)
+      | inr ne ↦ (let a : one s x ≡ 0 = ap (λ b. cond b 1 0) (ne_eqb x s ne) in
+          let b = times_cons s x xs in
+          let there = times_contains xs s (omega (arith, h)) in
+          (suc there.0, omega (arith, there.1), there.2))
+    ]
+
+-- what stands at two places stands there twice
+pub twice_times : (xs : List ℕ) (i j d : ℕ) → i < j → j < length xs → get_or xs i d ≡ get_or xs j d → 2 ≤ times (get_or xs i d) xs
+twice_times [] i j d lt l e = absurd (omega (arith, l))
+twice_times (x ∷ xs) i zero d lt l e = absurd (omega (arith, lt))
+twice_times (x ∷ xs) zero (suc j) d lt l e =
+    let a : one x x ≡ 1 = one_is x x refl in
+    let there : Contains xs x = subst (Contains xs) (sym e) (Contains-get_or xs j d (omega (arith, l))) in
+    let b = contains_times xs x there in
+    let f = times_cons x x xs in
+    omega arith
+twice_times (x ∷ xs) (suc i) (suc j) d lt l e =
+    let a = twice_times xs i j d (omega (arith, lt)) (omega (arith, l)) e in
+    let f = times_cons (get_or xs i d) x xs in
+    omega arith
+
+-- ---- pairs
+
+-- each of the first with each of those after it
+head_all : {X : Type 0} (R : X → X → Type 0) (x : X) (xs : List X) → AllPairs R (x ∷ xs) → All (R x) xs
+head_all R x xs p = All-from_get_or (R x) xs x (λ i l. p zero (suc i) x (omega arith) (omega arith))
+
+tail_pairs : {X : Type 0} (R : X → X → Type 0) (x : X) (xs : List X) → AllPairs R (x ∷ xs) → AllPairs R xs
+tail_pairs R x xs p i j d lt l = p (suc i) (suc j) d (omega arith) (omega arith)
+
+pub pairs_nil : {X : Type 0} (R : X → X → Type 0) → AllPairs R []
+pairs_nil R i j d lt l = absurd (omega (arith, l))
+
+-- the pairs of two lists, one after the other
+pub pairs_append : {X : Type 0} (R : X → X → Type 0) (xs ys : List X) → AllPairs R xs → AllPairs R ys → All (λ x. All (R x) ys) xs → AllPairs R (xs ++ ys)
+pairs_append R [] ys a b c = b
+pairs_append R (x ∷ xs) ys a b c =
+    AllPairs-cons R x (xs ++ ys) (All-append (R x) xs ys (head_all R x xs a) (All-head (λ x. All (R x) ys) x xs c))
+    (pairs_append R xs ys (tail_pairs R x xs a) b (All-tail (λ x. All (R x) ys) x xs c))
+
+-- ---- which scopes have a cut
+
+is_cut_set : (cuts : List (Option Cut)) (j : ℕ) (c : Cut) (s : ℕ) → j < length cuts → is_cut (set cuts j (Some c)) s ≡ cond (eqb s (suc j)) true (is_cut cuts s)
+is_cut_set cuts j c zero lt = ap (λ b. cond b true false) (sym (ne_eqb 0 (suc j) (λ e. omega arith)))
+is_cut_set cuts j c (suc i) lt =
+    ap (λ o. is_some (option_and_then (λ o. o) o)) (slice_get-set cuts j i (Some c) lt)
+    ∙ elim (cases_eq i j) [
+      | inl e ↦ ap (λ b. is_some (option_and_then (λ o. o) (cond b (Some (Some c)) (slice_get cuts i)))) (eq-eqb i j e) ∙ sym (ap (λ b. cond b true (is_cut cuts (suc i))) (eq-eqb (suc i) (suc j) (ap suc e)))
+      | inr ne ↦ ap (λ b. is_some (option_and_then (λ o. o) (cond b (Some (Some c)) (slice_get cuts i)))) (ne_eqb i j ne) ∙ sym (ap (λ b. cond b true (is_cut cuts (suc i))) (ne_eqb (suc i) (suc j) (λ e. ne (omega arith))))
+    ]
+
+abbrev tally : Option Cut → ℕ
+tally o = cond (is_some o) 1 0
+
+-- a scope that has no cut is listed when it gets one
+pub listed_put : (cuts : List (Option Cut)) (xs : List ℕ) (j : ℕ) (c : Cut) (d : Option Cut) → j < length cuts → is_some (get_or cuts j d) ≡ false → IsListOf cuts xs → IsListOf (set cuts j (Some c)) (xs ++ suc j ∷ [])
+listed_put cuts xs j c d lt none h = record {
+  once = λ s. sum_by_push (one s) xs (suc j) ∙ ap (λ n. n + one s (suc j)) (h.once s) ∙ by s ∙ ap (λ b. cond b 1 0) (sym (is_cut_set cuts j c s lt));
+  count = push_length xs (suc j) ∙ (let e = sum_by-set tally cuts j (Some c) d lt in let z : tally (get_or cuts j d) ≡ 0 = ap (λ b. cond b 1 0) none in let n = h.count in omega arith);
+}
+  where
+    uncut : is_cut cuts (suc j) ≡ false
+    uncut = ap (λ o. is_some (option_and_then (λ o. o) o)) (slice_get-get_or cuts j d lt) ∙ none
+
+    by : (s : ℕ) → cond (is_cut cuts s) 1 0 + one s (suc j) ≡ cond (cond (eqb s (suc j)) true (is_cut cuts s)) 1 0
+    by s =
+        elim (cases_eq s (suc j)) [
+          | inl e ↦ (let a : is_cut cuts s ≡ false = ap (is_cut cuts) e ∙ uncut in
+              let b : one s (suc j) ≡ 1 = one_is s (suc j) e in
+              (λ i. cond (a i) 1 0 + b i) ∙ sym (ap (λ b. cond (cond b true (is_cut cuts s)) 1 0) (eq-eqb s (suc j) e)))
+          | inr ne ↦ (let b : one s (suc j) ≡ 0 = ap (λ b. cond b 1 0) (ne_eqb (suc j) s (λ e. ne (sym e))) in
+              let z : cond (is_cut cuts s) 1 0 + 0 ≡ cond (is_cut cuts s) 1 0 = omega arith in
+              ap (λ n. cond (is_cut cuts s) 1 0 + n) b ∙ z ∙ sym (ap (λ b. cond (cond b true (is_cut cuts s)) 1 0) (ne_eqb s (suc j) ne)))
+        ]
+
+-- and one that has a cut is listed already
+pub listed_already : (cuts : List (Option Cut)) (xs : List ℕ) (j : ℕ) (c : Cut) (d : Option Cut) → j < length cuts → is_some (get_or cuts j d) ≡ true → IsListOf cuts xs → IsListOf (set cuts j (Some c)) xs
+listed_already cuts xs j c d lt some h = record {
+  once = λ s. h.once s ∙ ap (λ b. cond b 1 0) (by s ∙ sym (is_cut_set cuts j c s lt));
+  count = h.count ∙ (let e = sum_by-set tally cuts j (Some c) d lt in let z : tally (get_or cuts j d) ≡ 1 = ap (λ b. cond b 1 0) some in omega arith);
+}
+  where
+    here : is_cut cuts (suc j) ≡ true
+    here = ap (λ o. is_some (option_and_then (λ o. o) o)) (slice_get-get_or cuts j d lt) ∙ some
+
+    by : (s : ℕ) → is_cut cuts s ≡ cond (eqb s (suc j)) true (is_cut cuts s)
+    by s =
+        elim (cases_eq s (suc j)) [
+          | inl e ↦ ap (is_cut cuts) e ∙ here ∙ sym (ap (λ b. cond b true (is_cut cuts s)) (eq-eqb s (suc j) e))
+          | inr ne ↦ sym (ap (λ b. cond b true (is_cut cuts s)) (ne_eqb s (suc j) ne))
+        ]
+
+-- where one has none, fewer are listed than there are
+pub fewer_listed : (cuts : List (Option Cut)) (xs : List ℕ) (j : ℕ) (d : Option Cut) → j < length cuts → is_some (get_or cuts j d) ≡ false → IsListOf cuts xs → length xs < length cuts
+fewer_listed cuts xs j d lt none h = let e = below cuts j d lt none in let n = h.count in omega arith
+  where
+    below : (cuts : List (Option Cut)) (j : ℕ) (d : Option Cut) → j < length cuts → is_some (get_or cuts j d) ≡ false → count_by is_some cuts < length cuts
+    below [] j d lt none = absurd (omega (arith, lt))
+    below (o ∷ os) zero d lt none = let e = sum_by-cons tally o os in let z : tally o ≡ 0 = ap (λ b. cond b 1 0) none in let l = count_by-le-length is_some os in omega arith
+    below (o ∷ os) (suc j) d lt none =
+        let e = sum_by-cons tally o os in let l = below os j d (omega (arith, lt)) none in
+        let z : tally o ≤ 1 = at_most o in omega arith
+      where
+        at_most : (o : Option Cut) → tally o ≤ 1
+        at_most None = omega arith
+        at_most (Some c) = omega arith
+
+-- the order in which they stand does not matter
+pub listed_moved : (cuts : List (Option Cut)) (xs ys : List ℕ) → IsPermutation xs ys → IsListOf cuts xs → IsListOf cuts ys
+listed_moved cuts xs ys moved h = record {
+  once = λ s. times_moved s xs ys moved ∙ h.once s;
+  count = length_permutation xs ys moved ∙ h.count;
+}
+
+at_most_one : (b : Bool) → cond b 1 0 ≤ 1
+at_most_one true = omega arith
+at_most_one false = omega arith
+
+pub listed_once : (cuts : List (Option Cut)) (xs : List ℕ) → IsListOf cuts xs → IsOnce xs
+listed_once cuts xs h s = let e = h.once s in let a = at_most_one (is_cut cuts s) in omega arith
+
+-- a new scope is listed where it has a cut from the start
+pub listed_new : (cuts : List (Option Cut)) (xs : List ℕ) (o : Option Cut) → IsListOf cuts xs → IsListOf (cuts ++ o ∷ []) (cond (is_some o) (xs ++ suc (length cuts) ∷ []) xs)
+listed_new cuts xs o h = record {
+  once = λ s. by o s;
+  count = counted o ∙ ap (λ n. n + tally o) h.count ∙ sym (sum_by_push tally cuts o);
+}
+  where
+    counted : (o : Option Cut) → length (cond (is_some o) (xs ++ suc (length cuts) ∷ []) xs) ≡ length xs + tally o
+    counted None = omega arith
+    counted (Some c) = push_length xs (suc (length cuts)) ∙ omega arith
+
+    cut_past : (s : ℕ) → length cuts < s → is_cut cuts s ≡ false
+    cut_past zero lt = refl
+    cut_past (suc i) lt = ap (λ o. is_some (option_and_then (λ o. o) o)) (slice_get_past cuts i (omega arith))
+
+    cut_new : (o : Option Cut) → is_cut (cuts ++ o ∷ []) (suc (length cuts)) ≡ is_some o
+    cut_new o = ap (λ o. is_some (option_and_then (λ o. o) o)) (push_here cuts o)
+
+    cut_before : (o : Option Cut) (s : ℕ) → s ≤ length cuts → is_cut (cuts ++ o ∷ []) s ≡ is_cut cuts s
+    cut_before o zero le = refl
+    cut_before o (suc i) le = ap (λ o. is_some (option_and_then (λ o. o) o)) (get_push cuts o i (omega arith))
+
+    cut_after : (o : Option Cut) (s : ℕ) → suc (length cuts) < s → is_cut (cuts ++ o ∷ []) s ≡ false
+    cut_after o zero lt = refl
+    cut_after o (suc i) lt = ap (λ o. is_some (option_and_then (λ o. o) o)) (slice_get_past (cuts ++ o ∷ []) i (let l : length (cuts ++ o ∷ []) ≡ suc (length cuts) = push_length cuts o in omega arith))
+
+    listed_at : (o : Option Cut) (s : ℕ) → times s (cond (is_some o) (xs ++ suc (length cuts) ∷ []) xs) ≡ times s xs + cond (is_some o) (one s (suc (length cuts))) 0
+    listed_at None s = omega arith
+    listed_at (Some c) s = sum_by_push (one s) xs (suc (length cuts))
+
+    same_zero : (b : Bool) → cond {A = ℕ} b 0 0 ≡ 0
+    same_zero true = refl
+    same_zero false = refl
+
+    by : (o : Option Cut) (s : ℕ) → times s (cond (is_some o) (xs ++ suc (length cuts) ∷ []) xs) ≡ cond (is_cut (cuts ++ o ∷ []) s) 1 0
+    by o s =
+        elim (cases_eq s (suc (length cuts))) [
+          | inl e ↦ (let a : times s xs ≡ 0 = h.once s ∙ ap (λ b. cond b 1 0) (cut_past s (omega arith)) in
+              let b : one s (suc (length cuts)) ≡ 1 = one_is s (suc (length cuts)) e in
+              let d : cond (is_some o) (one s (suc (length cuts))) 0 ≡ cond {A = ℕ} (is_some o) 1 0 = ap (λ n. cond (is_some o) n 0) b in
+              let f = listed_at o s in
+              let g : times s (cond (is_some o) (xs ++ suc (length cuts) ∷ []) xs) ≡ cond {A = ℕ} (is_some o) 1 0 = omega arith in
+              g ∙ sym (ap (λ s. cond {A = ℕ} (is_cut (cuts ++ o ∷ []) s) 1 0) e ∙ ap (λ b. cond {A = ℕ} b 1 0) (cut_new o)))
+          | inr ne ↦ (let b : one s (suc (length cuts)) ≡ 0 = ap (λ b. cond b 1 0) (ne_eqb (suc (length cuts)) s (λ e. ne (sym e))) in
+              let z : cond (is_some o) (one s (suc (length cuts))) 0 ≡ 0 = ap (λ n. cond (is_some o) n 0) b ∙ same_zero (is_some o) in
+              let f = listed_at o s in
+              let g : times s (cond (is_some o) (xs ++ suc (length cuts) ∷ []) xs) ≡ times s xs = omega arith in
+              g ∙ h.once s ∙ ap (λ b. cond b 1 0) (sym (others o s ne)))
+        ]
+      where
+        others : (o : Option Cut) (s : ℕ) → (s ≡ suc (length cuts) → ⊥) → is_cut (cuts ++ o ∷ []) s ≡ is_cut cuts s
+        others o s ne =
+            elim (cases_eq s (suc (length cuts))) [
+              | inl e ↦ absurd (ne e)
+              | inr q ↦ elim (cases_lt s (suc (length cuts))) [
+                | inl lt ↦ cut_before o s (omega arith)
+                | inr ge ↦ cut_after o s (omega arith) ∙ sym (cut_past s (omega arith))
+              ]
+            ]
+
+-- ---- growing
+
+pub grown_none : (l : Listed) → IsGrown l l
+grown_none l = record { added = []; scopes = sym (append-nil l.scopes.items); run = refl; moment = refl; in_order = refl; room = refl }
+
+pub grown_twice : (old mid new : Listed) → IsGrown old mid → IsGrown mid new → IsGrown old new
+grown_twice old mid new a b = record {
+  added = a.added ++ b.added;
+  scopes = b.scopes ∙ ap (λ xs. xs ++ b.added) a.scopes ∙ append_assoc old.scopes.items a.added b.added;
+  run = b.run ∙ a.run;
+  moment = b.moment ∙ a.moment;
+  in_order = b.in_order ∙ a.in_order;
+  room = b.room ∙ a.room;
+}
+
+-- what was listed in one go had no cut before, and has one now
+pub added_new : (old new : Listed) (cuts cuts_new : List (Option Cut)) (grown : IsGrown old new) → IsListOf cuts old.scopes.items → IsListOf cuts_new new.scopes.items → (s : ℕ) → Contains grown.added s → (is_cut cuts s ≡ false) × (is_cut cuts_new s ≡ true)
+added_new old new cuts cuts_new grown was is s there =
+    let a : 1 ≤ times s grown.added = contains_times grown.added s there in
+    let b : times s new.scopes.items ≡ times s old.scopes.items + times s grown.added = ap (times s) grown.scopes ∙ times_append s old.scopes.items grown.added in
+    let c = was.once s in
+    let d = is.once s in
+    (none (is_cut cuts s) (let m = at_most_one (is_cut cuts_new s) in omega arith), some (is_cut cuts_new s) (omega arith))
+  where
+    none : (b : Bool) → cond b 1 0 < 1 → b ≡ false
+    none true lt = absurd (omega (arith, lt))
+    none false lt = refl
+
+    some : (b : Bool) → 1 ≤ cond b 1 0 → b ≡ true
+    some true le = refl
+    some false le = absurd (omega (arith, le))

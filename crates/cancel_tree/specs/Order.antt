@@ -1,0 +1,24 @@
+-- The scopes in order of their cancellation.
+use Rattle.std.specs.Prelude.{◌≡◌, ℕ, ◌<◌, ◌≤◌, Bool, true, is_some, Option, Some, List, AllPairs}
+use Rattle.std.specs.List.{Contains}
+use Rattle.cancel_tree.specs.declared.rows.Told.{Told}
+use Rattle.cancel_tree.specs.Rows.{cut_of, cancelled_at}
+
+-- s became cancelled before t, or at the same place, and then s has the smaller number
+pub record IsBefore (when : ℕ → Option ℕ) (s t : ℕ) : Type 0 where
+  pub first : ℕ
+  pub then : ℕ
+  pub is_first : when s ≡ Some first
+  pub is_then : when t ≡ Some then
+  pub not_later : first ≤ then
+  pub by_number : first ≡ then → s < t
+
+-- the list has exactly the cancelled scopes, and each comes before those after it, so that none stands twice
+pub record IsInOrder (is_cancelled : ℕ → Bool) (when : ℕ → Option ℕ) (list : List ℕ) : Type 0 where
+  pub all : (s : ℕ) → is_cancelled s ≡ true → Contains list s
+  pub only : (s : ℕ) → Contains list s → is_cancelled s ≡ true
+  pub ascends : AllPairs (IsBefore when) list
+
+-- the list is that of the tree's cancelled scopes in order of their cancellation
+abbrev pub IsCancelOrder : List Told → List ℕ → Type 0
+IsCancelOrder told list = IsInOrder (λ s. is_some (cut_of told s)) (cancelled_at told) list
