@@ -28,7 +28,7 @@ pub record NamesAlone (e : Event) (k : ℕ) : Type 0 where
 
 module _ (L : Limits) (h : History) (e : Event) (k : ℕ) (f : Forking) (old new : Stage) (legal : Legal L h) (is : forking h k ≡ Some f) (names : NamesAlone e k) (was : stage h k ≡ old) (now : stage (followed h e) k ≡ new) where
   -- how a tally moves, in the scope of the task and elsewhere
-  moved_by : (s : ℕ) (x : Stage) (b : Bool) → (f.scope == s) ≡ b → tally (followed h e) s x + cond {A = ℕ} (b && is_stage x old) 1 0 ≡ tally h s x + cond {A = ℕ} (b && is_stage x new) 1 0
+  pub moved_by : (s : ℕ) (x : Stage) (b : Bool) → (f.scope == s) ≡ b → tally (followed h e) s x + cond {A = ℕ} (b && is_stage x old) 1 0 ≡ tally h s x + cond {A = ℕ} (b && is_stage x new) 1 0
   moved_by s x b of =
       ap (λ c. tally (followed h e) s x + cond {A = ℕ} c 1 0) (ap (λ d. d && is_stage x old) (sym of) ∙ sym (unit_is h s x k f old is was))
       ∙ (tally_moves L h e s x k f legal is names.forks_none names.others
@@ -69,7 +69,7 @@ module _ (L : Limits) (h : History) (e : Event) (k : ℕ) (f : Forking) (s : ℕ
 
 module _ (L : Limits) (h : History) (f : Forking) (legal : Legal L h) where
   -- the unit that the fork adds
-  forked_by : (s : ℕ) (x y : Stage) (b : Bool) → (f.scope == s) ≡ b → forking (followed h (Fork f.actor f.scope f.label)) (tasks h + 1) ≡ Some f → stage (followed h (Fork f.actor f.scope f.label)) (tasks h + 1) ≡ y
+  pub forked_by : (s : ℕ) (x y : Stage) (b : Bool) → (f.scope == s) ≡ b → forking (followed h (Fork f.actor f.scope f.label)) (tasks h + 1) ≡ Some f → stage (followed h (Fork f.actor f.scope f.label)) (tasks h + 1) ≡ y
       → tally (followed h (Fork f.actor f.scope f.label)) s x ≡ tally h s x + cond {A = ℕ} (b && is_stage x y) 1 0
   forked_by s x y b of is at =
       tally_forks L h f.actor s f.scope f.label x legal

@@ -116,15 +116,15 @@ module _ (L : Limits) (h : History) (e : Event) (t : RowTable) (k : ℕ) (f : Fo
   }
 
 -- a reject names its task alone
-names_rejected : (k : ℕ) → NamesAlone (Reject k) k
+pub names_rejected : (k : ℕ) → NamesAlone (Reject k) k
 names_rejected k = record { forks_none = refl; others = λ j apart. (ne_eqb k j (λ same. apart (sym same)), refl, refl) }
 
 -- and so does a start
-names_started : (k : ℕ) → NamesAlone (Start k) k
+pub names_started : (k : ℕ) → NamesAlone (Start k) k
 names_started k = record { forks_none = refl; others = λ j apart. (refl, ne_eqb k j (λ same. apart (sym same)), refl) }
 
 -- and an end
-names_finished : (k : ℕ) (end : EndValue) → NamesAlone (Finish k end) k
+pub names_finished : (k : ℕ) (end : EndValue) → NamesAlone (Finish k end) k
 names_finished k end = record { forks_none = refl; others = λ j apart. (refl, refl, ne_eqb k j (λ same. apart (sym same))) }
 
 -- the rows agree after a reject

@@ -1,0 +1,11 @@
+pub mod TaskLists
+pub mod Since
+pub mod CutsBefore
+pub mod Over
+pub mod Readings
+pub mod FirstCompletions
+pub mod AtJoin
+pub mod Told
+pub mod ForkSteps
+pub mod Lists
+pub mod Held

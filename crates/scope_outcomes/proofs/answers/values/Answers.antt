@@ -1,0 +1,10 @@
+-- The value of the next task follows those so far.
+use Rattle.std.proofs.Common.{arith}
+use Rattle.scope_outcomes.proofs.Lists.{values_next}
+use Rattle.scope_outcomes.proofs.answers.values.Goals as goal
+
+pub loop-task-preserved : goal.loop-task-preserved
+loop-task-preserved c = (
+  values_next c.args.rows.now c.args.tasks.now c.loop-task.task-index _ _ _ c.loop-task-test.true c.loop-task.invariant.0 c.value_at.ensures c.push_value.ensures.items,
+  omega (arith, c.push_value.ensures.len, c.push_value.ensures.capacity, c.loop-task.invariant.1, c.loop-task-test.true),
+)

@@ -1,0 +1,4 @@
+pub mod TasksOf
+pub mod Answers
+pub mod ForkTable
+pub mod ForksOf

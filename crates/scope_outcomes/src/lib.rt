@@ -1,0 +1,10 @@
+//! What a join answered, by what is kept of scopes, tasks, cancels and forks, without a look at the
+//! history.
+#![tactic(auto)]
+
+mod answers;
+mod forks;
+mod joined;
+
+pub use forks::Forks;
+pub use joined::outcome;
