@@ -1,5 +1,5 @@
 -- What the checks of numbers answer, by the rows.
-use Rattle.std.proofs.Common.{◌≡◌, ℕ, ◌<◌, ◌&&◌, Bool, true, false, cond, not, is_some, nat_lt, nat_le, Some, None, Ok, Err, refl, ap, sym, ◌∙◌, arith}
+use Rattle.std.proofs.Common.{◌≡◌, ℕ, ◌<◌, ◌&&◌, Bool, true, false, cond, not, is_some, nat_lt, nat_le, Option, Some, None, Ok, Err, refl, ap, sym, ◌∙◌, arith}
 use Rattle.std.proofs.lemmas.Bool.{lt-leb}
 use Rattle.scope_rules.specs.declared.types.refusals.Refusal.TheVariants.{NoScope, NoTask, Retired}
 use Rattle.scope_rules.specs.declared.types.records.Opening.{Opening}
@@ -8,6 +8,13 @@ use Rattle.scope_rules.specs.History.{History, opening, forking}
 use Rattle.scope_rules.specs.Checks.{Checked, refuse_if, scope_check, task_check}
 use Rattle.scope_rules.proofs.Innermosts.{opened_after}
 use Rattle.scope_rules.proofs.Forkings.{forked_after}
+use Rattle.scope_rules.specs.declared.types.refusals.Refusal.TheVariants.{NotJoined}
+use Rattle.scope_rules.specs.Checks.{checks, then_check}
+use Rattle.scope_rules.specs.Scopes.{joined}
+use Rattle.scope_rules.specs.Replies.{outcome_check}
+use Rattle.scope_rows.specs.declared.records.ScopeRow.{ScopeRow}
+use Rattle.scope_rows.specs.Agreement.{IsScopeRow}
+use Rattle.scope_rows.proofs.Joinings.{joined_is_some}
 use Rattle.scope_kept.specs.KeptTables.{absent}
 
 not_retired : (n b : ℕ) → b < n → (nat_lt 0 n && nat_le n b) ≡ false
@@ -54,3 +61,14 @@ task_absent h k b same none =
     by : (x : Bool) → cond {A = Checked} x (Err Retired) (Err NoTask) ≡ Err (cond x Retired NoTask)
     by true = refl
     by false = refl
+
+-- what `outcome` is refused for, by the row
+pub outcome_checked : (h : History) (s : ℕ) (r : ScopeRow) (j : Option ℕ) → scope_check h s ≡ Ok tt → IsScopeRow h s r → r.joined ≡ j → refuse_if (not (is_some j)) NotJoined ≡ outcome_check h s
+unfolding outcome_check checks then_check
+outcome_checked h s r j passed says is =
+    let joined_is : joined h s ≡ is_some j = joined_is_some h s ∙ ap is_some (says.joined ∙ is) in
+    rw passed (rw joined_is (last (refuse_if (not (is_some j)) NotJoined)))
+  where
+    last : (c : Checked) → c ≡ then_check c (Ok tt)
+    last (Ok done) = refl
+    last (Err r) = refl

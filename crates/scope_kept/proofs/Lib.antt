@@ -1,4 +1,12 @@
 pub mod Checked
 pub mod Alike
 pub mod NeverOpened
-pub mod ActorsThere
+pub mod Balance
+pub mod Following
+pub mod Wanted
+pub mod Opening
+pub mod Forking
+pub mod Counting
+pub mod Ending
+pub mod Covering
+pub mod Closed

@@ -1,35 +1,71 @@
 -- What is kept of a history, and when.
-use Rattle.std.specs.Prelude.{◌≡◌, ℕ, Bool, false, ◌&&◌, nat_lt, nat_le, length, if◌then◌else◌}
+use Rattle.std.specs.Prelude.{◌≡◌, ℕ, ◌+◌, ◌≤◌, ◌==◌, Bool, true, false, ◌&&◌, nat_lt, nat_le, Some, length, slice_get, count_by, if◌then◌else◌}
 use Rattle.scope_rules.specs.declared.types.refusals.Refusal.{Refusal}
 use Rattle.scope_rules.specs.declared.types.refusals.Refusal.TheVariants.{Retired}
 use Rattle.std.specs.Option.{option_map_or}
+use Rattle.scope_rules.specs.declared.types.answers.Counts.{Counts}
+use Rattle.scope_rules.specs.declared.types.events.Event.{Event}
+use Rattle.scope_rules.specs.declared.types.events.Event.TheVariants.{Fork}
+use Rattle.join_rules.specs.JoinerStanding.{JoinerStanding}
 use Rattle.scope_rules.specs.History.{History, before, opening}
 use Rattle.scope_rules.specs.Bindings.{stack}
 use Rattle.scope_rows.specs.Table.{RowTable}
 use Rattle.scope_rows.specs.Agreement.{AreRowsOf}
 use Rattle.scope_envs.specs.EnvTable.{EnvTable}
+use Rattle.scope_outcomes.specs.ForkTable.{ForkTable}
+use Rattle.scope_outcomes.specs.ForksOf.{AreForksOf}
 use Rattle.scope_envs.specs.Agreement.{AreEnvsOf}
-use Rattle.scope_cuts.specs.CutTables.{CutTable}
+use Rattle.scope_cuts.specs.CutTables.{CutTable, account_at}
 use Rattle.scope_cuts.specs.CutsOf.{AreCutsOf}
 
 pub record KeptTable : Type 0 where
   pub rows : RowTable
   pub cuts : CutTable
   pub envs : EnvTable
+  pub forks : ForkTable
 
--- each part is that of the history
+-- the event forks a task in scope s
+abbrev pub forks_in : ℕ → Event → Bool
+forks_in s (Fork actor scope label) = scope == s
+forks_in s _ = false
+
+-- how many tasks were forked in scope s
+abbrev pub forks_of : History → ℕ → ℕ
+forks_of h s = count_by (forks_in s) h.events
+
+-- where a closure is shown the completions of a scope, its list has room for one of each task
+abbrev pub HasRoomForEnds : History → CutTable → Type 0
+HasRoomForEnds h t = (i : ℕ) (a : JoinerStanding) → slice_get t.accounts i ≡ Some a → a.has_closure ≡ true → forks_of h (t.before + 1 + i) ≤ length a.seen + a.room
+
+-- how many tasks the counts come to
+abbrev pub all_counts : Counts → ℕ
+all_counts n = (n.never + n.waiting) + (n.running + n.finished)
+
+-- a task is counted at some stage
+abbrev pub counts_some : Counts → Bool
+counts_some n = nat_lt 0 ((n.never + n.finished) + (n.waiting + n.running))
+
+-- so much more room is enough for all that was forked in scope s to complete, and one task more
+abbrev pub HasRoomToFork : History → CutTable → ℕ → ℕ → Type 0
+HasRoomToFork h t s more = (a : JoinerStanding) → account_at t s ≡ Some a → forks_of h s + 1 ≤ length a.seen + more
+
+-- each part is that of the history, and there is room for all that may still complete
 pub record IsKeptOf (h : History) (t : KeptTable) : Type 0 where
   pub rows : AreRowsOf h t.rows
   pub cuts : AreCutsOf h t.cuts
   pub envs : AreEnvsOf h t.envs
+  pub forks : AreForksOf h t.forks
+  pub room : HasRoomForEnds h t.cuts
 
 -- the parts have rows for the same scopes and tasks
-pub record AreAlike (rows : RowTable) (cuts : CutTable) (envs : EnvTable) : Type 0 where
+pub record AreAlike (rows : RowTable) (cuts : CutTable) (envs : EnvTable) (forks : ForkTable) : Type 0 where
   pub scopes_before : cuts.before ≡ rows.scopes_before
   pub scopes : length cuts.told ≡ length rows.scopes
   pub accounts : length cuts.accounts ≡ length rows.scopes
   pub tasks_before : envs.before ≡ rows.tasks_before
   pub tasks : length envs.tasks ≡ length rows.tasks
+  pub forks_before : forks.before ≡ rows.scopes_before
+  pub lists : length forks.lists ≡ length rows.scopes
 
 -- why there is no row of the number: it was given before, or it is unknown
 abbrev pub absent : ℕ → ℕ → Refusal → Refusal

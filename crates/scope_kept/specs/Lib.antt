@@ -1,1 +1,4 @@
 pub mod KeptTables
+pub mod Events
+pub mod Completing
+pub mod Closing

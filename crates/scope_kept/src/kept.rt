@@ -1,4 +1,4 @@
-ghost use Rattle.std.specs.Prelude.{◌≡◌, Ok, Err, [], MatchResult, IfOk, OnOk, option_map, max};
+ghost use Rattle.std.specs.Prelude.{◌≡◌, Some, Ok, Err, [], MatchResult, IfOk, OnOk, option_map, max};
 ghost use Rattle.scope_rules.specs.declared.types.capacity.Limits.{Limits};
 ghost use Rattle.scope_rules.specs.History.{History, moment};
 ghost use Rattle.scope_rules.specs.Legal.{Legal};
@@ -6,30 +6,35 @@ ghost use Rattle.scope_rules.specs.Cancels.{cause, cancelled_at, effective};
 ghost use Rattle.scope_rules.specs.Tasks.{stage, state, counts};
 ghost use Rattle.scope_rules.specs.Checks.{scope_check, task_check, actor_check, owns};
 ghost use Rattle.scope_rules.specs.Table.{answering, checked_then, reading_check, until_check};
-ghost use Rattle.scope_rules.specs.Replies.{binding_reply, result_reply, fault_reply};
+ghost use Rattle.scope_rules.specs.Outcomes.{outcome};
+ghost use Rattle.scope_rules.specs.Replies.{AnswersValue, binding_reply, result_reply, fault_reply, outcome_check};
 ghost use Rattle.scope_rows.specs.Agreement.{IsScopeRow, IsTaskRow};
 ghost use Rattle.scope_rows.specs.Table.{HasScope, HasTask, HasActor, scope_row, task_row};
+ghost use Rattle.scope_outcomes.specs.Answers.{HasJoined};
 ghost use Rattle.scope_kept.specs.KeptTables.{IsKeptOf, absent};
 
 use scope_cuts::Cuts;
 use scope_envs::Envs;
+use scope_outcomes::Forks;
 use scope_rows::{Rows, ScopeRow, TaskRow};
 use scope_rules::types::records::Cut;
 use scope_rules::types::values::MAIN;
 use scope_rules::{
-    Actor, Base, Cause, Counts, Effective, Fault, Name, Refusal, ScopeId, Stage, State, TaskId,
-    Value,
+    Actor, Base, Cause, Counts, Effective, Fault, Name, Outcome, Refusal, ScopeId, Stage, State,
+    TaskId, Value,
 };
 use std::alloc::{AllocError, Global};
 use std::marker::Model;
 
-/// What is kept of a realm's history, in three parts with the same scopes and tasks: rows, cancels and
-/// environments. Its answers are those of every history that it is kept of.
+/// What is kept of a realm's history, in four parts with the same scopes and tasks: rows, cancels,
+/// environments and forks. Its answers are those of every history that it is kept of.
 #[derive(Drop)]
 pub struct Kept {
     pub(crate) rows: Rows,
     pub(crate) cuts: Cuts,
     pub(crate) envs: Envs,
+    pub(crate) forks: Forks,
+    alloc: Global,
 }
 
 impl Model for Kept {
@@ -37,9 +42,9 @@ impl Model for Kept {
 
     ghost Value = { KeptTable };
 
-    ghost view = { λ k. record { rows = k.rows; cuts = k.cuts; envs = k.envs } };
+    ghost view = { λ k. record { rows = k.rows; cuts = k.cuts; envs = k.envs; forks = k.forks } };
 
-    ghost invariant = { λ k. AreAlike k.rows k.cuts k.envs };
+    ghost invariant = { λ k. AreAlike k.rows k.cuts k.envs k.forks };
 }
 
 /// How what is kept begins.
@@ -54,6 +59,8 @@ impl Kept {
             rows: Rows::new(alloc),
             cuts: Cuts::new(alloc, 0, 0),
             envs: Envs::new(alloc),
+            forks: Forks::new(alloc, 0),
+            alloc,
         }
     }
 
@@ -65,6 +72,8 @@ impl Kept {
             rows: Rows::with_base(alloc, base.scopes(), base.tasks()),
             cuts: Cuts::new(alloc, base.scopes(), base.moment()),
             envs: Envs::with_base(alloc, base)?,
+            forks: Forks::new(alloc, base.scopes()),
+            alloc,
         })
     }
 }
@@ -74,6 +83,7 @@ impl Kept {
     /// The row of the scope, or why there is none.
     pub(crate) fn scope(&self, scope: ScopeId) -> Result<&ScopeRow, Refusal>
         ensures there { OnOk result (HasScope self.now.rows scope) }
+        ensures row { IfOk result (λ row. scope_row self.now.rows scope ≡ Some row.now) }
         ensures agrees { (h : History) → IsKeptOf h self.now → MatchResult result (λ row. (scope_check h scope ≡ Ok tt) × IsScopeRow h scope row.now) (λ refusal. scope_check h scope ≡ Err refusal) }
     {
         match self.rows.scope(scope) {
@@ -232,6 +242,38 @@ impl Kept {
     {
         self.actor(actor)?;
         self.envs.get(actor, *key).ok_or(Refusal::NotBound)
+    }
+
+    /// What the join of the scope answered (JEP 505, the joiners' `result`). Refused for an unknown scope
+    /// (`NoScope`, `Retired`), before the join (`NotJoined`), and where memory is refused (`Memory`).
+    pub fn outcome(&self, scope: ScopeId) -> Result<Outcome, Refusal>
+        ensures { (L : Limits) (h : History) → Legal L h → IsKeptOf h self.now → AnswersValue (outcome_check h scope) (outcome h scope) result }
+    {
+        self.joined_check(scope)?;
+        self.joined_outcome(scope)
+    }
+
+    /// The scope is joined.
+    #[tactic(auto, unfolding(scope_rules::specs::Replies::outcome_check, scope_rules::specs::Checks::checks, scope_rules::specs::Checks::then_check))]
+    fn joined_check(&self, scope: ScopeId) -> Result<(), Refusal>
+        ensures there { OnOk result (HasJoined self.now.rows scope) }
+        ensures agrees { (L : Limits) (h : History) → Legal L h → IsKeptOf h self.now → result ≡ outcome_check h scope }
+    {
+        match self.scope(scope)?.joined {
+            Some(_) => Ok(()),
+            None => Err(Refusal::NotJoined),
+        }
+    }
+
+    /// What the join of the scope answered, or `Memory`.
+    fn joined_outcome(&self, scope: ScopeId) -> Result<Outcome, Refusal>
+        requires { HasJoined self.now.rows scope }
+        ensures { MatchResult result (λ o. (L : Limits) (h : History) → Legal L h → IsKeptOf h self.now → outcome h scope ≡ Some o) (λ refusal. refusal ≡ Refusal.Memory) }
+    {
+        match scope_outcomes::outcome(self.alloc, &self.rows, &self.cuts, &self.forks, scope) {
+            Ok(outcome) => Ok(outcome),
+            Err(_) => Err(Refusal::Memory),
+        }
     }
 
     /// The moment, in milliseconds.

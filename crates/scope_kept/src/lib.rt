@@ -1,10 +1,11 @@
-//! What a book keeps of its history, without a list of events: it answers what is asked of a realm.
+//! What a book keeps of its history, without a list of events: it answers what is asked of a realm, and
+//! is told each accepted event.
 #![tactic(auto)]
 
 mod asked;
+mod closing;
+mod completing;
+mod events;
 mod kept;
-mod readings;
-mod realm;
 
 pub use kept::Kept;
-pub use realm::KeptRealm;

@@ -1,12 +1,12 @@
-use Rattle.std.proofs.Common.{[], sym}
+use Rattle.std.proofs.Common.{[], sym, arith}
 use Rattle.scope_kept.proofs.Alike.{alike}
 use Rattle.scope_kept.proofs.kept.Kept.with_base.Goals as goal
 
 pub invariant_of-result : goal.invariant_of-result
 invariant_of-result c =
     let base = c.args.base.now in
-    alike (record { base = base; events = [] }) c.with_base.result c.new.result c.in_ok-with_base.field-0
-    (c.with_base.ensures.agrees base (sym c.scopes.ensures) (sym c.tasks.ensures)) (c.new.ensures base (sym c.scopes-2.ensures) (sym c.moment.ensures)) c.in_ok-with_base.ensures.agrees
+    alike (record { base = base; events = [] }) c.with_base.result c.new.result c.in_ok-with_base.field-0 c.new-2.result
+    (c.with_base.ensures.agrees base (sym c.scopes.ensures) (sym c.tasks.ensures)) (c.new.ensures base (sym c.scopes-2.ensures) (sym c.moment.ensures)) c.in_ok-with_base.ensures.agrees (c.new-2.ensures.agrees base (sym c.scopes-3.ensures))
 
 pub returns : goal.returns
 returns c =
@@ -15,4 +15,6 @@ returns c =
       rows = c.with_base.ensures.agrees base (sym c.scopes.ensures) (sym c.tasks.ensures);
       cuts = c.new.ensures base (sym c.scopes-2.ensures) (sym c.moment.ensures);
       envs = c.in_ok-with_base.ensures.agrees;
+      forks = c.new-2.ensures.agrees base (sym c.scopes-3.ensures);
+      room = λ i a at listed. omega arith;
     }

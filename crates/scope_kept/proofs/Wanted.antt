@@ -1,0 +1,104 @@
+-- What the parts want before each event, where the event is accepted.
+use Rattle.std.proofs.Common.{◌≡◌, ℕ, ◌+◌, ◌-◌, ◌≤◌, ◌<◌, ◌^◌, false, Option, Some, None, option_map, length, refl, ap, sym, subst, ◌∙◌, arith}
+use Rattle.std.specs.Option.{IfSome}
+use Rattle.std.proofs.lemmas.Bool.{ltb-false}
+use Rattle.scope_rules.specs.declared.types.capacity.Limits.{Limits}
+use Rattle.scope_rules.specs.declared.types.capacity.TheConstants.{LEVEL_LIMIT, GREATEST_NUMBER}
+use Rattle.scope_rules.specs.declared.types.events.Event.{Event}
+use Rattle.scope_rules.specs.declared.types.events.Event.TheVariants.{Open, Fork, Cancel, Move, Tick, Bind, Unbind, Join}
+use Rattle.scope_rules.specs.declared.types.joiners.Policy.{Policy}
+use Rattle.scope_rules.specs.declared.types.events.Options.{Options}
+use Rattle.scope_rules.specs.History.{History, moment}
+use Rattle.scope_rules.specs.Scopes.{joined, surrounding, next_level}
+use Rattle.scope_rules.specs.Checks.{refuse_if}
+use Rattle.scope_rules.specs.Table.{check_of}
+use Rattle.scope_rules.specs.Legal.{Legal, Accepts}
+use Rattle.scope_rules.proofs.Accepted.{checks_at, not_refused}
+use Rattle.scope_rules.proofs.NewScopes.{scope_passed}
+use Rattle.scope_rules.proofs.Nesting.{IsOpened, surrounding_opened}
+use Rattle.scope_rules.proofs.PassedRows.{IsActor, actor_passed, open_passed, fork_passed}
+use Rattle.scope_rules.proofs.Pushing.{open_number}
+use Rattle.cancel_tree.specs.Rows.{IsLatest, level_in}
+use Rattle.scope_cuts.specs.CutTables.{CutTable, HasRow}
+use Rattle.scope_cuts.specs.CutsOf.{AreCutsOf}
+use Rattle.scope_cuts.proofs.Readings.{has_row, latest_place, level_in_read}
+use Rattle.scope_envs.specs.EnvTable.{HasEnv}
+use Rattle.scope_envs.proofs.Held.{has_env_of_actor}
+use Rattle.scope_rows.proofs.JoinLaws.{join_passed}
+use Rattle.scope_kept.specs.KeptTables.{KeptTable, IsKeptOf}
+use Rattle.scope_kept.specs.Events.{IsReadyFor, IsReadyAt}
+
+-- ---- what accepted events say
+
+pub cancel_opened : (L : Limits) (h : History) (s : ℕ) → Accepts L h (Cancel s) → IsOpened h s
+unfolding check_of
+cancel_opened L h s ok = scope_passed h s (checks_at _ 0 _ ok.passed refl)
+
+pub record MoveRow (h : History) (s : ℕ) : Type 0 where
+  pub opened : IsOpened h s
+  pub unjoined : joined h s ≡ false
+
+pub move_passed : (L : Limits) (h : History) (s : ℕ) (d : Option ℕ) → Accepts L h (Move s d) → MoveRow h s
+unfolding check_of
+move_passed L h s d ok = record {
+  opened = scope_passed h s (checks_at _ 0 _ ok.passed refl);
+  unjoined = not_refused _ _ (checks_at _ 2 _ ok.passed refl);
+}
+
+pub tick_passed : (L : Limits) (h : History) (now : ℕ) → Accepts L h (Tick now) → moment h ≤ now
+unfolding check_of
+tick_passed L h now ok = ltb-false now (moment h) (not_refused _ _ (checks_at _ 0 _ ok.passed refl))
+
+pub bind_passed : (L : Limits) (h : History) (a : ℕ) (pair : _) → Accepts L h (Bind a pair) → IsActor h a
+unfolding check_of
+bind_passed L h a pair ok = actor_passed h a (checks_at _ 0 _ ok.passed refl)
+
+pub unbind_passed : (L : Limits) (h : History) (a : ℕ) → Accepts L h (Unbind a) → IsActor h a
+unfolding check_of
+unbind_passed L h a ok = actor_passed h a (checks_at _ 0 _ ok.passed refl)
+
+pub level_passed : (L : Limits) (h : History) (a : ℕ) (policy : Policy) (options : Options) → Accepts L h (Open a policy options) → next_level h a ≤ LEVEL_LIMIT
+unfolding check_of
+level_passed L h a policy options ok = ltb-false LEVEL_LIMIT (next_level h a) (not_refused _ _ (checks_at _ 2 _ ok.passed refl))
+
+-- ---- what cuts want
+
+pub cancel_row : (t : KeptTable) (s : ℕ) → IsReadyFor t (Cancel s) → HasRow t.cuts s
+cancel_row t s ready = has_row ready.history t.cuts s ready.kept.cuts (cancel_opened ready.limits ready.history s ready.accepted)
+
+pub move_row : (t : KeptTable) (s : ℕ) (d : Option ℕ) → IsReadyFor t (Move s d) → HasRow t.cuts s
+move_row t s d ready = has_row ready.history t.cuts s ready.kept.cuts (move_passed ready.limits ready.history s d ready.accepted).opened
+
+pub join_row : (t : KeptTable) (a s : ℕ) → IsReadyFor t (Join a s) → HasRow t.cuts s
+join_row t a s ready = has_row ready.history t.cuts s ready.kept.cuts (join_passed ready.limits ready.history a s ready.accepted).0
+
+-- no own cancel stands after the place
+pub latest : (t : KeptTable) (e : Event) (place : ℕ) → IsReadyAt t e place → IsLatest t.cuts.told place
+latest t e place ready = subst (IsLatest t.cuts.told) (sym ready.1) (latest_place ready.0.history t.cuts ready.0.kept.cuts)
+
+pub tick_forward : (t : KeptTable) (now : ℕ) → IsReadyFor t (Tick now) → t.cuts.moment ≤ now
+tick_forward t now ready = subst (λ m. m ≤ now) (sym ready.kept.cuts.moment) (tick_passed ready.limits ready.history now ready.accepted)
+
+-- what lies around an actor has a row
+pub around_row : (L : Limits) (h : History) (t : CutTable) (a : ℕ) (parent : Option ℕ) → Legal L h → AreCutsOf h t → parent ≡ surrounding h a → IfSome parent (HasRow t)
+around_row L h t a None legal cuts is = tt
+around_row L h t a (Some p) legal cuts is = has_row h t p cuts (surrounding_opened L h a p legal (sym is))
+
+pub open_level : (L : Limits) (h : History) (t : CutTable) (a : ℕ) (policy : Policy) (options : Options) (parent : Option ℕ) → Legal L h → Accepts L h (Open a policy options) → AreCutsOf h t → parent ≡ surrounding h a
+    → level_in t.told (option_map (λ p. p - t.before) parent) ≤ LEVEL_LIMIT
+open_level L h t a policy options parent legal ok cuts is =
+    subst (λ n. n ≤ LEVEL_LIMIT) (sym (level_in_read L h t a parent legal cuts is (around_row L h t a parent legal cuts is))) (level_passed L h a policy options ok)
+
+pub open_numbers : (L : Limits) (h : History) (t : CutTable) (a : ℕ) (policy : Policy) (options : Options) → Accepts L h (Open a policy options) → AreCutsOf h t → t.before + length t.told + 1 < 2 ^ 32
+open_numbers L h t a policy options ok cuts = let few = (open_number L h a policy options ok.passed).1 in omega (arith, few, cuts.numbered, cuts.count)
+
+-- ---- what environments want
+
+pub bind_env : (t : KeptTable) (a : ℕ) (pair : _) → IsReadyFor t (Bind a pair) → HasEnv t.envs a
+bind_env t a pair ready = has_env_of_actor ready.history t.envs a ready.kept.envs (bind_passed ready.limits ready.history a pair ready.accepted)
+
+pub unbind_env : (t : KeptTable) (a : ℕ) → IsReadyFor t (Unbind a) → HasEnv t.envs a
+unbind_env t a ready = has_env_of_actor ready.history t.envs a ready.kept.envs (unbind_passed ready.limits ready.history a ready.accepted)
+
+pub open_env : (t : KeptTable) (a : ℕ) (policy : Policy) (options : Options) → IsReadyFor t (Open a policy options) → HasEnv t.envs a
+open_env t a policy options ready = has_env_of_actor ready.history t.envs a ready.kept.envs (open_passed ready.limits ready.history a policy options ready.accepted)

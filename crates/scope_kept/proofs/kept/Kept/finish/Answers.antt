@@ -1,0 +1,74 @@
+use Rattle.std.proofs.Common.{◌≡◌, ap, sym, subst, refl, ◌∙◌}
+use Rattle.scope_rules.specs.declared.types.events.Event.TheVariants.{Finish}
+use Rattle.scope_rules.specs.Cancels.{is_cancelled}
+use Rattle.scope_rows.specs.Table.{HasTask, scope_of}
+use Rattle.scope_rows.proofs.WantsMet.{can_finish}
+use Rattle.scope_envs.proofs.Steps.{envs_stay}
+use Rattle.scope_outcomes.proofs.ForkSteps.{forks_stay}
+use Rattle.scope_kept.specs.KeptTables.{KeptTable, IsKeptOf}
+use Rattle.scope_kept.specs.Events.{IsReadyAt, HasFollowedAt}
+use Rattle.scope_kept.proofs.Ending.{ends_in, room_for_end, few_ended, cuts_ended, room_ended}
+use Rattle.scope_kept.proofs.Following.{alike_next_at}
+use Rattle.scope_kept.proofs.Wanted.{latest}
+use Rattle.scope_kept.proofs.kept.Kept.finish.Goals as goal
+
+pub scope_of-scope-requires : goal.scope_of-scope-requires
+scope_of-scope-requires g c =
+    let ready = c.requires.0 in
+    (can_finish ready.limits ready.history c.args.self.now.rows c.args.task c.args.end ready.legal ready.accepted ready.kept.rows).task
+
+pub complete-requires-clause-row : goal.complete-requires-clause-row
+complete-requires-clause-row g c =
+    let old : KeptTable = record { rows = c.self.inside.rows; cuts = c.self.inside.cuts; envs = c.self.inside.envs; forks = c.self.inside.forks } in
+    let ready = (subst (λ t. IsReadyAt t (Finish c.args.task c.args.end) c.args.place) (sym c.self.view_is) c.requires).0 in
+    let scope : c.scope_of-scope.result ≡ scope_of old.rows c.args.task = c.scope_of-scope.ensures.row ∙ ap (λ (t : KeptTable). scope_of t.rows c.args.task) (sym c.self.view_is) in
+    (ends_in ready.limits ready.history old c.args.task c.args.end c.scope_of-scope.result ready.legal ready.accepted ready.kept scope).row
+
+pub complete-requires-clause-room : goal.complete-requires-clause-room
+complete-requires-clause-room g c =
+    let old : KeptTable = record { rows = c.self.inside.rows; cuts = c.self.inside.cuts; envs = c.self.inside.envs; forks = c.self.inside.forks } in
+    let ready = (subst (λ t. IsReadyAt t (Finish c.args.task c.args.end) c.args.place) (sym c.self.view_is) c.requires).0 in
+    let scope : c.scope_of-scope.result ≡ scope_of old.rows c.args.task = c.scope_of-scope.ensures.row ∙ ap (λ (t : KeptTable). scope_of t.rows c.args.task) (sym c.self.view_is) in
+    room_for_end ready.history old c.args.task c.scope_of-scope.result ready.kept
+    (ends_in ready.limits ready.history old c.args.task c.args.end c.scope_of-scope.result ready.legal ready.accepted ready.kept scope)
+
+pub complete-requires-clause-few : goal.complete-requires-clause-few
+complete-requires-clause-few g c =
+    let old : KeptTable = record { rows = c.self.inside.rows; cuts = c.self.inside.cuts; envs = c.self.inside.envs; forks = c.self.inside.forks } in
+    let ready = (subst (λ t. IsReadyAt t (Finish c.args.task c.args.end) c.args.place) (sym c.self.view_is) c.requires).0 in
+    let scope : c.scope_of-scope.result ≡ scope_of old.rows c.args.task = c.scope_of-scope.ensures.row ∙ ap (λ (t : KeptTable). scope_of t.rows c.args.task) (sym c.self.view_is) in
+    few_ended ready.history old c.args.task c.scope_of-scope.result ready.kept
+    (ends_in ready.limits ready.history old c.args.task c.args.end c.scope_of-scope.result ready.legal ready.accepted ready.kept scope)
+
+pub complete-requires-clause-latest : goal.complete-requires-clause-latest
+complete-requires-clause-latest g c =
+    let old : KeptTable = record { rows = c.self.inside.rows; cuts = c.self.inside.cuts; envs = c.self.inside.envs; forks = c.self.inside.forks } in
+    latest old (Finish c.args.task c.args.end) c.args.place (subst (λ t. IsReadyAt t (Finish c.args.task c.args.end) c.args.place) (sym c.self.view_is) c.requires)
+
+pub finish-requires : goal.finish-requires
+finish-requires g c =
+    let ready = (subst (λ t. IsReadyAt t (Finish c.args.task c.args.end) c.args.place) (sym c.self.view_is) c.requires).0 in
+    can_finish ready.limits ready.history c.self.inside.rows c.args.task c.args.end ready.legal ready.accepted ready.kept.rows
+
+pub returns : goal.returns
+returns g c =
+    let old : KeptTable = record { rows = c.self.inside.rows; cuts = c.self.inside.cuts; envs = c.self.inside.envs; forks = c.self.inside.forks } in
+    let new : KeptTable = record { rows = c.finish.new.self; cuts = c.complete.new.cuts; envs = c.self.inside.envs; forks = c.self.inside.forks } in
+    let scope : c.scope_of-scope.result ≡ scope_of old.rows c.args.task = c.scope_of-scope.ensures.row ∙ ap (λ (t : KeptTable). scope_of t.rows c.args.task) (sym c.self.view_is) in
+    subst (λ t. HasFollowedAt t (Finish c.args.task c.args.end) c.args.place new) c.self.view_is
+    (λ L h legal ok kept at.
+    let whole = subst (IsKeptOf h) c.self.view_is kept in
+    let ends = ends_in L h old c.args.task c.args.end c.scope_of-scope.result legal ok kept scope in
+    let cuts = cuts_ended L h c.args.task c.args.end c.scope_of-scope.result c.args.place old new.cuts legal kept ends at c.complete.ensures in
+    record {
+      rows = c.finish.ensures.agrees L h legal ok kept.rows (c.is_cancelled-cancelled.ensures L h legal whole ∙ ap (is_cancelled h) scope);
+      cuts = cuts;
+      envs = envs_stay h (Finish c.args.task c.args.end) old.envs refl kept.envs;
+      forks = forks_stay h (Finish c.args.task c.args.end) old.forks refl kept.forks;
+      room = room_ended h c.args.task c.args.end c.scope_of-scope.result c.args.place old.cuts new.cuts kept.room (cuts.numbered ∙ sym kept.cuts.numbered) c.complete.ensures;
+    })
+
+pub invariant_of-self : goal.invariant_of-self
+invariant_of-self g c =
+    let new : KeptTable = record { rows = c.finish.new.self; cuts = c.complete.new.cuts; envs = c.self.inside.envs; forks = c.self.inside.forks } in
+    alike_next_at c.args.self.now new (Finish c.args.task c.args.end) c.args.place c.requires (returns g c)

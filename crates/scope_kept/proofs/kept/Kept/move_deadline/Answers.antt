@@ -1,0 +1,32 @@
+use Rattle.std.proofs.Common.{refl, ap, sym, subst}
+use Rattle.scope_rules.specs.declared.types.events.Event.TheVariants.{Move}
+use Rattle.scope_rows.proofs.Keeping.{rows_deadline_moved}
+use Rattle.scope_kept.specs.KeptTables.{KeptTable}
+use Rattle.scope_kept.specs.Events.{IsReadyAt, HasFollowedAt}
+use Rattle.scope_kept.proofs.Following.{cuts_follow, alike_next_at}
+use Rattle.scope_kept.proofs.Wanted.{move_row, move_passed, latest}
+use Rattle.scope_kept.proofs.kept.Kept.move_deadline.Goals as goal
+
+pub move_deadline-requires-clause-row : goal.move_deadline-requires-clause-row
+move_deadline-requires-clause-row c =
+    let old : KeptTable = record { rows = c.self.inside.rows; cuts = c.self.inside.cuts; envs = c.self.inside.envs; forks = c.self.inside.forks } in
+    move_row old c.args.scope c.args.deadline (subst (λ t. IsReadyAt t (Move c.args.scope c.args.deadline) c.args.place) (sym c.self.view_is) c.requires).0
+
+pub move_deadline-requires-clause-latest : goal.move_deadline-requires-clause-latest
+move_deadline-requires-clause-latest c =
+    let old : KeptTable = record { rows = c.self.inside.rows; cuts = c.self.inside.cuts; envs = c.self.inside.envs; forks = c.self.inside.forks } in
+    latest old (Move c.args.scope c.args.deadline) c.args.place (subst (λ t. IsReadyAt t (Move c.args.scope c.args.deadline) c.args.place) (sym c.self.view_is) c.requires)
+
+pub returns-clause-followed : goal.returns-clause-followed
+returns-clause-followed c =
+    let old : KeptTable = record { rows = c.self.inside.rows; cuts = c.self.inside.cuts; envs = c.self.inside.envs; forks = c.self.inside.forks } in
+    let new : KeptTable = record { rows = c.self.inside.rows; cuts = c.move_deadline.new.self; envs = c.self.inside.envs; forks = c.self.inside.forks } in
+    subst (λ t. HasFollowedAt t (Move c.args.scope c.args.deadline) c.args.place new) c.self.view_is
+    (cuts_follow old new (Move c.args.scope c.args.deadline) c.args.place refl refl (λ s. refl) refl refl refl c.move_deadline.ensures.accounts
+    (λ L h legal rows. rows_deadline_moved L h old.rows c.args.scope c.args.deadline legal rows)
+    (λ L h legal ok cuts at. c.in_ok-move_deadline.ensures.moved L h legal cuts at (move_passed L h c.args.scope c.args.deadline ok).unjoined))
+
+pub invariant_of-self-2 : goal.invariant_of-self-2
+invariant_of-self-2 c =
+    let new : KeptTable = record { rows = c.self.inside.rows; cuts = c.move_deadline.new.self; envs = c.self.inside.envs; forks = c.self.inside.forks } in
+    alike_next_at c.args.self.now new (Move c.args.scope c.args.deadline) c.args.place c.requires (returns-clause-followed c)

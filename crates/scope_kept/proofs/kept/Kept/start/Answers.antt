@@ -1,0 +1,24 @@
+use Rattle.std.proofs.Common.{refl, sym, subst}
+use Rattle.scope_rules.specs.declared.types.events.Event.TheVariants.{Start}
+use Rattle.scope_rows.proofs.WantsMet.{can_start}
+use Rattle.scope_kept.specs.KeptTables.{KeptTable}
+use Rattle.scope_kept.specs.Events.{IsReadyFor, HasFollowed}
+use Rattle.scope_kept.proofs.Following.{rows_follow, alike_next}
+use Rattle.scope_kept.proofs.kept.Kept.start.Goals as goal
+
+pub start-requires : goal.start-requires
+start-requires c =
+    let ready = subst (λ t. IsReadyFor t (Start c.args.task)) (sym c.self.view_is) c.requires in
+    can_start ready.limits ready.history c.self.inside.rows c.args.task ready.legal ready.accepted ready.kept.rows
+
+pub returns : goal.returns
+returns c =
+    let old : KeptTable = record { rows = c.self.inside.rows; cuts = c.self.inside.cuts; envs = c.self.inside.envs; forks = c.self.inside.forks } in
+    let new : KeptTable = record { rows = c.start.new.self; cuts = c.self.inside.cuts; envs = c.self.inside.envs; forks = c.self.inside.forks } in
+    subst (λ t. HasFollowed t (Start c.args.task) new) c.self.view_is
+    (rows_follow old new (Start c.args.task) refl refl refl (λ s. refl) refl refl refl c.start.ensures.agrees)
+
+pub invariant_of-self : goal.invariant_of-self
+invariant_of-self c =
+    let new : KeptTable = record { rows = c.start.new.self; cuts = c.self.inside.cuts; envs = c.self.inside.envs; forks = c.self.inside.forks } in
+    alike_next c.args.self.now new (Start c.args.task) c.requires (returns c)

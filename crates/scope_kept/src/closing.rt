@@ -1,0 +1,44 @@
+//! The beginning of a close, as the scopes that it covers see it.
+
+ghost use Rattle.std.specs.Prelude.{◌≡◌};
+ghost use Rattle.scope_rows.specs.Steps.{below_of};
+ghost use Rattle.scope_kept.specs.Closing.{CanClose, HasBegunClose};
+
+use scope_cuts::Cuts;
+use scope_rows::Rows;
+use scope_rules::{CauseKind, ScopeId};
+
+/// Cancels the scopes that the beginning of the close covers, by the close: those from the owner's
+/// innermost scope down to `scope`, each opened below the one before it. Takes time by how many those are
+/// and by what their cancels reach.
+pub(crate) fn cancel_covered(
+    rows: &Rows,
+    cuts: &mut Cuts,
+    from: Option<ScopeId>,
+    scope: ScopeId,
+    place: usize,
+)
+    requires { CanClose rows.now cuts.old from scope place }
+    ensures followed { HasBegunClose rows.now cuts.old cuts.new from scope place }
+    ensures accounts { cuts.new.accounts ≡ cuts.old.accounts }
+{
+    let mut next = from;
+    while let Some(here) = next {
+        cuts.cancel(here, CauseKind::Close, place);
+        next = if here == scope {
+            None
+        } else {
+            below(rows, here)
+        };
+    }
+}
+
+/// The scope below this one: the innermost that its owner had when it opened this one.
+fn below(rows: &Rows, scope: ScopeId) -> Option<ScopeId>
+    ensures { result ≡ below_of rows.now.scopes_before rows.now.scopes scope }
+{
+    match rows.scope(scope) {
+        Some(row) => row.below,
+        None => None,
+    }
+}

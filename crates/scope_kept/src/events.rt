@@ -1,0 +1,242 @@
+//! What the accepted events make of what is kept. `place` is the number of events before the one that
+//! is told. Where a call may be refused, it is for memory alone, and then nothing has changed.
+
+ghost use Rattle.std.specs.Prelude.{◌≡◌, ◌<◌, ◌^◌, ℕ, Some, option_map, OnOk, OnErr};
+ghost use Rattle.scope_rows.specs.Table.{HasTask, scope_of};
+ghost use Rattle.scope_rules.specs.History.{History, forking};
+ghost use Rattle.scope_kept.specs.KeptTables.{IsKeptOf, HasRoomToFork, all_counts};
+ghost use Rattle.scope_rules.specs.declared.types.capacity.Limits.{Limits};
+ghost use Rattle.scope_rules.specs.Legal.{Legal};
+ghost use Rattle.scope_cuts.specs.CutTables.{HasRow};
+ghost use Rattle.scope_kept.specs.Events.{IsReadyFor, IsReadyAt, HasFollowed, HasFollowedAt};
+
+use crate::closing::cancel_covered;
+use crate::completing::complete;
+use crate::kept::Kept;
+use join_rules::StoredTest;
+use scope_rules::types::records::{Forking, Opening};
+use scope_rules::{
+    Actor, CauseKind, Completion, Counts, End, Event, Label, Name, Options, Policy, ScopeId,
+    TaskId, Value,
+};
+use std::alloc::AllocError;
+
+/// The events of scopes.
+impl Kept {
+    /// The actor opened a scope; `listed` says whether a closure of the caller's is shown its
+    /// completions.
+    pub fn open(
+        &mut self,
+        actor: Actor,
+        policy: Policy,
+        options: Options,
+        listed: bool,
+        place: usize,
+    ) -> Result<(), AllocError>
+        requires { IsReadyAt self.old (Event.Open actor policy options) place }
+        ensures followed { OnOk result (HasFollowedAt self.old (Event.Open actor policy options) place self.new) }
+        ensures refused { OnErr result ((L : Limits) (h : History) → Legal L h → IsKeptOf h self.old → IsKeptOf h self.new) }
+    {
+        let parent = self.surrounding(actor);
+        let height = self.envs.stack_len(actor);
+        self.rows.reserve_scope()?;
+        self.forks.reserve_scope()?;
+        self.cuts.open(parent, policy, options, listed, place)?;
+        let opening = Opening {
+            place,
+            actor,
+            policy,
+            options,
+        };
+        self.rows.open(opening, parent, height);
+        self.forks.open();
+        Ok(())
+    }
+
+    /// The scope was cancelled by a call.
+    pub fn cancel(&mut self, scope: ScopeId, place: usize)
+        requires { IsReadyAt self.old (Event.Cancel scope) place }
+        ensures { HasFollowedAt self.old (Event.Cancel scope) place self.new }
+    {
+        self.cuts.cancel(scope, CauseKind::Call, place);
+    }
+
+    /// The deadline of the scope was moved, in milliseconds, or taken away.
+    pub fn move_deadline(
+        &mut self,
+        scope: ScopeId,
+        deadline: Option<u64>,
+        place: usize,
+    ) -> Result<(), AllocError>
+        requires { IsReadyAt self.old (Event.Move scope deadline) place }
+        ensures followed { OnOk result (HasFollowedAt self.old (Event.Move scope deadline) place self.new) }
+        ensures refused { OnErr result (self.new ≡ self.old) }
+    {
+        self.cuts.move_deadline(scope, deadline, place)?;
+        Ok(())
+    }
+
+    /// The moment was set, in milliseconds.
+    pub fn tick(&mut self, now: u64, place: usize)
+        requires { IsReadyAt self.old (Event.Tick now) place }
+        ensures { HasFollowedAt self.old (Event.Tick now) place self.new }
+    {
+        self.cuts.tick(now, place);
+    }
+
+    /// The scope was joined.
+    pub fn join(&mut self, scope: ScopeId, place: usize)
+        requires { (actor : ℕ) × IsReadyAt self.old (Event.Join actor scope) place }
+        ensures { (actor : ℕ) → HasFollowedAt self.old (Event.Join actor scope) place self.new }
+    {
+        self.cuts.join(scope);
+        self.rows.join(scope, place);
+    }
+
+    /// The actor began the close of its scope, which covers each scope that the actor opened later and
+    /// has not closed.
+    pub fn begin_close(&mut self, actor: Actor, scope: ScopeId, place: usize)
+        requires { IsReadyAt self.old (Event.BeginClose actor scope) place }
+        ensures { HasFollowedAt self.old (Event.BeginClose actor scope) place self.new }
+    {
+        let from = self.rows.innermost(actor);
+        cancel_covered(&self.rows, &mut self.cuts, from, scope, place);
+        self.rows.begin_close(actor, scope);
+    }
+
+    /// The close of the scope ended.
+    pub fn end_close(&mut self, actor: Actor, scope: ScopeId)
+        requires { IsReadyFor self.old (Event.EndClose actor scope) }
+        ensures { HasFollowed self.old (Event.EndClose actor scope) self.new }
+    {
+        self.rows.end_close(actor, scope);
+    }
+}
+
+/// The events of tasks.
+impl Kept {
+    /// The actor forked the next task in the scope.
+    pub fn fork(
+        &mut self,
+        actor: Actor,
+        scope: ScopeId,
+        label: Label,
+        place: usize,
+    ) -> Result<(), AllocError>
+        requires { IsReadyAt self.old (Event.Fork actor scope label) place }
+        ensures followed { OnOk result (HasFollowedAt self.old (Event.Fork actor scope label) place self.new) }
+        ensures refused { OnErr result ((L : Limits) (h : History) → Legal L h → IsKeptOf h self.old → IsKeptOf h self.new) }
+    {
+        let cancelled = self.is_cancelled(scope);
+        let more = self.room_to_fork(scope);
+        let task = self.rows.last_task() + 1;
+        self.rows.reserve_task()?;
+        self.forks.reserve(scope)?;
+        self.cuts.reserve(scope, more)?;
+        self.envs.fork(actor)?;
+        let forking = Forking {
+            place,
+            actor,
+            scope,
+            label,
+        };
+        self.rows.fork(forking, cancelled);
+        self.forks.fork(scope, task);
+        Ok(())
+    }
+
+    /// How much room the list of the scope's completions wants beside what it has, so that each task
+    /// forked in it, and one more, may complete.
+    fn room_to_fork(&self, scope: ScopeId) -> usize
+        requires { HasRow self.now.cuts scope }
+        ensures { (L : Limits) (h : History) → Legal L h → IsKeptOf h self.now → HasRoomToFork h self.now.cuts scope result }
+    {
+        let completed = self.cuts.account(scope).seen().len();
+        match self.rows.scope(scope) {
+            Some(row) => (all_counts(row.counts) + 1).saturating_sub(completed),
+            None => 1,
+        }
+    }
+
+    /// No thread was had for the task.
+    pub fn reject(&mut self, task: TaskId)
+        requires { IsReadyFor self.old (Event.Reject task) }
+        ensures { HasFollowed self.old (Event.Reject task) self.new }
+    {
+        self.rows.reject(task);
+    }
+
+    /// The task's thread has come.
+    pub fn start(&mut self, task: TaskId)
+        requires { IsReadyFor self.old (Event.Start task) }
+        ensures { HasFollowed self.old (Event.Start task) self.new }
+    {
+        self.rows.start(task);
+    }
+}
+
+/// The ends of tasks.
+impl Kept {
+    /// The task ended. Its scope's account has the completion, and where the joiner fires at it, the
+    /// scope is cancelled. `test` is the caller's closure, if the joiner has one: it is asked where the
+    /// scope was not cancelled.
+    pub fn finish(&mut self, task: TaskId, end: End, test: Option<&StoredTest>, place: usize)
+        requires { IsReadyAt self.old (Event.Finish task end) place }
+        ensures { HasFollowedAt self.old (Event.Finish task end) place self.new }
+    {
+        let scope = self.scope_of(task);
+        let cancelled = self.is_cancelled(scope);
+        let asked = if cancelled { None } else { test };
+        complete(
+            &mut self.cuts,
+            scope,
+            Completion { task, end },
+            asked,
+            place,
+        );
+        self.rows.finish(task, end, cancelled);
+    }
+
+    /// The scope that the task was forked in.
+    pub fn scope_of(&self, task: TaskId) -> ScopeId
+        requires { HasTask self.now.rows task }
+        ensures row { result ≡ scope_of self.now.rows task }
+        ensures agrees { (h : History) → IsKeptOf h self.now → option_map (λ f. f.scope) (forking h task) ≡ Some result }
+    {
+        match self.rows.task(task) {
+            Some(row) => row.forking.scope,
+            None => unreachable!(),
+        }
+    }
+}
+
+/// The events of bindings.
+impl Kept {
+    /// The actor bound the key to the value.
+    pub fn bind(&mut self, actor: Actor, key: Name, value: Value) -> Result<(), AllocError>
+        requires { IsReadyFor self.old (Event.Bind actor (record { key = key; value = value })) }
+        ensures followed { OnOk result (HasFollowed self.old (Event.Bind actor (record { key = key; value = value })) self.new) }
+        ensures refused { OnErr result (self.new ≡ self.old) }
+    {
+        self.envs.bind(actor, key, value)?;
+        Ok(())
+    }
+
+    /// The actor's last own binding was taken away.
+    pub fn unbind(&mut self, actor: Actor)
+        requires { IsReadyFor self.old (Event.Unbind actor) }
+        ensures { HasFollowed self.old (Event.Unbind actor) self.new }
+    {
+        self.envs.unbind(actor);
+    }
+}
+
+/// How many tasks the counts come to.
+fn all_counts(counts: Counts) -> usize
+    ensures sum { result ≡ all_counts counts }
+    ensures small { result < 2 ^ 34 }
+{
+    counts.never as usize
+        + counts.waiting as usize
+        + (counts.running as usize + counts.finished as usize)
+}
