@@ -1,0 +1,2 @@
+pub mod ActorsThere
+pub mod Ready

@@ -1,0 +1,137 @@
+ghost use Rattle.std.specs.Prelude.{◌≡◌, [], IfOk, MatchResult};
+ghost use Rattle.scope_rules.specs.Legal.{Accepts, Legal, IsWithin};
+ghost use Rattle.scope_rules.specs.Load.{weight};
+ghost use Rattle.scope_rules.specs.Replies.{with_event, starting, base_check, base_of, AnswersOrMemory};
+ghost use Rattle.scope_kept.specs.KeptTables.{IsKeptOf};
+
+use crate::following::follow;
+use join_rules::StoredTest;
+use scope_checks::Readings;
+use scope_journal::{Journal, weight};
+use scope_kept::Kept;
+use scope_rules::{Base, Event, Limits, Refusal};
+use std::alloc::{AllocError, Global};
+use std::marker::Model;
+
+/// A realm that keeps its journal, and beside it what is asked of it. What is kept is always that of the
+/// journal's history.
+#[derive(Drop)]
+pub struct KeptRealm {
+    pub(crate) journal: Journal,
+    pub(crate) kept: Kept,
+}
+
+impl Model for KeptRealm {
+    ghost use Rattle.scope_rules.specs.Replies.{Realm};
+    ghost use Rattle.scope_kept.specs.KeptTables.{IsKeptOf};
+
+    ghost Value = { Realm };
+
+    ghost view = { λ r. r.journal.realm };
+
+    ghost invariant = { λ r. IsKeptOf r.journal.realm.history r.kept };
+}
+
+impl KeptRealm {
+    ghost use Rattle.scope_rules.specs.Origin.{the_start};
+
+    /// A fresh realm. It takes no memory; that of later calls comes from `alloc`.
+    pub fn new(alloc: Global, limits: Limits) -> KeptRealm
+        ensures { result ≡ starting limits the_start }
+    {
+        KeptRealm {
+            journal: Journal::new(alloc, limits),
+            kept: Kept::new(alloc),
+        }
+    }
+
+    /// A realm that begins with the base, as a retirement leaves it. Refused where the base has more
+    /// pairs than the limit of load (`TooMany`), and where memory is refused (`Memory`).
+    pub fn with_base(alloc: Global, limits: Limits, base: Base) -> Result<KeptRealm, Refusal>
+        ensures { AnswersOrMemory (base_check limits base) (starting limits base) result }
+    {
+        let journal = Journal::with_base(alloc, limits, base)?;
+        let Ok(kept) = Kept::with_base(alloc, journal.base()) else {
+            return Err(Refusal::Memory);
+        };
+        Ok(KeptRealm { journal, kept })
+    }
+
+    /// The allocator that the realm grows by.
+    pub(crate) fn allocator(&self) -> Global {
+        self.journal.allocator()
+    }
+
+    /// The realm's limits. It also says of the history that it is legal, and within the limits: the load
+    /// and the numbers too, the base's counted.
+    pub fn limits(&self) -> Limits
+        ensures limits { result ≡ self.now.limits }
+        ensures legal { Legal self.now.limits self.now.history }
+        ensures within { IsWithin self.now.limits self.now.history }
+    {
+        self.journal.limits()
+    }
+
+    /// What is kept of the history.
+    pub fn kept(&self) -> &Kept
+        ensures { IsKeptOf self.now.history result.now }
+    {
+        &self.kept
+    }
+}
+
+/// How events are added.
+impl KeptRealm {
+    /// Appends the event, which was accepted, or is refused memory. `listed` says of a scope that it
+    /// opens whether a closure of the caller's is shown its completions.
+    pub(crate) fn try_append(&mut self, event: Event, listed: bool) -> Result<(), Refusal>
+        requires { Accepts self.old.limits self.old.history event }
+        ensures answer { MatchResult result (λ _. self.new ≡ with_event self.old event) (λ refusal. (refusal ≡ Refusal.Memory) × (self.new ≡ self.old)) }
+    {
+        let _limits = self.journal.limits();
+        let place = self.journal.events().len();
+        if self.journal.reserve(weight(&event)).is_err() {
+            return Err(Refusal::Memory);
+        }
+        if follow(&mut self.kept, &event, listed, None, place).is_err() {
+            return Err(Refusal::Memory);
+        }
+        self.journal.record(event);
+        Ok(())
+    }
+
+    /// Appends the event, which was accepted and costs nothing. `test` is the caller's closure that may
+    /// be asked where it ends a task.
+    pub(crate) fn record(&mut self, event: Event, test: Option<&StoredTest>)
+        requires accepted { Accepts self.old.limits self.old.history event }
+        requires free { weight event ≡ 0 }
+        ensures added { self.new ≡ with_event self.old event }
+        ensures legal { Legal self.new.limits self.new.history }
+    {
+        let _limits = self.journal.limits();
+        let place = self.journal.events().len();
+        match follow(&mut self.kept, &event, false, test, place) {
+            Ok(()) => self.journal.record(event),
+            Err(_) => unreachable!(),
+        }
+    }
+
+    /// Leaves the base alone, which is the history's, and what is kept of that.
+    pub(crate) fn restart(&mut self, base: Base, kept: Kept)
+        requires base { base ≡ base_of self.old.history }
+        requires kept { IsKeptOf (record { base = base; events = [] }) kept }
+        ensures { self.new ≡ starting self.old.limits base }
+    {
+        self.journal.restart(base);
+        self.kept = kept;
+    }
+
+    /// The base that the realm's history leaves. Refused where memory is.
+    #[tactic(auto, unfolding(scope_rules::specs::Replies::base_of))]
+    pub(crate) fn base_after(&self, alloc: Global) -> Result<Base, AllocError>
+        ensures { IfOk result (λ base. base ≡ base_of self.now.history) }
+    {
+        let binds = Vec::from_slice(alloc, self.kept.main_stack())?;
+        Ok(Base::new(self.moment(), self.scopes(), self.tasks(), binds))
+    }
+}
