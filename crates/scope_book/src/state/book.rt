@@ -2,10 +2,12 @@ ghost use Rattle.std.specs.Prelude.{◌≡◌};
 ghost use Rattle.scope_rules.specs.Legal.{Legal, IsWithin};
 ghost use Rattle.scope_rules.specs.Origin.{the_start};
 ghost use Rattle.scope_rules.specs.Replies.{starting, base_check, AnswersOrMemory};
+ghost use Rattle.scope_kept.specs.KeptTables.{IsKeptOf};
 ghost use Rattle.scope_book.specs.Fits.{Fitting};
 
 use crate::state::fitting::FittingRealm;
-use scope_model::Plain;
+use kept_realm::KeptRealm;
+use scope_kept::Kept;
 use scope_rules::{Base, Catalog, Limits, Refusal};
 use std::alloc::Global;
 use std::marker::PhantomData;
@@ -27,7 +29,7 @@ impl<C: Catalog> BookState<C> {
     {
         BookState {
             realm: FittingRealm {
-                plain: Plain::new(alloc, limits),
+                kept: KeptRealm::new(alloc, limits),
                 catalog: PhantomData,
             },
         }
@@ -39,10 +41,10 @@ impl<C: Catalog> BookState<C> {
     pub fn with_base(alloc: Global, limits: Limits, base: Base) -> Result<BookState<C>, Refusal>
         ensures { AnswersOrMemory (base_check limits base) (starting limits base) (realm_given result) }
     {
-        let plain = Plain::with_base(alloc, limits, base)?;
+        let kept = KeptRealm::with_base(alloc, limits, base)?;
         Ok(BookState {
             realm: FittingRealm {
-                plain,
+                kept,
                 catalog: PhantomData,
             },
         })
@@ -56,6 +58,15 @@ impl<C: Catalog> BookState<C> {
         ensures within { IsWithin (limits_of self.now) (history_of self.now) }
         ensures fitting { Fitting C.fitting (history_of self.now) }
     {
-        self.realm.plain.limits()
+        self.realm.kept.limits()
+    }
+
+    /// What is kept of the history, which answers the queries without a look at the events.
+    pub fn kept(&self) -> &Kept
+        ensures kept { IsKeptOf (history_of self.now) result.now }
+        ensures legal { Legal (limits_of self.now) (history_of self.now) }
+    {
+        let _limits = self.realm.kept.limits();
+        self.realm.kept.kept()
     }
 }

@@ -31,7 +31,7 @@ impl<C: Catalog> BookState<C> {
         ensures history { realm_of self.new ≡ after (realm_of self.old) (Event.Open actor (policy_of joiner) options) (refusal_alone result) }
         ensures handed_back { IfErr result (λ e. e.1 ≡ joiner) }
     {
-        match self.realm.plain.open(actor, joiner.policy(), options) {
+        match self.realm.kept.open(actor, joiner.policy(), options, false) {
             Ok(scope) => Ok(scope),
             Err(refusal) => Err((refusal, joiner)),
         }
@@ -46,7 +46,7 @@ impl<C: Catalog> BookState<C> {
         ensures answer { AnswersOrMemory (check_of (limits_of self.old) (history_of self.old) (Event.Fork actor scope label)) (fork_reply (history_of self.old) scope) result }
         ensures history { realm_of self.new ≡ after (realm_of self.old) (Event.Fork actor scope label) result }
     {
-        self.realm.plain.fork(actor, scope, label)
+        self.realm.kept.fork(actor, scope, label)
     }
 
     /// Records that no thread was had for a task. Refused where the task does not wait (`WrongStage`),
@@ -55,7 +55,7 @@ impl<C: Catalog> BookState<C> {
         ensures answer { Answers (check_of (limits_of self.old) (history_of self.old) (Event.Reject task)) tt result }
         ensures history { realm_of self.new ≡ after (realm_of self.old) (Event.Reject task) result }
     {
-        self.realm.plain.reject(task)
+        self.realm.kept.reject(task)
     }
 
     /// Starts a task whose thread has come. Refused where the task does not wait (`WrongStage`), or is
@@ -64,7 +64,7 @@ impl<C: Catalog> BookState<C> {
         ensures answer { Answers (check_of (limits_of self.old) (history_of self.old) (Event.Start task)) tt result }
         ensures history { realm_of self.new ≡ after (realm_of self.old) (Event.Start task) result }
     {
-        self.realm.plain.start(task)
+        self.realm.kept.start(task)
     }
 
     /// Records the end of a running task. Refused where the task does not run (`WrongStage`), is
@@ -74,7 +74,7 @@ impl<C: Catalog> BookState<C> {
         ensures answer { Answers (check_of (limits_of self.old) (history_of self.old) (Event.Finish task end)) tt result }
         ensures history { realm_of self.new ≡ after (realm_of self.old) (Event.Finish task end) result }
     {
-        self.realm.plain.finish(task, end)
+        self.realm.kept.finish(task, end, None)
     }
 
     /// Cancels the scope and all that it reaches (Trio, `cancel`). A scope that is cancelled already
@@ -85,7 +85,7 @@ impl<C: Catalog> BookState<C> {
         ensures already { is_already (history_of self.old) (Event.Cancel scope) ≡ true → Answers (check_of (limits_of self.old) (history_of self.old) (Event.Cancel scope)) Cancelling.Already result }
         ensures history { realm_of self.new ≡ after_recording (realm_of self.old) (Event.Cancel scope) result }
     {
-        self.realm.plain.cancel(scope)
+        self.realm.kept.cancel(scope)
     }
 
     /// Sets the deadline of the scope anew, in milliseconds, or takes it away (Trio: a cancel scope's
@@ -95,7 +95,7 @@ impl<C: Catalog> BookState<C> {
         ensures answer { AnswersOrMemory (check_of (limits_of self.old) (history_of self.old) (Event.Move scope deadline)) tt result }
         ensures history { realm_of self.new ≡ after (realm_of self.old) (Event.Move scope deadline) result }
     {
-        self.realm.plain.move_deadline(scope, deadline)
+        self.realm.kept.move_deadline(scope, deadline)
     }
 
     /// Sets the moment, in milliseconds. Refused for a moment before the present one (`ClockBack`), and
@@ -104,7 +104,7 @@ impl<C: Catalog> BookState<C> {
         ensures answer { AnswersOrMemory (check_of (limits_of self.old) (history_of self.old) (Event.Tick now)) tt result }
         ensures history { realm_of self.new ≡ after (realm_of self.old) (Event.Tick now) result }
     {
-        self.realm.plain.tick(now)
+        self.realm.kept.tick(now)
     }
 
     /// Binds the key above the actor's other bindings (JEP 506, `where`). Refused where the actor is no
@@ -113,7 +113,7 @@ impl<C: Catalog> BookState<C> {
         ensures answer { AnswersOrMemory (check_of (limits_of self.old) (history_of self.old) (Event.Bind actor (record { key = key; value = value }))) tt result }
         ensures history { realm_of self.new ≡ after (realm_of self.old) (Event.Bind actor (record { key = key; value = value })) result }
     {
-        self.realm.plain.bind(actor, key, value)
+        self.realm.kept.bind(actor, key, value)
     }
 
     /// Takes away the actor's last own binding. Refused where the actor is no running task or main, has
@@ -123,7 +123,7 @@ impl<C: Catalog> BookState<C> {
         ensures answer { AnswersOrMemory (check_of (limits_of self.old) (history_of self.old) (Event.Unbind actor)) tt result }
         ensures history { realm_of self.new ≡ after (realm_of self.old) (Event.Unbind actor) result }
     {
-        self.realm.plain.unbind(actor)
+        self.realm.kept.unbind(actor)
     }
 
     /// Joins the actor's scope (JEP 505, `join`); what it answers is read by `outcome`. Refused where
@@ -134,7 +134,7 @@ impl<C: Catalog> BookState<C> {
         ensures answer { Answers (check_of (limits_of self.old) (history_of self.old) (Event.Join actor scope)) tt result }
         ensures history { realm_of self.new ≡ after (realm_of self.old) (Event.Join actor scope) result }
     {
-        self.realm.plain.join_now(actor, scope)
+        self.realm.kept.join_now(actor, scope)
     }
 
     /// Begins to close the actor's scope, and with it each scope that the actor opened later and has not
@@ -145,7 +145,7 @@ impl<C: Catalog> BookState<C> {
         ensures answer { Answers (check_of (limits_of self.old) (history_of self.old) (Event.BeginClose actor scope)) (recording (history_of self.old) (Event.BeginClose actor scope)) result }
         ensures history { realm_of self.new ≡ after_recording (realm_of self.old) (Event.BeginClose actor scope) result }
     {
-        self.realm.plain.begin_close(actor, scope)
+        self.realm.kept.begin_close(actor, scope)
     }
 
     /// Closes the actor's scope. Refused where the actor is no running task or main, for a scope that is
@@ -158,7 +158,7 @@ impl<C: Catalog> BookState<C> {
         ensures history { realm_of self.new ≡ after (realm_of self.old) (Event.EndClose actor scope) result }
         ensures whole { OnOk result (IsWhole (history_of self.new) scope) }
     {
-        self.realm.plain.end_close(actor, scope)
+        self.realm.kept.end_close(actor, scope)
     }
 
     /// Takes the events out and leaves a base, once main's outermost scope is closed; what is left goes
@@ -170,6 +170,6 @@ impl<C: Catalog> BookState<C> {
         ensures answer { AnswersOrMemory (retire_check (history_of self.old) actor) (base_of (history_of self.old)) result }
         ensures history { realm_of self.new ≡ after_retiring (realm_of self.old) result }
     {
-        self.realm.plain.retire(actor)
+        self.realm.kept.retire(actor)
     }
 }

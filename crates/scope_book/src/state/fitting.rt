@@ -1,12 +1,12 @@
-use scope_model::Plain;
+use kept_realm::KeptRealm;
 use scope_rules::Catalog;
 use std::marker::{Model, PhantomData};
 
-/// A realm's limits and history, kept by the plain evaluator. The history is legal, and each end in it
+/// A realm's limits and history, with what is kept of it. The history is legal, and each end in it
 /// fits its task's label by the catalog.
 #[derive(Drop)]
 pub struct FittingRealm<C: Catalog> {
-    pub(crate) plain: Plain,
+    pub(crate) kept: KeptRealm,
     pub(crate) catalog: PhantomData<C>,
 }
 
@@ -16,7 +16,7 @@ impl<C: Catalog> Model for FittingRealm<C> {
 
     ghost Value = { Realm };
 
-    ghost view = { λ l. l.plain };
+    ghost view = { λ l. l.kept };
 
-    ghost invariant = { λ l. Fitting C.fitting l.plain.history };
+    ghost invariant = { λ l. Fitting C.fitting l.kept.history };
 }

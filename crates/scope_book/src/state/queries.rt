@@ -21,14 +21,14 @@ impl<C: Catalog> BookState<C> {
     pub fn state(&self, task: TaskId) -> Result<State, Refusal>
         ensures { result ≡ answering (task_check (history_of self.now) task) (state (history_of self.now) task) }
     {
-        self.realm.plain.state(task)
+        self.kept().state(task)
     }
 
     /// How far the task has come. Refused for an unknown task (`NoTask`, `Retired`).
     pub fn stage(&self, task: TaskId) -> Result<Stage, Refusal>
         ensures { result ≡ answering (task_check (history_of self.now) task) (stage (history_of self.now) task) }
     {
-        self.realm.plain.stage(task)
+        self.kept().stage(task)
     }
 
     /// The value of the task, read by the owner of its scope after the join (JEP 505, `Subtask.get`).
@@ -38,7 +38,7 @@ impl<C: Catalog> BookState<C> {
     pub fn result(&self, actor: Actor, task: TaskId) -> Result<Value, Refusal>
         ensures { result ≡ result_reply (history_of self.now) actor task }
     {
-        self.realm.plain.result(actor, task)
+        self.kept().result(actor, task)
     }
 
     /// The fault of the task, read by the owner of its scope after the join (JEP 505,
@@ -46,14 +46,14 @@ impl<C: Catalog> BookState<C> {
     pub fn fault(&self, actor: Actor, task: TaskId) -> Result<Fault, Refusal>
         ensures { result ≡ fault_reply (history_of self.now) actor task }
     {
-        self.realm.plain.fault(actor, task)
+        self.kept().fault(actor, task)
     }
 
     /// Why the scope is cancelled, if it is. Refused for an unknown scope (`NoScope`, `Retired`).
     pub fn cause(&self, scope: ScopeId) -> Result<Option<Cause>, Refusal>
         ensures { result ≡ answering (scope_check (history_of self.now) scope) (cause (history_of self.now) scope) }
     {
-        self.realm.plain.cause(scope)
+        self.kept().cause(scope)
     }
 
     /// The place of the event by which the scope became cancelled, if it is, counted from 0 since the
@@ -61,7 +61,7 @@ impl<C: Catalog> BookState<C> {
     pub fn cancelled_at(&self, scope: ScopeId) -> Result<Option<usize>, Refusal>
         ensures { result ≡ answering (scope_check (history_of self.now) scope) (cancelled_at (history_of self.now) scope) }
     {
-        self.realm.plain.cancelled_at(scope)
+        self.kept().cancelled_at(scope)
     }
 
     /// The earliest deadline in effect for the scope (Trio, `current_effective_deadline`), in
@@ -69,7 +69,7 @@ impl<C: Catalog> BookState<C> {
     pub fn effective_deadline(&self, scope: ScopeId) -> Result<Effective, Refusal>
         ensures { result ≡ answering (until_check (history_of self.now) scope) (effective (history_of self.now) scope) }
     {
-        self.realm.plain.effective_deadline(scope)
+        self.kept().effective_deadline(scope)
     }
 
     /// How many tasks of the scope are at each stage. Refused for an unknown scope (`NoScope`,
@@ -77,7 +77,7 @@ impl<C: Catalog> BookState<C> {
     pub fn counts(&self, scope: ScopeId) -> Result<Counts, Refusal>
         ensures { result ≡ answering (scope_check (history_of self.now) scope) (counts (history_of self.now) scope) }
     {
-        self.realm.plain.counts(scope)
+        self.kept().counts(scope)
     }
 
     /// What the actor sees the key bound to (JEP 506, `ScopedValue.get`). Refused where the actor is no
@@ -85,14 +85,14 @@ impl<C: Catalog> BookState<C> {
     pub fn binding(&self, actor: Actor, key: &Name) -> Result<Value, Refusal>
         ensures { result ≡ binding_reply (history_of self.now) actor key.now }
     {
-        self.realm.plain.binding(actor, key)
+        self.kept().binding(actor, key)
     }
 
     /// The moment, in milliseconds.
     pub fn moment(&self) -> u64
         ensures { result ≡ moment (history_of self.now) }
     {
-        self.realm.plain.moment()
+        self.kept().moment()
     }
 
     /// What the join of the scope answered. Refused for an unknown scope (`NoScope`, `Retired`), before
@@ -100,6 +100,6 @@ impl<C: Catalog> BookState<C> {
     pub fn outcome(&self, scope: ScopeId) -> Result<Outcome, Refusal>
         ensures { AnswersValue (outcome_check (history_of self.now) scope) (outcome (history_of self.now) scope) result }
     {
-        self.realm.plain.outcome(scope)
+        self.kept().outcome(scope)
     }
 }

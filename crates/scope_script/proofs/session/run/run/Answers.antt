@@ -45,3 +45,7 @@ reading-preserved g c = record {
 pub returns-clause-fault : goal.returns-clause-fault
 returns-clause-fault g c =
     stops_reading _ _ _ _ _ c.args.mode c.args.limits _ c.reading.invariant.run (Keeps-refl _)
+
+pub returns-in_default-clause-fault : goal.returns-in_default-clause-fault
+returns-in_default-clause-fault g c =
+    stops_reading _ _ _ _ _ c.args.mode c.args.limits _ (begins_run _ _ c.args.mode c.args.limits (session_of c.new-script.result) c.new-script.ensures) (Keeps-refl _)
