@@ -8,6 +8,8 @@ mod doubles;
 #[cfg(test)]
 mod engine;
 #[cfg(test)]
+mod long_run;
+#[cfg(test)]
 mod plain;
 #[cfg(test)]
 mod refusals;

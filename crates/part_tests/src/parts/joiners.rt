@@ -4,7 +4,7 @@ ghost use Rattle.std.specs.Prelude.{◌≡◌, ◌≤◌, length, count_by};
 ghost use Rattle.scope_rules.specs.Joining.{meets, has_succeeded};
 
 use super::{boxed, name, pages};
-use join_rules::{CompletionTest, Joiner, Progress, UntilTest};
+use join_rules::{Account, CompletionTest, Joiner, Progress, StoredTest, UntilTest};
 use scope_rules::{Completion, End, Fault, Policy, Refusal, Rule, Value};
 use std::alloc::{AllocError, Global};
 use std::process::Abort;
@@ -272,6 +272,46 @@ fn a_closure_is_shown_all_once_for_each_completion(rt: HostRuntime) -> Result<()
         let fires = hand_in(&mut progress, end_of(kind)?)?;
         let sum = shown.swap(0, Ordering::SeqCst);
         assert_eq!(rt; (fires, sum), (mark, u64::from(progress.completions())));
+    }
+    Ok(())
+}
+
+/// Whether an account of the policy fires at the second of two successes, by the closure that is given.
+fn fires_at_the_second(
+    alloc: Global,
+    policy: Policy,
+    listed: bool,
+    test: Option<&StoredTest>,
+) -> Result<bool, AllocError> {
+    let mut account = Account::new(alloc, policy, listed);
+    let end = Ok(Value::Num(1));
+    account.count(Completion { task: 1, end })?;
+    account.count(Completion { task: 2, end })?;
+    Ok(account.fires_by(test) && account.listed() == listed)
+}
+
+/// An account that is kept apart from its closure: each row has its policy, whether it keeps the list,
+/// whether the closure is handed to it, and how many completions the closure is shown.
+#[test]
+fn an_account_asks_the_closure_of_its_own_rule(rt: HostRuntime) -> Result<(), Fail> {
+    let shown = Arc::new(rt.alloc(), AtomicU64::new(0))?;
+    let joiner = joiner_that_adds(rt.alloc(), Arc::try_clone(&shown)?)?;
+    let test = if joiner.asks_closure() {
+        Some(joiner.into_test())
+    } else {
+        None
+    };
+    for (least, listed, given, asked) in [
+        (2, true, true, 2),
+        (2, true, false, 0),
+        (2, false, true, 0),
+        (1, true, true, 0),
+    ] {
+        let policy = Policy::Until(Rule::SuccessesAtLeast(least));
+        let test = if given { test.as_ref() } else { None };
+        let fires = fires_at_the_second(rt.alloc(), policy, listed, test)?;
+        let sum = shown.swap(0, Ordering::SeqCst);
+        assert_eq!(rt; (fires, sum), (true, asked), "{least} {listed} {given}");
     }
     Ok(())
 }

@@ -1,16 +1,14 @@
 //! What is kept of a realm, as it begins.
 
 use super::name;
-use scope_kept::{Kept, KeptRealm};
-use scope_rules::{Base, Binding, Limits, Refusal, Value};
+use scope_kept::Kept;
+use scope_rules::{Base, Binding, Refusal, Value};
 use std::test::Fail;
 
 /// A fresh realm keeps nothing of any scope or task.
 #[test]
 fn nothing_is_kept_of_a_fresh_realm(rt: HostRuntime) -> Result<(), Fail> {
-    let realm = KeptRealm::new(rt.alloc(), Limits::GREATEST);
-    assert_eq!(rt; realm.limits(), Limits::GREATEST);
-    let kept = realm.kept();
+    let kept = Kept::new(rt.alloc());
     assert_eq!(rt; kept.moment(), 0);
     assert_eq!(rt; kept.stage(1), Err(Refusal::NoTask));
     assert_eq!(rt; kept.state(0), Err(Refusal::NoTask));
@@ -21,7 +19,6 @@ fn nothing_is_kept_of_a_fresh_realm(rt: HostRuntime) -> Result<(), Fail> {
     assert_eq!(rt; kept.result(1, 1), Err(Refusal::NoTask));
     assert_eq!(rt; kept.fault(0, 1), Err(Refusal::NoTask));
     assert_eq!(rt; kept.binding(0, &name(b"user")?), Err(Refusal::NotBound));
-    assert_eq!(rt; Kept::new(rt.alloc()).moment(), 0);
     Ok(())
 }
 

@@ -42,3 +42,42 @@ fn cancels_reach_a_chain_of_fans(rt: HostRuntime) -> Result<(), Fail> {
     assert_eq!(rt; count_cancelled(&tree), 4096);
     Ok(())
 }
+
+/// The second scope and the third, inside it, are cancelled by one call, and the first by a later one.
+#[test]
+fn cancelled_scopes_stand_in_order(rt: HostRuntime) -> Result<(), Fail> {
+    let mut tree = Driven::new(rt.alloc());
+    let first = tree.add(None, false)?;
+    let second = tree.add(None, false)?;
+    let third = tree.add(Some(second), false)?;
+    assert_eq!(rt; tree.cancelled_since(0, 0), None);
+    tree.cancel(second, CauseKind::Call, 4);
+    assert_eq!(rt; tree.cancelled_since(0, 0), Some(second));
+    assert_eq!(rt; tree.cancelled_since(0, 1), Some(third));
+    assert_eq!(rt; tree.cancelled_since(1, 0), Some(third));
+    assert_eq!(rt; tree.cancelled_since(2, 0), None);
+    tree.cancel(first, CauseKind::Call, 6);
+    assert_eq!(rt; tree.cancelled_since(2, 0), Some(first));
+    assert_eq!(rt; tree.cancelled_since(0, 0), Some(second));
+    assert_eq!(rt; tree.cancelled_since(0, 3), None);
+    assert_eq!(rt; tree.cancelled_since(9, 0), None);
+    Ok(())
+}
+
+/// Two calls at one place stand by the numbers, whichever was first, with a query between them; a scope
+/// that is added in a cancelled one comes last.
+#[test]
+fn calls_at_one_place_stand_by_number(rt: HostRuntime) -> Result<(), Fail> {
+    let mut tree = Driven::new(rt.alloc());
+    let first = tree.add(None, false)?;
+    let second = tree.add(None, false)?;
+    tree.cancel(second, CauseKind::Call, 3);
+    assert_eq!(rt; tree.cancelled_since(0, 0), Some(second));
+    tree.cancel(first, CauseKind::Call, 3);
+    assert_eq!(rt; tree.cancelled_since(0, 0), Some(first));
+    assert_eq!(rt; tree.cancelled_since(0, 1), Some(second));
+    let third = tree.add(Some(first), false)?;
+    assert_eq!(rt; tree.cancelled_since(0, 2), Some(third));
+    assert_eq!(rt; tree.cancelled_since(3, 0), None);
+    Ok(())
+}

@@ -37,7 +37,7 @@ impl Driven {
             return Err(Refusal::TooMany);
         }
         let scope = len as u32 + 1;
-        self.tree.add(scope, parent, shield)?;
+        self.tree.add(scope, parent, shield, self.latest as usize)?;
         Ok(scope)
     }
 
@@ -47,6 +47,11 @@ impl Driven {
         }
         self.tree.cancel(scope, kind, place);
         self.latest = place;
+    }
+
+    /// The i-th of the scopes from the n-th that was cancelled on.
+    pub fn cancelled_since(&mut self, n: usize, i: usize) -> Option<ScopeId> {
+        self.tree.cancelled_since(n).get(i).copied()
     }
 
     pub fn set_deadline(&mut self, scope: ScopeId, deadline: Option<u64>) {

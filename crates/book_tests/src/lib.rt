@@ -1,0 +1,16 @@
+//! Tests of the book, of what no contract says: it stands beside the plain evaluator at random scripts, and
+//! both are asked everything after each command; and a call that is refused memory changes nothing.
+#![tactic(auto)]
+
+#[cfg(test)]
+mod answers;
+#[cfg(test)]
+mod beside;
+#[cfg(test)]
+mod closures;
+#[cfg(test)]
+mod dice;
+#[cfg(test)]
+mod memory;
+#[cfg(test)]
+mod scripts;
