@@ -1,5 +1,5 @@
-//! A long script, of as many tasks as a book has to take in a moment. It waits for the kept book: one that
-//! reads its whole history at each command takes hours.
+//! A long script, of as many tasks as a book has to take in a moment: one that read its whole history at
+//! each command would take hours.
 
 use scope_rules::Limits;
 use scope_script::{Mode, Watched, run};
