@@ -3,6 +3,8 @@ ghost use Rattle.scope_rules.specs.History.{opening};
 ghost use Rattle.scope_rules.specs.Table.{check_of, is_already, retire_check};
 ghost use Rattle.scope_rules.specs.Verdicts.{verdict};
 ghost use Rattle.scope_rules.specs.ClosingLaws.{IsWhole};
+ghost use Rattle.scope_rules.specs.declared.types.events.Options.{Options};
+ghost use Rattle.scope_rules.specs.declared.types.joiners.Policy.{Policy};
 ghost use Rattle.scope_rules.specs.Replies.{Answers, AnswersOrMemory, after, after_recording, after_retiring, next_scope, fork_reply, recording, base_of};
 
 use crate::realm::KeptRealm;
@@ -46,6 +48,14 @@ impl KeptRealm {
             listed,
         )?;
         Ok(scope)
+    }
+
+    /// What an open by the actor is refused for, if for anything but want of memory. It goes by the actor
+    /// alone, whatever the scope would be opened with.
+    pub fn open_check(&self, actor: Actor) -> Result<(), Refusal>
+        ensures { (policy : Policy) (options : Options) → result ≡ check_of self.now.limits self.now.history (Event.Open actor policy options) }
+    {
+        table::open_row(self, &self.limits(), actor)
     }
 
     /// Forks the next task in the actor's scope (JEP 505, `fork`). In a cancelled scope the task gets no

@@ -7,13 +7,13 @@ use Rattle.scope_rules.specs.Replies.{Realm}
 use Rattle.scope_book.specs.declared.state.book.BookState.{BookState}
 
 -- the realm that the book is the replay of: its limits, and its history
-abbrev pub realm_of : {C : _} → BookState C → Realm
+abbrev pub realm_of : {C : _} {g : _} {f : _} {m : _} → BookState C g f m → Realm
 realm_of book = book.realm
 
-abbrev pub limits_of : {C : _} → BookState C → Limits
+abbrev pub limits_of : {C : _} {g : _} {f : _} {m : _} → BookState C g f m → Limits
 limits_of book = (realm_of book).limits
 
-abbrev pub history_of : {C : _} → BookState C → History
+abbrev pub history_of : {C : _} {g : _} {f : _} {m : _} → BookState C g f m → History
 history_of book = (realm_of book).history
 
 -- what was answered, without what a refusal hands back
@@ -22,6 +22,6 @@ refusal_alone (Ok x) = Ok x
 refusal_alone (Err e) = Err e.0
 
 -- the realm of the book that was answered
-abbrev pub realm_given : {C : _} → Result (BookState C) Refusal → Result Realm Refusal
+abbrev pub realm_given : {C : _} {g : _} {f : _} {m : _} → Result (BookState C g f m) Refusal → Result Realm Refusal
 realm_given (Ok book) = Ok (realm_of book)
 realm_given (Err r) = Err r

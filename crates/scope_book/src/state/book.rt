@@ -1,4 +1,4 @@
-ghost use Rattle.std.specs.Prelude.{◌≡◌};
+ghost use Rattle.std.specs.Prelude.{◌≡◌, vec_len};
 ghost use Rattle.scope_rules.specs.Legal.{Legal, IsWithin};
 ghost use Rattle.scope_rules.specs.Origin.{the_start};
 ghost use Rattle.scope_rules.specs.Replies.{starting, base_check, AnswersOrMemory};
@@ -6,6 +6,7 @@ ghost use Rattle.scope_kept.specs.KeptTables.{IsKeptOf};
 ghost use Rattle.scope_book.specs.Fits.{Fitting};
 
 use crate::state::fitting::FittingRealm;
+use join_rules::StoredTest;
 use kept_realm::KeptRealm;
 use scope_kept::Kept;
 use scope_rules::{Base, Catalog, Limits, Refusal};
@@ -14,17 +15,31 @@ use std::marker::PhantomData;
 
 /// The book of a realm: it is told each command, and answers each question by the rules. It is the
 /// replay of its history, which is legal, within the limits, and fitting by the catalog `C`.
+///
+/// The callers' closures lie beside the realm, one place for each scope since the base. No fact ties
+/// the two: a closure that is asked is of the scope's own rule, or the totals answer in its place.
 #[derive(Drop)]
 pub struct BookState<C: Catalog> {
     pub(crate) realm: FittingRealm<C>,
+    pub(crate) tests: Vec<Option<StoredTest>>,
 }
 
 impl<C: Catalog> BookState<C> {
     ghost use Rattle.scope_book.specs.Books.{realm_of, limits_of, history_of, realm_given};
 
     /// The book of a fresh realm. It takes no memory.
-    #[tactic(auto, using(crate::proofs::Growing::fitting_at_start))]
     pub fn new(alloc: Global, limits: Limits) -> BookState<C>
+        ensures { realm_of result ≡ starting limits the_start }
+    {
+        BookState::over(alloc, limits, Vec::new(alloc))
+    }
+
+    /// The same, with the list that the callers' closures come to lie in, which is empty. A crate
+    /// above that gives out books makes them by this call: the check on calls that may give out a
+    /// stored closure wants that such a maker takes one, and has a condition.
+    #[tactic(auto, using(crate::proofs::Growing::fitting_at_start))]
+    pub fn over(alloc: Global, limits: Limits, tests: Vec<Option<StoredTest>>) -> BookState<C>
+        requires { vec_len tests ≡ 0 }
         ensures { realm_of result ≡ starting limits the_start }
     {
         BookState {
@@ -32,6 +47,7 @@ impl<C: Catalog> BookState<C> {
                 kept: KeptRealm::new(alloc, limits),
                 catalog: PhantomData,
             },
+            tests,
         }
     }
 
@@ -47,6 +63,7 @@ impl<C: Catalog> BookState<C> {
                 kept,
                 catalog: PhantomData,
             },
+            tests: Vec::new(alloc),
         })
     }
 

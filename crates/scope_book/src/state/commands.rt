@@ -8,7 +8,8 @@ ghost use Rattle.scope_book.specs.Books.{realm_of, limits_of, history_of, refusa
 ghost use Rattle.scope_book.specs.Fits.{FitsTask};
 
 use crate::state::book::BookState;
-use join_rules::Joiner;
+use join_rules::{Joiner, StoredTest};
+use scope_kept::Kept;
 use scope_rules::{
     Actor, Base, Cancelling, Catalog, End, Event, ForkReply, Label, Name, Options, Refusal,
     ScopeId, TaskId, Value, Verdict,
@@ -31,8 +32,22 @@ impl<C: Catalog> BookState<C> {
         ensures history { realm_of self.new ≡ after (realm_of self.old) (Event.Open actor (policy_of joiner) options) (refusal_alone result) }
         ensures handed_back { IfErr result (λ e. e.1 ≡ joiner) }
     {
-        match self.realm.kept.open(actor, joiner.policy(), options, false) {
-            Ok(scope) => Ok(scope),
+        if let Err(refusal) = self.realm.kept.open_check(actor) {
+            return Err((refusal, joiner));
+        }
+        if self.tests.reserve(1).is_err() {
+            return Err((Refusal::Memory, joiner));
+        }
+        let listed = joiner.asks_closure();
+        match self.realm.kept.open(actor, joiner.policy(), options, listed) {
+            Ok(scope) => {
+                self.tests.push_reserved(if listed {
+                    Some(joiner.into_test())
+                } else {
+                    None
+                });
+                Ok(scope)
+            }
             Err(refusal) => Err((refusal, joiner)),
         }
     }
@@ -74,7 +89,8 @@ impl<C: Catalog> BookState<C> {
         ensures answer { Answers (check_of (limits_of self.old) (history_of self.old) (Event.Finish task end)) tt result }
         ensures history { realm_of self.new ≡ after (realm_of self.old) (Event.Finish task end) result }
     {
-        self.realm.kept.finish(task, end, None)
+        let test = test_of(&self.tests, self.realm.kept.kept(), task);
+        self.realm.kept.finish(task, end, test)
     }
 
     /// Cancels the scope and all that it reaches (Trio, `cancel`). A scope that is cancelled already
@@ -170,6 +186,15 @@ impl<C: Catalog> BookState<C> {
         ensures answer { AnswersOrMemory (retire_check (history_of self.old) actor) (base_of (history_of self.old)) result }
         ensures history { realm_of self.new ≡ after_retiring (realm_of self.old) result }
     {
-        self.realm.kept.retire(actor)
+        let base = self.realm.kept.retire(actor)?;
+        self.tests.clear();
+        Ok(base)
     }
+}
+
+/// The closure that the joiner of the task's scope asks, if it has one.
+fn test_of<'a>(tests: &'a [Option<StoredTest>], kept: &Kept, task: TaskId) -> Option<&'a StoredTest> {
+    let scope = kept.forking(task)?.scope;
+    let place = scope.checked_sub(kept.scopes_before())?.checked_sub(1)?;
+    tests.get(place as usize)?.as_ref()
 }

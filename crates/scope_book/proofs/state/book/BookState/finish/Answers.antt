@@ -1,5 +1,4 @@
 use Rattle.std.proofs.Common.{sym, subst}
-use Rattle.scope_book.specs.declared.state.book.BookState.{BookState}
 use Rattle.scope_book.specs.Books.{history_of}
 use Rattle.scope_rules.specs.declared.types.events.Event.TheVariants.{Finish}
 use Rattle.scope_book.specs.Fits.{FitsTask}
@@ -8,5 +7,5 @@ use Rattle.scope_book.proofs.state.book.BookState.finish.Goals as goal
 
 pub invariant_of-self : goal.invariant_of-self
 invariant_of-self g c =
-    let fits = subst (λ (b : BookState g.row.C.Denot). FitsTask g.C.Catalog.fitting (history_of b) c.args.task c.args.end) (sym c.self.view_is) c.requires in
+    let fits = subst (λ b. FitsTask g.C.Catalog.fitting (history_of b) c.args.task c.args.end) (sym c.self.view_is) c.requires in
     fitting_after g.C.Catalog.fitting c.self.inside.0.0.kept c.finish.new.self (Finish c.args.task c.args.end) c.finish.result c.self.invariant fits c.finish.ensures.history
