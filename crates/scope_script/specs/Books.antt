@@ -3,5 +3,5 @@ use Rattle.scope_book.specs.Books.{realm_of}
 use Rattle.scope_script.specs.declared.session.script.Script.{Script}
 use Rattle.scope_script.specs.ByBytes.{Session}
 
-abbrev pub session_of : Script → Session
+abbrev pub session_of : {g : _} {f : _} {m : _} → Script g f m → Session
 session_of script = record { realm = realm_of script.book; begun = script.begun }

@@ -1,5 +1,6 @@
 ghost use Rattle.std.specs.Prelude.{◌≡◌, ◌≢◌, IfOk, OnOk, OnErr};
-ghost use Rattle.scope_book.specs.Books.{realm_of, history_of};
+ghost use Rattle.scope_rules.specs.Legal.{Legal};
+ghost use Rattle.scope_book.specs.Books.{realm_of, limits_of, history_of};
 ghost use Rattle.scope_script.specs.Replying.{Performs, PerformsOrStops, StopsAmong, answer_to, realm_after_all, realm_stopped};
 ghost use Rattle.join_rules.specs.Joiners.{policy_of};
 
@@ -13,6 +14,7 @@ use std::alloc::AllocError;
 
 /// What the book answers to the command; want of memory is `Refused(Memory)` here.
 pub(crate) fn answer(book: &mut BookState<AnyEnd>, command: Command) -> Reply
+    requires { Legal (limits_of book.old) (history_of book.old) }
     ensures { PerformsOrStops (realm_of book.old) command (realm_of book.new) result }
 {
     match command {
@@ -24,6 +26,7 @@ pub(crate) fn answer(book: &mut BookState<AnyEnd>, command: Command) -> Reply
 
 /// What the book answers to the event, which it adds to its history where it accepts it.
 fn try_event(book: &mut BookState<AnyEnd>, event: Event) -> Reply
+    requires { Legal (limits_of book.old) (history_of book.old) }
     ensures { PerformsOrStops (realm_of book.old) (Command.Do event) (realm_of book.new) result }
 {
     match event {
@@ -76,6 +79,7 @@ fn ask(book: &BookState<AnyEnd>, question: Question) -> Reply
 
 /// Opens a scope whose joiner is asked by its rule.
 fn open(book: &mut BookState<AnyEnd>, actor: Actor, policy: Policy, options: Options) -> Reply
+    requires { Legal (limits_of book.old) (history_of book.old) }
     ensures { PerformsOrStops (realm_of book.old) (Command.Do (Event.Open actor policy options)) (realm_of book.new) result }
 {
     match policy {
@@ -84,13 +88,14 @@ fn open(book: &mut BookState<AnyEnd>, actor: Actor, policy: Policy, options: Opt
         Policy::AwaitAll => open_by(book, actor, Joiner::AwaitAll, options),
         Policy::AwaitOk => open_by(book, actor, Joiner::AwaitOk, options),
         Policy::Until(rule) => {
-            open_by(book, actor, Joiner::Until(UntilTest::plain(rule)), options)
+            open_by(book, actor, Joiner::Until(UntilTest::Plain(rule)), options)
         }
     }
 }
 
 /// Opens a scope with the joiner.
 fn open_by(book: &mut BookState<AnyEnd>, actor: Actor, joiner: Joiner, options: Options) -> Reply
+    requires { Legal (limits_of book.old) (history_of book.old) }
     ensures { PerformsOrStops (realm_of book.old) (Command.Do (Event.Open actor (policy_of joiner) options)) (realm_of book.new) result }
 {
     opened(book.open(actor, joiner, options))
@@ -99,6 +104,7 @@ fn open_by(book: &mut BookState<AnyEnd>, actor: Actor, joiner: Joiner, options: 
 /// Joins the scope, and reads what the join gave.
 #[tactic(auto, using(crate::proofs::Answered::join_stands))]
 fn join(book: &mut BookState<AnyEnd>, actor: Actor, scope: ScopeId) -> Reply
+    requires { Legal (limits_of book.old) (history_of book.old) }
     ensures { PerformsOrStops (realm_of book.old) (Command.Do (Event.Join actor scope)) (realm_of book.new) result }
 {
     if let Err(refusal) = book.join_now(actor, scope) {
@@ -118,6 +124,7 @@ pub fn perform(book: &mut BookState<AnyEnd>, command: Command) -> Result<Reply, 
     ensures told { IfOk result (λ said. said ≢ Reply.Refused Refusal.Memory) }
     ensures stopped { OnErr result (realm_of book.new ≡ realm_stopped (realm_of book.old) command) }
 {
+    let _limits = book.limits();
     match answer(book, command) {
         Reply::Refused(Refusal::Memory) => Err(AllocError),
         said => Ok(said),

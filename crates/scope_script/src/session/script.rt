@@ -28,7 +28,7 @@ impl Script {
         ensures { session_of result ≡ the_beginning limits }
     {
         Script {
-            book: BookState::new(alloc, limits),
+            book: BookState::over(alloc, limits, Vec::new(alloc)),
             begun: BegunLine::new(),
         }
     }

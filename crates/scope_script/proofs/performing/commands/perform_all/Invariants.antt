@@ -5,4 +5,4 @@ use Rattle.scope_script.specs.Replying.{realm_after_all}
 use Rattle.scope_script.proofs.performing.commands.perform_all.Given as goal
 
 abbrev pub invariant-loop-command : goal.invariant-loop-command
-invariant-loop-command l = realm_of l.book ≡ realm_after_all (realm_of l.fn.book) (take l.command-index l.commands)
+invariant-loop-command g l = realm_of l.book ≡ realm_after_all (realm_of l.fn.book) (take l.command-index l.commands)

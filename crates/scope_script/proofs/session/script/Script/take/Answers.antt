@@ -7,13 +7,13 @@ use Rattle.scope_script.proofs.Scripts.{after_none, reply_none, after_at, answer
 use Rattle.scope_script.proofs.session.script.Script.take.Goals as goal
 
 pub loop-byte-init : goal.loop-byte-init
-loop-byte-init c = record {
+loop-byte-init g c = record {
   script = after_none (session_of c.args.self.now);
   answered = reply_none c.args.mode (session_of c.args.self.now) c.args.replies.now.items;
 }
 
 pub loop-byte-preserved : goal.loop-byte-preserved
-loop-byte-preserved c =
+loop-byte-preserved g c =
     let start = session_of c.args.self.now in
     let bytes = c.args.bytes.now in
     let i = c.loop-byte.byte-index in
@@ -25,7 +25,7 @@ loop-byte-preserved c =
     }
 
 pub returns-in-Err-clause-err : goal.returns-in-Err-clause-err
-returns-in-Err-clause-err c =
+returns-in-Err-clause-err g c =
     let start = session_of c.args.self.now in
     let i = c.loop-byte.byte-index in
     record {
