@@ -5,6 +5,8 @@
 #[cfg(test)]
 mod answers;
 #[cfg(test)]
+mod asked_once;
+#[cfg(test)]
 mod beside;
 #[cfg(test)]
 mod closures;

@@ -1,14 +1,18 @@
-ghost use Rattle.std.specs.Prelude.{◌≡◌, [], IfOk, MatchResult};
+ghost use Rattle.std.specs.Prelude.{◌≡◌, ℕ, [], List, drop, IfOk, MatchResult};
+ghost use Rattle.std.specs.Borrow.{sem};
 ghost use Rattle.scope_rules.specs.Legal.{Accepts, Legal, IsWithin};
 ghost use Rattle.scope_rules.specs.Load.{weight};
 ghost use Rattle.scope_rules.specs.Replies.{with_event, starting, base_check, base_of, AnswersOrMemory};
+ghost use Rattle.scope_cuts.specs.CutsOf.{IsCancelOrderOf};
+ghost use Rattle.scope_cuts.specs.Lent.{scopes_of};
 ghost use Rattle.scope_kept.specs.KeptTables.{IsKeptOf};
+ghost use Rattle.kept_realm.specs.Lending.{KeepsRealm};
 
 use crate::following::follow;
 use join_rules::StoredTest;
 use scope_checks::Readings;
 use scope_journal::{Journal, weight};
-use scope_kept::Kept;
+use scope_kept::{CancelledScopes, Kept};
 use scope_rules::{Base, Event, Limits, Refusal};
 use std::alloc::{AllocError, Global};
 use std::marker::Model;
@@ -77,6 +81,21 @@ impl KeptRealm {
         ensures { IsKeptOf self.now.history result.now }
     {
         &self.kept
+    }
+}
+
+/// What is lent.
+impl KeptRealm {
+    /// The cancelled scopes in order of their cancellation, those that one event cancelled by their
+    /// numbers, from the n-th on, from 0: none where no more than n are cancelled. It takes no memory,
+    /// and time by the scopes that were cancelled since it was last called, with those of the last event
+    /// before them.
+    pub fn cancelled_since(&mut self, n: usize) -> CancelledScopes<'_>
+        ensures* kept { sem 𝓛 (KeepsRealm self.entry) }
+        ensures order { (list : List ℕ) × IsCancelOrderOf self.old.history list × (scopes_of result ≡ drop n list) }
+    {
+        let _limits = self.journal.limits();
+        self.kept.cancelled_since(n)
     }
 }
 

@@ -2,3 +2,4 @@ pub mod KeptTables
 pub mod Events
 pub mod Completing
 pub mod Closing
+pub mod Lending

@@ -1,4 +1,5 @@
-ghost use Rattle.std.specs.Prelude.{◌≡◌, Some, Ok, Err, [], MatchResult, IfOk, OnOk, option_map, max};
+ghost use Rattle.std.specs.Prelude.{◌≡◌, ℕ, Some, Ok, Err, [], List, drop, MatchResult, IfOk, OnOk, option_map, max};
+ghost use Rattle.std.specs.Borrow.{sem};
 ghost use Rattle.scope_rules.specs.declared.types.capacity.Limits.{Limits};
 ghost use Rattle.scope_rules.specs.History.{History, moment};
 ghost use Rattle.scope_rules.specs.Legal.{Legal};
@@ -11,9 +12,12 @@ ghost use Rattle.scope_rules.specs.Replies.{AnswersValue, binding_reply, result_
 ghost use Rattle.scope_rows.specs.Agreement.{IsScopeRow, IsTaskRow};
 ghost use Rattle.scope_rows.specs.Table.{HasScope, HasTask, HasActor, scope_row, task_row};
 ghost use Rattle.scope_outcomes.specs.Answers.{HasJoined};
+ghost use Rattle.scope_cuts.specs.CutsOf.{IsCancelOrderOf};
+ghost use Rattle.scope_cuts.specs.Lent.{scopes_of};
 ghost use Rattle.scope_kept.specs.KeptTables.{IsKeptOf, absent};
+ghost use Rattle.scope_kept.specs.Lending.{KeepsAll};
 
-use scope_cuts::Cuts;
+use scope_cuts::{CancelledScopes, Cuts};
 use scope_envs::Envs;
 use scope_outcomes::Forks;
 use scope_rows::{Rows, ScopeRow, TaskRow};
@@ -191,6 +195,17 @@ impl Kept {
     {
         let opened = self.scope(scope)?.opening.place;
         Ok(place_since(opened, self.cuts.cut(scope)))
+    }
+
+    /// The cancelled scopes in order of their cancellation, those that one event cancelled by their
+    /// numbers, from the n-th on, from 0: none where no more than n are cancelled. It takes no memory,
+    /// and time by the scopes that were cancelled since it was last called, with those of the last event
+    /// before them.
+    pub fn cancelled_since(&mut self, n: usize) -> CancelledScopes<'_>
+        ensures* kept { sem 𝓛 (KeepsAll self.entry) }
+        ensures order { (L : Limits) (h : History) → Legal L h → IsKeptOf h self.old → (list : List ℕ) × IsCancelOrderOf h list × (scopes_of result ≡ drop n list) }
+    {
+        self.cuts.cancelled_since(n)
     }
 
     /// The earliest deadline in effect for the scope (Trio, `current_effective_deadline`), in

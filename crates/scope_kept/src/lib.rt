@@ -9,3 +9,4 @@ mod events;
 mod kept;
 
 pub use kept::Kept;
+pub use scope_cuts::CancelledScopes;

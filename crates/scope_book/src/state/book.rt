@@ -1,7 +1,8 @@
-ghost use Rattle.std.specs.Prelude.{◌≡◌, vec_len};
+ghost use Rattle.std.specs.Prelude.{◌≡◌, ℕ, List, slice_get, vec_len};
 ghost use Rattle.scope_rules.specs.Legal.{Legal, IsWithin};
 ghost use Rattle.scope_rules.specs.Origin.{the_start};
 ghost use Rattle.scope_rules.specs.Replies.{starting, base_check, AnswersOrMemory};
+ghost use Rattle.scope_cuts.specs.CutsOf.{IsCancelOrderOf};
 ghost use Rattle.scope_kept.specs.KeptTables.{IsKeptOf};
 ghost use Rattle.scope_book.specs.Fits.{Fitting};
 
@@ -9,7 +10,7 @@ use crate::state::fitting::FittingRealm;
 use join_rules::StoredTest;
 use kept_realm::KeptRealm;
 use scope_kept::Kept;
-use scope_rules::{Base, Catalog, Limits, Refusal};
+use scope_rules::{Base, Catalog, Limits, Refusal, ScopeId};
 use std::alloc::Global;
 use std::marker::PhantomData;
 
@@ -85,5 +86,15 @@ impl<C: Catalog> BookState<C> {
     {
         let _limits = self.realm.kept.limits();
         self.realm.kept.kept()
+    }
+
+    /// The n-th scope to be cancelled, from 0, if so many are: those that one event cancelled come in
+    /// order of their numbers. It takes no memory, and time by the scopes that were cancelled since it was
+    /// last called, with those of the last event before them.
+    pub fn nth_cancelled(&mut self, n: usize) -> Option<ScopeId>
+        ensures kept { realm_of self.new ≡ realm_of self.old }
+        ensures order { (list : List ℕ) × IsCancelOrderOf (history_of self.old) list × (result ≡ slice_get list n) }
+    {
+        self.realm.kept.cancelled_since(n).get(0)
     }
 }

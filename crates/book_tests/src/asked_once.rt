@@ -1,0 +1,130 @@
+//! When the book asks a closure of its caller's: once at each completion of its scope, until that is
+//! cancelled, and with all completions so far.
+
+ghost use Rattle.std.specs.Prelude.{◌≡◌};
+ghost use Rattle.scope_rules.specs.Joining.{meets};
+
+use crate::closures::has_successes;
+use join_rules::{CompletionTest, Joiner, UntilTest};
+use scope_book::BookState;
+use scope_rules::{
+    AnyEnd, Completion, Expiry, Fault, ForkReply, Label, Limits, Name, Options, Rule, ScopeId,
+    Value,
+};
+use std::alloc::{AllocError, Global};
+use std::sync::Arc;
+use std::sync::atomic::{AtomicU64, Ordering};
+use std::test::Fail;
+
+type Book = BookState<AnyEnd>;
+
+/// How often a closure was asked, and how many completions it was shown.
+#[derive(Drop)]
+struct Asked {
+    times: Arc<AtomicU64, Global>,
+    shown: Arc<AtomicU64, Global>,
+}
+
+impl Asked {
+    fn new(alloc: Global) -> Result<Asked, AllocError> {
+        Ok(Asked {
+            times: Arc::new(alloc, AtomicU64::new(0))?,
+            shown: Arc::new(alloc, AtomicU64::new(0))?,
+        })
+    }
+
+    /// What was counted since the last look.
+    fn since_last(&self) -> (u64, u64) {
+        (
+            self.times.swap(0, Ordering::SeqCst),
+            self.shown.swap(0, Ordering::SeqCst),
+        )
+    }
+
+    /// A joiner until two succeed, whose closure counts here.
+    fn joiner(&self, alloc: Global) -> Result<Joiner, Fail> {
+        let (times, shown) = (Arc::try_clone(&self.times)?, Arc::try_clone(&self.shown)?);
+        let test: CompletionTest = Box::new(
+            alloc,
+            move |list: &[Completion]|
+                ensures { result ≡ meets (Rule.SuccessesAtLeast 2) list.now }
+            {
+                times.fetch_add(1, Ordering::SeqCst);
+                shown.fetch_add(list.len() as u64, Ordering::SeqCst);
+                has_successes(list, 2)
+            },
+        )?;
+        Ok(Joiner::Until(UntilTest::new(Rule::SuccessesAtLeast(2), test)))
+    }
+}
+
+/// Opens a scope for main with the joiner, in which so many tasks run.
+fn open_with(book: &mut Book, joiner: Joiner, tasks: u32) -> Result<ScopeId, Fail> {
+    let options = Options {
+        deadline: None,
+        shield: false,
+        expiry: Expiry::Fail,
+    };
+    let scope = match book.open(0, joiner, options) {
+        Ok(scope) => scope,
+        Err((refusal, _)) => Err(refusal)?,
+    };
+    let label = Label {
+        name: Name::new(b"work").ok_or("a name")?,
+        due: None,
+    };
+    for _ in 0..tasks {
+        let task = match book.fork(0, scope, label)? {
+            ForkReply::Thread(task) | ForkReply::Never(task) => task,
+        };
+        book.start(task)?;
+    }
+    Ok(scope)
+}
+
+/// Two successes of five ends cancel the scope; what ends later is not asked about.
+#[test]
+fn a_closure_is_asked_once_at_each_completion_until_the_cancel(
+    rt: HostRuntime,
+) -> Result<(), Fail> {
+    let asked = Asked::new(rt.alloc())?;
+    let mut book: Book = BookState::new(rt.alloc(), Limits::GREATEST);
+    open_with(&mut book, Joiner::AwaitAll, 1)?;
+    let scope = open_with(&mut book, asked.joiner(rt.alloc())?, 5)?;
+    let boom = Fault(Name::new(b"boom").ok_or("a name")?);
+    for (task, end, counted) in [
+        (3, Err(boom), (1, 1)),
+        (2, Ok(Value::Num(7)), (1, 2)),
+        (1, Ok(Value::Num(7)), (0, 0)),
+        (6, Ok(Value::Num(7)), (1, 3)),
+        (4, Ok(Value::Num(7)), (0, 0)),
+        (5, Err(boom), (0, 0)),
+    ] {
+        book.finish(task, end)?;
+        assert_eq!(rt; asked.since_last(), counted, "{task}");
+    }
+    assert!(rt; book.cause(scope)?.is_some());
+    Ok(())
+}
+
+/// A scope that was cancelled by a call asks nothing, and one that is opened after a retirement asks
+/// its own closure.
+#[test]
+fn a_closure_is_asked_in_its_own_scope_alone(rt: HostRuntime) -> Result<(), Fail> {
+    let asked = Asked::new(rt.alloc())?;
+    let mut book: Book = BookState::new(rt.alloc(), Limits::GREATEST);
+    let scope = open_with(&mut book, asked.joiner(rt.alloc())?, 1)?;
+    book.cancel(scope)?;
+    book.finish(1, Ok(Value::Num(7)))?;
+    assert_eq!(rt; asked.since_last(), (0, 0));
+    book.begin_close(0, scope)?;
+    book.end_close(0, scope)?;
+    book.retire(0)?;
+    open_with(&mut book, asked.joiner(rt.alloc())?, 1)?;
+    open_with(&mut book, Joiner::AwaitAll, 1)?;
+    book.finish(3, Ok(Value::Num(7)))?;
+    assert_eq!(rt; asked.since_last(), (0, 0));
+    book.finish(2, Ok(Value::Num(7)))?;
+    assert_eq!(rt; asked.since_last(), (1, 1));
+    Ok(())
+}
