@@ -69,6 +69,7 @@ fn run(rt: &impl Abort, alloc: Global, seed: u64, met: &mut Met) -> Result<(), F
         let step = script.step(&both.realm);
         tell(rt, alloc, &mut both, &mut script, met, step)?;
         both.compare_all(rt, &script);
+        both.compare_cancels(rt, script.scopes());
     }
     met.count_causes(&both.realm, script.scopes());
     Ok(())

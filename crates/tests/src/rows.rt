@@ -1,9 +1,8 @@
 //! How a row is run, and compared with the replies wanted.
 
-use crate::plain::reply_of;
-use scope_model::Plain;
-use scope_rules::{Limits, Refusal};
-use scope_script::{Line, Mode, Reply, Watched, append_line, read_line, run};
+use crate::beside::Both;
+use scope_rules::Limits;
+use scope_script::{Mode, Watched, run};
 use std::process::Abort;
 use std::test::Fail;
 
@@ -35,28 +34,23 @@ pub fn answers(
     Ok(())
 }
 
-/// What the plain evaluator answers to the commands of the script, line by line.
-fn plain_replies(
+/// What the lines are answered one by one, by a book and by the plain evaluator, which are asked
+/// everything after each.
+fn replies_beside(
     rt: &(impl Abort + AllocGlobal),
     limits: Limits,
     script: &str,
 ) -> Result<Vec<u8>, Fail> {
-    let alloc = rt.alloc();
-    let mut realm = Plain::new(alloc, limits);
-    let mut replies = Vec::new(alloc);
+    let mut both = Both::new(rt.alloc(), limits);
+    let mut replies = Vec::new(rt.alloc());
     for line in script.split(" / ") {
-        let reply = match read_line(line.as_bytes()) {
-            Line::Silent => continue,
-            Line::BadWord => Reply::Refused(Refusal::BadWord),
-            Line::Command(command) => reply_of(&mut realm, command),
-        };
-        append_line(&mut replies, &reply)?;
+        both.line(rt, line, &mut replies)?;
     }
     Ok(replies)
 }
 
-/// Runs the script of a row, and compares the replies with those of the row; the same of its commands
-/// on the plain evaluator.
+/// Runs the script of a row, and compares the replies with those of the row; the same of its lines on a
+/// book and the plain evaluator, side by side.
 pub fn row(
     rt: &(impl Abort + AllocGlobal),
     limits: Limits,
@@ -66,7 +60,10 @@ pub fn row(
     let whole = lines(rt, script)?;
     let wanted = lines(rt, replies)?;
     answers(rt, limits, whole.as_bytes(), wanted.as_bytes())?;
-    let plain = plain_replies(rt, limits, script)?;
-    assert!(rt; plain.as_slice() == wanted.as_bytes(), "on Plain: {script}");
+    let beside = replies_beside(rt, limits, script)?;
+    assert!(rt;
+        beside.as_slice() == wanted.as_bytes(),
+        "line by line: {script}"
+    );
     Ok(())
 }

@@ -77,6 +77,31 @@ impl Both {
         }
     }
 
+    /// The book tells all scopes that are cancelled, by the events that cancelled them and then by their
+    /// numbers.
+    pub fn compare_cancels(&mut self, rt: &impl Abort, scopes: u32) {
+        let (seed, commands) = (self.seed, self.commands);
+        let mut last = (0, 0);
+        let (mut told, mut cancelled) = (0u32, 0u32);
+        for number in 0..=scopes {
+            if let Some(scope) = self.book.nth_cancelled(number as usize) {
+                let place = self.realm.cancelled_at(scope).unwrap_or(None);
+                let next = (place.unwrap_or(0), scope);
+                let comes_later = last.0 < next.0 || (last.0 == next.0 && last.1 < next.1);
+                assert!(rt;
+                    place.is_some() && comes_later,
+                    "script {seed}, {commands} commands, cancel {number}"
+                );
+                told = told.saturating_add(1);
+                last = next;
+            }
+            if self.realm.cancelled_at(number).unwrap_or(None).is_some() {
+                cancelled = cancelled.saturating_add(1);
+            }
+        }
+        assert_eq!(rt; told, cancelled, "script {seed}, {commands} commands");
+    }
+
     /// Asks everything of each scope, each task and each actor, of the number 0 and of one beyond.
     pub fn compare_all(&self, rt: &impl Abort, script: &Script) {
         assert_eq!(rt;

@@ -1,0 +1,86 @@
+//! The book and the plain evaluator, which are told the same lines and have to answer every question alike.
+
+use crate::plain::reply_of;
+use scope_book::BookState;
+use scope_model::Plain;
+use scope_rules::{AnyEnd, Limits, Name, Refusal};
+use scope_script::{Command, Line, Question, Reply, append_line, perform, read_line};
+use std::alloc::Global;
+use std::process::Abort;
+use std::test::Fail;
+
+/// The scopes, tasks and actors that are asked about have numbers below this one: no row has more.
+const NUMBERS: u32 = 8;
+
+/// Both, and what was answered to the last command.
+#[derive(Drop)]
+pub struct Both {
+    book: BookState<AnyEnd>,
+    plain: Plain,
+    by_book: Vec<u8>,
+    by_plain: Vec<u8>,
+}
+
+impl Both {
+    pub fn new(alloc: Global, limits: Limits) -> Both {
+        Both {
+            book: BookState::new(alloc, limits),
+            plain: Plain::new(alloc, limits),
+            by_book: Vec::new(alloc),
+            by_plain: Vec::new(alloc),
+        }
+    }
+
+    /// Tells both the command, and compares the lines of their replies.
+    fn tell(&mut self, rt: &impl Abort, command: Command, line: &str) -> Result<(), Fail> {
+        self.by_book.clear();
+        self.by_plain.clear();
+        append_line(&mut self.by_book, &perform(&mut self.book, command)?)?;
+        append_line(&mut self.by_plain, &reply_of(&mut self.plain, command))?;
+        assert!(rt;
+            self.by_book.as_slice() == self.by_plain.as_slice(),
+            "{line}"
+        );
+        Ok(())
+    }
+
+    /// Asks both everything of the scope, task and actor of this number.
+    fn ask_of(&mut self, rt: &impl Abort, number: u32, line: &str) -> Result<(), Fail> {
+        let (scope, task, actor) = (number, number, number);
+        for question in [
+            Question::State { task },
+            Question::Stage { task },
+            Question::Cause { scope },
+            Question::Until { scope },
+            Question::Counts { scope },
+        ] {
+            self.tell(rt, Command::Ask(question), line)?;
+        }
+        for key in [b"k", b"m"] {
+            let key = Name::new(key).ok_or("a name")?;
+            self.tell(rt, Command::Ask(Question::Get { actor, key }), line)?;
+        }
+        for actor in 0..NUMBERS {
+            self.tell(rt, Command::Ask(Question::Result { actor, task }), line)?;
+            self.tell(rt, Command::Ask(Question::Fault { actor, task }), line)?;
+        }
+        Ok(())
+    }
+
+    /// Tells both the line, and then asks both everything. What the line is answered goes to the end of
+    /// `replies`.
+    pub fn line(&mut self, rt: &impl Abort, line: &str, replies: &mut Vec<u8>) -> Result<(), Fail> {
+        match read_line(line.as_bytes()) {
+            Line::Silent => {}
+            Line::BadWord => append_line(replies, &Reply::Refused(Refusal::BadWord))?,
+            Line::Command(command) => {
+                self.tell(rt, command, line)?;
+                replies.extend_from_slice(&self.by_plain)?;
+            }
+        }
+        for number in 0..NUMBERS {
+            self.ask_of(rt, number, line)?;
+        }
+        Ok(())
+    }
+}
