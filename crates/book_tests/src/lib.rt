@@ -7,6 +7,8 @@ mod answers;
 #[cfg(test)]
 mod beside;
 #[cfg(test)]
+mod calls;
+#[cfg(test)]
 mod closures;
 #[cfg(test)]
 mod dice;
