@@ -4,7 +4,9 @@ use crate::scripts::Step;
 use join_rules::Joiner;
 use scope_book::BookState;
 use scope_model::Plain;
-use scope_rules::{AnyEnd, Base, Cancelling, Event, ForkReply, Refusal, ScopeId, TaskId, Verdict};
+use scope_rules::{
+    Actor, AnyEnd, Base, Cancelling, Event, ForkReply, Options, Refusal, ScopeId, TaskId, Verdict,
+};
 
 /// What an accepted command is answered.
 #[derive(Clone, Copy, Debug, PartialEq, Eq)]
@@ -71,24 +73,37 @@ pub fn told_plain(realm: &mut Plain, step: Step) -> Result<Said, Refusal> {
     }
 }
 
+fn opened(
+    book: &mut BookState<AnyEnd>,
+    actor: Actor,
+    joiner: Joiner,
+    options: Options,
+) -> Result<Said, Refusal> {
+    match book.open(actor, joiner, options) {
+        Ok(scope) => Ok(Said::Scope(scope)),
+        Err((refusal, _)) => Err(refusal),
+    }
+}
+
 /// What the book answers. An open has the joiner.
 pub fn told_book(
     book: &mut BookState<AnyEnd>,
     step: Step,
     joiner: Option<Joiner>,
 ) -> Result<Said, Refusal> {
-    let event = match step {
-        Step::Try(event) => event,
-        Step::Retire(actor) => return Ok(retired(&book.retire(actor)?)),
-    };
-    match event {
-        Event::Open { actor, options, .. } => {
-            let joiner = joiner.unwrap_or(Joiner::AwaitAll);
-            match book.open(actor, joiner, options) {
-                Ok(scope) => Ok(Said::Scope(scope)),
-                Err((refusal, _)) => Err(refusal),
-            }
+    match (step, joiner) {
+        (Step::Try(Event::Open { actor, options, .. }), Some(joiner)) => {
+            opened(book, actor, joiner, options)
         }
+        (Step::Try(event), _) => tried(book, event),
+        (Step::Retire(actor), _) => Ok(retired(&book.retire(actor)?)),
+    }
+}
+
+/// What the book answers to the event. An open has a joiner that awaits all.
+fn tried(book: &mut BookState<AnyEnd>, event: Event) -> Result<Said, Refusal> {
+    match event {
+        Event::Open { actor, options, .. } => opened(book, actor, Joiner::AwaitAll, options),
         Event::Fork {
             actor,
             scope,

@@ -12,6 +12,7 @@ use scope_rules::{
     Value,
 };
 use std::alloc::{AllocError, Global};
+use std::process::Abort;
 use std::sync::Arc;
 use std::sync::atomic::{AtomicU64, Ordering};
 use std::test::Fail;
@@ -83,14 +84,14 @@ fn open_with(book: &mut Book, joiner: Joiner, tasks: u32) -> Result<ScopeId, Fai
 }
 
 /// Two successes of five ends cancel the scope; what ends later is not asked about.
-#[test]
-fn a_closure_is_asked_once_at_each_completion_until_the_cancel(
-    rt: HostRuntime,
+fn check_until_the_cancel(
+    rt: &impl Abort,
+    book: &mut Book,
+    asked: &Asked,
+    joiner: Joiner,
 ) -> Result<(), Fail> {
-    let asked = Asked::new(rt.alloc())?;
-    let mut book: Book = BookState::new(rt.alloc(), Limits::GREATEST);
-    open_with(&mut book, Joiner::AwaitAll, 1)?;
-    let scope = open_with(&mut book, asked.joiner(rt.alloc())?, 5)?;
+    open_with(book, Joiner::AwaitAll, 1)?;
+    let scope = open_with(book, joiner, 5)?;
     let boom = Fault(Name::new(b"boom").ok_or("a name")?);
     for (task, end, counted) in [
         (3, Err(boom), (1, 1)),
@@ -107,24 +108,44 @@ fn a_closure_is_asked_once_at_each_completion_until_the_cancel(
     Ok(())
 }
 
+#[test]
+fn a_closure_is_asked_once_at_each_completion_until_the_cancel(
+    rt: HostRuntime,
+) -> Result<(), Fail> {
+    let asked = Asked::new(rt.alloc())?;
+    let joiner = asked.joiner(rt.alloc())?;
+    let mut book: Book = BookState::new(rt.alloc(), Limits::GREATEST);
+    check_until_the_cancel(&rt, &mut book, &asked, joiner)
+}
+
 /// A scope that was cancelled by a call asks nothing, and one that is opened after a retirement asks
 /// its own closure.
-#[test]
-fn a_closure_is_asked_in_its_own_scope_alone(rt: HostRuntime) -> Result<(), Fail> {
-    let asked = Asked::new(rt.alloc())?;
-    let mut book: Book = BookState::new(rt.alloc(), Limits::GREATEST);
-    let scope = open_with(&mut book, asked.joiner(rt.alloc())?, 1)?;
+fn check_its_own_scope(
+    rt: &impl Abort,
+    book: &mut Book,
+    asked: &Asked,
+    joiners: (Joiner, Joiner),
+) -> Result<(), Fail> {
+    let scope = open_with(book, joiners.0, 1)?;
     book.cancel(scope)?;
     book.finish(1, Ok(Value::Num(7)))?;
     assert_eq!(rt; asked.since_last(), (0, 0));
     book.begin_close(0, scope)?;
     book.end_close(0, scope)?;
     book.retire(0)?;
-    open_with(&mut book, asked.joiner(rt.alloc())?, 1)?;
-    open_with(&mut book, Joiner::AwaitAll, 1)?;
+    open_with(book, joiners.1, 1)?;
+    open_with(book, Joiner::AwaitAll, 1)?;
     book.finish(3, Ok(Value::Num(7)))?;
     assert_eq!(rt; asked.since_last(), (0, 0));
     book.finish(2, Ok(Value::Num(7)))?;
     assert_eq!(rt; asked.since_last(), (1, 1));
     Ok(())
+}
+
+#[test]
+fn a_closure_is_asked_in_its_own_scope_alone(rt: HostRuntime) -> Result<(), Fail> {
+    let asked = Asked::new(rt.alloc())?;
+    let joiners = (asked.joiner(rt.alloc())?, asked.joiner(rt.alloc())?);
+    let mut book: Book = BookState::new(rt.alloc(), Limits::GREATEST);
+    check_its_own_scope(&rt, &mut book, &asked, joiners)
 }

@@ -55,6 +55,24 @@ fn tell(
     Ok(())
 }
 
+/// Tells both the script, and asks both everything after each command.
+fn tell_all(
+    rt: &impl Abort,
+    alloc: Global,
+    both: &mut Both,
+    script: &mut Script,
+    met: &mut Met,
+) -> Result<(), Fail> {
+    for _ in 0..script.length() {
+        let step = script.step(&both.realm);
+        tell(rt, alloc, both, script, met, step)?;
+        both.compare_all(rt, script);
+        both.compare_cancels(rt, script.scopes());
+    }
+    met.count_causes(&both.realm, script.scopes());
+    Ok(())
+}
+
 /// Runs the script of the seed.
 fn run(rt: &impl Abort, alloc: Global, seed: u64, met: &mut Met) -> Result<(), Fail> {
     let mut script = Script::new(alloc, seed, names()?);
@@ -65,14 +83,7 @@ fn run(rt: &impl Abort, alloc: Global, seed: u64, met: &mut Met) -> Result<(), F
         seed,
         commands: 0,
     };
-    for _ in 0..script.length() {
-        let step = script.step(&both.realm);
-        tell(rt, alloc, &mut both, &mut script, met, step)?;
-        both.compare_all(rt, &script);
-        both.compare_cancels(rt, script.scopes());
-    }
-    met.count_causes(&both.realm, script.scopes());
-    Ok(())
+    tell_all(rt, alloc, &mut both, &mut script, met)
 }
 
 /// Runs so many scripts, of the seeds that the dice give.

@@ -9,6 +9,8 @@ mod asked_once;
 #[cfg(test)]
 mod beside;
 #[cfg(test)]
+mod calls;
+#[cfg(test)]
 mod closures;
 #[cfg(test)]
 mod dice;

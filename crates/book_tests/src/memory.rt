@@ -266,34 +266,75 @@ fn begun(alloc: Global, base: &Base) -> Result<Book, Fail> {
     }
 }
 
-#[test]
-fn a_call_that_is_refused_memory_changes_nothing(rt: HostRuntime) -> Result<(), Fail> {
-    let alloc = rt.alloc();
-    let key = Name::new(b"user").ok_or("a name")?;
-    let mut book: Book = BookState::new(alloc, Limits::GREATEST);
-    for step in opening(key) {
-        tell(&rt, alloc, &mut book, step, &key)?;
+/// Tells the book all of the commands above.
+fn tell_all(rt: &impl Abort, alloc: Global, book: &mut Book, key: &Name) -> Result<(), Fail> {
+    for step in opening(*key) {
+        tell(rt, alloc, book, step, key)?;
     }
     for step in ending() {
-        tell(&rt, alloc, &mut book, step, &key)?;
+        tell(rt, alloc, book, step, key)?;
     }
     for step in closing() {
-        tell(&rt, alloc, &mut book, step, &key)?;
+        tell(rt, alloc, book, step, key)?;
     }
-    assert!(rt; matches!(outcome(&book, 1), Ok(Outcome::List(_))));
-    assert!(rt; matches!(outcome(&book, 2), Ok(Outcome::Partial(_))));
-    assert!(rt; matches!(outcome(&book, 3), Ok(Outcome::Cancelled(3))));
-    let before = all_seen(&book, &key);
-    let base = match book.retire(0) {
-        Err(Refusal::Memory) => {
-            assert_eq!(rt; all_seen(&book, &key), before);
-            book.retire(0)?
-        }
-        answer => answer?,
-    };
-    assert_eq!(rt;
-        all_seen(&begun(alloc, &base)?, &key),
-        all_seen(&book, &key)
-    );
     Ok(())
+}
+
+/// A word for what the join of the scope gave.
+fn word_of(book: &Book, scope: ScopeId) -> &'static str {
+    match outcome(book, scope) {
+        Ok(Outcome::List(_)) => "list",
+        Ok(Outcome::Partial(_)) => "partial",
+        Ok(Outcome::Cancelled(3)) => "cancelled 3",
+        _ => "another",
+    }
+}
+
+/// Retires the book, once more where memory was refused, which changed nothing.
+fn retired(rt: &impl Abort, book: &mut Book, key: &Name) -> Result<Base, Refusal> {
+    let before = all_seen(book, key);
+    match book.retire(0) {
+        Err(Refusal::Memory) => {
+            assert_eq!(rt; all_seen(book, key), before);
+            book.retire(0)
+        }
+        answer => answer,
+    }
+}
+
+/// A book that begins with the base of the other answers as that does, and gives the next number.
+fn check_begun(
+    rt: &impl Abort,
+    alloc: Global,
+    again: &mut Book,
+    book: &Book,
+    key: &Name,
+) -> Result<(), Fail> {
+    assert_eq!(rt; all_seen(again, key), all_seen(book, key));
+    assert_eq!(rt; again.limits(), book.limits());
+    tell(rt, alloc, again, open(0, Policy::All, None), key)?;
+    assert_eq!(rt; again.cause(4), Ok(None));
+    Ok(())
+}
+
+/// Retires the book, and begins another with its base.
+fn go_on(rt: &impl Abort, alloc: Global, book: &mut Book, key: &Name) -> Result<(), Fail> {
+    let base = retired(rt, book, key)?;
+    let mut again = begun(alloc, &base)?;
+    check_begun(rt, alloc, &mut again, book, key)
+}
+
+/// Tells the book all, and asks what the joins gave.
+fn check_all(rt: &impl Abort, alloc: Global, book: &mut Book, key: &Name) -> Result<(), Fail> {
+    tell_all(rt, alloc, book, key)?;
+    let words = [word_of(book, 1), word_of(book, 2), word_of(book, 3)];
+    assert_eq!(rt; words, ["list", "partial", "cancelled 3"]);
+    go_on(rt, alloc, book, key)
+}
+
+#[test]
+fn a_call_that_is_refused_memory_changes_nothing(rt: HostRuntime) -> Result<(), Fail> {
+    let key = Name::new(b"user").ok_or("a name")?;
+    let mut book: Book = BookState::new(rt.alloc(), Limits::GREATEST);
+    check_all(&rt, rt.alloc(), &mut book, &key)
 }

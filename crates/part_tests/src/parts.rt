@@ -1,11 +1,9 @@
 //! The parts by themselves, each by its own calls.
 
 mod bindings;
-mod books;
 mod deadlines;
-mod envs;
 mod joiners;
-mod kept;
+mod realms;
 mod trees;
 mod types;
 

@@ -69,7 +69,7 @@ impl Both {
 
     /// Tells both the line, and then asks both everything. What the line is answered goes to the end of
     /// `replies`.
-    pub fn line(&mut self, rt: &impl Abort, line: &str, replies: &mut Vec<u8>) -> Result<(), Fail> {
+    fn line(&mut self, rt: &impl Abort, line: &str, replies: &mut Vec<u8>) -> Result<(), Fail> {
         match read_line(line.as_bytes()) {
             Line::Silent => {}
             Line::BadWord => append_line(replies, &Reply::Refused(Refusal::BadWord))?,
@@ -80,6 +80,19 @@ impl Both {
         }
         for number in 0..NUMBERS {
             self.ask_of(rt, number, line)?;
+        }
+        Ok(())
+    }
+
+    /// Tells both the lines that ` / ` parts.
+    pub fn lines(
+        &mut self,
+        rt: &impl Abort,
+        script: &str,
+        replies: &mut Vec<u8>,
+    ) -> Result<(), Fail> {
+        for line in script.split(" / ") {
+            self.line(rt, line, replies)?;
         }
         Ok(())
     }

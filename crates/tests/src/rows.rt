@@ -43,9 +43,7 @@ fn replies_beside(
 ) -> Result<Vec<u8>, Fail> {
     let mut both = Both::new(rt.alloc(), limits);
     let mut replies = Vec::new(rt.alloc());
-    for line in script.split(" / ") {
-        both.line(rt, line, &mut replies)?;
-    }
+    both.lines(rt, script, &mut replies)?;
     Ok(replies)
 }
 

@@ -185,7 +185,7 @@ const CLOSES: [(&str, &str); 10] = [
 ];
 
 /// Bindings, and retirements.
-const BINDINGS: [(&str, &str); 7] = [
+const BINDINGS: [(&str, &str); 9] = [
     (
         "open 0 / bind 0 user ann / fork 0 1 a / unbind 0 / fork 0 1 a",
         "scope 1 / bound / refused 6 structure / unbound / task 1 thread",
@@ -207,12 +207,20 @@ const BINDINGS: [(&str, &str); 7] = [
         "bound / scope 1 / bound / unbound / bound / value 3 / unbound / task 1 thread",
     ),
     (
+        "bind 0 k 1 / open 0 await / fork 0 1 a / start 1 / bind 0 k 2 / bind 1 k 3 / open 1 await / fork 1 2 b / start 2 / get 2 k / ok 2 1 / close 1 2 / closed 1 2 / unbind 1 / get 1 k / get 0 k",
+        "bound / scope 1 / task 1 thread / started / bound / bound / scope 2 / task 2 thread / started / value 3 / finished / closing / closed not-joined / unbound / value 1 / value 2",
+    ),
+    (
         "retire 0 / retire 1 / tick 9 / retire 0 / tick 8",
         "retired 0 0 / refused 7 no-task / moment 9 / retired 0 0 / refused 9 clock-back",
     ),
     (
         "bind 0 k 1 / open 0 await / fork 0 1 a / start 1 / ok 1 1 / join 0 1 / retire 0 / close 0 1 / closed 0 1 / retire 0 / open 0 await / state 1 / get 0 k / unbind 0 / close 0 2 / closed 0 2 / unbind 0 / get 0 k",
         "bound / scope 1 / task 1 thread / started / finished / outcome done / refused 6 structure / closing / closed / retired 1 1 / scope 2 / refused 20 retired / value 1 / refused 6 structure / closing / closed / unbound / refused 12 not-bound",
+    ),
+    (
+        "bind 0 k 1 / open 0 await / fork 0 1 a / reject 1 / close 0 1 / closed 0 1 / retire 0 / open 0 await / fork 0 2 b / start 2 / get 2 k / bind 2 k 5 / get 2 k / get 0 k",
+        "bound / scope 1 / task 1 thread / rejected / closing / closed not-joined / retired 1 1 / scope 2 / task 2 thread / started / value 1 / bound / value 5 / value 1",
     ),
 ];
 

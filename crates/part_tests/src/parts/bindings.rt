@@ -4,8 +4,10 @@ use super::{name, pages};
 use scope_rules::{Name, Refusal, Value};
 use scoped_env::Env;
 use std::alloc::{AllocError, Global};
+use std::process::Abort;
 use std::test::Fail;
 use std::thread;
+use std::thread::Threads;
 
 /// One call on an environment, which goes by its number: 0 is the one that a table begins with,
 /// and each `Inherit` makes the next. `Sees` and `Counts` say what must be found there.
@@ -144,6 +146,16 @@ fn take(envs: &mut Vec<Option<Env>>, step: Step) -> Result<bool, Fail> {
     Ok(true)
 }
 
+/// Takes the steps, from one environment on; each goes as it wants.
+fn check_table(rt: &impl Abort, alloc: Global, steps: &[Step]) -> Result<(), Fail> {
+    let mut envs = Vec::new(alloc);
+    envs.push(Some(Env::new(alloc)))?;
+    for (at, step) in steps.iter().enumerate() {
+        assert!(rt; take(&mut envs, *step)?, "step {at}");
+    }
+    Ok(())
+}
+
 #[test]
 fn environments_see_what_their_tables_say(rt: HostRuntime) -> Result<(), Fail> {
     for steps in [
@@ -151,11 +163,7 @@ fn environments_see_what_their_tables_say(rt: HostRuntime) -> Result<(), Fail> {
         FORKS.as_slice(),
         ORPHANS.as_slice(),
     ] {
-        let mut envs = Vec::new(rt.alloc());
-        envs.push(Some(Env::new(rt.alloc())))?;
-        for (at, step) in steps.iter().enumerate() {
-            assert!(rt; take(&mut envs, *step)?, "step {at}");
-        }
+        check_table(&rt, rt.alloc(), steps)?;
     }
     Ok(())
 }
@@ -197,6 +205,14 @@ fn two_thousand(alloc: Global, below: Name, above: Name) -> Result<Env, AllocErr
     Ok(env)
 }
 
+/// Each heir sees all two thousand pairs, none of them its own.
+fn check_heirs(rt: &impl Abort, heirs: &[Env], user: Name) {
+    for heir in heirs {
+        let found = (heir.depth(), heir.stack_len(), heir.get(user));
+        assert_eq!(rt; found, (2000, 0, Some(Value::Num(999))));
+    }
+}
+
 /// Two thousand pairs take 35 pages, and a thousand heirs would take 35,000 if each had a copy.
 #[test]
 fn a_thousand_pairs_are_shared(rt: HostRuntime) -> Result<(), Fail> {
@@ -205,10 +221,7 @@ fn a_thousand_pairs_are_shared(rt: HostRuntime) -> Result<(), Fail> {
     let before = pages(&rt);
     let heirs = heirs(rt.alloc(), &mut env)?;
     assert!(rt; pages(&rt) < before.saturating_add(2000));
-    for heir in &heirs {
-        let found = (heir.depth(), heir.stack_len(), heir.get(user));
-        assert_eq!(rt; found, (2000, 0, Some(Value::Num(999))));
-    }
+    check_heirs(&rt, &heirs, user);
     let found = (unbind_all(&mut env), env.get(user), env.get(trace));
     assert_eq!(rt; found, (1000, Some(Value::Num(999)), None));
     Ok(())
@@ -221,19 +234,24 @@ fn task(mut env: Env, key: Name) -> (Option<Value>, Option<Value>, usize) {
     (inherited, env.get(key), env.depth())
 }
 
+/// Hands a child of the environment to a thread, and unbinds the environment meanwhile.
+fn check_crossing<R: Threads + Abort>(rt: &R, parent: &mut Env, key: Name) -> Result<(), Fail> {
+    let child = parent.inherit()?;
+    let Ok(thread) = thread::spawn(rt, move || task(child, key)) else {
+        return Err("no thread")?;
+    };
+    let unbound = parent.unbind();
+    let seen = thread.join(rt);
+    let wanted = (Some(Value::Num(1)), Some(Value::Num(2)), 2);
+    assert_eq!(rt; (seen, unbound), (wanted, Ok(())));
+    assert_eq!(rt; parent.depth(), 0);
+    Ok(())
+}
+
 #[test]
 fn an_environment_crosses_threads(rt: HostRuntime) -> Result<(), Fail> {
     let key = name(b"user")?;
     let mut parent = Env::new(rt.alloc());
     parent.bind(key, Value::Num(1))?;
-    let child = parent.inherit()?;
-    let Ok(thread) = thread::spawn(&rt, move || task(child, key)) else {
-        return Err("no thread")?;
-    };
-    assert_eq!(rt; parent.unbind(), Ok(()));
-    let (inherited, own, depth) = thread.join(&rt);
-    assert_eq!(rt; inherited, Some(Value::Num(1)));
-    assert_eq!(rt; own, Some(Value::Num(2)));
-    assert_eq!(rt; [depth, parent.depth()], [2, 0]);
-    Ok(())
+    check_crossing(&rt, &mut parent, key)
 }

@@ -2,6 +2,7 @@
 
 use deadline_core::Deadlines;
 use std::alloc::{AllocError, Global};
+use std::process::Abort;
 use std::test::Fail;
 
 /// Scopes with their deadlines, as they are set.
@@ -17,23 +18,38 @@ const SET: [(u32, u64); 9] = [
     (1, 40),
 ];
 
-#[test]
-fn deadlines_go_by_moment_then_by_number(rt: HostRuntime) -> Result<(), Fail> {
-    let mut deadlines = Deadlines::new(rt.alloc());
+/// The scopes that expire at the moment are these, in this order.
+fn check_expired(
+    rt: &impl Abort,
+    deadlines: &mut Deadlines,
+    now: u64,
+    wanted: &[u32],
+) -> Result<(), AllocError> {
+    let expired = deadlines.expire(now)?;
+    assert_eq!(rt; expired.as_slice(), wanted, "at {now}");
+    Ok(())
+}
+
+/// Scopes with one deadline go by their numbers, whether they expire together or one by one.
+fn check_order(rt: &impl Abort, deadlines: &mut Deadlines) -> Result<(), AllocError> {
     for (scope, deadline) in SET {
         deadlines.set(scope, deadline)?;
     }
     assert_eq!(rt; deadlines.earliest(), Some((5, 6)));
-    assert_eq!(rt; deadlines.expire(4)?.len(), 0);
-    let first = deadlines.expire(10)?;
-    assert_eq!(rt; first.as_slice(), [6, 2, 3].as_slice());
+    check_expired(rt, deadlines, 4, &[])?;
+    check_expired(rt, deadlines, 10, &[6, 2, 3])?;
     deadlines.remove(8);
     assert_eq!(rt; deadlines.pop_expired(19), None);
     assert_eq!(rt; deadlines.pop_expired(20), Some(4));
-    let rest = deadlines.expire(30)?;
-    assert_eq!(rt; rest.as_slice(), [7, 9].as_slice());
+    check_expired(rt, deadlines, 30, &[7, 9])?;
     assert_eq!(rt; [deadlines.get(9), deadlines.get(1)], [None, Some(40)]);
     Ok(())
+}
+
+#[test]
+fn deadlines_go_by_moment_then_by_number(rt: HostRuntime) -> Result<(), Fail> {
+    let mut deadlines = Deadlines::new(rt.alloc());
+    Ok(check_order(&rt, &mut deadlines)?)
 }
 
 /// Scopes 1 to 5,002 in a scattered order, with deadlines of which about five are equal; each had
@@ -52,18 +68,32 @@ fn scattered(alloc: Global) -> Result<(Deadlines, Vec<(u64, u32)>), AllocError> 
     Ok((deadlines, sorted))
 }
 
+/// Those that expire at the moment are the next of the sorted list, from its place `from` on; answers how
+/// many have expired then.
+fn check_next(
+    rt: &impl Abort,
+    deadlines: &mut Deadlines,
+    sorted: &[(u64, u32)],
+    from: usize,
+    now: u64,
+) -> Result<usize, AllocError> {
+    let mut expired = from;
+    for scope in deadlines.expire(now)? {
+        let next = sorted.get(expired).copied();
+        assert_eq!(rt; next.map(|pair| pair.1), Some(scope), "at {expired}");
+        assert_eq!(rt; next.map(|pair| pair.0 <= now), Some(true), "at {expired}");
+        expired = expired.saturating_add(1);
+    }
+    assert_eq!(rt; deadlines.earliest(), sorted.get(expired).copied());
+    Ok(expired)
+}
+
 #[test]
 fn five_thousand_expire_as_a_sorted_list(rt: HostRuntime) -> Result<(), Fail> {
     let (mut deadlines, sorted) = scattered(rt.alloc())?;
     let mut expired = 0;
     for now in [0, 17, 17, 400, 1007] {
-        for scope in deadlines.expire(now)? {
-            let next = sorted.get(expired).copied();
-            assert_eq!(rt; next.map(|pair| pair.1), Some(scope), "at {expired}");
-            assert_eq!(rt; next.map(|pair| pair.0 <= now), Some(true), "at {expired}");
-            expired = expired.saturating_add(1);
-        }
-        assert_eq!(rt; deadlines.earliest(), sorted.get(expired).copied());
+        expired = check_next(&rt, &mut deadlines, &sorted, expired, now)?;
     }
     assert_eq!(rt; deadlines.earliest().map(|first| first.0), Some(1008));
     Ok(())

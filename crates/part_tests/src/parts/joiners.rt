@@ -15,7 +15,7 @@ use std::thread;
 
 /// An end: with a number, with a text, or with a fault.
 #[derive(Clone, Copy)]
-pub enum Kind {
+enum Kind {
     Number(i64),
     Text,
     Fault,
@@ -50,7 +50,7 @@ const MOST: Kind = Number(i64::MAX);
 const LEAST: Kind = Number(i64::MIN);
 
 /// The end, if `boom` and `seven` are names.
-pub fn end_of(kind: Kind) -> Result<End, Fail> {
+fn end_of(kind: Kind) -> Result<End, Fail> {
     Ok(match kind {
         Number(number) => Ok(Value::Num(number)),
         Text => Ok(Value::Text(name(b"seven")?)),
@@ -59,7 +59,7 @@ pub fn end_of(kind: Kind) -> Result<End, Fail> {
 }
 
 /// Hands in the end as that of the next task.
-pub fn hand_in(progress: &mut Progress, end: End) -> Result<bool, Refusal> {
+fn hand_in(progress: &mut Progress, end: End) -> Result<bool, Refusal> {
     let before = progress.completions();
     if before >= 65_536 {
         return Err(Refusal::TooMany);
@@ -231,7 +231,7 @@ fn as_many_as_there_can_be_are_counted(rt: HostRuntime) -> Result<(), Fail> {
 }
 
 /// Whether the list has two successes. It counts from the back, and stops at the second.
-pub fn has_two_successes(list: &[Completion]) -> bool
+fn has_two_successes(list: &[Completion]) -> bool
     ensures { result ≡ meets (Rule.SuccessesAtLeast 2) list.now }
 {
     let mut found = 0u32;
@@ -246,10 +246,7 @@ pub fn has_two_successes(list: &[Completion]) -> bool
 }
 
 /// A joiner until two succeed, whose closure adds up how long the lists are that it is shown.
-pub fn joiner_that_adds(
-    alloc: Global,
-    shown: Arc<AtomicU64, Global>,
-) -> Result<Joiner, AllocError> {
+fn joiner_that_adds(alloc: Global, shown: Arc<AtomicU64, Global>) -> Result<Joiner, AllocError> {
     let test: CompletionTest = boxed(
         alloc,
         move |list: &[Completion]|

@@ -5,7 +5,8 @@ mod beside_plain;
 mod driven;
 
 use driven::Driven;
-use scope_rules::{CauseKind, Refusal};
+use scope_rules::{CauseKind, Refusal, ScopeId};
+use std::process::Abort;
 use std::test::Fail;
 
 /// How many of the tree's scopes are cancelled.
@@ -20,64 +21,98 @@ fn count_cancelled(tree: &Driven) -> u32 {
 }
 
 /// Sixteen scopes in one another, with 272 more in each of the first fifteen; the ninth is shielded.
-#[test]
-fn cancels_reach_a_chain_of_fans(rt: HostRuntime) -> Result<(), Fail> {
-    let mut tree = Driven::new(rt.alloc());
+fn add_fans(rt: &impl Abort, tree: &mut Driven) -> Result<(), Refusal> {
     let mut parent = None;
     for level in 1..17u32 {
         parent = Some(tree.add(parent, level == 9)?);
     }
-    assert_eq!(rt; tree.add(parent, false), Err(Refusal::TooDeep));
-    assert_eq!(rt; tree.add(parent, true), Err(Refusal::TooDeep));
+    for shield in [false, true] {
+        assert_eq!(rt; tree.add(parent, shield), Err(Refusal::TooDeep));
+    }
     for leaf in 0..4080u32 {
         tree.add(Some(leaf % 15 + 1), false)?;
     }
     assert_eq!(rt; tree.len(), 4096);
-    tree.cancel(16, CauseKind::Call, 0);
-    assert_eq!(rt; count_cancelled(&tree), 1);
-    tree.cancel(1, CauseKind::Call, 1);
-    // 8 in one another, their 8 times 272, and the one before.
-    assert_eq!(rt; count_cancelled(&tree), 2185);
-    tree.cancel(9, CauseKind::Call, 2);
-    assert_eq!(rt; count_cancelled(&tree), 4096);
     Ok(())
 }
 
-/// The second scope and the third, inside it, are cancelled by one call, and the first by a later one.
 #[test]
-fn cancelled_scopes_stand_in_order(rt: HostRuntime) -> Result<(), Fail> {
+fn cancels_reach_a_chain_of_fans(rt: HostRuntime) -> Result<(), Fail> {
     let mut tree = Driven::new(rt.alloc());
-    let first = tree.add(None, false)?;
-    let second = tree.add(None, false)?;
-    let third = tree.add(Some(second), false)?;
-    assert_eq!(rt; tree.cancelled_since(0, 0), None);
-    tree.cancel(second, CauseKind::Call, 4);
-    assert_eq!(rt; tree.cancelled_since(0, 0), Some(second));
-    assert_eq!(rt; tree.cancelled_since(0, 1), Some(third));
-    assert_eq!(rt; tree.cancelled_since(1, 0), Some(third));
-    assert_eq!(rt; tree.cancelled_since(2, 0), None);
-    tree.cancel(first, CauseKind::Call, 6);
-    assert_eq!(rt; tree.cancelled_since(2, 0), Some(first));
-    assert_eq!(rt; tree.cancelled_since(0, 0), Some(second));
-    assert_eq!(rt; tree.cancelled_since(0, 3), None);
-    assert_eq!(rt; tree.cancelled_since(9, 0), None);
+    add_fans(&rt, &mut tree)?;
+    // The second reaches 8 in one another, their 8 times 272, and the one before.
+    for (place, scope, cancelled) in [(0, 16, 1), (1, 1, 2185), (2, 9, 4096)] {
+        tree.cancel(scope, CauseKind::Call, place);
+        assert_eq!(rt; count_cancelled(&tree), cancelled, "{scope}");
+    }
     Ok(())
 }
+
+/// A call on a tree, or what must be found there.
+#[derive(Clone, Copy)]
+enum Step {
+    Add(Option<ScopeId>),
+    Cancel(ScopeId, u64),
+    /// The i-th of the scopes from the n-th that was cancelled on.
+    Listed(usize, usize, Option<ScopeId>),
+}
+
+use Step::{Add, Cancel, Listed};
+
+/// The second scope and the third, inside it, are cancelled by one call, and the first by a later one.
+const IN_ORDER: [Step; 14] = [
+    Add(None),
+    Add(None),
+    Add(Some(2)),
+    Listed(0, 0, None),
+    Cancel(2, 4),
+    Listed(0, 0, Some(2)),
+    Listed(0, 1, Some(3)),
+    Listed(1, 0, Some(3)),
+    Listed(2, 0, None),
+    Cancel(1, 6),
+    Listed(2, 0, Some(1)),
+    Listed(0, 0, Some(2)),
+    Listed(0, 3, None),
+    Listed(9, 0, None),
+];
 
 /// Two calls at one place stand by the numbers, whichever was first, with a query between them; a scope
 /// that is added in a cancelled one comes last.
+const AT_ONE_PLACE: [Step; 10] = [
+    Add(None),
+    Add(None),
+    Cancel(2, 3),
+    Listed(0, 0, Some(2)),
+    Cancel(1, 3),
+    Listed(0, 0, Some(1)),
+    Listed(0, 1, Some(2)),
+    Add(Some(1)),
+    Listed(0, 2, Some(3)),
+    Listed(3, 0, None),
+];
+
+/// Takes the steps on the tree, one after another.
+fn take_all(rt: &impl Abort, tree: &mut Driven, steps: &[Step]) -> Result<(), Refusal> {
+    for (at, step) in steps.iter().enumerate() {
+        match *step {
+            Add(parent) => {
+                tree.add(parent, false)?;
+            }
+            Cancel(scope, place) => tree.cancel(scope, CauseKind::Call, place),
+            Listed(n, i, wanted) => {
+                assert_eq!(rt; tree.cancelled_since(n, i), wanted, "step {at}");
+            }
+        }
+    }
+    Ok(())
+}
+
 #[test]
-fn calls_at_one_place_stand_by_number(rt: HostRuntime) -> Result<(), Fail> {
-    let mut tree = Driven::new(rt.alloc());
-    let first = tree.add(None, false)?;
-    let second = tree.add(None, false)?;
-    tree.cancel(second, CauseKind::Call, 3);
-    assert_eq!(rt; tree.cancelled_since(0, 0), Some(second));
-    tree.cancel(first, CauseKind::Call, 3);
-    assert_eq!(rt; tree.cancelled_since(0, 0), Some(first));
-    assert_eq!(rt; tree.cancelled_since(0, 1), Some(second));
-    let third = tree.add(Some(first), false)?;
-    assert_eq!(rt; tree.cancelled_since(0, 2), Some(third));
-    assert_eq!(rt; tree.cancelled_since(3, 0), None);
+fn cancelled_scopes_stand_in_order(rt: HostRuntime) -> Result<(), Fail> {
+    for steps in [IN_ORDER.as_slice(), AT_ONE_PLACE.as_slice()] {
+        let mut tree = Driven::new(rt.alloc());
+        take_all(&rt, &mut tree, steps)?;
+    }
     Ok(())
 }

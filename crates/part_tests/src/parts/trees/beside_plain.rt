@@ -8,6 +8,7 @@ use scope_rules::{
     Actor, Cancelling, CauseKind, Expiry, Label, Limits, Options, Policy, Refusal, ScopeId, TaskId,
 };
 use std::alloc::Global;
+use std::process::Abort;
 use std::test::Fail;
 
 /// What both are told.
@@ -218,6 +219,23 @@ const PAST: [Step; 4] = [
     Move(1, Some(20)),
 ];
 
+/// A realm and a tree agree after each of the steps, those that are there first and those that follow, and
+/// so many scopes are cancelled in the end.
+fn check_steps(
+    rt: &impl Abort,
+    alloc: Global,
+    steps: [&[Step]; 2],
+    cancelled: u32,
+    row: &str,
+) -> Result<(), Fail> {
+    let mut beside = Beside::new(alloc);
+    for part in steps {
+        assert!(rt; beside.agrees_after(part)?, "{row}");
+    }
+    assert_eq!(rt; count_cancelled(&beside.tree), cancelled, "{row}");
+    Ok(())
+}
+
 /// Each row: what is there first, what happens then, and how many scopes are cancelled in the end.
 #[test]
 fn a_tree_agrees_with_a_realm(rt: HostRuntime) -> Result<(), Fail> {
@@ -235,10 +253,7 @@ fn a_tree_agrees_with_a_realm(rt: HostRuntime) -> Result<(), Fail> {
         ("moved", MOVED.as_slice(), [].as_slice(), 0),
         ("past", PAST.as_slice(), [].as_slice(), 1),
     ] {
-        let mut beside = Beside::new(rt.alloc());
-        assert!(rt; beside.agrees_after(first)?, "{row}");
-        assert!(rt; beside.agrees_after(then)?, "{row}");
-        assert_eq!(rt; count_cancelled(&beside.tree), cancelled, "{row}");
+        check_steps(&rt, rt.alloc(), [first, then], cancelled, row)?;
     }
     Ok(())
 }
@@ -256,28 +271,28 @@ fn nested(parent: Option<ScopeId>, shield: bool) -> Step {
 #[test]
 fn every_order_of_cancels_with_every_shield(rt: HostRuntime) -> Result<(), Fail> {
     let orders = [
-        [1, 2, 3],
-        [1, 3, 2],
-        [2, 1, 3],
-        [2, 3, 1],
-        [3, 1, 2],
-        [3, 2, 1],
+        ("123", [1, 2, 3]),
+        ("132", [1, 3, 2]),
+        ("213", [2, 1, 3]),
+        ("231", [2, 3, 1]),
+        ("312", [3, 1, 2]),
+        ("321", [3, 2, 1]),
     ];
     for shields in 0u8..8 {
-        for order in orders {
-            let mut beside = Beside::new(rt.alloc());
-            let opens = [
-                nested(None, shields % 2 == 1),
-                nested(Some(1), shields / 2 % 2 == 1),
-                nested(Some(2), shields / 4 % 2 == 1),
-            ];
-            assert!(rt; beside.agrees_after(opens.as_slice())?);
+        let opens = [
+            nested(None, shields % 2 == 1),
+            nested(Some(1), shields / 2 % 2 == 1),
+            nested(Some(2), shields / 4 % 2 == 1),
+        ];
+        for (row, order) in orders {
             let cancels = order.map(Cancel);
-            assert!(rt;
-                beside.agrees_after(cancels.as_slice())?,
-                "{shields} {order:?}"
-            );
-            assert_eq!(rt; count_cancelled(&beside.tree), 3, "{shields} {order:?}");
+            check_steps(
+                &rt,
+                rt.alloc(),
+                [opens.as_slice(), cancels.as_slice()],
+                3,
+                row,
+            )?;
         }
     }
     Ok(())
