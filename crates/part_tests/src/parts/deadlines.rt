@@ -30,17 +30,21 @@ fn check_expired(
     Ok(())
 }
 
-/// Scopes with one deadline go by their numbers, whether they expire together or one by one.
+/// Scopes with one deadline expire together by their numbers, the least moment first.
 fn check_order(rt: &impl Abort, deadlines: &mut Deadlines) -> Result<(), AllocError> {
     for (scope, deadline) in SET {
         deadlines.set(scope, deadline)?;
     }
     assert_eq!(rt; deadlines.earliest(), Some((5, 6)));
     check_expired(rt, deadlines, 4, &[])?;
-    check_expired(rt, deadlines, 10, &[6, 2, 3])?;
+    check_expired(rt, deadlines, 10, &[6, 2, 3])
+}
+
+/// Of what is left, one is taken away, one expires alone, two together, and one stays.
+fn check_rest(rt: &impl Abort, deadlines: &mut Deadlines) -> Result<(), AllocError> {
     deadlines.remove(8);
-    assert_eq!(rt; deadlines.pop_expired(19), None);
-    assert_eq!(rt; deadlines.pop_expired(20), Some(4));
+    let popped = [deadlines.pop_expired(19), deadlines.pop_expired(20)];
+    assert_eq!(rt; popped, [None, Some(4)]);
     check_expired(rt, deadlines, 30, &[7, 9])?;
     assert_eq!(rt; [deadlines.get(9), deadlines.get(1)], [None, Some(40)]);
     Ok(())
@@ -49,7 +53,8 @@ fn check_order(rt: &impl Abort, deadlines: &mut Deadlines) -> Result<(), AllocEr
 #[test]
 fn deadlines_go_by_moment_then_by_number(rt: HostRuntime) -> Result<(), Fail> {
     let mut deadlines = Deadlines::new(rt.alloc());
-    Ok(check_order(&rt, &mut deadlines)?)
+    check_order(&rt, &mut deadlines)?;
+    Ok(check_rest(&rt, &mut deadlines)?)
 }
 
 /// Scopes 1 to 5,002 in a scattered order, with deadlines of which about five are equal; each had
@@ -68,6 +73,14 @@ fn scattered(alloc: Global) -> Result<(Deadlines, Vec<(u64, u32)>), AllocError> 
     Ok((deadlines, sorted))
 }
 
+/// Whether the sorted list has the scope at the place, with a deadline that is due at the moment.
+fn is_next(sorted: &[(u64, u32)], place: usize, scope: u32, now: u64) -> bool {
+    match sorted.get(place) {
+        Some((deadline, next)) => *next == scope && *deadline <= now,
+        None => false,
+    }
+}
+
 /// Those that expire at the moment are the next of the sorted list, from its place `from` on; answers how
 /// many have expired then.
 fn check_next(
@@ -79,22 +92,33 @@ fn check_next(
 ) -> Result<usize, AllocError> {
     let mut expired = from;
     for scope in deadlines.expire(now)? {
-        let next = sorted.get(expired).copied();
-        assert_eq!(rt; next.map(|pair| pair.1), Some(scope), "at {expired}");
-        assert_eq!(rt; next.map(|pair| pair.0 <= now), Some(true), "at {expired}");
+        assert!(rt; is_next(sorted, expired, scope, now), "at {expired}");
         expired = expired.saturating_add(1);
     }
-    assert_eq!(rt; deadlines.earliest(), sorted.get(expired).copied());
     Ok(expired)
+}
+
+/// All expire in the order of the sorted list, but those of the last moment.
+fn check_all(
+    rt: &impl Abort,
+    deadlines: &mut Deadlines,
+    sorted: &[(u64, u32)],
+) -> Result<(), AllocError> {
+    let mut expired = 0;
+    for now in [0, 17, 17, 400, 1007] {
+        expired = check_next(rt, deadlines, sorted, expired, now)?;
+        assert_eq!(rt;
+            deadlines.earliest(),
+            sorted.get(expired).copied(),
+            "at {now}"
+        );
+    }
+    assert_eq!(rt; deadlines.earliest().map(|first| first.0), Some(1008));
+    Ok(())
 }
 
 #[test]
 fn five_thousand_expire_as_a_sorted_list(rt: HostRuntime) -> Result<(), Fail> {
     let (mut deadlines, sorted) = scattered(rt.alloc())?;
-    let mut expired = 0;
-    for now in [0, 17, 17, 400, 1007] {
-        expired = check_next(&rt, &mut deadlines, &sorted, expired, now)?;
-    }
-    assert_eq!(rt; deadlines.earliest().map(|first| first.0), Some(1008));
-    Ok(())
+    Ok(check_all(&rt, &mut deadlines, &sorted)?)
 }

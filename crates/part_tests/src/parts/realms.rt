@@ -27,18 +27,20 @@ fn hundred_pairs(alloc: Global, user: Name, trace: Name) -> Result<Vec<Binding>,
     Ok(pairs)
 }
 
-/// Main sees the last pairs of both keys, and unbinds all hundred; one number of a scope is left.
-fn check_begun(rt: &impl Abort, realm: &mut Plain, user: Name, trace: Name) {
-    assert_eq!(rt;
-        (realm.moment(), realm.stage(3)),
-        (9, Err(Refusal::Retired))
-    );
+/// Main sees the last pairs of both keys, and unbinds all hundred.
+fn check_pairs(rt: &impl Abort, realm: &mut Plain, user: Name, trace: Name) {
     let found = [realm.binding(0, &user), realm.binding(0, &trace)];
     assert_eq!(rt; found, [Ok(Value::Num(49)), Ok(Value::Text(user))]);
     for count in 0..100u32 {
         assert_eq!(rt; realm.unbind(0), Ok(()), "{count}");
     }
     assert_eq!(rt; realm.unbind(0), Err(Refusal::NotBound));
+}
+
+/// The moment goes on, the tasks of before are retired, and one number of a scope is left.
+fn check_numbers(rt: &impl Abort, realm: &mut Plain) {
+    assert_eq!(rt; realm.moment(), 9);
+    assert_eq!(rt; realm.stage(3), Err(Refusal::Retired));
     for answer in [Ok(4294967295), Err(Refusal::TooMany)] {
         assert_eq!(rt; realm.open(0, Policy::AwaitAll, OPTIONS), answer);
     }
@@ -49,7 +51,8 @@ fn a_realm_begins_with_a_base_of_a_hundred_pairs(rt: HostRuntime) -> Result<(), 
     let (user, trace) = (name(b"user")?, name(b"trace")?);
     let base = Base::new(9, 4294967294, 3, hundred_pairs(rt.alloc(), user, trace)?);
     let mut realm = Plain::with_base(rt.alloc(), Limits::GREATEST, base)?;
-    check_begun(&rt, &mut realm, user, trace);
+    check_pairs(&rt, &mut realm, user, trace);
+    check_numbers(&rt, &mut realm);
     Ok(())
 }
 

@@ -36,15 +36,19 @@ fn add_fans(rt: &impl Abort, tree: &mut Driven) -> Result<(), Refusal> {
     Ok(())
 }
 
+/// The second cancel reaches 8 in one another, their 8 times 272, and the one before.
+fn check_cancels(rt: &impl Abort, tree: &mut Driven) {
+    for (place, scope, cancelled) in [(0, 16, 1), (1, 1, 2185), (2, 9, 4096)] {
+        tree.cancel(scope, CauseKind::Call, place);
+        assert_eq!(rt; count_cancelled(tree), cancelled, "{scope}");
+    }
+}
+
 #[test]
 fn cancels_reach_a_chain_of_fans(rt: HostRuntime) -> Result<(), Fail> {
     let mut tree = Driven::new(rt.alloc());
     add_fans(&rt, &mut tree)?;
-    // The second reaches 8 in one another, their 8 times 272, and the one before.
-    for (place, scope, cancelled) in [(0, 16, 1), (1, 1, 2185), (2, 9, 4096)] {
-        tree.cancel(scope, CauseKind::Call, place);
-        assert_eq!(rt; count_cancelled(&tree), cancelled, "{scope}");
-    }
+    check_cancels(&rt, &mut tree);
     Ok(())
 }
 

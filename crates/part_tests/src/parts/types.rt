@@ -2,6 +2,7 @@
 
 use super::name;
 use scope_rules::{AnyEnd, Catalog, Due, End, Fault, Label, Limits, Name, Refusal, Value};
+use std::alloc::{AllocError, Global};
 use std::process::Abort;
 use std::test::Fail;
 
@@ -47,11 +48,21 @@ const REFUSALS: [(Refusal, &str); 20] = [
     (Refusal::Retired, "refused 20 retired"),
 ];
 
+fn check_line(
+    rt: &impl Abort,
+    alloc: Global,
+    refusal: Refusal,
+    line: &str,
+) -> Result<(), AllocError> {
+    let text = format!(in alloc; "{refusal}")?;
+    assert!(rt; text.as_str() == line, "{line}");
+    Ok(())
+}
+
 #[test]
 fn refusals_by_number_and_word(rt: HostRuntime) -> Result<(), Fail> {
     for (refusal, line) in REFUSALS {
-        let text = format!(in rt.alloc(); "{refusal}")?;
-        assert_eq!(rt; text.as_str(), line);
+        check_line(&rt, rt.alloc(), refusal, line)?;
     }
     Ok(())
 }

@@ -219,41 +219,55 @@ const PAST: [Step; 4] = [
     Move(1, Some(20)),
 ];
 
-/// A realm and a tree agree after each of the steps, those that are there first and those that follow, and
-/// so many scopes are cancelled in the end.
-fn check_steps(
+/// Both agree after each of the steps, and so many scopes are cancelled in the end.
+fn check_beside(
     rt: &impl Abort,
-    alloc: Global,
-    steps: [&[Step]; 2],
+    beside: &mut Beside,
+    first: &[Step],
+    then: &[Step],
     cancelled: u32,
     row: &str,
 ) -> Result<(), Fail> {
-    let mut beside = Beside::new(alloc);
-    for part in steps {
-        assert!(rt; beside.agrees_after(part)?, "{row}");
-    }
+    let agree = beside.agrees_after(first)? && beside.agrees_after(then)?;
+    assert!(rt; agree, "{row}");
     assert_eq!(rt; count_cancelled(&beside.tree), cancelled, "{row}");
     Ok(())
 }
 
-/// Each row: what is there first, what happens then, and how many scopes are cancelled in the end.
+/// A realm and a tree are told the steps, those that are there first and those that follow.
+fn check_steps(
+    rt: &impl Abort,
+    alloc: Global,
+    first: &[Step],
+    then: &[Step],
+    cancelled: u32,
+    row: &str,
+) -> Result<(), Fail> {
+    let mut beside = Beside::new(alloc);
+    check_beside(rt, &mut beside, first, then, cancelled, row)
+}
+
+/// What the row shows, what is there first, what happens then, and how many scopes are cancelled in the end.
+type Row = (&'static str, &'static [Step], &'static [Step], u32);
+
+const ROWS: [Row; 11] = [
+    ("outermost", &TWO_TASKS, &[Cancel(1)], 4),
+    ("of a task", &TWO_TASKS, &[Cancel(2)], 1),
+    ("of main", &TWO_TASKS, &[Cancel(3)], 1),
+    ("shielded", &TWO_TASKS, &[Cancel(4)], 1),
+    ("of another task", &TWO_TASKS, &[Cancel(5)], 1),
+    ("deadlines", &TWO_TASKS, &DEADLINES, 5),
+    ("tie", &TIE, &[], 2),
+    ("older", &OLDER, &[], 2),
+    ("joined", &JOINED, &[], 0),
+    ("moved", &MOVED, &[], 0),
+    ("past", &PAST, &[], 1),
+];
+
 #[test]
 fn a_tree_agrees_with_a_realm(rt: HostRuntime) -> Result<(), Fail> {
-    let tasks = TWO_TASKS.as_slice();
-    for (row, first, then, cancelled) in [
-        ("outermost", tasks, [Cancel(1)].as_slice(), 4),
-        ("of a task", tasks, [Cancel(2)].as_slice(), 1),
-        ("of main", tasks, [Cancel(3)].as_slice(), 1),
-        ("shielded", tasks, [Cancel(4)].as_slice(), 1),
-        ("of another task", tasks, [Cancel(5)].as_slice(), 1),
-        ("deadlines", tasks, DEADLINES.as_slice(), 5),
-        ("tie", TIE.as_slice(), [].as_slice(), 2),
-        ("older", OLDER.as_slice(), [].as_slice(), 2),
-        ("joined", JOINED.as_slice(), [].as_slice(), 0),
-        ("moved", MOVED.as_slice(), [].as_slice(), 0),
-        ("past", PAST.as_slice(), [].as_slice(), 1),
-    ] {
-        check_steps(&rt, rt.alloc(), [first, then], cancelled, row)?;
+    for (row, first, then, cancelled) in ROWS {
+        check_steps(&rt, rt.alloc(), first, then, cancelled, row)?;
     }
     Ok(())
 }
@@ -267,32 +281,27 @@ fn nested(parent: Option<ScopeId>, shield: bool) -> Step {
     }
 }
 
+const ORDERS: [(&str, [ScopeId; 3]); 6] = [
+    ("123", [1, 2, 3]),
+    ("132", [1, 3, 2]),
+    ("213", [2, 1, 3]),
+    ("231", [2, 3, 1]),
+    ("312", [3, 1, 2]),
+    ("321", [3, 2, 1]),
+];
+
 /// In the end each scope is cancelled, whatever the order and the shields.
 #[test]
 fn every_order_of_cancels_with_every_shield(rt: HostRuntime) -> Result<(), Fail> {
-    let orders = [
-        ("123", [1, 2, 3]),
-        ("132", [1, 3, 2]),
-        ("213", [2, 1, 3]),
-        ("231", [2, 3, 1]),
-        ("312", [3, 1, 2]),
-        ("321", [3, 2, 1]),
-    ];
     for shields in 0u8..8 {
         let opens = [
             nested(None, shields % 2 == 1),
             nested(Some(1), shields / 2 % 2 == 1),
             nested(Some(2), shields / 4 % 2 == 1),
         ];
-        for (row, order) in orders {
+        for (row, order) in ORDERS {
             let cancels = order.map(Cancel);
-            check_steps(
-                &rt,
-                rt.alloc(),
-                [opens.as_slice(), cancels.as_slice()],
-                3,
-                row,
-            )?;
+            check_steps(&rt, rt.alloc(), &opens, &cancels, 3, row)?;
         }
     }
     Ok(())
