@@ -1,59 +1,20 @@
 -- A script that is taken byte by byte is answered as its lines are.
-use Rattle.std.proofs.Common.{◌≡◌, ℕ, suc, ◌+◌, ◌<◌, ◌≤◌, ◌==◌, Bool, true, false, Option, Some, None, List, [], ◌∷◌, ◌++◌, length, refl, ap, sym, ◌∙◌, arith, length-append, nat_lt, append_assoc}
+use Rattle.std.proofs.Common.{◌≡◌, ℕ, ◌==◌, Bool, true, false, List, [], ◌∷◌, ◌++◌, length, refl, ap, sym, ◌∙◌, nat_lt}
 use Rattle.std.specs.Prelude.{if◌then◌else◌}
-use Rattle.std.proofs.lemmas.Bool.{ltb-true, ltb-false, lt-ltb, le-ltb}
 use Rattle.scope_rules.specs.declared.types.capacity.Limits.{Limits}
 use Rattle.scope_rules.specs.Origin.{the_start}
 use Rattle.scope_rules.specs.Replies.{Realm, starting}
-use Rattle.script_lines.specs.declared.commands.Line.TheVariants.{BadWord}
 use Rattle.script_lines.specs.declared.lines.TheConstants.{LINE_LIMIT}
 use Rattle.script_lines.specs.Lines.{line_said}
 use Rattle.scope_script.specs.Cutting.{ended_lines, begun_line}
-use Rattle.scope_script.specs.KeptLines.{kept, grown, said}
+use Rattle.scope_script.specs.KeptLines.{kept}
 use Rattle.scope_script.specs.Sessions.{line_reply, realm_after_line, replies_to, realm_after_lines, cut_reply, replies_of, realm_of_script}
 use Rattle.scope_script.specs.ByBytes.{Session, after_byte, byte_reply, after_bytes, bytes_reply, end_reply, the_beginning}
-
--- a line of more bytes than it may have is a bad word
-long_said : (line : List ℕ) → nat_lt LINE_LIMIT (length line) ≡ true → line_said line ≡ BadWord
-unfolding line_said
-long_said line long = rw long refl
-
-said_if : (line : List ℕ) (b : Bool) → nat_lt LINE_LIMIT (length line) ≡ b → said (if b then None else Some line) ≡ line_said line
-said_if line true long = sym (long_said line long)
-said_if line false short = refl
-
--- what is kept of a line says what the line does
-said_kept : (line : List ℕ) → said (kept line) ≡ line_said line
-unfolding kept
-said_kept line = said_if line (nat_lt LINE_LIMIT (length line)) refl
-
-one_longer : (line : List ℕ) (b : ℕ) → length (line ++ b ∷ []) ≡ length line + 1
-one_longer line b = length-append line (b ∷ [])
-
-grown_if : (line : List ℕ) (b : ℕ) (long full : Bool) → nat_lt LINE_LIMIT (length line) ≡ long → nat_lt (length line) LINE_LIMIT ≡ full → grown (if long then None else Some line) b ≡ kept (line ++ b ∷ [])
-unfolding kept grown
-grown_if line b true full long is =
-    let more : nat_lt LINE_LIMIT (length (line ++ b ∷ [])) ≡ true = lt-ltb _ _ (omega (arith, one_longer line b, ltb-true LINE_LIMIT (length line) long)) in
-    rw more refl
-grown_if line b false true short is =
-    let less : nat_lt LINE_LIMIT (length (line ++ b ∷ [])) ≡ false = le-ltb _ _ (omega (arith, one_longer line b, ltb-true (length line) LINE_LIMIT is)) in
-    rw (is, less) refl
-grown_if line b false false short is =
-    let more : nat_lt LINE_LIMIT (length (line ++ b ∷ [])) ≡ true = lt-ltb _ _ (omega (arith, one_longer line b, ltb-false (length line) LINE_LIMIT is)) in
-    rw (is, more) refl
-
--- what is kept of a line grows as the line does
-grown_kept : (line : List ℕ) (b : ℕ) → grown (kept line) b ≡ kept (line ++ b ∷ [])
-unfolding kept
-grown_kept line b = grown_if line b (nat_lt LINE_LIMIT (length line)) (nat_lt (length line) LINE_LIMIT) refl refl
+use Rattle.scope_script.proofs.Growing.{said_kept, grown_kept, none_kept}
 
 -- a session that has begun this line
 on_line : Realm → List ℕ → Session
 on_line realm line = record { realm = realm; begun = kept line }
-
-none_kept : kept [] ≡ Some []
-unfolding kept
-none_kept = refl
 
 after_if : (realm : Realm) (line : List ℕ) (b : ℕ) (ends : Bool) → (b == 10) ≡ ends → after_byte (on_line realm line) b ≡ (if ends then on_line (realm_after_line realm (line_said line)) [] else on_line realm (line ++ b ∷ []))
 unfolding after_byte on_line

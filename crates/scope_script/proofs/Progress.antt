@@ -1,15 +1,15 @@
 -- How a run comes on: what it has read, written and left behind.
-use Rattle.std.proofs.Common.{◌≡◌, ℕ, Option, List, [], ◌∷◌, ◌++◌, refl, ap, sym, ◌∙◌, subst, append_assoc, append-nil, take}
+use Rattle.std.proofs.Common.{◌≡◌, ℕ, Option, List, [], ◌++◌, ap, sym, ◌∙◌, subst, append_assoc, append-nil, take}
 use Rattle.std.specs.Io.KnownBytes.{Appends, Consumes, IsAtEnd, Keeps}
 use Rattle.std.proofs.KnownBytes.{Appends-trans, Appends-nil, Consumes-trans, Consumes-nil, Consumes-kept}
 use Rattle.scope_rules.specs.declared.types.capacity.Limits.{Limits}
 use Rattle.scope_rules.specs.Replies.{Realm}
 use Rattle.scope_script.specs.declared.session.run.Mode.{Mode}
 use Rattle.scope_script.specs.Streams.{AppendsPart}
-use Rattle.scope_script.specs.Sessions.{shown, replies_of, realm_of_script}
+use Rattle.scope_script.specs.Sessions.{shown, replies_of}
 use Rattle.scope_script.specs.ByBytes.{Session, the_beginning, after_bytes, bytes_reply, end_reply}
 use Rattle.scope_script.specs.Running.{RunsToEnd, RunsPartly}
-use Rattle.scope_script.proofs.Scripts.{shown_append, after_append, reply_append, after_none, shown_nothing, reply_none}
+use Rattle.scope_script.proofs.Scripts.{shown_append, after_append, told_more, after_none, reply_none}
 use Rattle.scope_script.proofs.Kept.{script_replies, script_leaves}
 
 -- the run is under way: it answered all that it read so far
@@ -54,7 +54,7 @@ pub goes_on : (a b c x y z : Option (List ℕ)) (mode : Mode) (L : Limits) (s t 
 goes_on a b c x y z mode L s t piece run read written is =
     let start = the_beginning L in
     let told = shown mode (bytes_reply start run.script) in
-    let more = ap (λ (u : Session). told ++ shown mode (bytes_reply u piece)) run.session ∙ (sym (shown_append mode (bytes_reply start run.script) (bytes_reply (after_bytes start run.script) piece)) ∙ ap (shown mode) (sym (reply_append start run.script piece))) in
+    let more = ap (λ (u : Session). told ++ shown mode (bytes_reply u piece)) run.session ∙ told_more mode start run.script piece in
     record {
       script = run.script ++ piece;
       read = Consumes-trans a b c run.script piece run.read read;
@@ -103,7 +103,7 @@ pub stops_within : (a b c x y z : Option (List ℕ)) (mode : Mode) (L : Limits) 
 stops_within a b c x y z mode L s piece run read written =
     let start = the_beginning L in
     let told = shown mode (bytes_reply start run.script) in
-    let more = ap (λ (u : Session). told ++ shown mode (bytes_reply u piece)) run.session ∙ (sym (shown_append mode (bytes_reply start run.script) (bytes_reply (after_bytes start run.script) piece)) ∙ ap (shown mode) (sym (reply_append start run.script piece))) in
+    let more = ap (λ (u : Session). told ++ shown mode (bytes_reply u piece)) run.session ∙ told_more mode start run.script piece in
     let some = subst (AppendsPart x z) more (part_after x y z told (shown mode (bytes_reply s piece)) run.replied written) in
     record {
       script = run.script ++ piece;

@@ -18,6 +18,11 @@ unfoldable pub grown : KeptLine → ℕ → KeptLine
 grown None b = None
 grown (Some line) b = if nat_lt (length line) LINE_LIMIT then Some (line ++ b ∷ []) else None
 
+-- a kept line with more bytes
+unfoldable pub grown_by : KeptLine → List ℕ → KeptLine
+grown_by line [] = line
+grown_by line (b ∷ bytes) = grown_by (grown line b) bytes
+
 -- what a kept line says
 abbrev pub said : KeptLine → Line
 said None = BadWord

@@ -6,9 +6,11 @@ use crate::outcomes::ShownOutcome;
 use crate::parts::{ShownCounts, ShownFault, ShownValue};
 use crate::reply::Reply;
 use crate::words::{closed_line, kind_word, stage_line, state_line};
+use arrayvec::ArrayString;
 use scope_rules::{Effective, ForkReply};
 use std::alloc::AllocError;
 use std::fmt;
+use std::fmt::Write;
 
 /// The line of the reply, without the line feed.
 impl fmt::Display for Reply {
@@ -50,11 +52,27 @@ impl fmt::Display for Reply {
     }
 }
 
+/// How many bytes a line may have, with its line feed, that is put together in place. Counts take at
+/// most 82; only the lists of tasks that a join gives may be longer.
+const SHORT_LINE: usize = 96;
+
 /// Appends the line of the reply, and its line feed. Where memory is refused, nothing is appended.
 pub fn append_line(text: &mut Vec<u8>, reply: &Reply) -> Result<(), AllocError>
     ensures ok { OnOk result (text.new.items ≡ text.old.items ++ reply_text reply.now ++ 10 ∷ []) }
     ensures err { OnErr result (text.new.items ≡ text.old.items) }
 {
-    let line = format!(in *text.allocator(); "{reply}\n")?;
-    text.extend_from_slice(line.as_bytes())
+    let mut line = ArrayString::<SHORT_LINE>::new();
+    match writeln!(line, "{reply}") {
+        Ok(()) => text.extend_from_slice(line.as_bytes()),
+        Err(_) => append_long_line(text, reply),
+    }
+}
+
+/// Appends the line of the reply, of any length, and its line feed.
+fn append_long_line(text: &mut Vec<u8>, reply: &Reply) -> Result<(), AllocError>
+    ensures ok { OnOk result (text.new.items ≡ text.old.items ++ reply_text reply.now ++ 10 ∷ []) }
+    ensures err { OnErr result (text.new.items ≡ text.old.items) }
+{
+    let long_line = format!(in *text.allocator(); "{reply}\n")?;
+    text.extend_from_slice(long_line.as_bytes())
 }

@@ -11,7 +11,7 @@ pub const NAME_LIMIT: usize = 24;
 /// It is kept inline, and the bytes after its text are 0, so that equal texts are equal names.
 #[derive(Clone, Copy, Debug, PartialEq, Eq, Hash)]
 pub struct Name {
-    len: usize,
+    len: u8,
     bytes: [u8; NAME_LIMIT],
     ghost stored: { ∥ IsTrue (is_stored len bytes) ∥₁ },
 }
@@ -32,7 +32,7 @@ impl Name {
             bytes[i] = text[i];
         }
         Some(Name {
-            len: text.len(),
+            len: text.len() as u8,
             bytes,
         })
     }
@@ -41,7 +41,7 @@ impl Name {
     pub fn as_bytes(&self) -> &[u8]
         ensures { result.now ≡ text_of self.now }
     {
-        let len = self.len.min(NAME_LIMIT);
+        let len = usize::from(self.len).min(NAME_LIMIT);
         &self.bytes[..len]
     }
 

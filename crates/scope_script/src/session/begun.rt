@@ -1,5 +1,5 @@
 ghost use Rattle.std.specs.Prelude.{◌≡◌, [], Some};
-ghost use Rattle.scope_script.specs.KeptLines.{grown, said, is_blank};
+ghost use Rattle.scope_script.specs.KeptLines.{grown_by, said, is_blank};
 
 use arrayvec::ArrayVec;
 use script_lines::{LINE_LIMIT, Line, read_line};
@@ -40,23 +40,35 @@ impl BegunLine {
         !self.overlong && self.bytes.is_empty()
     }
 
-    /// The line goes on with the byte.
-    #[tactic(auto, unfolding(crate::specs::KeptLines::grown))]
-    pub(crate) fn push(&mut self, byte: u8)
-        ensures { self.new ≡ grown self.old byte }
+    /// The line goes on with the bytes.
+    pub(crate) fn extend(&mut self, bytes: &[u8])
+        ensures { self.new ≡ grown_by self.old bytes.now }
     {
-        if self.overlong {
+        if self.overlong || bytes.is_empty() {
             return;
         }
-        if self.bytes.len() < LINE_LIMIT {
-            self.bytes.push(byte);
-        } else {
-            self.overlong = true;
+        match self.bytes.try_extend_from_slice(bytes) {
+            Ok(()) => {}
+            Err(_) => self.overlong = true,
         }
     }
 
+    /// What the line says that ends with the bytes; the next begins. A line that comes whole is read
+    /// where it stands.
+    #[tactic(auto, using(crate::proofs::Growing::said_whole))]
+    pub(crate) fn end_with(&mut self, bytes: &[u8]) -> Line
+        ensures said { result ≡ said (grown_by self.old bytes.now) }
+        ensures next { self.new ≡ Some [] }
+    {
+        if self.is_empty() {
+            return read_line(bytes);
+        }
+        self.extend(bytes);
+        self.end()
+    }
+
     /// What the line says, now that it is ended; the next begins.
-    pub(crate) fn end(&mut self) -> Line
+    fn end(&mut self) -> Line
         ensures said { result ≡ said self.old }
         ensures next { self.new ≡ Some [] }
     {

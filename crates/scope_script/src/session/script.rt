@@ -2,12 +2,13 @@ ghost use Rattle.std.specs.Prelude.{◌≡◌, ◌++◌, ◌∷◌, [], OnOk, On
 ghost use Rattle.scope_book.specs.Books.{realm_of};
 ghost use Rattle.script_replies.specs.ReplyText.{reply_text};
 ghost use Rattle.scope_script.specs.Sessions.{line_reply, realm_after_line, shown};
-ghost use Rattle.scope_script.specs.ByBytes.{after_byte, byte_reply, after_bytes, bytes_reply, end_reply, the_beginning};
+ghost use Rattle.scope_script.specs.ByBytes.{after_bytes, bytes_reply, end_reply, the_beginning};
 ghost use Rattle.scope_script.specs.Books.{session_of};
 ghost use Rattle.scope_script.specs.Streams.{AppendsPart};
 
 use crate::performing::commands::perform;
 use crate::session::begun::BegunLine;
+use crate::session::cutting::first_line;
 use crate::session::run::Mode;
 use scope_book::BookState;
 use scope_rules::{AnyEnd, Limits, Refusal};
@@ -45,28 +46,16 @@ impl Script {
         ensures ok { OnOk result (replies.new.items ≡ replies.old.items ++ shown mode (bytes_reply (session_of self.old) bytes.now)) }
         ensures err { OnErr result (AppendsPart (Some replies.old.items) (Some replies.new.items) (shown mode (bytes_reply (session_of self.old) bytes.now))) }
     {
-        for byte in bytes {
-            match self.take_byte(mode, *byte, replies) {
-                Ok(()) => {}
+        let mut rest = bytes;
+        while let Some((line, others)) = first_line(rest) {
+            let said = self.begun.end_with(line);
+            match self.answer(mode, said, replies) {
+                Ok(()) => rest = others,
                 Err(error) => return Err(error),
             }
         }
+        self.begun.extend(rest);
         Ok(())
-    }
-
-    /// The script goes on by a byte. Where memory is refused, `replies` stays as it is.
-    #[tactic(auto, unfolding(crate::specs::ByBytes::after_byte, crate::specs::ByBytes::byte_reply))]
-    fn take_byte(&mut self, mode: Mode, byte: u8, replies: &mut Vec<u8>) -> Result<(), AllocError>
-        ensures script { OnOk result (session_of self.new ≡ after_byte (session_of self.old) byte) }
-        ensures ok { OnOk result (replies.new.items ≡ replies.old.items ++ shown mode (byte_reply (session_of self.old) byte)) }
-        ensures err { OnErr result (replies.new.items ≡ replies.old.items) }
-    {
-        if byte != b'\n' {
-            self.begun.push(byte);
-            return Ok(());
-        }
-        let line = self.begun.end();
-        self.answer(mode, line, replies)
     }
 
     /// Answers a line. Where memory is refused, `replies` stays as it is.

@@ -1,36 +1,24 @@
-use Rattle.std.proofs.Common.{◌∙◌, ap, sym, slice_index, take, drop}
-use Rattle.std.proofs.lemmas.Option.{slice_get-get_or}
+use Rattle.std.proofs.Common.{refl, ◌∙◌}
 use Rattle.scope_script.specs.Books.{session_of}
-use Rattle.scope_script.specs.Sessions.{shown}
-use Rattle.scope_script.specs.ByBytes.{Session, after_byte, after_bytes, bytes_reply}
-use Rattle.scope_script.proofs.Scripts.{after_none, reply_none, after_at, answered_more, reply_whole}
+use Rattle.scope_script.proofs.Taken.{takes_none, takes_line, leaves_rest, all_replied, stops_taking}
 use Rattle.scope_script.proofs.session.script.Script.take.Goals as goal
 
-pub loop-byte-init : goal.loop-byte-init
-loop-byte-init g c = record {
-  script = after_none (session_of c.args.self.now);
-  answered = reply_none c.args.mode (session_of c.args.self.now) c.args.replies.now.items;
-}
+pub loop-line-init : goal.loop-line-init
+loop-line-init g c = takes_none c.args.mode (session_of c.args.self.now) c.args.bytes.now c.args.replies.now.items
 
-pub loop-byte-preserved : goal.loop-byte-preserved
-loop-byte-preserved g c =
-    let start = session_of c.args.self.now in
-    let bytes = c.args.bytes.now in
-    let i = c.loop-byte.byte-index in
-    let b = slice_index bytes i in
-    let at = slice_get-get_or bytes i 0 c.loop-byte-test.true in
-    record {
-      script = c.in-Ok.ensures.script ∙ (ap (λ (s : Session). after_byte s b) c.loop-byte.invariant.script ∙ sym (after_at start bytes i b at));
-      answered = answered_more c.args.mode start (session_of c.loop-byte.self) bytes i b _ c.loop-byte.replies.items _ at c.loop-byte.invariant.script c.loop-byte.invariant.answered c.in-Ok.ensures.ok;
-    }
+pub loop-line-preserved : goal.loop-line-preserved
+loop-line-preserved g c =
+    takes_line c.args.mode _ (session_of c.loop-line.self) (session_of c.answer.new.self) _ c.loop-line.rest.now c.in-Some.line.now c.in-Some.others.now _ c.loop-line.replies.items _ c.end_with-said.result
+    c.loop-line.invariant c.in-Some.ensures c.end_with-said.ensures.said c.in-Ok.ensures.realm (c.in-Ok.ensures.begun ∙ c.end_with-said.ensures.next) c.in-Ok.ensures.ok
 
 pub returns-in-Err-clause-err : goal.returns-in-Err-clause-err
 returns-in-Err-clause-err g c =
-    let start = session_of c.args.self.now in
-    let i = c.loop-byte.byte-index in
-    record {
-      part = shown c.args.mode (bytes_reply start (take i c.args.bytes.now));
-      rest = shown c.args.mode (bytes_reply (after_bytes start (take i c.args.bytes.now)) (drop i c.args.bytes.now));
-      whole = reply_whole c.args.mode start c.args.bytes.now i;
-      appended = c.in-Err.ensures.err ∙ c.loop-byte.invariant.answered;
-    }
+    stops_taking c.args.mode _ (session_of c.loop-line.self) _ c.loop-line.rest.now _ c.loop-line.replies.items _ c.loop-line.invariant c.in-Err.ensures.err
+
+pub returns-clause-script : goal.returns-clause-script
+returns-clause-script g c =
+    leaves_rest c.args.mode _ (session_of c.loop-line.self) _ _ c.loop-line.rest.now _ _ c.loop-line.invariant c.in_default.ensures refl c.extend.ensures
+
+pub returns-clause-ok : goal.returns-clause-ok
+returns-clause-ok g c =
+    all_replied c.args.mode _ (session_of c.loop-line.self) _ c.loop-line.rest.now _ _ c.loop-line.invariant c.in_default.ensures

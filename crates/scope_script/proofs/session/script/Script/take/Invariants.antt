@@ -1,12 +1,12 @@
--- The bytes before the index were taken, and answered.
-use Rattle.std.proofs.Common.{◌≡◌, ◌++◌, take}
+-- The lines before the rest were taken, and answered.
+use Rattle.std.proofs.Common.{length}
 use Rattle.scope_script.specs.Books.{session_of}
-use Rattle.scope_script.specs.Sessions.{shown}
-use Rattle.scope_script.specs.ByBytes.{after_bytes, bytes_reply}
+use Rattle.scope_script.proofs.Taken.{Taken}
 use Rattle.scope_script.proofs.session.script.Script.take.Given as goal
 
-abbrev pub invariant-loop-byte : goal.invariant-loop-byte
-invariant-loop-byte g l = record {
-  script : session_of l.self ≡ after_bytes (session_of l.fn.self) (take l.byte-index l.bytes);
-  answered : l.replies.items ≡ l.fn.replies.items ++ shown l.mode (bytes_reply (session_of l.fn.self) (take l.byte-index l.bytes));
-}
+abbrev pub decreases-loop-line : goal.decreases-loop-line
+decreases-loop-line l = length l.rest
+
+abbrev pub invariant-loop-line : goal.invariant-loop-line
+invariant-loop-line g l =
+    Taken l.mode (session_of l.fn.self) (session_of l.self) l.bytes l.rest l.fn.replies.items l.replies.items
