@@ -5,7 +5,7 @@ use Rattle.scope_script.proofs.Taken.{Taken}
 use Rattle.scope_script.proofs.session.script.Script.take.Given as goal
 
 abbrev pub decreases-loop-line : goal.decreases-loop-line
-decreases-loop-line l = length l.rest
+decreases-loop-line g l = length l.rest
 
 abbrev pub invariant-loop-line : goal.invariant-loop-line
 invariant-loop-line g l =
