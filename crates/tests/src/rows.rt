@@ -4,6 +4,7 @@ use crate::plain::reply_of;
 use scope_model::Plain;
 use scope_rules::{Limits, Refusal};
 use scope_script::{Line, Mode, Reply, Watched, append_line, read_line, run};
+use std::alloc::{AllocError, Global};
 use std::process::Abort;
 use std::test::Fail;
 
@@ -17,6 +18,16 @@ pub fn lines(rt: &impl AllocGlobal, text: &str) -> Result<String, Fail> {
     Ok(whole)
 }
 
+/// What a run of the bytes writes, which ends well.
+fn written(alloc: Global, limits: Limits, script: &[u8]) -> Result<Vec<u8>, Fail> {
+    let mut reader = Watched::new(script);
+    let mut writer = Watched::new(Vec::new(alloc));
+    match run(alloc, &mut reader, &mut writer, limits, Mode::Replies) {
+        Ok(_) => Ok(writer.into_inner()),
+        Err(_) => Err(Fail::from("the run ends well")),
+    }
+}
+
 /// Runs the bytes, and compares what was written with the bytes wanted.
 pub fn answers(
     rt: &(impl Abort + AllocGlobal),
@@ -24,34 +35,34 @@ pub fn answers(
     script: &[u8],
     wanted: &[u8],
 ) -> Result<(), Fail> {
-    let alloc = rt.alloc();
-    let mut reader = Watched::new(script);
-    let mut writer = Watched::new(Vec::new(alloc));
-    let ended = run(alloc, &mut reader, &mut writer, limits, Mode::Replies);
-    assert!(rt; ended.is_ok(), "the run ends well");
-    let written = writer.into_inner();
-    let shown = String::from_utf8_lossy(alloc, &written)?;
+    let written = written(rt.alloc(), limits, script)?;
+    let shown = String::from_utf8_lossy(rt.alloc(), &written)?;
     assert!(rt; written.as_slice() == wanted, "it wrote: {shown}");
     Ok(())
 }
 
-/// What the plain evaluator answers to the commands of the script, line by line.
-fn plain_replies(
-    rt: &(impl Abort + AllocGlobal),
-    limits: Limits,
+/// Appends what the plain evaluator answers to the commands of the script, line by line.
+fn append_replies(
+    realm: &mut Plain,
+    replies: &mut Vec<u8>,
     script: &str,
-) -> Result<Vec<u8>, Fail> {
-    let alloc = rt.alloc();
-    let mut realm = Plain::new(alloc, limits);
-    let mut replies = Vec::new(alloc);
+) -> Result<(), AllocError> {
     for line in script.split(" / ") {
         let reply = match read_line(line.as_bytes()) {
             Line::Silent => continue,
             Line::BadWord => Reply::Refused(Refusal::BadWord),
-            Line::Command(command) => reply_of(&mut realm, command),
+            Line::Command(command) => reply_of(realm, command),
         };
-        append_line(&mut replies, &reply)?;
+        append_line(replies, &reply)?;
     }
+    Ok(())
+}
+
+/// What the plain evaluator answers to the commands of the script.
+fn plain_replies(alloc: Global, limits: Limits, script: &str) -> Result<Vec<u8>, AllocError> {
+    let mut realm = Plain::new(alloc, limits);
+    let mut replies = Vec::new(alloc);
+    append_replies(&mut realm, &mut replies, script)?;
     Ok(replies)
 }
 
@@ -66,7 +77,15 @@ pub fn row(
     let whole = lines(rt, script)?;
     let wanted = lines(rt, replies)?;
     answers(rt, limits, whole.as_bytes(), wanted.as_bytes())?;
-    let plain = plain_replies(rt, limits, script)?;
+    let plain = plain_replies(rt.alloc(), limits, script)?;
     assert!(rt; plain.as_slice() == wanted.as_bytes(), "on Plain: {script}");
+    Ok(())
+}
+
+/// Runs each of the rows, in a realm that takes as much as one can.
+pub fn rows(rt: &(impl Abort + AllocGlobal), rows: &[(&str, &str)]) -> Result<(), Fail> {
+    for (script, replies) in rows {
+        row(rt, Limits::GREATEST, script, replies)?;
+    }
     Ok(())
 }
