@@ -7,6 +7,7 @@ use scope_rules::types::values::MAIN;
 use scope_rules::{
     AnyEnd, Expiry, Label, Limits, Name, Options, Outcome, Policy, Refusal, Rule, Value, Verdict,
 };
+use std::alloc::Global;
 use std::process::Abort;
 use std::test::Fail;
 
@@ -38,6 +39,14 @@ const OPTIONS: Options = Options {
     expiry: Expiry::Fail,
 };
 
+/// The example answers what its comments say.
+fn check_one_task(rt: &impl Abort, book: &mut Book, label: Label) -> Result<(), Fail> {
+    let (outcome, verdict) = one_task(book, OPTIONS, label)?;
+    assert!(rt; matches!(outcome, Outcome::Done));
+    assert_eq!(rt; verdict, Verdict::Plain);
+    Ok(())
+}
+
 #[test]
 fn the_example_of_the_readme(rt: HostRuntime) -> Result<(), Fail> {
     let label = Label {
@@ -45,14 +54,14 @@ fn the_example_of_the_readme(rt: HostRuntime) -> Result<(), Fail> {
         due: None,
     };
     let mut book: Book = BookState::new(rt.alloc(), Limits::GREATEST);
-    let (outcome, verdict) = one_task(&mut book, OPTIONS, label)?;
-    assert!(rt; matches!(outcome, Outcome::Done));
-    assert_eq!(rt; verdict, Verdict::Plain);
-    Ok(())
+    check_one_task(&rt, &mut book, label)
 }
 
+const UNTIL_TWO: Policy = Policy::Until(Rule::SuccessesAtLeast(2));
+
 /// An open by a task that does not run hands the joiner back, with the closure that it was made with.
-fn check_handed_back(rt: &impl Abort, book: &mut Book, joiner: Joiner) -> Result<(), Fail> {
+fn check_handed_back(rt: &impl Abort, alloc: Global, book: &mut Book) -> Result<(), Fail> {
+    let joiner = joiner_of(alloc, UNTIL_TWO, true)?;
     let Err((refusal, joiner)) = book.open(4, joiner, OPTIONS) else {
         return Err(Fail::from("no task 4 runs"));
     };
@@ -62,11 +71,8 @@ fn check_handed_back(rt: &impl Abort, book: &mut Book, joiner: Joiner) -> Result
     Ok(())
 }
 
-const UNTIL_TWO: Policy = Policy::Until(Rule::SuccessesAtLeast(2));
-
 #[test]
 fn a_refused_open_hands_the_joiner_back(rt: HostRuntime) -> Result<(), Fail> {
-    let joiner = joiner_of(rt.alloc(), UNTIL_TWO, true)?;
     let mut book: Book = BookState::new(rt.alloc(), Limits::GREATEST);
-    check_handed_back(&rt, &mut book, joiner)
+    check_handed_back(&rt, rt.alloc(), &mut book)
 }

@@ -3,7 +3,7 @@
 //! refused: the call that wanted it answers `Memory` and changes nothing, and is accepted when it is made
 //! again. Calls for which room was made, and questions, are never refused it.
 
-use crate::answers::told_book;
+use crate::answers::{Said, told_book};
 use crate::closures::joiner_of;
 use crate::scripts::Step;
 use join_rules::Joiner;
@@ -208,6 +208,12 @@ fn joiner(alloc: Global, policy: Policy) -> Result<Joiner, AllocError> {
     }
 }
 
+/// What the book answers to the command.
+fn told(alloc: Global, book: &mut Book, step: Step) -> Result<Result<Said, Refusal>, AllocError> {
+    let joiner = joiner(alloc, policy_in(step))?;
+    Ok(told_book(book, step, Some(joiner)))
+}
+
 /// Tells the book the command, and once more where memory was refused, which changed nothing.
 fn tell(
     rt: &impl Abort,
@@ -217,11 +223,11 @@ fn tell(
     key: &Name,
 ) -> Result<(), Fail> {
     let before = all_seen(book, key);
-    let mut said = told_book(book, step, Some(joiner(alloc, policy_in(step))?));
+    let mut said = told(alloc, book, step)?;
     if said == Err(Refusal::Memory) {
         assert!(rt; takes_memory(step), "at {}", before.moment);
         assert_eq!(rt; all_seen(book, key), before);
-        said = told_book(book, step, Some(joiner(alloc, policy_in(step))?));
+        said = told(alloc, book, step)?;
     }
     assert!(rt; said.is_ok(), "{said:?} at {}", before.moment);
     Ok(())

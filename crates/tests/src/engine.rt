@@ -20,19 +20,23 @@ fn commands(rt: &impl AllocGlobal, text: &str) -> Result<Vec<Command>, Fail> {
 }
 
 /// A list of commands goes on past one that is refused; a full load is no want of memory.
+fn check_list(rt: &impl Abort, book: &mut BookState<AnyEnd>, all: &[Command]) -> Result<(), Fail> {
+    perform_all(book, all)?;
+    assert_eq!(rt; book.moment(), 6);
+    let reply = perform(book, Command::Do(Event::Tick { now: 7 }))?;
+    assert!(rt; matches!(reply, Reply::Refused(Refusal::TooMany)));
+    Ok(())
+}
+
 #[test]
 fn commands_go_on_past_a_refusal(rt: HostRuntime) -> Result<(), Fail> {
     let limits = Limits::new(4096, 65536, 6).ok_or("limits")?;
-    let mut book: BookState<AnyEnd> = BookState::new(rt.alloc(), limits);
     let all = commands(
         &rt,
         "open 0 await / join 0 9 / tick 5 / tick 4 / fork 1 1 a / tick 6",
     )?;
-    perform_all(&mut book, &all)?;
-    assert_eq!(rt; book.moment(), 6);
-    let reply = perform(&mut book, Command::Do(Event::Tick { now: 7 }))?;
-    assert!(rt; matches!(reply, Reply::Refused(Refusal::TooMany)));
-    Ok(())
+    let mut book: BookState<AnyEnd> = BookState::new(rt.alloc(), limits);
+    check_list(&rt, &mut book, &all)
 }
 
 /// Bytes that are written at once.
@@ -46,21 +50,28 @@ fn bytes_are_written(rt: HostRuntime) -> Result<(), Fail> {
 }
 
 /// What a join gave is read of the plain evaluator, and when a scope was cancelled.
-#[test]
-fn outcomes_of_the_plain_evaluator(rt: HostRuntime) -> Result<(), Fail> {
-    let mut realm = Plain::new(rt.alloc(), Limits::GREATEST);
-    let options = Options {
-        deadline: None,
-        shield: false,
-        expiry: Expiry::Fail,
-    };
-    assert_eq!(rt; realm.open(0, Policy::AwaitAll, options), Ok(1));
-    assert_eq!(rt; realm.outcome(1).err(), Some(Refusal::NotJoined));
-    assert_eq!(rt; realm.outcome(9).err(), Some(Refusal::NoScope));
+fn check_join(rt: &impl Abort, realm: &mut Plain) {
+    assert_eq!(rt; realm.open(0, Policy::AwaitAll, OPTIONS), Ok(1));
+    let refusals = [realm.outcome(1).err(), realm.outcome(9).err()];
+    assert_eq!(rt;
+        refusals,
+        [Some(Refusal::NotJoined), Some(Refusal::NoScope)]
+    );
     assert_eq!(rt; realm.cancelled_at(1), Ok(None));
     assert!(rt; realm.cancel(1).is_ok());
     assert_eq!(rt; realm.cancelled_at(1), Ok(Some(1)));
     assert!(rt; realm.join_now(0, 1).is_ok());
     assert!(rt; matches!(realm.outcome(1), Ok(Outcome::Cancelled(1))));
-    Ok(())
+}
+
+const OPTIONS: Options = Options {
+    deadline: None,
+    shield: false,
+    expiry: Expiry::Fail,
+};
+
+#[test]
+fn outcomes_of_the_plain_evaluator(rt: HostRuntime) {
+    let mut realm = Plain::new(rt.alloc(), Limits::GREATEST);
+    check_join(&rt, &mut realm);
 }

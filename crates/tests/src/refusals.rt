@@ -1,6 +1,6 @@
 //! Each refusal in its order, the forms at their edges, and lines that are in no form.
 
-use crate::rows::{answers, lines, row};
+use crate::rows::{answers, lines, row, rows};
 use scope_rules::Limits;
 use std::test::Fail;
 
@@ -202,12 +202,12 @@ const SILENT_LINES: &[u8] = b"\n \n   \n#\n# note\n  #tick 5\n";
 
 #[test]
 fn checks_and_forms(rt: HostRuntime) -> Result<(), Fail> {
-    for (script, replies) in CHECKS {
-        row(&rt, Limits::GREATEST, script, replies)?;
-    }
-    for (script, replies) in FORMS {
-        row(&rt, Limits::GREATEST, script, replies)?;
-    }
+    rows(&rt, &CHECKS)?;
+    rows(&rt, &FORMS)
+}
+
+#[test]
+fn limits_that_are_met(rt: HostRuntime) -> Result<(), Fail> {
     for ((scopes, tasks, load), script, replies) in LIMITED {
         let limits = Limits::new(scopes, tasks, load).ok_or("limits")?;
         row(&rt, limits, script, replies)?;

@@ -3,6 +3,7 @@
 use crate::beside::Both;
 use scope_rules::Limits;
 use scope_script::{Mode, Watched, run};
+use std::alloc::Global;
 use std::process::Abort;
 use std::test::Fail;
 
@@ -16,6 +17,16 @@ pub fn lines(rt: &impl AllocGlobal, text: &str) -> Result<String, Fail> {
     Ok(whole)
 }
 
+/// What a run of the bytes writes, which ends well.
+fn written(alloc: Global, limits: Limits, script: &[u8]) -> Result<Vec<u8>, Fail> {
+    let mut reader = Watched::new(script);
+    let mut writer = Watched::new(Vec::new(alloc));
+    match run(alloc, &mut reader, &mut writer, limits, Mode::Replies) {
+        Ok(_) => Ok(writer.into_inner()),
+        Err(_) => Err(Fail::from("the run ends well")),
+    }
+}
+
 /// Runs the bytes, and compares what was written with the bytes wanted.
 pub fn answers(
     rt: &(impl Abort + AllocGlobal),
@@ -23,13 +34,8 @@ pub fn answers(
     script: &[u8],
     wanted: &[u8],
 ) -> Result<(), Fail> {
-    let alloc = rt.alloc();
-    let mut reader = Watched::new(script);
-    let mut writer = Watched::new(Vec::new(alloc));
-    let ended = run(alloc, &mut reader, &mut writer, limits, Mode::Replies);
-    assert!(rt; ended.is_ok(), "the run ends well");
-    let written = writer.into_inner();
-    let shown = String::from_utf8_lossy(alloc, &written)?;
+    let written = written(rt.alloc(), limits, script)?;
+    let shown = String::from_utf8_lossy(rt.alloc(), &written)?;
     assert!(rt; written.as_slice() == wanted, "it wrote: {shown}");
     Ok(())
 }
@@ -63,5 +69,13 @@ pub fn row(
         beside.as_slice() == wanted.as_bytes(),
         "line by line: {script}"
     );
+    Ok(())
+}
+
+/// Runs each of the rows, in a realm that takes as much as one can.
+pub fn rows(rt: &(impl Abort + AllocGlobal), rows: &[(&str, &str)]) -> Result<(), Fail> {
+    for (script, replies) in rows {
+        row(rt, Limits::GREATEST, script, replies)?;
+    }
     Ok(())
 }

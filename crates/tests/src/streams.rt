@@ -204,10 +204,11 @@ fn quiet_runs(rt: HostRuntime) -> Result<(), Fail> {
         Limits::GREATEST,
         Mode::Quiet,
     );
-    let Ok(book) = ended else {
-        return Err(Fail::from("the run ends well"));
+    let state = match ended {
+        Ok(book) => book.state(2).ok(),
+        Err(_) => None,
     };
     assert!(rt; !writer.has_failed());
-    assert!(rt; matches!(book.state(2), Ok(State::Success(_))));
+    assert!(rt; matches!(state, Some(State::Success(_))));
     Ok(())
 }

@@ -1,7 +1,6 @@
 //! Scripts and their replies. ` / ` parts the lines.
 
-use crate::rows::row;
-use scope_rules::Limits;
+use crate::rows::rows;
 use std::test::Fail;
 
 /// Joiners: values in fork order, failures in completion order, rules at completions alone.
@@ -226,22 +225,12 @@ const BINDINGS: [(&str, &str); 9] = [
 
 #[test]
 fn joiners_and_cancels(rt: HostRuntime) -> Result<(), Fail> {
-    for (script, replies) in JOINERS {
-        row(&rt, Limits::GREATEST, script, replies)?;
-    }
-    for (script, replies) in CANCELS {
-        row(&rt, Limits::GREATEST, script, replies)?;
-    }
-    Ok(())
+    rows(&rt, &JOINERS)?;
+    rows(&rt, &CANCELS)
 }
 
 #[test]
 fn closes_and_bindings(rt: HostRuntime) -> Result<(), Fail> {
-    for (script, replies) in CLOSES {
-        row(&rt, Limits::GREATEST, script, replies)?;
-    }
-    for (script, replies) in BINDINGS {
-        row(&rt, Limits::GREATEST, script, replies)?;
-    }
-    Ok(())
+    rows(&rt, &CLOSES)?;
+    rows(&rt, &BINDINGS)
 }
