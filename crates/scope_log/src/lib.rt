@@ -1,0 +1,9 @@
+//! The log of a scope: its own events in order, with the mark of its cancellation among them. From a
+//! log alone can be told how far its tasks came, what they gave, and what its join answered.
+#![tactic(auto)]
+
+mod entries;
+mod log;
+
+pub use entries::LogEntry;
+pub use log::ScopeLog;
