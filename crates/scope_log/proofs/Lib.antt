@@ -1,1 +1,2 @@
 pub mod LogSteps
+pub mod NewLogs
