@@ -1,2 +1,4 @@
 pub mod LogSteps
 pub mod NewLogs
+pub mod FirstParts
+pub mod LogMarks

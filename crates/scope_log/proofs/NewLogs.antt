@@ -77,7 +77,8 @@ none_before : (h : History) (e : Event) (s : ℕ) (o : Option Opening) → openi
 none_before h e s None none is = is
 none_before h e s (Some o) none is = absurd (unopened (followed h e) s none (record { opened = o; is = opening_stays h e s o is }))
 
-uncut : (h : History) (s : ℕ) (c : Option Cut) → opening h s ≡ None → cut h s ≡ c → cut h s ≡ None
+-- nor is it cut
+pub uncut : (h : History) (s : ℕ) (c : Option Cut) → opening h s ≡ None → cut h s ≡ c → cut h s ≡ None
 uncut h s None none is = is
 uncut h s (Some c) none is = absurd (unopened h s none (cut_opened h s c (opening h s) is refl))
 

@@ -1,0 +1,104 @@
+-- The parts of a list before and after its first element that passes a test, where lists are put
+-- together.
+use Rattle.std.proofs.Common.{◌≡◌, ℕ, suc, ◌+◌, ◌||◌, Bool, true, false, not, cond, Option, Some, None, List, [], ◌∷◌, ◌++◌, take, drop, refl, ap, sym, ◌∙◌, arith}
+use Rattle.std.specs.Option.{option_or, option_map_or, option_and_then}
+use Rattle.std.specs.List.{list_any, filter_map, cons_option, prefix_len, before_first, after_first}
+use Rattle.scope_log.specs.LocalForms.{first_of}
+
+module _ {X : Type 0} (p : X → Bool) where
+  take_by : (b : Bool) (n : ℕ) (x : X) (xs : List X) → take (cond (not b) (1 + n) 0) (x ∷ xs) ≡ cond b [] (x ∷ take n xs)
+  take_by true n x xs = refl
+  take_by false n x xs = let more : 1 + n ≡ suc n = omega arith in rw more refl
+
+  pub before_first-cons : (x : X) (xs : List X) → before_first p (x ∷ xs) ≡ cond (p x) [] (x ∷ before_first p xs)
+  before_first-cons x xs = take_by (p x) (prefix_len (λ y. not (p y)) xs) x xs
+
+  drop_by : (b : Bool) (n : ℕ) (x : X) (xs : List X) → drop (cond (not b) (1 + n) 0 + 1) (x ∷ xs) ≡ cond b xs (drop (n + 1) xs)
+  drop_by true n x xs = refl
+  drop_by false n x xs = let more : (1 + n) + 1 ≡ suc (n + 1) = omega arith in rw more refl
+
+  pub after_first-cons : (x : X) (xs : List X) → after_first p (x ∷ xs) ≡ cond (p x) xs (after_first p xs)
+  after_first-cons x xs = drop_by (p x) (prefix_len (λ y. not (p y)) xs) x xs
+
+  before_by : (b c : Bool) (x : X) (xs ys zs : List X) → cond b [] (x ∷ cond c xs (ys ++ zs)) ≡ cond (b || c) (cond b [] (x ∷ xs)) ((x ∷ ys) ++ zs)
+  before_by true c x xs ys zs = refl
+  before_by false true x xs ys zs = refl
+  before_by false false x xs ys zs = refl
+
+  -- what stands before the first is in the first list, where that has one
+  pub before_first-append : (xs ys : List X) → before_first p (xs ++ ys) ≡ cond (list_any p xs) (before_first p xs) (xs ++ before_first p ys)
+  before_first-append [] ys = refl
+  before_first-append (x ∷ xs) ys =
+      before_first-cons x (xs ++ ys)
+      ∙ (ap (λ zs. cond (p x) [] (x ∷ zs)) (before_first-append xs ys)
+      ∙ (before_by (p x) (list_any p xs) x (before_first p xs) xs (before_first p ys)
+      ∙ ap (λ zs. cond (p x || list_any p xs) zs ((x ∷ xs) ++ before_first p ys)) (sym (before_first-cons x xs))))
+
+  after_by : (b c : Bool) (xs ys zs ws : List X) → cond b (xs ++ ys) (cond c (zs ++ ys) ws) ≡ cond (b || c) (cond b xs zs ++ ys) ws
+  after_by true c xs ys zs ws = refl
+  after_by false true xs ys zs ws = refl
+  after_by false false xs ys zs ws = refl
+
+  -- what stands after the first goes on with the second list, or stands in it
+  pub after_first-append : (xs ys : List X) → after_first p (xs ++ ys) ≡ cond (list_any p xs) (after_first p xs ++ ys) (after_first p ys)
+  after_first-append [] ys = refl
+  after_first-append (x ∷ xs) ys =
+      after_first-cons x (xs ++ ys)
+      ∙ (ap (λ zs. cond (p x) (xs ++ ys) zs) (after_first-append xs ys)
+      ∙ (after_by (p x) (list_any p xs) xs ys (after_first p xs) (after_first p ys)
+      ∙ ap (λ zs. cond (p x || list_any p xs) (zs ++ ys) (after_first p ys)) (sym (after_first-cons x xs))))
+
+  -- where none passes, all stand before the first
+  pub before_first_none : (xs : List X) → list_any p xs ≡ false → before_first p xs ≡ xs
+  before_first_none [] none = refl
+  before_first_none (x ∷ xs) none = before_first-cons x xs ∙ by (p x) none (before_first_none xs)
+    where
+      by : (b : Bool) → (b || list_any p xs) ≡ false → (list_any p xs ≡ false → before_first p xs ≡ xs) → cond b [] (x ∷ before_first p xs) ≡ x ∷ xs
+      by true rest so = absurd cc
+      by false rest so = ap (λ zs. x ∷ zs) (so rest)
+
+  -- and none after it
+  pub after_first_none : (xs : List X) → list_any p xs ≡ false → after_first p xs ≡ []
+  after_first_none [] none = refl
+  after_first_none (x ∷ xs) none = after_first-cons x xs ∙ by (p x) none (after_first_none xs)
+    where
+      by : (b : Bool) → (b || list_any p xs) ≡ false → (list_any p xs ≡ false → after_first p xs ≡ []) → cond b xs (after_first p xs) ≡ []
+      by true rest so = absurd cc
+      by false rest so = so rest
+
+or_assoc : {A : Type 0} (o p q : Option A) → option_or o (option_or p q) ≡ option_or (option_or o p) q
+or_assoc None p q = refl
+or_assoc (Some x) p q = refl
+
+pub first_of-append : {A B : Type 0} (f : A → Option B) (xs ys : List A) → first_of f (xs ++ ys) ≡ option_or (first_of f xs) (first_of f ys)
+unfolding first_of
+first_of-append f [] ys = refl
+first_of-append f (x ∷ xs) ys = ap (option_or (f x)) (first_of-append f xs ys) ∙ or_assoc (f x) (first_of f xs) (first_of f ys)
+
+or_false : (b : Bool) → b ≡ (b || false)
+or_false true = refl
+or_false false = refl
+
+-- whether one of at most two elements passes
+pub any_of_two : {A : Type 0} (p : A → Bool) (x y : Option A) → list_any p (cons_option x (cons_option y [])) ≡ (option_map_or p x false || option_map_or p y false)
+any_of_two p None None = refl
+any_of_two p None (Some y) = sym (or_false (p y))
+any_of_two p (Some x) None = refl
+any_of_two p (Some x) (Some y) = ap (λ b. p x || b) (sym (or_false (p y)))
+
+-- what is picked of one element at most
+pub pick_one : {A B : Type 0} (f : A → Option B) (x : Option A) → filter_map f (cons_option x []) ≡ cons_option (option_and_then f x) []
+pick_one f None = refl
+pick_one f (Some x) = refl
+
+or_none : {A : Type 0} (o : Option A) → o ≡ option_or o None
+or_none None = refl
+or_none (Some x) = refl
+
+-- what the first of at most two elements gives
+pub first_of_two : {A B : Type 0} (f : A → Option B) (x y : Option A) → first_of f (cons_option x (cons_option y [])) ≡ option_or (option_and_then f x) (option_and_then f y)
+unfolding first_of
+first_of_two f None None = refl
+first_of_two f None (Some y) = sym (or_none (f y))
+first_of_two f (Some x) None = refl
+first_of_two f (Some x) (Some y) = ap (option_or (f x)) (sym (or_none (f y)))
