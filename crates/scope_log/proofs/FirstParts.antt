@@ -91,6 +91,11 @@ pub pick_one : {A B : Type 0} (f : A → Option B) (x : Option A) → filter_map
 pick_one f None = refl
 pick_one f (Some x) = refl
 
+-- what is picked of at most two elements
+pub pick_two : {A B : Type 0} (f : A → Option B) (x y : Option A) → filter_map f (cons_option x (cons_option y [])) ≡ cons_option (option_and_then f x) (cons_option (option_and_then f y) [])
+pick_two f None y = pick_one f y
+pick_two f (Some x) y = ap (cons_option (f x)) (pick_one f y)
+
 or_none : {A : Type 0} (o : Option A) → o ≡ option_or o None
 or_none None = refl
 or_none (Some x) = refl

@@ -2,3 +2,4 @@ pub mod LogSteps
 pub mod NewLogs
 pub mod FirstParts
 pub mod LogMarks
+pub mod LogTasks

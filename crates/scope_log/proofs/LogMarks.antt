@@ -21,7 +21,7 @@ use Rattle.scope_log.specs.declared.entries.LogEntry.{LogEntry}
 use Rattle.scope_log.specs.declared.entries.LogEntry.TheVariants as entry
 use Rattle.scope_log.specs.Log.{is_of, said, entry_of, mark_of, entries, mark_next, entries_next}
 use Rattle.scope_log.specs.LocalForms.{is_mark, cause_said, first_of, cause_in, before_mark, after_mark}
-use Rattle.scope_log.proofs.FirstParts.{before_first-cons, after_first-cons, before_first-append, after_first-append, before_first_none, after_first_none, first_of-append, first_of_two, any_of_two}
+use Rattle.scope_log.proofs.FirstParts.{before_first-cons, after_first-cons, before_first-append, after_first-append, before_first_none, after_first_none, first_of-append, first_of_two, any_of_two, pick_two}
 use Rattle.scope_log.proofs.LogSteps.{entries_grow}
 use Rattle.scope_log.proofs.NewLogs.{uncut}
 
@@ -203,3 +203,35 @@ parted L h e s legal = by (is_cancelled h s) refl
               ∙ (ap (λ xs. xs ++ []) (sym (after_first_none is_mark (entries h s) any))
               ∙ ap (λ b. after_mark (entries h s) ++ cond b (cons_option (entry_of h s e) []) []) (sym is)))))));
         }
+
+-- ---- what is asked of the entries but the mark
+
+unshown : (p : LogEntry → Bool) → ((c : Cause) → p (entry.Cancelled c) ≡ false) → (b : Bool) (c : Option Cause) → option_map_or p (cond b None (mark_of c)) false ≡ false
+unshown p none true c = refl
+unshown p none false None = refl
+unshown p none false (Some c) = none c
+
+or_false : (b : Bool) → (b || false) ≡ b
+or_false true = refl
+or_false false = refl
+
+-- whether an entry passes goes on with the event's
+pub any_grows : (p : LogEntry → Bool) → ((c : Cause) → p (entry.Cancelled c) ≡ false) → (L : Limits) (h : History) (e : Event) (s : ℕ) → Legal L h
+    → list_any p (entries (followed h e) s) ≡ (list_any p (entries h s) || tells p h s e)
+any_grows p none L h e s legal =
+    ap (list_any p) (entries_grow L h e s legal)
+    ∙ (list_any-append p (entries h s) (entries_next h e s)
+    ∙ ap (λ b. list_any p (entries h s) || b) (any_of_two p (entry_of h s e) (mark_next h e s) ∙ (ap (λ b. tells p h s e || b) (unshown p none (is_cancelled h s) (cause (followed h e) s)) ∙ or_false (tells p h s e))))
+
+unpicked : {B : Type 0} (f : LogEntry → Option B) → ((c : Cause) → f (entry.Cancelled c) ≡ None) → (b : Bool) (c : Option Cause) → option_and_then f (cond b None (mark_of c)) ≡ None
+unpicked f none true c = refl
+unpicked f none false None = refl
+unpicked f none false (Some c) = none c
+
+-- what is picked of the entries goes on with what the event's gives
+pub picks_grow : {B : Type 0} (f : LogEntry → Option B) → ((c : Cause) → f (entry.Cancelled c) ≡ None) → (L : Limits) (h : History) (e : Event) (s : ℕ) → Legal L h
+    → filter_map f (entries (followed h e) s) ≡ filter_map f (entries h s) ++ cons_option (option_and_then f (entry_of h s e)) []
+picks_grow f none L h e s legal =
+    ap (filter_map f) (entries_grow L h e s legal)
+    ∙ (filter_map-append f (entries h s) (entries_next h e s)
+    ∙ ap (λ xs. filter_map f (entries h s) ++ xs) (pick_two f (entry_of h s e) (mark_next h e s) ∙ ap (λ o. cons_option (option_and_then f (entry_of h s e)) (cons_option o [])) (unpicked f none (is_cancelled h s) (cause (followed h e) s))))
