@@ -3,3 +3,4 @@ pub mod NewLogs
 pub mod FirstParts
 pub mod LogMarks
 pub mod LogTasks
+pub mod LogStates

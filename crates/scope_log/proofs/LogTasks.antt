@@ -62,7 +62,8 @@ or_false : (b : Bool) → b ≡ (b || false)
 or_false true = refl
 or_false false = refl
 
-task_grows : (h : History) (e : Event) (s k : ℕ) → is_task_of (followed h e) s k ≡ (is_task_of h s k || forks_next h s k e)
+-- whether a task is one of a scope goes on so
+pub task_grows : (h : History) (e : Event) (s k : ℕ) → is_task_of (followed h e) s k ≡ (is_task_of h s k || forks_next h s k e)
 unfolding is_task_of
 task_grows h e s k = by (forking h k) refl
   where
