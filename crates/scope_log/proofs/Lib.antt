@@ -4,3 +4,4 @@ pub mod FirstParts
 pub mod LogMarks
 pub mod LogTasks
 pub mod LogStates
+pub mod LogFirsts

@@ -83,7 +83,7 @@ found_part test true o = refl
 found_part test false o = refl
 
 -- what is found of it first
-find_grows : (test : Completion → Bool) (L : Limits) (h : History) (e : Event) (s : ℕ) → Legal L h
+pub find_grows : (test : Completion → Bool) (L : Limits) (h : History) (e : Event) (s : ℕ) → Legal L h
     → find test (readable_in (entries (followed h e) s)) ≡ option_or (find test (readable_in (entries h s))) (cond (is_cancelled h s) None (find test (cons_option (completion_of (followed h e) s e) [])))
 find_grows test L h e s legal =
     ap (find test) (readable_grows L h e s legal)
@@ -134,7 +134,8 @@ other_end h s k (Finish task end) other = by (is_task_of h s task)
     by false = refl
 other_end h s k _ other = refl
 
-unended : (k i : ℕ) (e : Event) → finishes k e ≡ false → ending_of k i e ≡ None
+-- what does not end a task gives it no end
+pub unended : (k i : ℕ) (e : Event) → finishes k e ≡ false → ending_of k i e ≡ None
 unended k i (Finish task end) none = ap (λ b. cond b (Some (record { place = i; end = end })) None) none
 unended k i _ none = refl
 
