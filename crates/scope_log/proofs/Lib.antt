@@ -5,3 +5,5 @@ pub mod LogMarks
 pub mod LogTasks
 pub mod LogStates
 pub mod LogFirsts
+pub mod LogCounts
+pub mod LogOutcomes
