@@ -7,3 +7,4 @@ pub mod LogStates
 pub mod LogFirsts
 pub mod LogCounts
 pub mod LogOutcomes
+pub mod LogTells

@@ -34,7 +34,7 @@ use Rattle.scope_rules.proofs.Searching.{earliest_same}
 use Rattle.scope_log.specs.declared.entries.LogEntry.{LogEntry}
 use Rattle.scope_log.specs.declared.entries.LogEntry.TheVariants as entry
 use Rattle.scope_log.specs.Log.{LogValue, is_of, said, entry_of, entries, mark_next, entries_next}
-use Rattle.scope_log.specs.LocalForms.{is_join, answer_by, answer_at_expiry, answer_by_kind, answer_by_cause, answer_in, failure_in, success_in, cause_in}
+use Rattle.scope_log.specs.LocalForms.{is_join, before_join, outcome_in, answer_by, answer_at_expiry, answer_by_kind, answer_by_cause, answer_in, failure_in, success_in, cause_in}
 use Rattle.scope_log.proofs.FirstParts.{before_first-append}
 use Rattle.scope_log.proofs.LogCounts.{values_told, listing_told}
 use Rattle.scope_log.proofs.LogFirsts.{first_told}
@@ -155,7 +155,7 @@ expiry_told L h s Fail legal = refl
 expiry_told L h s MoveOn legal = ap outcome_is.Partial (listing_told L h s legal)
 
 -- the log of scope s, opened so
-abbrev log_of : History → ℕ → Opening → LogValue
+abbrev pub log_of : History → ℕ → Opening → LogValue
 log_of h s o = record { scope = s; policy = o.policy; expiry = o.options.expiry; entries = entries h s }
 
 kind_told : (L : Limits) (h : History) (s : ℕ) (o : Opening) (k : CauseKind) → Legal L h → answer_by_kind (log_of h s o) k ≡ outcome_by_kind h s o k
@@ -172,3 +172,16 @@ next_told L h s o legal = rw (cause_told L h s legal) (by (cause h s))
     by : (c : Option Cause) → option_map_or (answer_by_cause (log_of h s o)) c (answer_by (entries h s) o.policy) ≡ option_map_or (λ (x : Cause). cond (x.scope == s) (outcome_by_kind h s o x.kind) (outcome_is.Cancelled x.scope)) c (outcome_by h s o.policy)
     by None = answer_told L h s o.policy legal
     by (Some c) = ap (λ x. cond (c.scope == s) x (outcome_is.Cancelled c.scope)) (kind_told L h s o c.kind legal)
+
+-- the log tells what the join answered
+pub outcome_told : (L : Limits) (h : History) (s : ℕ) (o : Opening) → Legal L h → opening h s ≡ Some o → outcome_in (log_of h s o) ≡ outcome h s
+unfolding outcome_in outcome
+outcome_told L h s o legal is = by (joining h s) refl ∙ sym (ap (λ (x : Option Opening). option_and_then (λ i. option_map (outcome_of (before h i) s) x) (joining h s)) is)
+  where
+    by : (j : Option ℕ) → joining h s ≡ j → cond (list_any is_join (entries h s)) (Some (answer_in (before_join (log_of h s o)))) None ≡ option_and_then (λ i. Some (outcome_of (before h i) s o)) (joining h s)
+    by None was = rw was (ap (λ b. cond b (Some (answer_in (before_join (log_of h s o)))) None) ((join_told L h s legal).none was))
+    by (Some i) was =
+        let told = (join_told L h s legal).some i was in
+        rw was
+        (ap (λ b. cond b (Some (answer_in (before_join (log_of h s o)))) None) told.0
+        ∙ (ap (λ es. Some (answer_in (record (log_of h s o) { entries = es }))) told.1 ∙ ap Some (next_told L (before h i) s o (legal_before L h i legal))))
