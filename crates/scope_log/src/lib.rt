@@ -3,6 +3,7 @@
 #![tactic(auto)]
 
 mod entries;
+pub mod laws;
 mod log;
 
 pub use entries::LogEntry;
