@@ -1,9 +1,10 @@
 -- The parts of a list before and after its first element that passes a test, where lists are put
 -- together.
-use Rattle.std.proofs.Common.{◌≡◌, ℕ, suc, ◌+◌, ◌||◌, Bool, true, false, not, cond, Option, Some, None, List, [], ◌∷◌, ◌++◌, take, drop, refl, ap, sym, ◌∙◌, arith}
+use Rattle.std.proofs.Common.{◌≡◌, ℕ, suc, ◌+◌, ◌||◌, Bool, true, false, not, cond, Option, Some, None, List, [], ◌∷◌, ◌++◌, take, drop, length, nat_lt, refl, ap, sym, ◌∙◌, arith}
+use Rattle.std.proofs.lemmas.Bool.{ltb-false}
+use Rattle.std.proofs.lemmas.List.Sums.{prefix_len-le-length}
 use Rattle.std.specs.Option.{option_or, option_map_or, option_and_then}
-use Rattle.std.specs.List.{list_any, filter_map, cons_option, prefix_len, before_first, after_first}
-use Rattle.scope_log.specs.LocalForms.{first_of}
+use Rattle.std.specs.List.{list_any, filter_map, cons_option, prefix_len, position, position_or_len, before_first, after_first}
 
 module _ {X : Type 0} (p : X → Bool) where
   take_by : (b : Bool) (n : ℕ) (x : X) (xs : List X) → take (cond (not b) (1 + n) 0) (x ∷ xs) ≡ cond b [] (x ∷ take n xs)
@@ -66,6 +67,11 @@ module _ {X : Type 0} (p : X → Bool) where
       by true rest so = absurd cc
       by false rest so = so rest
 
+-- what the first element gives, of those that give something
+unfoldable pub first_of : {A B : Type 0} → (A → Option B) → List A → Option B
+first_of f [] = None
+first_of f (x ∷ xs) = option_or (f x) (first_of f xs)
+
 or_assoc : {A : Type 0} (o p q : Option A) → option_or o (option_or p q) ≡ option_or (option_or o p) q
 or_assoc None p q = refl
 or_assoc (Some x) p q = refl
@@ -107,3 +113,11 @@ first_of_two f None None = refl
 first_of_two f None (Some y) = sym (or_none (f y))
 first_of_two f (Some x) None = refl
 first_of_two f (Some x) (Some y) = ap (option_or (f x)) (sym (or_none (f y)))
+
+-- where none passes, the first would stand behind the last
+pub none_at : {A : Type 0} (p : A → Bool) (xs : List A) → position p xs ≡ None → length xs ≡ position_or_len p xs
+none_at p xs none = by (nat_lt (position_or_len p xs) (length xs)) refl none
+  where
+    by : (b : Bool) → nat_lt (position_or_len p xs) (length xs) ≡ b → cond b (Some (position_or_len p xs)) None ≡ None → length xs ≡ position_or_len p xs
+    by true is so = absurd cc
+    by false is so = omega (arith, ltb-false _ _ is, prefix_len-le-length (λ x. not (p x)) xs)

@@ -25,8 +25,8 @@ use Rattle.scope_rules.proofs.PassedRows.{finisher_passed, finish_passed}
 use Rattle.scope_rules.proofs.Prefixes.{take_at}
 use Rattle.scope_rules.proofs.StateSteps.{state_stays, state_ended}
 use Rattle.scope_log.specs.Log.{entries}
-use Rattle.scope_log.specs.LocalForms.{first_of, before_mark, completions_in, readable_in}
-use Rattle.scope_log.proofs.FirstParts.{first_of-append}
+use Rattle.scope_log.specs.LocalForms.{before_mark, completions_in, readable_in}
+use Rattle.scope_log.proofs.FirstParts.{first_of, first_of-append}
 use Rattle.scope_log.proofs.LogStates.{find_grows, unended}
 use Rattle.scope_log.proofs.LogTasks.{task_grows}
 use Rattle.scope_log.proofs.NewLogs.{IsTask, task_there}

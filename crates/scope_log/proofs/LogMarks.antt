@@ -20,8 +20,8 @@ use Rattle.scope_rules.proofs.Staying.{cut_stays}
 use Rattle.scope_log.specs.declared.entries.LogEntry.{LogEntry}
 use Rattle.scope_log.specs.declared.entries.LogEntry.TheVariants as entry
 use Rattle.scope_log.specs.Log.{is_of, said, entry_of, mark_of, entries, mark_next, entries_next}
-use Rattle.scope_log.specs.LocalForms.{is_mark, cause_said, first_of, cause_in, before_mark, after_mark}
-use Rattle.scope_log.proofs.FirstParts.{before_first-cons, after_first-cons, before_first-append, after_first-append, before_first_none, after_first_none, first_of-append, first_of_two, any_of_two, pick_two}
+use Rattle.scope_log.specs.LocalForms.{is_mark, cause_said, cause_in, before_mark, after_mark}
+use Rattle.scope_log.proofs.FirstParts.{first_of, before_first-cons, after_first-cons, before_first-append, after_first-append, before_first_none, after_first_none, first_of-append, first_of_two, any_of_two, pick_two}
 use Rattle.scope_log.proofs.LogSteps.{entries_grow}
 use Rattle.scope_log.proofs.NewLogs.{uncut}
 
@@ -119,8 +119,14 @@ cause_grows L h e s legal = by (cut h s) refl
     by None was = rw was (shown (cut (followed h e) s))
     by (Some c) was = rw was (rw (cut_stays L h e s c legal was) refl)
 
-cause_step : (L : Limits) (h : History) (e : Event) (s : ℕ) → Legal L h → cause_in (entries h s) ≡ cause h s → cause_in (entries (followed h e) s) ≡ cause (followed h e) s
-unfolding cause_in
+-- the cause is what the first entry says that says one
+cause_is : (es : List LogEntry) → cause_in es ≡ first_of cause_said es
+unfolding cause_in first_of
+cause_is [] = refl
+cause_is (entry.Cancelled c ∷ es) = refl
+cause_is (e ∷ es) = cause_is es
+
+cause_step : (L : Limits) (h : History) (e : Event) (s : ℕ) → Legal L h → first_of cause_said (entries h s) ≡ cause h s → first_of cause_said (entries (followed h e) s) ≡ cause (followed h e) s
 cause_step L h e s legal so =
     ap (first_of cause_said) (entries_grow L h e s legal)
     ∙ (first_of-append cause_said (entries h s) (entries_next h e s)
@@ -128,13 +134,13 @@ cause_step L h e s legal so =
     ∙ (ap (option_or (cause h s)) (first_of_two cause_said (entry_of h s e) (mark_next h e s) ∙ ap (λ o. option_or o (option_and_then cause_said (mark_next h e s))) (causeless h s e))
     ∙ sym (cause_grows L h e s legal))))
 
-cause_start : (s : ℕ) (b : Origin) → cause_in (entries (record { base = b; events = [] }) s) ≡ cause (record { base = b; events = [] }) s
-unfolding entries cause_in first_of cause opening earliest
+cause_start : (s : ℕ) (b : Origin) → first_of cause_said (entries (record { base = b; events = [] }) s) ≡ cause (record { base = b; events = [] }) s
+unfolding entries first_of cause opening earliest
 cause_start s b = let g : History = record { base = b; events = [] } in sym (ap (option_map (λ (x : Cut). x.cause)) (uncut g s (cut g s) refl refl))
 
 -- the mark says the cause
 pub cause_told : (L : Limits) (h : History) (s : ℕ) → Legal L h → cause_in (entries h s) ≡ cause h s
-cause_told L h s legal = along L (λ g. cause_in (entries g s) ≡ cause g s) (cause_start s) (λ g e lawful ok so. cause_step L g e s lawful so) h legal
+cause_told L h s legal = cause_is (entries h s) ∙ along L (λ g. first_of cause_said (entries g s) ≡ cause g s) (cause_start s) (λ g e lawful ok so. cause_step L g e s lawful so) h legal
 
 -- ---- before and after the mark
 

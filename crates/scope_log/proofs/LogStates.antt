@@ -35,8 +35,8 @@ use Rattle.scope_rules.proofs.StateSteps.{no_ending, state_is, state_stays, stat
 use Rattle.scope_log.specs.declared.entries.LogEntry.{LogEntry}
 use Rattle.scope_log.specs.declared.entries.LogEntry.TheVariants as entry
 use Rattle.scope_log.specs.Log.{is_of, said, entry_of, entries}
-use Rattle.scope_log.specs.LocalForms.{first_of, before_mark, is_mark, finishes_task, completion_said, completions_in, readable_in, is_end_of, state_in}
-use Rattle.scope_log.proofs.FirstParts.{before_first-cons, first_of-append, pick_one}
+use Rattle.scope_log.specs.LocalForms.{before_mark, is_mark, finishes_task, completion_said, completions_in, readable_in, is_end_of, state_in}
+use Rattle.scope_log.proofs.FirstParts.{before_first-cons, pick_one}
 use Rattle.scope_log.proofs.LogMarks.{gives_by, cond_none, parted, picks_grow}
 use Rattle.scope_log.proofs.LogTasks.{task_grows, finished_told}
 use Rattle.scope_log.proofs.NewLogs.{IsTask, task_there}

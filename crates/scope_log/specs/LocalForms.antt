@@ -1,7 +1,7 @@
 -- What can be told from the entries of a log alone: each answer of a scope, by its own events and the
 -- mark of its cancellation.
 use Rattle.std.specs.Prelude.{ℕ, ◌==◌, ◌&&◌, ◌||◌, Bool, true, false, not, Option, Some, None, option_map, List, [], ◌∷◌, map, count_by, if◌then◌else◌}
-use Rattle.std.specs.Option.{option_or, option_map_or}
+use Rattle.std.specs.Option.{option_and_then, option_map_or}
 use Rattle.std.specs.List.{list_any, filter_map, find, before_first, after_first}
 use Rattle.scope_rules.specs.declared.types.answers.Cause.{Cause}
 use Rattle.scope_rules.specs.declared.types.answers.CauseKind.{CauseKind}
@@ -37,14 +37,9 @@ abbrev pub cause_said : LogEntry → Option Cause
 cause_said (entry.Cancelled cause) = Some cause
 cause_said _ = None
 
--- what the first element gives, of those that give something
-unfoldable pub first_of : {A B : Type 0} → (A → Option B) → List A → Option B
-first_of f [] = None
-first_of f (x ∷ xs) = option_or (f x) (first_of f xs)
-
--- the scope is cancelled by the cause that its mark says, and it isn't where there is none
+-- the scope is cancelled by the cause that its mark says; where there is none, it isn't
 unfoldable pub cause_in : List LogEntry → Option Cause
-cause_in es = first_of cause_said es
+cause_in es = option_and_then cause_said (find is_mark es)
 
 -- the entries before the mark: all, where there is none
 unfoldable pub before_mark : List LogEntry → List LogEntry
