@@ -1,5 +1,5 @@
 -- The tasks in the entries of a scope, in order, and what is counted and listed of them.
-use Rattle.std.proofs.Common.{◌≡◌, ◌≢◌, ℕ, zero, suc, ◌+◌, ◌<◌, ◌==◌, ◌&&◌, ◌||◌, Bool, true, false, not, cond, Option, Some, None, List, [], ◌∷◌, ◌++◌, map, count_by, refl, ap, sym, ◌∙◌, arith, zero-add}
+use Rattle.std.proofs.Common.{◌≡◌, ℕ, zero, suc, ◌+◌, ◌<◌, ◌==◌, ◌&&◌, ◌||◌, Bool, true, false, not, cond, Option, Some, None, List, [], ◌∷◌, ◌++◌, map, count_by, refl, ap, sym, ◌∙◌, arith, zero-add}
 use Rattle.std.proofs.lemmas.Bool.{ne_eqb}
 use Rattle.std.proofs.lemmas.List.{append-nil}
 use Rattle.std.proofs.lemmas.List.Elements.{filter-append}
@@ -12,11 +12,10 @@ use Rattle.scope_rules.specs.declared.types.answers.Counts.{Counts}
 use Rattle.scope_rules.specs.declared.types.events.Event.{Event}
 use Rattle.scope_rules.specs.declared.types.events.Event.TheVariants.{Fork}
 use Rattle.scope_rules.specs.declared.types.records.Forking.{Forking}
-use Rattle.scope_rules.specs.History.{History, followed, tasks, forked_count, task_numbers, is_fork, forking}
-use Rattle.scope_rules.specs.Search.{earliest}
+use Rattle.scope_rules.specs.History.{History, followed, tasks, forked_count, task_numbers, is_fork}
 use Rattle.scope_rules.specs.Cancels.{is_cancelled}
 use Rattle.scope_rules.specs.Completions.{is_task_of}
-use Rattle.scope_rules.specs.Tasks.{stage, state, is_stage, is_settled, is_at, is_unsettled, counts, settled, ready}
+use Rattle.scope_rules.specs.Tasks.{stage, state, is_stage, is_settled, is_at, counts, settled, ready}
 use Rattle.scope_rules.specs.Outcomes.{value_in, values, listing}
 use Rattle.scope_rules.specs.Legal.{Legal}
 use Rattle.scope_rules.proofs.Completions.{count_by-cons}
@@ -25,7 +24,7 @@ use Rattle.scope_rules.proofs.OneEventMore.{along}
 use Rattle.scope_rules.proofs.Owing.{count_push}
 use Rattle.scope_rules.proofs.StageSteps.{next_forking}
 use Rattle.scope_log.specs.Log.{is_of, said, entry_of, entries}
-use Rattle.scope_log.specs.LocalForms.{is_mark, task_forked, tasks_in, is_at_in, is_unsettled_in, counts_in, settled_in, ready_in, value_said, state_said, values_in, listing_in, state_in}
+use Rattle.scope_log.specs.LocalForms.{task_forked, tasks_in, is_at_in, is_unsettled_in, counts_in, settled_in, ready_in, value_said, state_said, values_in, listing_in}
 use Rattle.scope_log.proofs.LogMarks.{gives_by, cond_none, and_false, marked, picks_grow}
 use Rattle.scope_log.proofs.LogStates.{state_told}
 use Rattle.scope_log.proofs.LogTasks.{forks_next, task_grows, stage_told}

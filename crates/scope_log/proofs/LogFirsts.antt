@@ -1,5 +1,5 @@
 -- The first completion that can be read of a scope is the first before its mark.
-use Rattle.std.proofs.Common.{◌≡◌, ℕ, zero, suc, ◌+◌, ◌<◌, ◌≤◌, ◌&&◌, ◌||◌, Bool, true, false, cond, Option, Some, None, Ok, Err, List, [], ◌∷◌, ◌++◌, length, take, slice_get, refl, ap, sym, subst, ◌∙◌, arith, add-one}
+use Rattle.std.proofs.Common.{◌≡◌, ℕ, zero, suc, ◌≤◌, ◌&&◌, ◌||◌, Bool, true, false, cond, Option, Some, None, Ok, Err, List, [], ◌∷◌, length, take, slice_get, refl, ap, sym, subst, ◌∙◌, arith, add-one}
 use Rattle.std.proofs.lemmas.Bool.{eq-eqb, both_ways, false_from_ne_true, or_left, or_right, and_right}
 use Rattle.std.proofs.lemmas.List.{take_all}
 use Rattle.std.proofs.lemmas.List.Folds.{find-append}
@@ -29,7 +29,7 @@ use Rattle.scope_log.specs.LocalForms.{before_mark, completions_in, readable_in}
 use Rattle.scope_log.proofs.FirstParts.{first_of, first_of-append}
 use Rattle.scope_log.proofs.LogStates.{find_grows, unended}
 use Rattle.scope_log.proofs.LogTasks.{task_grows}
-use Rattle.scope_log.proofs.NewLogs.{IsTask, task_there}
+use Rattle.scope_log.proofs.NewLogs.{task_there}
 
 -- ---- the same search, over the completions
 

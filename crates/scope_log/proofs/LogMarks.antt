@@ -14,7 +14,7 @@ use Rattle.scope_rules.specs.Origin.{Origin}
 use Rattle.scope_rules.specs.Search.{earliest}
 use Rattle.scope_rules.specs.History.{History, followed, opening}
 use Rattle.scope_rules.specs.Cancels.{cut, cause, is_cancelled}
-use Rattle.scope_rules.specs.Legal.{Accepts, Legal}
+use Rattle.scope_rules.specs.Legal.{Legal}
 use Rattle.scope_rules.proofs.OneEventMore.{along}
 use Rattle.scope_rules.proofs.Staying.{cut_stays}
 use Rattle.scope_log.specs.declared.entries.LogEntry.{LogEntry}

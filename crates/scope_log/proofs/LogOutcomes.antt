@@ -1,5 +1,5 @@
 -- What a join answered, by the entries before it.
-use Rattle.std.proofs.Common.{◌≡◌, ℕ, suc, ◌<◌, ◌==◌, ◌&&◌, ◌||◌, Bool, true, false, cond, Option, Some, None, option_map, List, [], ◌∷◌, ◌++◌, length, refl, ap, sym, ◌∙◌, arith, length-append}
+use Rattle.std.proofs.Common.{◌≡◌, ℕ, suc, ◌<◌, ◌==◌, ◌&&◌, ◌||◌, Bool, true, false, cond, Option, Some, None, option_map, [], ◌∷◌, ◌++◌, length, refl, ap, sym, ◌∙◌, arith, length-append}
 use Rattle.std.proofs.lemmas.Bool.{or_right}
 use Rattle.std.proofs.lemmas.List.{append-nil}
 use Rattle.std.specs.Option.{option_or, option_map_or, option_and_then}
@@ -14,7 +14,6 @@ use Rattle.scope_rules.specs.declared.types.events.Expiry.{Expiry}
 use Rattle.scope_rules.specs.declared.types.events.Expiry.TheVariants.{Fail, MoveOn}
 use Rattle.scope_rules.specs.declared.types.joiners.Policy.{Policy}
 use Rattle.scope_rules.specs.declared.types.joiners.Policy.TheVariants as policy
-use Rattle.scope_rules.specs.declared.types.outcomes.Outcome.{Outcome}
 use Rattle.scope_rules.specs.declared.types.outcomes.Outcome.TheVariants as outcome_is
 use Rattle.scope_rules.specs.declared.types.records.Opening.{Opening}
 use Rattle.scope_rules.specs.Origin.{Origin}
@@ -23,18 +22,17 @@ use Rattle.scope_rules.specs.Joining.{has_failed, has_succeeded}
 use Rattle.scope_rules.specs.History.{History, before, followed, opening}
 use Rattle.scope_rules.specs.Scopes.{joins}
 use Rattle.scope_rules.specs.Cancels.{cause}
-use Rattle.scope_rules.specs.Outcomes.{outcome_or, first_failure, first_success, outcome_by, expired_outcome, outcome_by_kind, outcome_of, joining_at, joining, outcome}
-use Rattle.scope_rules.specs.Legal.{Accepts, Legal}
+use Rattle.scope_rules.specs.Outcomes.{first_failure, first_success, outcome_by, expired_outcome, outcome_by_kind, outcome_of, joining_at, joining, outcome}
+use Rattle.scope_rules.specs.Legal.{Legal}
 use Rattle.scope_rules.proofs.Answered.{joining_inside, joining_stays}
 use Rattle.scope_rules.proofs.Nesting.{legal_before}
 use Rattle.scope_rules.proofs.OneEventMore.{along, last_event}
 use Rattle.scope_rules.proofs.Prefixes.{get_push}
 use Rattle.scope_rules.proofs.Pushing.{before_push, before_last}
 use Rattle.scope_rules.proofs.Searching.{earliest_same}
-use Rattle.scope_log.specs.declared.entries.LogEntry.{LogEntry}
 use Rattle.scope_log.specs.declared.entries.LogEntry.TheVariants as entry
-use Rattle.scope_log.specs.Log.{LogValue, is_of, said, entry_of, entries, mark_next, entries_next}
-use Rattle.scope_log.specs.LocalForms.{is_join, before_join, outcome_in, answer_by, answer_at_expiry, answer_by_kind, answer_by_cause, answer_in, failure_in, success_in, cause_in}
+use Rattle.scope_log.specs.Log.{LogValue, is_of, said, entries, mark_next, entries_next}
+use Rattle.scope_log.specs.LocalForms.{is_join, before_join, outcome_in, answer_by, answer_at_expiry, answer_by_kind, answer_by_cause, answer_in}
 use Rattle.scope_log.proofs.FirstParts.{before_first-append}
 use Rattle.scope_log.proofs.LogCounts.{values_told, listing_told}
 use Rattle.scope_log.proofs.LogFirsts.{first_told}
@@ -89,13 +87,12 @@ module _ (L : Limits) (s : ℕ) (h : History) (e : Event) (legal : Legal L h) wh
       record {
         none = λ none. absurd (cc (none, joining_stays h e s j was));
         some = λ i is.
-            let same : j ≡ i = cc (joining_stays h e s j was) in
-            (
+            let same : j ≡ i = cc (joining_stays h e s j was) in (
               joins_grow ∙ ap (λ b. b || joins s e) told.0,
               before_grows
-              ∙ (ap (λ b. cond b (before_first is_join (entries h s)) (entries h s ++ before_first is_join (entries_next h e s))) told.0
-              ∙ (told.1
-              ∙ (ap (λ (g : History). entries g s) (sym (before_push h e j (omega (arith, joining_inside h s j was)))) ∙ ap (λ n. entries (before (followed h e) n) s) same))),
+                  ∙ (ap (λ b. cond b (before_first is_join (entries h s)) (entries h s ++ before_first is_join (entries_next h e s))) told.0
+                  ∙ (told.1
+                  ∙ (ap (λ (g : History). entries g s) (sym (before_push h e j (omega (arith, joining_inside h s j was)))) ∙ ap (λ n. entries (before (followed h e) n) s) same))),
             );
       }
 
@@ -105,14 +102,13 @@ module _ (L : Limits) (s : ℕ) (h : History) (e : Event) (legal : Legal L h) wh
       record {
         none = λ none. absurd (cc (none, here));
         some = λ i is.
-            let same : length h.events ≡ i = cc (here, is) in
-            (
+            let same : length h.events ≡ i = cc (here, is) in (
               joins_grow ∙ or_right (list_any is_join (entries h s)) (joins s e) now,
               before_grows
-              ∙ (ap (λ b. cond b (before_first is_join (entries h s)) (entries h s ++ before_first is_join (entries_next h e s))) (so.none was)
-              ∙ (ap (λ xs. entries h s ++ xs) (join_first h s e now)
-              ∙ (append-nil (entries h s)
-              ∙ (ap (λ (g : History). entries g s) (sym (before_last h e)) ∙ ap (λ n. entries (before (followed h e) n) s) same)))),
+                  ∙ (ap (λ b. cond b (before_first is_join (entries h s)) (entries h s ++ before_first is_join (entries_next h e s))) (so.none was)
+                  ∙ (ap (λ xs. entries h s ++ xs) (join_first h s e now)
+                  ∙ (append-nil (entries h s)
+                  ∙ (ap (λ (g : History). entries g s) (sym (before_last h e)) ∙ ap (λ n. entries (before (followed h e) n) s) same)))),
             );
       }
 

@@ -1,7 +1,6 @@
 -- The completions in the entries of a scope, and which of them can be read.
-use Rattle.std.proofs.Common.{◌≡◌, ℕ, zero, suc, ◌+◌, ◌<◌, ◌≤◌, ◌==◌, ◌&&◌, ◌||◌, Bool, true, false, not, cond, Option, Some, None, Ok, Err, List, [], ◌∷◌, ◌++◌, length, take, slice_get, refl, ap, sym, subst, ◌∙◌, arith, add-one, inl, inr}
-use Rattle.std.proofs.lemmas.Bool.{eqb-true, eq-eqb, both_ways, false_from_ne_true, or_left, or_right, or_parts, and_right, cond-true}
-use Rattle.std.proofs.lemmas.List.{take_all}
+use Rattle.std.proofs.Common.{◌≡◌, ℕ, ◌+◌, ◌==◌, ◌&&◌, ◌||◌, Bool, true, false, cond, Option, Some, None, List, [], ◌∷◌, ◌++◌, length, refl, ap, sym, ◌∙◌, arith, inl, inr}
+use Rattle.std.proofs.lemmas.Bool.{eqb-true, eq-eqb, false_from_ne_true, or_left, or_parts}
 use Rattle.std.proofs.lemmas.List.Elements.{filter_map-append}
 use Rattle.std.proofs.lemmas.List.Folds.{find-append}
 use Rattle.std.specs.Option.{option_or, option_map_or, option_and_then}
@@ -14,22 +13,19 @@ use Rattle.scope_rules.specs.declared.types.events.Event.TheVariants.{Fork, Fini
 use Rattle.scope_rules.specs.declared.types.records.Ending.{Ending}
 use Rattle.scope_rules.specs.declared.types.records.Forking.{Forking}
 use Rattle.scope_rules.specs.declared.types.values.Completion.{Completion}
-use Rattle.scope_rules.specs.Ends.{EndValue}
 use Rattle.scope_rules.specs.Origin.{Origin}
 use Rattle.scope_rules.specs.Search.{earliest}
 use Rattle.scope_rules.specs.History.{History, followed, tasks, forking}
 use Rattle.scope_rules.specs.Cancels.{is_cancelled}
 use Rattle.scope_rules.specs.Completions.{is_task_of, completion_of, completions}
-use Rattle.scope_rules.specs.Tasks.{finishes, finished, ending, ending_of, state, state_of, state_by_end}
-use Rattle.scope_rules.specs.Outcomes.{is_available, readable, readable_at}
+use Rattle.scope_rules.specs.Tasks.{finishes, finished, ending_of, state, state_of, state_by_end}
 use Rattle.scope_rules.specs.Legal.{Accepts, Legal}
-use Rattle.scope_rules.proofs.Accepted.{entry_at, running_task}
+use Rattle.scope_rules.proofs.Accepted.{running_task}
 use Rattle.scope_rules.proofs.CompletionSteps.{completions_grow}
 use Rattle.scope_rules.proofs.Earlier.{forking_shown}
 use Rattle.scope_rules.proofs.Forkings.{forked_after}
 use Rattle.scope_rules.proofs.OneEventMore.{along, finished_grows, forking_split}
 use Rattle.scope_rules.proofs.PassedRows.{finisher_passed}
-use Rattle.scope_rules.proofs.Prefixes.{take_at}
 use Rattle.scope_rules.proofs.StageSteps.{finished_forked}
 use Rattle.scope_rules.proofs.StateSteps.{no_ending, state_is, state_stays, state_ended}
 use Rattle.scope_log.specs.declared.entries.LogEntry.{LogEntry}
@@ -39,7 +35,7 @@ use Rattle.scope_log.specs.LocalForms.{before_mark, is_mark, finishes_task, comp
 use Rattle.scope_log.proofs.FirstParts.{before_first-cons, pick_one}
 use Rattle.scope_log.proofs.LogMarks.{gives_by, cond_none, parted, picks_grow}
 use Rattle.scope_log.proofs.LogTasks.{task_grows, finished_told}
-use Rattle.scope_log.proofs.NewLogs.{IsTask, task_there}
+use Rattle.scope_log.proofs.NewLogs.{task_there}
 
 -- ---- completions
 

@@ -1,19 +1,17 @@
 -- The tasks in the entries of a scope: which there are, and how far they came.
-use Rattle.std.proofs.Common.{◌≡◌, ◌≢◌, ℕ, ◌+◌, ◌<◌, ◌≤◌, ◌==◌, ◌&&◌, ◌||◌, Bool, true, false, not, cond, Option, Some, None, List, [], ◌∷◌, ◌++◌, length, refl, ap, sym, subst, ◌∙◌, arith, inl, inr}
+use Rattle.std.proofs.Common.{◌≡◌, ◌≢◌, ℕ, ◌+◌, ◌==◌, ◌&&◌, ◌||◌, Bool, true, false, cond, Option, Some, None, [], length, refl, ap, sym, subst, ◌∙◌, arith, inl, inr}
 use Rattle.std.proofs.lemmas.Bool.{eqb-true, ne_eqb, eq-eqb, or_cases, or_right}
 use Rattle.std.proofs.lemmas.List.Folds.{list_any-append}
-use Rattle.std.specs.Option.{option_or, option_map_or}
+use Rattle.std.specs.Option.{option_map_or}
 use Rattle.std.specs.List.{list_any, cons_option}
 use Rattle.scope_rules.specs.declared.types.capacity.Limits.{Limits}
 use Rattle.scope_rules.specs.declared.types.answers.Cause.{Cause}
-use Rattle.scope_rules.specs.declared.types.answers.Stage.{Stage}
-use Rattle.scope_rules.specs.declared.types.answers.Stage.TheVariants.{Never, Waiting, Running, Finished}
 use Rattle.scope_rules.specs.declared.types.events.Event.{Event}
 use Rattle.scope_rules.specs.declared.types.events.Event.TheVariants.{Fork, Reject, Start, Finish}
 use Rattle.scope_rules.specs.declared.types.records.Forking.{Forking}
 use Rattle.scope_rules.specs.Origin.{Origin}
 use Rattle.scope_rules.specs.Search.{earliest}
-use Rattle.scope_rules.specs.History.{History, followed, tasks, forking, is_fork}
+use Rattle.scope_rules.specs.History.{History, followed, tasks, forking}
 use Rattle.scope_rules.specs.Cancels.{is_cancelled, cancelled_before}
 use Rattle.scope_rules.specs.Completions.{is_task_of}
 use Rattle.scope_rules.specs.Tasks.{rejects, rejected, starts, started, finishes, finished, stage}
@@ -22,19 +20,18 @@ use Rattle.scope_rules.proofs.CompletionSteps.{is_task_stays}
 use Rattle.scope_rules.proofs.CutsGrow.{cancelled_before_stays, cancelled_by_now}
 use Rattle.scope_rules.proofs.Earlier.{forking_within, forking_shown}
 use Rattle.scope_rules.proofs.Forkings.{IsForked, forked_after}
-use Rattle.scope_rules.proofs.Growing.{forking_stays}
 use Rattle.scope_rules.proofs.Nesting.{IsOpened, forked_opened}
 use Rattle.scope_rules.proofs.OneEventMore.{along, forking_grows, forking_same, forking_split, rejected_grows, started_grows, finished_grows}
 use Rattle.scope_rules.proofs.PassedRows.{fork_passed, rejecter_passed, starter_passed, finisher_passed}
-use Rattle.scope_rules.proofs.Stages.{staged, same_staged, stage_is, waiting_forked, running_forked}
+use Rattle.scope_rules.proofs.Stages.{same_staged, stage_is, waiting_forked, running_forked}
 use Rattle.scope_rules.proofs.StageSteps.{rejected_forked, started_forked, finished_forked}
 use Rattle.scope_log.specs.declared.entries.LogEntry.{LogEntry}
 use Rattle.scope_log.specs.declared.entries.LogEntry.TheVariants as entry
 use Rattle.scope_log.specs.Log.{is_of, said, entry_of, entries}
 use Rattle.scope_log.specs.LocalForms.{is_mark, after_mark, forks_task, rejects_task, starts_task, finishes_task, is_never_in, stage_in}
 use Rattle.scope_log.proofs.FirstParts.{after_first_none}
-use Rattle.scope_log.proofs.LogMarks.{tells, tells_by, and_false, marked, Parted, parted, any_grows}
-use Rattle.scope_log.proofs.NewLogs.{IsTask, task_there}
+use Rattle.scope_log.proofs.LogMarks.{tells, tells_by, and_false, marked, parted, any_grows}
+use Rattle.scope_log.proofs.NewLogs.{task_there}
 
 -- ---- which tasks there are
 
@@ -117,9 +114,9 @@ same_task h s m k = by (m == k) refl
 
 -- what marks a task in the history, and what shows that in the entries
 module _ (marks : ℕ → Event → Bool) (marked_so : History → ℕ → Bool) (shows : ℕ → LogEntry → Bool) (plain : (k : ℕ) (c : Cause) → shows k (entry.Cancelled c) ≡ false)
-  (grows : (h : History) (e : Event) (k : ℕ) → marked_so (followed h e) k ≡ (marked_so h k || marks k e)) (start : (b : Origin) (k : ℕ) → marked_so (record { base = b; events = [] }) k ≡ false)
-  (there : (L : Limits) (h : History) (k : ℕ) → Legal L h → marked_so h k ≡ true → IsForked h k) (passed : (L : Limits) (h : History) (e : Event) (k : ℕ) → marks k e ≡ true → Accepts L h e → IsForked h k)
-  (told : (h : History) (s k : ℕ) (e : Event) → tells (shows k) h s e ≡ (marks k e && is_task_of h s k)) where
+    (grows : (h : History) (e : Event) (k : ℕ) → marked_so (followed h e) k ≡ (marked_so h k || marks k e)) (start : (b : Origin) (k : ℕ) → marked_so (record { base = b; events = [] }) k ≡ false)
+    (there : (L : Limits) (h : History) (k : ℕ) → Legal L h → marked_so h k ≡ true → IsForked h k) (passed : (L : Limits) (h : History) (e : Event) (k : ℕ) → marks k e ≡ true → Accepts L h e → IsForked h k)
+    (told : (h : History) (s k : ℕ) (e : Event) → tells (shows k) h s e ≡ (marks k e && is_task_of h s k)) where
   shown_stays : (L : Limits) (h : History) (e : Event) (s k : ℕ) → Legal L h → Accepts L h e → (marked_so (followed h e) k && is_task_of h s k) ≡ (marked_so (followed h e) k && is_task_of (followed h e) s k)
   shown_stays L h e s k legal ok = by (marked_so (followed h e) k) refl
     where

@@ -1,9 +1,6 @@
 -- The log of a scope tells what the history says of it.
-use Rattle.std.proofs.Common.{◌≡◌, ℕ, true, Some, List, ap, sym, ◌∙◌}
-use Rattle.scope_rules.specs.declared.types.capacity.Limits.{Limits}
+use Rattle.std.proofs.Common.{◌≡◌, ℕ, Some, ap, ◌∙◌}
 use Rattle.scope_rules.specs.History.{History}
-use Rattle.scope_rules.specs.Completions.{is_task_of}
-use Rattle.scope_log.specs.declared.entries.LogEntry.{LogEntry}
 use Rattle.scope_log.specs.Log.{LogValue, entries, log}
 use Rattle.scope_log.specs.LocalForms.{cause_in, tasks_in, stage_in, state_in, counts_in, settled_in, ready_in, completions_in, outcome_in}
 use Rattle.scope_log.specs.LogLaws.{LogTellsCause, LogTellsTasks, LogTellsStages, LogTellsStates, LogTellsCounts, LogTellsSettled, LogTellsReady, LogTellsCompletions, LogTellsOutcome}

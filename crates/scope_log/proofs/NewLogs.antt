@@ -1,5 +1,5 @@
 -- No event names a scope that isn't opened yet, so its log begins with its opening.
-use Rattle.std.proofs.Common.{◌≡◌, ℕ, ◌+◌, ◌==◌, Bool, true, false, cond, Option, Some, None, option_map, List, [], ◌∷◌, ◌++◌, refl, ap, sym, subst, ◌∙◌}
+use Rattle.std.proofs.Common.{◌≡◌, ℕ, ◌+◌, ◌==◌, Bool, true, false, cond, Option, Some, None, option_map, [], ◌++◌, refl, ap, sym, subst, ◌∙◌}
 use Rattle.std.proofs.lemmas.Bool.{eqb-true, false_from_ne_true}
 use Rattle.std.specs.Option.{option_map_or}
 use Rattle.std.specs.List.{cons_option}
@@ -23,7 +23,6 @@ use Rattle.scope_rules.proofs.NewScopes.{scope_passed}
 use Rattle.scope_rules.proofs.OneEventMore.{along}
 use Rattle.scope_rules.proofs.PassedRows.{IsOwner, fork_passed, begin_close_passed, end_close_passed}
 use Rattle.scope_rules.proofs.Staying.{cut_opened}
-use Rattle.scope_log.specs.declared.entries.LogEntry.{LogEntry}
 use Rattle.scope_log.specs.Log.{LogValue, is_of, said, entry_of, entries, mark_next, mark_of, entries_next, log}
 use Rattle.scope_log.specs.LogLaws.{LogGoesOn}
 use Rattle.scope_log.proofs.LogSteps.{entries_grow}

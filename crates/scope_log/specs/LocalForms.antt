@@ -1,6 +1,6 @@
 -- What can be told from the entries of a log alone: each answer of a scope, by its own events and the
 -- mark of its cancellation.
-use Rattle.std.specs.Prelude.{ℕ, ◌==◌, ◌&&◌, ◌||◌, Bool, true, false, not, Option, Some, None, option_map, List, [], ◌∷◌, map, count_by, if◌then◌else◌}
+use Rattle.std.specs.Prelude.{ℕ, ◌==◌, ◌||◌, Bool, true, false, not, Option, Some, None, List, map, count_by, if◌then◌else◌}
 use Rattle.std.specs.Option.{option_and_then, option_map_or}
 use Rattle.std.specs.List.{list_any, filter_map, find, before_first, after_first}
 use Rattle.scope_rules.specs.declared.types.answers.Cause.{Cause}

@@ -1,6 +1,6 @@
 -- What holds of the log of each scope of a legal history: how it goes on, and that it tells what the
 -- history says of the scope.
-use Rattle.std.specs.Prelude.{◌≡◌, ℕ, true, Option, None, Some, List, [], ◌++◌}
+use Rattle.std.specs.Prelude.{◌≡◌, ℕ, true, None, Some, [], ◌++◌}
 use Rattle.std.specs.List.{filter}
 use Rattle.scope_rules.specs.declared.types.capacity.Limits.{Limits}
 use Rattle.scope_rules.specs.declared.types.events.Event.{Event}
@@ -8,7 +8,7 @@ use Rattle.scope_rules.specs.History.{History, followed, opening, task_numbers}
 use Rattle.scope_rules.specs.Cancels.{cause}
 use Rattle.scope_rules.specs.Completions.{is_task_of, completions}
 use Rattle.scope_rules.specs.Tasks.{stage, state, counts, settled, ready}
-use Rattle.scope_rules.specs.Outcomes.{outcome, outcome_of}
+use Rattle.scope_rules.specs.Outcomes.{outcome}
 use Rattle.scope_rules.specs.Legal.{Accepts, Legal}
 use Rattle.scope_log.specs.Log.{LogValue, entries, entries_next, log}
 use Rattle.scope_log.specs.LocalForms.{cause_in, tasks_in, stage_in, state_in, counts_in, settled_in, ready_in, completions_in, outcome_in}

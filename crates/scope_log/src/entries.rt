@@ -19,21 +19,36 @@ pub enum LogEntry {
         label: Label,
     },
     /// No thread was had for the task.
-    Reject { task: TaskId },
+    Reject {
+        task: TaskId,
+    },
     /// The task's thread began.
-    Start { task: TaskId },
+    Start {
+        task: TaskId,
+    },
     /// The task ended.
-    Finish { task: TaskId, end: End },
+    Finish {
+        task: TaskId,
+        end: End,
+    },
     /// The scope was cancelled by a call on it.
     Cancel,
     /// The scope's deadline, in milliseconds, was set anew, or taken away.
-    Move { deadline: Option<u64> },
+    Move {
+        deadline: Option<u64>,
+    },
     /// The owner joined the scope.
-    Join { actor: Actor },
+    Join {
+        actor: Actor,
+    },
     /// The owner began to close the scope.
-    BeginClose { actor: Actor },
+    BeginClose {
+        actor: Actor,
+    },
     /// The scope was closed.
-    EndClose { actor: Actor },
+    EndClose {
+        actor: Actor,
+    },
     /// The scope became cancelled, by this cause: after the entries before this one, and before those
     /// after it.
     Cancelled(Cause),

@@ -5,6 +5,7 @@
 mod entries;
 pub mod laws;
 mod log;
+mod outcomes;
 mod readings;
 
 pub use entries::LogEntry;

@@ -1,12 +1,14 @@
 //! What the entries of a log tell, each answer by a look at them.
 
-ghost use Rattle.std.specs.Prelude.{◌≡◌, ◌≤◌, length, option_map};
+ghost use Rattle.std.specs.Prelude.{◌≡◌, ◌≤◌, ◌<◌, ◌^◌, length, count_by, false, option_map, IfOk};
 ghost use Rattle.std.specs.List.{list_any, position, position_or_len, find};
-ghost use Rattle.scope_rules.specs.Tasks.{state_by_end};
-ghost use Rattle.scope_log.specs.LocalForms.{is_mark, cause_said, cause_in, before_mark, after_mark, task_forked, tasks_in, forks_task, rejects_task, starts_task, finishes_task, is_never_in, stage_in, completion_said, completions_in, is_end_of, state_in, is_unsettled_in, settled_in};
+ghost use Rattle.std.specs.Option.{option_map_or};
+ghost use Rattle.scope_rules.specs.Tasks.{is_stage, state_by_end};
+ghost use Rattle.scope_log.specs.LocalForms.{is_mark, cause_said, cause_in, before_mark, after_mark, task_forked, tasks_in, forks_task, rejects_task, starts_task, finishes_task, is_never_in, stage_in, completion_said, completions_in, is_end_of, state_in, is_at_in, counts_in, is_unsettled_in, settled_in, ready_in};
 
 use crate::entries::LogEntry;
-use scope_rules::{Cause, Completion, End, Stage, State, TaskId};
+use scope_rules::{Cause, Completion, Counts, End, Stage, State, TaskId};
+use std::alloc::{AllocError, Global};
 
 /// Why the scope is cancelled, if it is: what its mark says.
 #[tactic(auto, unfolding(crate::specs::LocalForms::cause_in))]
@@ -141,6 +143,74 @@ fn end_of(entries: &[LogEntry], task: TaskId) -> Option<Completion>
         .find(|done| done.task == task)
 }
 
+/// How many tasks are at each stage.
+#[tactic(auto, unfolding(crate::specs::LocalForms::counts_in))]
+pub(crate) fn counts(entries: &[LogEntry]) -> Counts
+    requires { length entries.now < 2 ^ 32 }
+    ensures { result ≡ counts_in entries.now }
+{
+    Counts {
+        never: count_at(entries, Stage::Never),
+        waiting: count_at(entries, Stage::Waiting),
+        running: count_at(entries, Stage::Running),
+        finished: count_at(entries, Stage::Finished),
+    }
+}
+
+/// How many tasks are at the stage.
+#[tactic(auto, unfolding(crate::specs::LocalForms::tasks_in))]
+fn count_at(entries: &[LogEntry], stage: Stage) -> u32
+    requires { length entries.now < 2 ^ 32 }
+    ensures { result ≡ count_by (is_at_in entries.now stage) (tasks_in entries.now) }
+{
+    let mut count = 0;
+    for entry in entries {
+        if forks_at(entries, stage, entry) {
+            count += 1;
+        }
+    }
+    count
+}
+
+/// Whether the entry is the fork of a task that is at the stage.
+fn forks_at(entries: &[LogEntry], stage: Stage, entry: &LogEntry) -> bool
+    ensures { result ≡ option_map_or (is_at_in entries.now stage) (task_forked entry.now) false }
+{
+    match task_forked(entry) {
+        Some(task) => is_stage(stage, self::stage(entries, task)),
+        None => false,
+    }
+}
+
+/// Whether the scope may be joined: it is cancelled, or none of its tasks waits or runs.
+#[tactic(auto, unfolding(crate::specs::LocalForms::ready_in))]
+pub(crate) fn is_ready(entries: &[LogEntry]) -> bool
+    ensures { result ≡ ready_in entries.now }
+{
+    has_mark(entries) || is_settled(entries)
+}
+
+/// Whether the scope is cancelled.
+fn has_mark(entries: &[LogEntry]) -> bool
+    ensures { result ≡ list_any is_mark entries.now }
+{
+    entries.iter().any(|entry| is_mark(entry))
+}
+
+/// The completions, in order.
+#[tactic(auto, unfolding(crate::specs::LocalForms::completions_in))]
+pub(crate) fn completions(
+    alloc: Global,
+    entries: &[LogEntry],
+) -> Result<Vec<Completion>, AllocError>
+    ensures { IfOk result (λ v. v.items ≡ completions_in entries.now) }
+{
+    entries
+        .iter()
+        .filter_map(|entry| completion_said(entry))
+        .collect(alloc)
+}
+
 /// Whether no task waits or runs.
 #[tactic(auto, unfolding(crate::specs::LocalForms::settled_in))]
 pub(crate) fn is_settled(entries: &[LogEntry]) -> bool
@@ -185,7 +255,7 @@ fn cause_said(entry: &LogEntry) -> Option<Cause>
 }
 
 /// The number of the task, if the entry is its fork.
-fn task_forked(entry: &LogEntry) -> Option<TaskId>
+pub(crate) fn task_forked(entry: &LogEntry) -> Option<TaskId>
     ensures { result ≡ task_forked entry.now }
 {
     match *entry {
@@ -241,6 +311,18 @@ pub(crate) fn completion_said(entry: &LogEntry) -> Option<Completion>
     match *entry {
         LogEntry::Finish { task, end } => Some(Completion { task, end }),
         _ => None,
+    }
+}
+
+/// Whether the two stages are one.
+fn is_stage(stage: Stage, other: Stage) -> bool
+    ensures { result ≡ is_stage stage other }
+{
+    match stage {
+        Stage::Never => matches!(other, Stage::Never),
+        Stage::Waiting => matches!(other, Stage::Waiting),
+        Stage::Running => matches!(other, Stage::Running),
+        Stage::Finished => matches!(other, Stage::Finished),
     }
 }
 
