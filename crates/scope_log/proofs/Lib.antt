@@ -8,3 +8,4 @@ pub mod LogFirsts
 pub mod LogCounts
 pub mod LogOutcomes
 pub mod LogTells
+pub mod NameBytes

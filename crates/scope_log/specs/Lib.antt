@@ -1,3 +1,4 @@
 pub mod Log
 pub mod LocalForms
 pub mod LogLaws
+pub mod LogText

@@ -7,6 +7,8 @@ pub mod laws;
 mod log;
 mod outcomes;
 mod readings;
+mod shown;
 
 pub use entries::LogEntry;
 pub use log::ScopeLog;
+pub use shown::ShownEntry;
