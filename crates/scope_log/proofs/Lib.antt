@@ -9,3 +9,4 @@ pub mod LogCounts
 pub mod LogOutcomes
 pub mod LogTells
 pub mod NameBytes
+pub mod MarkPlaces

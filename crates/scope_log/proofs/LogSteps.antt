@@ -1,5 +1,5 @@
 -- What one event more adds to the log of a scope.
-use Rattle.std.proofs.Common.{◌≡◌, ◌≢◌, ℕ, zero, suc, ◌+◌, ◌<◌, ◌==◌, cond, Option, Some, None, option_map, List, [], ◌∷◌, ◌++◌, length, max, refl, ap, sym, ◌∙◌, arith, length-append, inl, inr}
+use Rattle.std.proofs.Common.{◌≡◌, ◌≢◌, ℕ, zero, suc, ◌+◌, ◌<◌, ◌≤◌, ◌==◌, cond, Option, Some, None, option_map, List, [], ◌∷◌, ◌++◌, length, max, refl, ap, sym, ◌∙◌, arith, length-append, inl, inr}
 use Rattle.std.proofs.lemmas.Bool.{ne_eqb, eq-eqb}
 use Rattle.std.proofs.lemmas.List.{append-nil}
 use Rattle.std.proofs.lemmas.List.Concat.{flat_map-append}
@@ -105,9 +105,10 @@ entry_stays h e s i within = rw (before_push h e i (omega arith)) (rw (get_push 
 entry_new : (h : History) (e : Event) (s : ℕ) → entry_at (followed h e) s (length h.events) ≡ entry_of h s e
 entry_new h e s = rw (before_last h e) (rw (last_event h.events e) refl)
 
-flat_map_same : {A : Type 0} (f g : ℕ → List A) (a n : ℕ) → ((i : ℕ) → i < a + n → f i ≡ g i) → flat_map f (range_with_len a n) ≡ flat_map g (range_with_len a n)
+-- what agrees on the numbers of a range gives the same list
+pub flat_map_same : {A : Type 0} (f g : ℕ → List A) (a n : ℕ) → ((i : ℕ) → a ≤ i → i < a + n → f i ≡ g i) → flat_map f (range_with_len a n) ≡ flat_map g (range_with_len a n)
 flat_map_same f g a zero same = refl
-flat_map_same f g a (suc n) same = rw (same a (omega arith)) (ap (λ xs. g a ++ xs) (flat_map_same f g (a + 1) n (λ i within. same i (omega (arith, within)))))
+flat_map_same f g a (suc n) same = rw (same a (omega arith) (omega arith)) (ap (λ xs. g a ++ xs) (flat_map_same f g (a + 1) n (λ i above below. same i (omega (arith, above)) (omega (arith, below)))))
 
 both_same : (x y p q : Option LogEntry) → x ≡ y → p ≡ q → cons_option x (cons_option p []) ≡ cons_option y (cons_option q [])
 both_same x y p q first second = rw first (rw second refl)
@@ -120,7 +121,7 @@ entries_grow L h e s legal =
     let g = followed h e in
     let n = length h.events in
     let longer : length (h.events ++ e ∷ []) ≡ n + 1 = length-append h.events (e ∷ []) ∙ omega arith in
-    let old = flat_map_same (entries_at g s) (entries_at h s) 0 n (λ i within. both_same _ _ _ _ (entry_stays h e s i (omega (arith, within))) (marks_stay L h e s legal i (omega (arith, within)))) in
+    let old = flat_map_same (entries_at g s) (entries_at h s) 0 n (λ i above below. both_same _ _ _ _ (entry_stays h e s i (omega (arith, below))) (marks_stay L h e s legal i (omega (arith, below)))) in
     let at : 0 + n ≡ n = omega arith in
     let new : entries_at g s n ≡ entries_next h e s = both_same _ _ _ _ (entry_new h e s) (mark_new L h e s legal) in
     ap (λ m. flat_map (entries_at g s) (range_with_len 0 m)) longer
