@@ -6,6 +6,7 @@ mod deadlines;
 mod envs;
 mod joiners;
 mod kept;
+mod logs;
 mod trees;
 mod types;
 
