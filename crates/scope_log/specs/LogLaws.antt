@@ -1,6 +1,6 @@
 -- What holds of the log of each scope of a legal history: how it goes on, and that it tells what the
 -- history says of the scope.
-use Rattle.std.specs.Prelude.{◌≡◌, ℕ, ◌+◌, ◌-◌, ◌≤◌, true, Option, None, Some, List, [], ◌∷◌, ◌++◌, length}
+use Rattle.std.specs.Prelude.{◌≡◌, ℕ, ◌+◌, ◌-◌, ◌≤◌, true, None, Some, List, [], ◌∷◌, ◌++◌, length}
 use Rattle.std.specs.List.{filter, filter_map, range_with_len}
 use Rattle.scope_rules.specs.declared.types.answers.Cause.{Cause}
 use Rattle.scope_rules.specs.declared.types.capacity.Limits.{Limits}
