@@ -3,6 +3,7 @@
 mod bindings;
 mod deadlines;
 mod joiners;
+mod logs;
 mod realms;
 mod trees;
 mod types;

@@ -1,0 +1,12 @@
+pub mod LogSteps
+pub mod NewLogs
+pub mod FirstParts
+pub mod LogMarks
+pub mod LogTasks
+pub mod LogStates
+pub mod LogFirsts
+pub mod LogCounts
+pub mod LogOutcomes
+pub mod LogTells
+pub mod NameBytes
+pub mod MarkPlaces

@@ -1,0 +1,142 @@
+-- No event names a scope that isn't opened yet, so its log begins with its opening.
+use Rattle.std.proofs.Common.{◌≡◌, ℕ, ◌+◌, ◌==◌, Bool, true, false, cond, Option, Some, None, option_map, [], ◌++◌, refl, ap, sym, subst, ◌∙◌}
+use Rattle.std.proofs.lemmas.Bool.{eqb-true, false_from_ne_true}
+use Rattle.std.specs.Option.{option_map_or}
+use Rattle.std.specs.List.{cons_option}
+use Rattle.scope_rules.specs.declared.types.capacity.Limits.{Limits}
+use Rattle.scope_rules.specs.declared.types.events.Event.{Event}
+use Rattle.scope_rules.specs.declared.types.events.Event.TheVariants.{Open, Fork, Reject, Start, Finish, Cancel, Move, Join, BeginClose, EndClose}
+use Rattle.scope_rules.specs.declared.types.records.Cut.{Cut}
+use Rattle.scope_rules.specs.declared.types.records.Forking.{Forking}
+use Rattle.scope_rules.specs.declared.types.records.Opening.{Opening}
+use Rattle.scope_rules.specs.Origin.{Origin}
+use Rattle.scope_rules.specs.History.{History, followed, opening, forking, scopes}
+use Rattle.scope_rules.specs.Cancels.{cut, cause, is_cancelled}
+use Rattle.scope_rules.specs.Completions.{is_task_of}
+use Rattle.scope_rules.specs.Table.{check_of}
+use Rattle.scope_rules.specs.Legal.{Accepts, Legal}
+use Rattle.scope_rules.proofs.Accepted.{checks_at}
+use Rattle.scope_rules.proofs.Growing.{opening_stays}
+use Rattle.scope_rules.proofs.InnermostSteps.{next_opening}
+use Rattle.scope_rules.proofs.Nesting.{IsOpened, forked_opened}
+use Rattle.scope_rules.proofs.NewScopes.{scope_passed}
+use Rattle.scope_rules.proofs.OneEventMore.{along}
+use Rattle.scope_rules.proofs.PassedRows.{IsOwner, fork_passed, begin_close_passed, end_close_passed}
+use Rattle.scope_rules.proofs.Staying.{cut_opened}
+use Rattle.scope_log.specs.Log.{LogValue, is_of, said, entry_of, entries, mark_next, mark_of, entries_next, log}
+use Rattle.scope_log.specs.LogLaws.{LogGoesOn}
+use Rattle.scope_log.proofs.LogSteps.{entries_grow}
+
+-- a task of scope s was forked in it
+pub record IsTask (h : History) (s k : ℕ) : Type 0 where
+  pub forked : Forking
+  pub is : forking h k ≡ Some forked
+  pub of : forked.scope ≡ s
+
+task_by : (h : History) (s k : ℕ) (o : Option Forking) → forking h k ≡ o → option_map_or (λ (f : Forking). f.scope == s) o false ≡ true → IsTask h s k
+task_by h s k None is so = absurd cc
+task_by h s k (Some f) is so = record { forked = f; is = is; of = eqb-true f.scope s so }
+
+pub task_there : (h : History) (s k : ℕ) → is_task_of h s k ≡ true → IsTask h s k
+unfolding is_task_of
+task_there h s k so = task_by h s k (forking h k) refl so
+
+module _ (L : Limits) (h : History) (s : ℕ) where
+  by_number : (n : ℕ) → (n == s) ≡ true → IsOpened h n → IsOpened h s
+  by_number n same it = subst (IsOpened h) (eqb-true n s same) it
+
+  owned : (a n : ℕ) → IsOwner h a n → IsOpened h n
+  owned a n it = record { opened = it.opened; is = it.is }
+
+  by_task : (k : ℕ) → Legal L h → is_task_of h s k ≡ true → IsOpened h s
+  by_task k legal so = let it = task_there h s k so in subst (IsOpened h) it.of (forked_opened L h k it.forked legal it.is)
+
+  stays : (e : Event) → IsOpened h s → IsOpened (followed h e) s
+  stays e it = record { opened = it.opened; is = opening_stays h e s it.opened it.is }
+
+  -- an accepted event names a scope that is opened, or opens it
+  named_opened : (e : Event) → Legal L h → Accepts L h e → is_of h s e ≡ true → IsOpened (followed h e) s
+  unfolding check_of
+  named_opened (Open actor policy options) legal ok so = subst (IsOpened (followed h (Open actor policy options))) (eqb-true (scopes h + 1) s so) (record { opened = _; is = next_opening h actor policy options })
+  named_opened (Fork actor scope label) legal ok so = stays (Fork actor scope label) (by_number scope so (owned actor scope (fork_passed L h actor scope label ok).owner))
+  named_opened (Reject task) legal ok so = stays (Reject task) (by_task task legal so)
+  named_opened (Start task) legal ok so = stays (Start task) (by_task task legal so)
+  named_opened (Finish task end) legal ok so = stays (Finish task end) (by_task task legal so)
+  named_opened (Cancel scope) legal ok so = stays (Cancel scope) (by_number scope so (scope_passed h scope (checks_at _ 0 _ ok.passed refl)))
+  named_opened (Move scope deadline) legal ok so = stays (Move scope deadline) (by_number scope so (scope_passed h scope (checks_at _ 0 _ ok.passed refl)))
+  named_opened (Join actor scope) legal ok so = stays (Join actor scope) (by_number scope so (scope_passed h scope (checks_at _ 1 _ ok.passed refl)))
+  named_opened (BeginClose actor scope) legal ok so = stays (BeginClose actor scope) (by_number scope so (owned actor scope (begin_close_passed L h actor scope ok).owner))
+  named_opened (EndClose actor scope) legal ok so = stays (EndClose actor scope) (by_number scope so (owned actor scope (end_close_passed L h actor scope ok).owner))
+  named_opened _ legal ok so = absurd cc
+
+unopened : (h : History) (s : ℕ) → opening h s ≡ None → IsOpened h s → ⊥
+unopened h s none it = absurd (cc (none, it.is))
+
+none_before : (h : History) (e : Event) (s : ℕ) (o : Option Opening) → opening (followed h e) s ≡ None → opening h s ≡ o → opening h s ≡ None
+none_before h e s None none is = is
+none_before h e s (Some o) none is = absurd (unopened (followed h e) s none (record { opened = o; is = opening_stays h e s o is }))
+
+-- nor is it cut
+pub uncut : (h : History) (s : ℕ) (c : Option Cut) → opening h s ≡ None → cut h s ≡ c → cut h s ≡ None
+uncut h s None none is = is
+uncut h s (Some c) none is = absurd (unopened h s none (cut_opened h s c (opening h s) is refl))
+
+unmarked : (b : Bool) (c : Option Cut) → c ≡ None → cond b None (mark_of (option_map (λ (x : Cut). x.cause) c)) ≡ None
+unmarked true c none = refl
+unmarked false c none = rw none refl
+
+nothing_next : (L : Limits) (h : History) (e : Event) (s : ℕ) → Legal L h → Accepts L h e → opening (followed h e) s ≡ None → entries_next h e s ≡ []
+unfolding cause
+nothing_next L h e s legal ok none =
+    let unnamed = false_from_ne_true (is_of h s e) (λ so. unopened (followed h e) s none (named_opened L h s e legal ok so)) in
+    let no_entry : entry_of h s e ≡ None = ap (λ b. cond b (said h e) None) unnamed in
+    let no_mark : mark_next h e s ≡ None = unmarked (is_cancelled h s) (cut (followed h e) s) (uncut (followed h e) s (cut (followed h e) s) none refl) in
+    rw no_entry (ap (λ o. cons_option o []) no_mark)
+
+HasNoEntries : History → Type 0
+HasNoEntries h = (s : ℕ) → opening h s ≡ None → entries h s ≡ []
+
+none_start : (b : Origin) → HasNoEntries (record { base = b; events = [] })
+unfolding HasNoEntries entries
+none_start b s none = refl
+
+none_step : (L : Limits) (h : History) (e : Event) → Legal L h → Accepts L h e → HasNoEntries h → HasNoEntries (followed h e)
+unfolding HasNoEntries
+none_step L h e legal ok so s none =
+    entries_grow L h e s legal ∙ (ap (λ xs. xs ++ entries_next h e s) (so s (none_before h e s (opening h s) none refl)) ∙ nothing_next L h e s legal ok none)
+
+-- a scope that isn't opened yet has no entries
+pub no_entries : (L : Limits) (h : History) (s : ℕ) → Legal L h → opening h s ≡ None → entries h s ≡ []
+unfolding HasNoEntries
+no_entries L h s legal none = along L HasNoEntries none_start (λ g e lawful ok so. none_step L g e lawful ok so) h legal s none
+
+-- the log is that of the opening
+pub record IsLog (h : History) (s : ℕ) (l : LogValue) : Type 0 where
+  pub opened : Opening
+  pub is : opening h s ≡ Some opened
+  pub log : l ≡ record { scope = s; policy = opened.policy; expiry = opened.options.expiry; entries = entries h s }
+
+pub log_there : (h : History) (s : ℕ) (l : LogValue) → log h s ≡ Some l → IsLog h s l
+unfolding log
+log_there h s l is = by (opening h s) refl is
+  where
+    by : (o : Option Opening) → opening h s ≡ o → option_map (λ (x : Opening). record { scope = s; policy = x.policy; expiry = x.options.expiry; entries = entries h s }) o ≡ Some l → IsLog h s l
+    by None opened found = absurd cc
+    by (Some o) opened found = record { opened = o; is = opened; log = cc }
+
+log_kept : (L : Limits) (h : History) (e : Event) (s : ℕ) (l : LogValue) → Legal L h → log h s ≡ Some l → log (followed h e) s ≡ Some (record l { entries = l.entries ++ entries_next h e s })
+unfolding log
+log_kept L h e s l legal is =
+    let it = log_there h s l is in
+    let o = it.opened in
+    ap (option_map (λ (x : Opening). record { scope = s; policy = x.policy; expiry = x.options.expiry; entries = entries (followed h e) s })) (opening_stays h e s o it.is)
+    ∙ (ap (λ es. Some (record { scope = s; policy = o.policy; expiry = o.options.expiry; entries = es })) (entries_grow L h e s legal)
+    ∙ ap (λ (x : LogValue). Some (record x { entries = x.entries ++ entries_next h e s })) (sym it.log))
+
+-- an accepted event goes on with the log of each scope
+pub log_grows : (L : Limits) (h : History) (e : Event) (s : ℕ) → Legal L h → Accepts L h e → LogGoesOn h e s
+log_grows L h e s legal ok = record {
+  grows = entries_grow L h e s legal;
+  begins = λ none. no_entries L h s legal none;
+  kept = λ l is. log_kept L h e s l legal is;
+}

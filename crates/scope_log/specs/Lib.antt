@@ -1,0 +1,4 @@
+pub mod Log
+pub mod LocalForms
+pub mod LogLaws
+pub mod LogText

@@ -1,0 +1,87 @@
+-- The log of a scope: the events that name it or a task of it, in order, and the mark of its
+-- cancellation, where it became cancelled.
+use Rattle.std.specs.Prelude.{ℕ, ◌+◌, ◌==◌, Bool, false, Option, Some, None, option_map, List, [], length, slice_get, if◌then◌else◌}
+use Rattle.std.specs.Option.{option_and_then}
+use Rattle.std.specs.List.{flat_map, cons_option, range_with_len}
+use Rattle.scope_rules.specs.declared.types.events.Event.{Event}
+use Rattle.scope_rules.specs.declared.types.events.Event.TheVariants.{Open, Fork, Reject, Start, Finish, Cancel, Move, Join, BeginClose, EndClose}
+use Rattle.scope_rules.specs.declared.types.events.Expiry.{Expiry}
+use Rattle.scope_rules.specs.declared.types.joiners.Policy.{Policy}
+use Rattle.scope_rules.specs.declared.types.answers.Cause.{Cause}
+use Rattle.scope_rules.specs.History.{History, before, followed, opening, scopes, tasks}
+use Rattle.scope_rules.specs.Cancels.{cause, cancelled_at, is_cancelled}
+use Rattle.scope_rules.specs.Completions.{is_task_of}
+use Rattle.scope_log.specs.declared.entries.LogEntry.{LogEntry}
+use Rattle.scope_log.specs.declared.entries.LogEntry.TheVariants as entry
+
+-- a scope's number, its joiner, what its deadline means for the join, and the entries
+pub record LogValue : Type 0 where
+  pub scope : ℕ
+  pub policy : Policy
+  pub expiry : Expiry
+  pub entries : List LogEntry
+
+-- the event, the next after h, names scope s or a task of it: an open where it gives that number. A
+-- bind, an unbind and a tick name no scope, and who acts does not matter.
+abbrev pub is_of : History → ℕ → Event → Bool
+is_of h s (Open actor policy options) = scopes h + 1 == s
+is_of h s (Fork actor scope label) = scope == s
+is_of h s (Reject task) = is_task_of h s task
+is_of h s (Start task) = is_task_of h s task
+is_of h s (Finish task end) = is_task_of h s task
+is_of h s (Cancel scope) = scope == s
+is_of h s (Move scope deadline) = scope == s
+is_of h s (Join actor scope) = scope == s
+is_of h s (BeginClose actor scope) = scope == s
+is_of h s (EndClose actor scope) = scope == s
+is_of h s _ = false
+
+-- what the event, the next after h, says in the log of its scope: a fork the number that it gives
+abbrev pub said : History → Event → Option LogEntry
+said h (Open actor policy options) = Some (entry.Open actor policy options)
+said h (Fork actor scope label) = Some (entry.Fork (tasks h + 1) actor label)
+said h (Reject task) = Some (entry.Reject task)
+said h (Start task) = Some (entry.Start task)
+said h (Finish task end) = Some (entry.Finish task end)
+said h (Cancel scope) = Some entry.Cancel
+said h (Move scope deadline) = Some (entry.Move deadline)
+said h (Join actor scope) = Some (entry.Join actor)
+said h (BeginClose actor scope) = Some (entry.BeginClose actor)
+said h (EndClose actor scope) = Some (entry.EndClose actor)
+said h _ = None
+
+-- the entry of the event, the next after h, in the log of scope s
+abbrev pub entry_of : History → ℕ → Event → Option LogEntry
+entry_of h s e = if is_of h s e then said h e else None
+
+-- the entry of the event at place i
+abbrev pub entry_at : History → ℕ → ℕ → Option LogEntry
+entry_at h s i = option_and_then (entry_of (before h i) s) (slice_get h.events i)
+
+-- the mark of the cancellation
+abbrev pub mark_of : Option Cause → Option LogEntry
+mark_of cause = option_map (λ c. entry.Cancelled c) cause
+
+-- the mark, where scope s became cancelled at place i
+abbrev pub mark_at : History → ℕ → ℕ → Option LogEntry
+mark_at h s i = option_and_then (λ at. if at == i then mark_of (cause h s) else None) (cancelled_at h s)
+
+-- what stands in the log for place i: the entry of its event, and after it the mark
+abbrev pub entries_at : History → ℕ → ℕ → List LogEntry
+entries_at h s i = cons_option (entry_at h s i) (cons_option (mark_at h s i) [])
+
+-- the entries of scope s, in order of their places
+unfoldable pub entries : History → ℕ → List LogEntry
+entries h s = flat_map (entries_at h s) (range_with_len 0 (length h.events))
+
+-- the log of scope s, if it was opened since the base
+unfoldable pub log : History → ℕ → Option LogValue
+log h s = option_map (λ o. record { scope = s; policy = o.policy; expiry = o.options.expiry; entries = entries h s }) (opening h s)
+
+-- the mark after the event, the next after h: where scope s becomes cancelled by it
+abbrev pub mark_next : History → Event → ℕ → Option LogEntry
+mark_next h e s = if is_cancelled h s then None else mark_of (cause (followed h e) s)
+
+-- what the event, the next after h, adds to the entries of scope s
+abbrev pub entries_next : History → Event → ℕ → List LogEntry
+entries_next h e s = cons_option (entry_of h s e) (cons_option (mark_next h e s) [])
