@@ -271,40 +271,28 @@ pub(crate) fn task_forked(entry: &LogEntry) -> Option<TaskId>
 fn forks_task(task: TaskId, entry: &LogEntry) -> bool
     ensures { result ≡ forks_task task entry.now }
 {
-    match *entry {
-        LogEntry::Fork { task: forked, .. } => forked == task,
-        _ => false,
-    }
+    matches!(*entry, LogEntry::Fork { task: forked, .. } if forked == task)
 }
 
 /// Whether the entry rejects the task.
 fn rejects_task(task: TaskId, entry: &LogEntry) -> bool
     ensures { result ≡ rejects_task task entry.now }
 {
-    match *entry {
-        LogEntry::Reject { task: rejected } => rejected == task,
-        _ => false,
-    }
+    matches!(*entry, LogEntry::Reject { task: rejected } if rejected == task)
 }
 
 /// Whether the entry starts the task.
 fn starts_task(task: TaskId, entry: &LogEntry) -> bool
     ensures { result ≡ starts_task task entry.now }
 {
-    match *entry {
-        LogEntry::Start { task: started } => started == task,
-        _ => false,
-    }
+    matches!(*entry, LogEntry::Start { task: started } if started == task)
 }
 
 /// Whether the entry ends the task.
 fn finishes_task(task: TaskId, entry: &LogEntry) -> bool
     ensures { result ≡ finishes_task task entry.now }
 {
-    match *entry {
-        LogEntry::Finish { task: finished, .. } => finished == task,
-        _ => false,
-    }
+    matches!(*entry, LogEntry::Finish { task: finished, .. } if finished == task)
 }
 
 /// The completion that the entry is, if it ends a task.
