@@ -1,11 +1,9 @@
 -- The parts of a list before and after its first element that passes a test, where lists are put
 -- together.
-use Rattle.std.proofs.Common.{◌≡◌, ℕ, suc, ◌+◌, ◌||◌, Bool, true, false, not, cond, Option, Some, None, List, [], ◌∷◌, ◌++◌, take, drop, length, nat_lt, count_by, get_or, ◌<◌, refl, ap, sym, ◌∙◌, arith}
+use Rattle.std.proofs.Common.{◌≡◌, ℕ, suc, ◌+◌, ◌||◌, Bool, true, false, not, cond, Option, Some, None, List, [], ◌∷◌, ◌++◌, take, drop, length, nat_lt, refl, ap, sym, ◌∙◌, arith}
 use Rattle.std.proofs.lemmas.Bool.{ltb-false, lt-ltb}
 use Rattle.std.proofs.lemmas.Bool.Decides.{nat_tests}
-use Rattle.std.proofs.lemmas.List.Sums.{prefix_len-le-length, sum_by-append}
-use Rattle.std.proofs.lemmas.List.Elements.{filter_map-append}
-use Rattle.std.proofs.lemmas.List.{take_more}
+use Rattle.std.proofs.lemmas.List.Sums.{prefix_len-le-length}
 use Rattle.std.specs.Option.{option_or, option_map_or, option_and_then}
 use Rattle.std.specs.List.{list_any, filter_map, cons_option, prefix_len, position, position_or_len, before_first, after_first}
 
@@ -151,22 +149,3 @@ first_found p xs i found = by (nat_lt (position_or_len p xs) (length xs)) refl f
     by : (b : Bool) → nat_lt (position_or_len p xs) (length xs) ≡ b → cond b (Some (position_or_len p xs)) None ≡ Some i → (list_any p xs ≡ true) × (take i xs ≡ before_first p xs)
     by true is so = let same : position_or_len p xs ≡ i = cc in (any_within p xs ∙ is, ap (λ n. take n xs) (sym same))
     by false is so = absurd cc
-
--- how many numbers pass, of those that are picked of one element more
-count_picked : {A : Type 0} (p : ℕ → Bool) (f : A → Option ℕ) (xs : List A) (i : ℕ) (d : A) → i < length xs
-    → count_by p (filter_map f (take (i + 1) xs)) ≡ count_by p (filter_map f (take i xs)) + cond (option_map_or p (f (get_or xs i d)) false) 1 0
-count_picked p f xs i d within =
-    ap (λ ys. count_by p (filter_map f ys)) (take_more xs i d within)
-    ∙ (ap (count_by p) (filter_map-append f (take i xs) (get_or xs i d ∷ []))
-    ∙ (sum_by-append (λ n. cond (p n) 1 0) (filter_map f (take i xs)) (filter_map f (get_or xs i d ∷ [])) ∙ ap (λ n. count_by p (filter_map f (take i xs)) + n) (by (f (get_or xs i d)))))
-  where
-    by : (o : Option ℕ) → count_by p (cons_option o []) ≡ cond (option_map_or p o false) 1 0
-    by None = refl
-    by (Some n) = omega arith
-
--- where so many passed before, the next count is right
-pub count_next : {A : Type 0} (p : ℕ → Bool) (f : A → Option ℕ) (xs : List A) (i : ℕ) (d : A) (n m k : ℕ) (b : Bool) → i < length xs → d ≡ get_or xs i d → b ≡ option_map_or p (f d) false → n ≡ count_by p (filter_map f (take i xs))
-    → k ≡ cond b 1 0 → m ≡ n + k → m ≡ count_by p (filter_map f (take (i + 1) xs))
-count_next p f xs i d n m k b within item test so one next =
-    let same : cond {A = ℕ} b 1 0 ≡ cond {A = ℕ} (option_map_or p (f (get_or xs i d)) false) 1 0 = ap (λ c. cond {A = ℕ} c 1 0) (test ∙ ap (λ x. option_map_or p (f x) false) item) in
-    omega (arith, next, one, same, so, count_picked p f xs i d within)

@@ -5,6 +5,7 @@ pub mod LogMarks
 pub mod LogTasks
 pub mod LogStates
 pub mod LogFirsts
+pub mod CountSteps
 pub mod LogCounts
 pub mod LogOutcomes
 pub mod LogTells

@@ -8,7 +8,6 @@ use Rattle.std.specs.List.{list_any, filter, filter_map, cons_option, range_with
 use Rattle.scope_rules.specs.declared.types.capacity.Limits.{Limits}
 use Rattle.scope_rules.specs.declared.types.answers.Stage.{Stage}
 use Rattle.scope_rules.specs.declared.types.answers.Stage.TheVariants.{Never, Waiting, Running, Finished}
-use Rattle.scope_rules.specs.declared.types.answers.Counts.{Counts}
 use Rattle.scope_rules.specs.declared.types.events.Event.{Event}
 use Rattle.scope_rules.specs.declared.types.events.Event.TheVariants.{Fork}
 use Rattle.scope_rules.specs.declared.types.records.Forking.{Forking}
@@ -25,6 +24,7 @@ use Rattle.scope_rules.proofs.Owing.{count_push}
 use Rattle.scope_rules.proofs.StageSteps.{next_forking}
 use Rattle.scope_log.specs.Log.{is_of, said, entry_of, entries}
 use Rattle.scope_log.specs.LocalForms.{task_forked, tasks_in, is_at_in, is_unsettled_in, counts_in, settled_in, ready_in, value_said, state_said, values_in, listing_in}
+use Rattle.scope_log.proofs.CountSteps.{same_counts}
 use Rattle.scope_log.proofs.LogMarks.{gives_by, cond_none, and_false, marked, picks_grow}
 use Rattle.scope_log.proofs.LogStates.{state_told}
 use Rattle.scope_log.proofs.LogTasks.{forks_next, task_grows, stage_told}
@@ -142,12 +142,6 @@ tally_told : (L : Limits) (h : History) (s : ℕ) (x : Stage) → Legal L h → 
 tally_told L h s x legal =
     ap (count_by (is_at_in (entries h s) x)) (tasks_told L h s legal)
     ∙ counted (is_task_of h s) (is_at_in (entries h s) x) (λ k. is_stage x (stage h k)) (λ k in_it. ap (is_stage x) (stage_told L h s k legal in_it)) (task_numbers h)
-
-abbrev tallied : ℕ → ℕ → ℕ → ℕ → Counts
-tallied never waiting running finished = record { never = never; waiting = waiting; running = running; finished = finished }
-
-same_counts : (a b c d w x y z : ℕ) → a ≡ w → b ≡ x → c ≡ y → d ≡ z → tallied a b c d ≡ tallied w x y z
-same_counts a b c d w x y z p q r t = rw p (rw q (rw r (rw t refl)))
 
 -- the entries tell how many tasks of a scope are at each stage
 pub counts_told : (L : Limits) (h : History) (s : ℕ) → Legal L h → counts_in (entries h s) ≡ counts h s

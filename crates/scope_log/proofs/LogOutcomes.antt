@@ -161,7 +161,7 @@ kind_told L h s o Joiner legal = answer_told L h s o.policy legal
 kind_told L h s o Close legal = answer_told L h s o.policy legal
 
 -- what a join answers next
-next_told : (L : Limits) (h : History) (s : ℕ) (o : Opening) → Legal L h → answer_in (log_of h s o) ≡ outcome_of h s o
+pub next_told : (L : Limits) (h : History) (s : ℕ) (o : Opening) → Legal L h → answer_in (log_of h s o) ≡ outcome_of h s o
 unfolding answer_in outcome_of
 next_told L h s o legal = rw (cause_told L h s legal) (by (cause h s))
   where

@@ -110,6 +110,12 @@ pub flat_map_same : {A : Type 0} (f g : ℕ → List A) (a n : ℕ) → ((i : �
 flat_map_same f g a zero same = refl
 flat_map_same f g a (suc n) same = rw (same a (omega arith) (omega arith)) (ap (λ xs. g a ++ xs) (flat_map_same f g (a + 1) n (λ i above below. same i (omega (arith, above)) (omega (arith, below)))))
 
+-- one number more of a range adds what it gives
+pub flat_map_more : {A : Type 0} (f : ℕ → List A) (a n : ℕ) → flat_map f (range_with_len a (n + 1)) ≡ flat_map f (range_with_len a n) ++ f (a + n)
+flat_map_more f a n =
+    ap (flat_map f) (range_push a n)
+    ∙ (flat_map-append f (range_with_len a n) ((a + n) ∷ []) ∙ ap (λ xs. flat_map f (range_with_len a n) ++ xs) (append-nil (f (a + n))))
+
 both_same : (x y p q : Option LogEntry) → x ≡ y → p ≡ q → cons_option x (cons_option p []) ≡ cons_option y (cons_option q [])
 both_same x y p q first second = rw first (rw second refl)
 
@@ -125,7 +131,6 @@ entries_grow L h e s legal =
     let at : 0 + n ≡ n = omega arith in
     let new : entries_at g s n ≡ entries_next h e s = both_same _ _ _ _ (entry_new h e s) (mark_new L h e s legal) in
     ap (λ m. flat_map (entries_at g s) (range_with_len 0 m)) longer
-    ∙ (ap (flat_map (entries_at g s)) (range_push 0 n)
-    ∙ (flat_map-append (entries_at g s) (range_with_len 0 n) ((0 + n) ∷ [])
-    ∙ (ap (λ xs. xs ++ flat_map (entries_at g s) ((0 + n) ∷ [])) old
-    ∙ ap (λ xs. entries h s ++ xs) (append-nil (entries_at g s (0 + n)) ∙ (ap (entries_at g s) at ∙ new)))))
+    ∙ (flat_map_more (entries_at g s) 0 n
+    ∙ (ap (λ xs. xs ++ entries_at g s (0 + n)) old
+    ∙ ap (λ xs. entries h s ++ xs) (ap (entries_at g s) at ∙ new)))

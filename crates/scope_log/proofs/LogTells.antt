@@ -1,12 +1,13 @@
 -- The log of a scope tells what the history says of it.
 use Rattle.std.proofs.Common.{◌≡◌, ℕ, Some, ap, ◌∙◌}
+use Rattle.scope_rules.specs.declared.types.records.Opening.{Opening}
 use Rattle.scope_rules.specs.History.{History}
 use Rattle.scope_log.specs.Log.{LogValue, entries, log}
-use Rattle.scope_log.specs.LocalForms.{cause_in, tasks_in, stage_in, state_in, counts_in, settled_in, ready_in, completions_in, outcome_in}
-use Rattle.scope_log.specs.LogLaws.{LogTellsCause, LogTellsTasks, LogTellsStages, LogTellsStates, LogTellsCounts, LogTellsSettled, LogTellsReady, LogTellsCompletions, LogTellsOutcome}
+use Rattle.scope_log.specs.LocalForms.{cause_in, tasks_in, stage_in, state_in, counts_in, settled_in, ready_in, completions_in, answer_in, outcome_in}
+use Rattle.scope_log.specs.LogLaws.{LogTellsCause, LogTellsTasks, LogTellsStages, LogTellsStates, LogTellsCounts, LogTellsSettled, LogTellsReady, LogTellsCompletions, LogTellsNext, LogTellsOutcome}
 use Rattle.scope_log.proofs.LogCounts.{tasks_told, counts_told, settled_told, ready_told}
 use Rattle.scope_log.proofs.LogMarks.{cause_told}
-use Rattle.scope_log.proofs.LogOutcomes.{outcome_told}
+use Rattle.scope_log.proofs.LogOutcomes.{log_of, next_told, outcome_told}
 use Rattle.scope_log.proofs.LogStates.{completions_told, state_told}
 use Rattle.scope_log.proofs.LogTasks.{stage_told}
 use Rattle.scope_log.proofs.NewLogs.{log_there}
@@ -40,3 +41,9 @@ tells_completions L h s l legal is = ap completions_in (entries_there h s l is) 
 
 pub tells_outcome : LogTellsOutcome
 tells_outcome L h s l legal is = let it = log_there h s l is in ap outcome_in it.log ∙ outcome_told L h s it.opened legal it.is
+
+pub tells_next : LogTellsNext
+tells_next L h s l legal is o opened =
+    let it = log_there h s l is in
+    let same : it.opened ≡ o = cc (it.is, opened) in
+    ap answer_in it.log ∙ (ap (λ (x : Opening). answer_in (log_of h s x)) same ∙ next_told L h s o legal)

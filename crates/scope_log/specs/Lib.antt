@@ -1,4 +1,5 @@
 pub mod Log
 pub mod LocalForms
+pub mod Counting
 pub mod LogLaws
 pub mod LogText

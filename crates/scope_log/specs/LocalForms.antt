@@ -105,14 +105,18 @@ state_in es k = option_map_or (λ d. state_by_end d.end) (find (is_end_of k) (re
 abbrev pub is_at_in : List LogEntry → Stage → ℕ → Bool
 is_at_in es x k = is_stage x (stage_in es k)
 
+-- how many of these tasks are at each stage
+abbrev pub counts_of : List LogEntry → List ℕ → Counts
+counts_of es ks = record {
+  never = count_by (is_at_in es Never) ks;
+  waiting = count_by (is_at_in es Waiting) ks;
+  running = count_by (is_at_in es Running) ks;
+  finished = count_by (is_at_in es Finished) ks;
+}
+
 -- how many tasks are at each stage
 unfoldable pub counts_in : List LogEntry → Counts
-counts_in es = record {
-  never = count_by (is_at_in es Never) (tasks_in es);
-  waiting = count_by (is_at_in es Waiting) (tasks_in es);
-  running = count_by (is_at_in es Running) (tasks_in es);
-  finished = count_by (is_at_in es Finished) (tasks_in es);
-}
+counts_in es = counts_of es (tasks_in es)
 
 abbrev pub is_unsettled_in : List LogEntry → ℕ → Bool
 is_unsettled_in es k = not (is_settled (stage_in es k))

@@ -5,16 +5,17 @@ use Rattle.std.specs.List.{filter, filter_map, range_with_len}
 use Rattle.scope_rules.specs.declared.types.answers.Cause.{Cause}
 use Rattle.scope_rules.specs.declared.types.capacity.Limits.{Limits}
 use Rattle.scope_rules.specs.declared.types.events.Event.{Event}
+use Rattle.scope_rules.specs.declared.types.records.Opening.{Opening}
 use Rattle.scope_rules.specs.History.{History, followed, opening, task_numbers}
 use Rattle.scope_rules.specs.Cancels.{cause, cancelled_at}
 use Rattle.scope_rules.specs.Completions.{is_task_of, completions}
 use Rattle.scope_rules.specs.Tasks.{stage, state, counts, settled, ready}
-use Rattle.scope_rules.specs.Outcomes.{outcome}
+use Rattle.scope_rules.specs.Outcomes.{outcome, outcome_of}
 use Rattle.scope_rules.specs.Legal.{Accepts, Legal}
 use Rattle.scope_log.specs.declared.entries.LogEntry.{LogEntry}
 use Rattle.scope_log.specs.declared.entries.LogEntry.TheVariants as entry
 use Rattle.scope_log.specs.Log.{LogValue, entry_at, entries, entries_next, log}
-use Rattle.scope_log.specs.LocalForms.{cause_in, tasks_in, stage_in, state_in, counts_in, settled_in, ready_in, completions_in, outcome_in}
+use Rattle.scope_log.specs.LocalForms.{cause_in, tasks_in, stage_in, state_in, counts_in, settled_in, ready_in, completions_in, answer_in, outcome_in}
 
 -- how the log of scope s goes on with the event, the next after h
 pub record LogGoesOn (h : History) (e : Event) (s : ℕ) : Type 0 where
@@ -85,6 +86,10 @@ LogTellsReady = OfEachLog (λ h s l. ready_in l.entries ≡ ready h s)
 abbrev pub LogTellsCompletions : Type 0
 LogTellsCompletions = OfEachLog (λ h s l. completions_in l.entries ≡ completions h s)
 
--- and what the join of the scope answered
+-- what a join of the scope would answer next
+abbrev pub LogTellsNext : Type 0
+LogTellsNext = OfEachLog (λ h s l. (o : Opening) → opening h s ≡ Some o → answer_in l ≡ outcome_of h s o)
+
+-- and what its join answered
 abbrev pub LogTellsOutcome : Type 0
 LogTellsOutcome = OfEachLog (λ h s l. outcome_in l ≡ outcome h s)

@@ -1,7 +1,7 @@
 //! Laws of the log of a scope, for every legal history. Each function does nothing: its contract is the
 //! law.
 
-ghost use Rattle.scope_log.specs.LogLaws.{LogGrows, LogsAreMarked, LogsAreShort, LogTellsCause, LogTellsTasks, LogTellsStages, LogTellsStates, LogTellsCounts, LogTellsSettled, LogTellsReady, LogTellsCompletions, LogTellsOutcome};
+ghost use Rattle.scope_log.specs.LogLaws.{LogGrows, LogsAreMarked, LogsAreShort, LogTellsCause, LogTellsTasks, LogTellsStages, LogTellsStates, LogTellsCounts, LogTellsSettled, LogTellsReady, LogTellsCompletions, LogTellsNext, LogTellsOutcome};
 
 /// An accepted event adds its entry to the log of its scope, and the mark to the log of each scope that
 /// it cancels; all else stays.
@@ -42,7 +42,8 @@ pub fn logs_tell_counts()
     ensures ready { LogTellsReady }
 {}
 
-/// A log tells what the join of its scope answered.
+/// A log tells what the join of its scope answered, and what a join would answer next.
 pub fn logs_tell_outcomes()
-    ensures { LogTellsOutcome }
+    ensures joined { LogTellsOutcome }
+    ensures next { LogTellsNext }
 {}

@@ -1,9 +1,10 @@
 //! What the entries of a log tell, each answer by a look at them.
 
-ghost use Rattle.std.specs.Prelude.{◌≡◌, ◌≤◌, ◌<◌, ◌^◌, length, count_by, false, option_map, IfOk};
+ghost use Rattle.std.specs.Prelude.{◌≡◌, ◌+◌, ◌≤◌, ◌<◌, ◌^◌, length, count_by, false, option_map, IfOk};
 ghost use Rattle.std.specs.List.{list_any, position, position_or_len, find};
 ghost use Rattle.std.specs.Option.{option_map_or};
-ghost use Rattle.scope_rules.specs.Tasks.{is_stage, state_by_end};
+ghost use Rattle.scope_rules.specs.Tasks.{state_by_end};
+ghost use Rattle.scope_log.specs.Counting.{total, counted};
 ghost use Rattle.scope_log.specs.LocalForms.{is_mark, cause_said, cause_in, before_mark, after_mark, task_forked, tasks_in, forks_task, rejects_task, starts_task, finishes_task, is_never_in, stage_in, completion_said, completions_in, is_end_of, state_in, is_at_in, counts_in, is_unsettled_in, settled_in, ready_in};
 
 use crate::entries::LogEntry;
@@ -144,41 +145,43 @@ fn end_of(entries: &[LogEntry], task: TaskId) -> Option<Completion>
 }
 
 /// How many tasks are at each stage.
-#[tactic(auto, unfolding(crate::specs::LocalForms::counts_in))]
+#[tactic(auto, unfolding(crate::specs::LocalForms::counts_in, crate::specs::LocalForms::tasks_in))]
 pub(crate) fn counts(entries: &[LogEntry]) -> Counts
     requires { length entries.now < 2 ^ 32 }
     ensures { result ≡ counts_in entries.now }
 {
-    Counts {
-        never: count_at(entries, Stage::Never),
-        waiting: count_at(entries, Stage::Waiting),
-        running: count_at(entries, Stage::Running),
-        finished: count_at(entries, Stage::Finished),
-    }
-}
-
-/// How many tasks are at the stage.
-#[tactic(auto, unfolding(crate::specs::LocalForms::tasks_in))]
-fn count_at(entries: &[LogEntry], stage: Stage) -> u32
-    requires { length entries.now < 2 ^ 32 }
-    ensures { result ≡ count_by (is_at_in entries.now stage) (tasks_in entries.now) }
-{
-    let mut count = 0;
+    let mut counts = Counts {
+        never: 0,
+        waiting: 0,
+        running: 0,
+        finished: 0,
+    };
     for entry in entries {
-        if forks_at(entries, stage, entry) {
-            count += 1;
-        }
+        count_entry(&mut counts, entries, entry);
     }
-    count
+    counts
 }
 
-/// Whether the entry is the fork of a task that is at the stage.
-fn forks_at(entries: &[LogEntry], stage: Stage, entry: &LogEntry) -> bool
-    ensures { result ≡ option_map_or (is_at_in entries.now stage) (task_forked entry.now) false }
+/// Counts the task that the entry forks, if it forks one.
+fn count_entry(counts: &mut Counts, entries: &[LogEntry], entry: &LogEntry)
+    requires { total counts.old + 1 < 2 ^ 32 }
+    ensures { counts.new ≡ option_map_or (λ k. counted counts.old (stage_in entries.now k)) (task_forked entry.now) counts.old }
 {
-    match task_forked(entry) {
-        Some(task) => is_stage(stage, self::stage(entries, task)),
-        None => false,
+    if let Some(task) = task_forked(entry) {
+        count_task(counts, stage(entries, task));
+    }
+}
+
+/// Counts one task more, at the stage.
+fn count_task(counts: &mut Counts, stage: Stage)
+    requires { total counts.old + 1 < 2 ^ 32 }
+    ensures { counts.new ≡ counted counts.old stage }
+{
+    match stage {
+        Stage::Never => counts.never += 1,
+        Stage::Waiting => counts.waiting += 1,
+        Stage::Running => counts.running += 1,
+        Stage::Finished => counts.finished += 1,
     }
 }
 
@@ -268,40 +271,28 @@ pub(crate) fn task_forked(entry: &LogEntry) -> Option<TaskId>
 fn forks_task(task: TaskId, entry: &LogEntry) -> bool
     ensures { result ≡ forks_task task entry.now }
 {
-    match *entry {
-        LogEntry::Fork { task: forked, .. } => forked == task,
-        _ => false,
-    }
+    matches!(*entry, LogEntry::Fork { task: forked, .. } if forked == task)
 }
 
 /// Whether the entry rejects the task.
 fn rejects_task(task: TaskId, entry: &LogEntry) -> bool
     ensures { result ≡ rejects_task task entry.now }
 {
-    match *entry {
-        LogEntry::Reject { task: rejected } => rejected == task,
-        _ => false,
-    }
+    matches!(*entry, LogEntry::Reject { task: rejected } if rejected == task)
 }
 
 /// Whether the entry starts the task.
 fn starts_task(task: TaskId, entry: &LogEntry) -> bool
     ensures { result ≡ starts_task task entry.now }
 {
-    match *entry {
-        LogEntry::Start { task: started } => started == task,
-        _ => false,
-    }
+    matches!(*entry, LogEntry::Start { task: started } if started == task)
 }
 
 /// Whether the entry ends the task.
 fn finishes_task(task: TaskId, entry: &LogEntry) -> bool
     ensures { result ≡ finishes_task task entry.now }
 {
-    match *entry {
-        LogEntry::Finish { task: finished, .. } => finished == task,
-        _ => false,
-    }
+    matches!(*entry, LogEntry::Finish { task: finished, .. } if finished == task)
 }
 
 /// The completion that the entry is, if it ends a task.
@@ -311,18 +302,6 @@ pub(crate) fn completion_said(entry: &LogEntry) -> Option<Completion>
     match *entry {
         LogEntry::Finish { task, end } => Some(Completion { task, end }),
         _ => None,
-    }
-}
-
-/// Whether the two stages are one.
-fn is_stage(stage: Stage, other: Stage) -> bool
-    ensures { result ≡ is_stage stage other }
-{
-    match stage {
-        Stage::Never => matches!(other, Stage::Never),
-        Stage::Waiting => matches!(other, Stage::Waiting),
-        Stage::Running => matches!(other, Stage::Running),
-        Stage::Finished => matches!(other, Stage::Finished),
     }
 }
 
