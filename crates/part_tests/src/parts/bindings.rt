@@ -213,6 +213,13 @@ fn check_heirs(rt: &impl Abort, heirs: &[Env], user: Name) {
     }
 }
 
+/// What the environment binds itself goes, and what it inherited stays.
+fn check_unbound(rt: &impl Abort, env: &mut Env, user: Name, trace: Name) {
+    assert_eq!(rt; unbind_all(env), 1000);
+    let found = [env.get(user), env.get(trace)];
+    assert_eq!(rt; found, [Some(Value::Num(999)), None]);
+}
+
 /// Two thousand pairs take 35 pages, and a thousand heirs would take 35,000 if each had a copy.
 #[test]
 fn a_thousand_pairs_are_shared(rt: HostRuntime) -> Result<(), Fail> {
@@ -222,8 +229,7 @@ fn a_thousand_pairs_are_shared(rt: HostRuntime) -> Result<(), Fail> {
     let heirs = heirs(rt.alloc(), &mut env)?;
     assert!(rt; pages(&rt) < before.saturating_add(2000));
     check_heirs(&rt, &heirs, user);
-    let found = (unbind_all(&mut env), env.get(user), env.get(trace));
-    assert_eq!(rt; found, (1000, Some(Value::Num(999)), None));
+    check_unbound(&rt, &mut env, user, trace);
     Ok(())
 }
 

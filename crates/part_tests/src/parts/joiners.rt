@@ -5,7 +5,7 @@ ghost use Rattle.scope_rules.specs.Joining.{meets, has_succeeded};
 
 use super::{boxed, name, pages};
 use join_rules::{Account, CompletionTest, Joiner, Progress, StoredTest, UntilTest};
-use scope_rules::{Completion, End, Fault, Policy, Refusal, Rule, Value};
+use scope_rules::{Completion, End, Fault, Policy, Refusal, Rule, TaskId, Value};
 use std::alloc::{AllocError, Global};
 use std::process::Abort;
 use std::sync::Arc;
@@ -181,6 +181,23 @@ fn check_long(
     Ok(())
 }
 
+fn task_of(done: Option<Completion>) -> Option<TaskId> {
+    Some(done?.task)
+}
+
+/// All that can be are counted, and these tasks failed and succeeded first.
+fn check_totals(
+    rt: &impl Abort,
+    progress: &Progress,
+    failed: Option<TaskId>,
+    succeeded: Option<TaskId>,
+) {
+    let count = progress.failures().wrapping_add(progress.successes());
+    assert_eq!(rt; count, 65_536);
+    assert_eq!(rt; task_of(progress.first_failure()), failed);
+    assert_eq!(rt; task_of(progress.first_success()), succeeded);
+}
+
 #[test]
 fn as_many_as_there_can_be_are_counted(rt: HostRuntime) -> Result<(), Fail> {
     for (rule, kinds, fires, failed, succeeded) in [
@@ -217,15 +234,7 @@ fn as_many_as_there_can_be_are_counted(rt: HostRuntime) -> Result<(), Fail> {
         let joiner = Joiner::Until(UntilTest::plain(rule));
         let mut progress = Progress::new(rt.alloc(), joiner);
         check_long(&rt, &mut progress, kinds, fires)?;
-        assert_eq!(rt;
-            progress.failures().wrapping_add(progress.successes()),
-            65_536
-        );
-        let firsts = [progress.first_failure(), progress.first_success()];
-        assert_eq!(rt;
-            firsts.map(|done| done.map(|done| done.task)),
-            [failed, succeeded]
-        );
+        check_totals(&rt, &progress, failed, succeeded);
     }
     Ok(())
 }
@@ -260,17 +269,25 @@ fn joiner_that_adds(alloc: Global, shown: Arc<AtomicU64, Global>) -> Result<Join
 }
 
 /// The closure is shown all completions, once after each.
+fn check_shown(
+    rt: &impl Abort,
+    progress: &mut Progress,
+    shown: &Arc<AtomicU64, Global>,
+) -> Result<(), Fail> {
+    for (kind, mark) in [(ONE, false), (BAD, false), (Text, true), (BAD, true)] {
+        let fires = hand_in(progress, end_of(kind)?)?;
+        let sum = shown.swap(0, Ordering::SeqCst);
+        assert_eq!(rt; (fires, sum), (mark, u64::from(progress.completions())));
+    }
+    Ok(())
+}
+
 #[test]
 fn a_closure_is_shown_all_once_for_each_completion(rt: HostRuntime) -> Result<(), Fail> {
     let shown = Arc::new(rt.alloc(), AtomicU64::new(0))?;
     let joiner = joiner_that_adds(rt.alloc(), Arc::try_clone(&shown)?)?;
     let mut progress = Progress::new(rt.alloc(), joiner);
-    for (kind, mark) in [(ONE, false), (BAD, false), (Text, true), (BAD, true)] {
-        let fires = hand_in(&mut progress, end_of(kind)?)?;
-        let sum = shown.swap(0, Ordering::SeqCst);
-        assert_eq!(rt; (fires, sum), (mark, u64::from(progress.completions())));
-    }
-    Ok(())
+    check_shown(&rt, &mut progress, &shown)
 }
 
 /// Whether an account of the policy fires at the second of two successes, by the closure that is given.
