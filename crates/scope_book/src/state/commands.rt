@@ -39,7 +39,11 @@ impl<C: Catalog> BookState<C> {
             return Err((Refusal::Memory, joiner));
         }
         let listed = joiner.asks_closure();
-        match self.realm.kept.open(actor, joiner.policy(), options, listed) {
+        match self
+            .realm
+            .kept
+            .open(actor, joiner.policy(), options, listed)
+        {
             Ok(scope) => {
                 self.tests.push_reserved(if listed {
                     Some(joiner.into_test())
@@ -193,7 +197,11 @@ impl<C: Catalog> BookState<C> {
 }
 
 /// The closure that the joiner of the task's scope asks, if it has one.
-fn test_of<'a>(tests: &'a [Option<StoredTest>], kept: &Kept, task: TaskId) -> Option<&'a StoredTest> {
+fn test_of<'a>(
+    tests: &'a [Option<StoredTest>],
+    kept: &Kept,
+    task: TaskId,
+) -> Option<&'a StoredTest> {
     let scope = kept.forking(task)?.scope;
     let place = scope.checked_sub(kept.scopes_before())?.checked_sub(1)?;
     tests.get(place as usize)?.as_ref()
