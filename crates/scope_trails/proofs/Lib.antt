@@ -1,0 +1,3 @@
+pub mod TrailWalks
+pub mod PlaceSteps
+pub mod TrailSteps

@@ -1,0 +1,7 @@
+//! The places of each scope's events in a realm's history, linked as they come: so that a scope's events
+//! are found in time by how many they are.
+#![tactic(auto)]
+
+mod trails;
+
+pub use trails::Trails;
