@@ -1,3 +1,5 @@
 pub mod TrailWalks
 pub mod PlaceSteps
+pub mod LogPlaces
+pub mod EventRoom
 pub mod TrailSteps

@@ -1,3 +1,4 @@
 pub mod Places
 pub mod TrailTable
 pub mod TrailsOf
+pub mod TrailLaws

@@ -2,6 +2,7 @@
 //! are found in time by how many they are.
 #![tactic(auto)]
 
+pub mod laws;
 mod trails;
 
 pub use trails::Trails;
