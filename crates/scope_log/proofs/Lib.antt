@@ -12,3 +12,4 @@ pub mod LogTells
 pub mod LogJoins
 pub mod NameBytes
 pub mod MarkPlaces
+pub mod LogSizes
