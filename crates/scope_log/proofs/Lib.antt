@@ -13,3 +13,4 @@ pub mod LogJoins
 pub mod NameBytes
 pub mod MarkPlaces
 pub mod LogSizes
+pub mod LogPlaces

@@ -1,5 +1,6 @@
--- An accepted join answers what the log of its scope told, and adds itself alone to it.
-use Rattle.std.proofs.Common.{◌≡◌, ℕ, ◌<◌, ◌≤◌, ◌==◌, ◌&&◌, ◌||◌, Bool, true, false, not, cond, Option, Some, None, option_map, [], ◌∷◌, ◌++◌, length, slice_index, nat_le, refl, ap, sym, subst, ◌∙◌, arith}
+-- An accepted join answers what the log of its scope told, and adds itself alone to it; so the log tells
+-- what it would give.
+use Rattle.std.proofs.Common.{◌≡◌, ℕ, ◌<◌, ◌≤◌, ◌==◌, ◌&&◌, ◌||◌, Bool, true, false, not, cond, Option, Some, None, Ok, option_map, [], ◌∷◌, ◌++◌, length, slice_index, nat_le, refl, ap, sym, subst, ◌∙◌, arith}
 use Rattle.std.proofs.lemmas.Bool.{eq-eqb, false_from_ne_true}
 use Rattle.std.proofs.lemmas.List.{append-nil}
 use Rattle.std.proofs.lemmas.List.Folds.{list_any-append}
@@ -34,7 +35,8 @@ use Rattle.scope_rules.proofs.Timed.{moment_grows, deadline_grows}
 use Rattle.scope_log.specs.declared.entries.LogEntry.{LogEntry}
 use Rattle.scope_log.specs.declared.entries.LogEntry.TheVariants as entry
 use Rattle.scope_log.specs.Log.{LogValue, entry_of, mark_of, entries, mark_next, entries_next, log}
-use Rattle.scope_log.specs.LocalForms.{is_join, before_join, answer_in, outcome_in, with_join}
+use Rattle.scope_log.specs.LocalForms.{is_join, before_join, answer_in, outcome_in, with_join, preview_in}
+use Rattle.scope_log.specs.Previews.{preview}
 use Rattle.scope_log.specs.LogLaws.{JoinGoesBy, JoinsGoByLogs}
 use Rattle.scope_log.proofs.FirstParts.{before_first-append}
 use Rattle.scope_log.proofs.LogOutcomes.{joined_told}
@@ -138,7 +140,7 @@ unfolding check_of
 not_joined L h a s ok = not_refused _ _ (checks_at _ 4 _ ok.passed refl)
 
 -- a log without a join tells what the join at its end answers
-pub answer_of_last : (a : ℕ) (l : LogValue) → list_any is_join l.entries ≡ false → outcome_in (with_join a l) ≡ Some (answer_in l)
+answer_of_last : (a : ℕ) (l : LogValue) → list_any is_join l.entries ≡ false → outcome_in (with_join a l) ≡ Some (answer_in l)
 unfolding outcome_in
 answer_of_last a l none =
     let J = entry.Join a ∷ [] in
@@ -156,3 +158,10 @@ joins_go L h a s l legal ok is =
       answers = sym (tells_outcome L (followed h (Join a s)) s (with_join a l) (legal_push L h (Join a s) legal ok) added) ∙ answer_of_last a l none;
       adds = added;
     }
+
+-- the log shows what an accepted join would give
+pub preview_told : (L : Limits) (h : History) (a s : ℕ) (l : LogValue) → Legal L h → check_of L h (Join a s) ≡ Ok tt → log h s ≡ Some l → preview h a s ≡ Some (preview_in a l)
+unfolding preview
+preview_told L h a s l legal passed is =
+    let it = joins_go L h a s l legal (record { passed = passed; recorded = refl }) is in
+    rw it.answers (rw it.adds refl)
