@@ -1,6 +1,6 @@
 -- An accepted join answers what the log of its scope told, and adds itself alone to it; so the log tells
 -- what it would give.
-use Rattle.std.proofs.Common.{◌≡◌, ℕ, ◌<◌, ◌≤◌, ◌==◌, ◌&&◌, ◌||◌, Bool, true, false, not, cond, Option, Some, None, Ok, option_map, [], ◌∷◌, ◌++◌, length, slice_index, nat_le, refl, ap, sym, subst, ◌∙◌, arith}
+use Rattle.std.proofs.Common.{◌≡◌, ℕ, ◌≤◌, ◌&&◌, ◌||◌, Bool, true, false, not, cond, Option, Some, None, Ok, option_map, [], ◌∷◌, ◌++◌, length, slice_index, nat_le, refl, ap, sym, subst, ◌∙◌, arith}
 use Rattle.std.proofs.lemmas.Bool.{eq-eqb, false_from_ne_true}
 use Rattle.std.proofs.lemmas.List.{append-nil}
 use Rattle.std.proofs.lemmas.List.Folds.{list_any-append}
@@ -28,16 +28,15 @@ use Rattle.scope_rules.proofs.EarliestLaws.{cut_earliest}
 use Rattle.scope_rules.proofs.Growing.{opening_stays, own_stays}
 use Rattle.scope_rules.proofs.Nesting.{IsOpened}
 use Rattle.scope_rules.proofs.OneEventMore.{along, opening_same, joined_grows}
-use Rattle.scope_rules.proofs.OwnSteps.{kind_next, own_from, own_next}
+use Rattle.scope_rules.proofs.OwnSteps.{own_from, own_next}
 use Rattle.scope_rules.proofs.Pushing.{legal_push}
 use Rattle.scope_rules.proofs.Staying.{cut_of, own_place, cut_grows}
 use Rattle.scope_rules.proofs.Timed.{moment_grows, deadline_grows}
-use Rattle.scope_log.specs.declared.entries.LogEntry.{LogEntry}
 use Rattle.scope_log.specs.declared.entries.LogEntry.TheVariants as entry
-use Rattle.scope_log.specs.Log.{LogValue, entry_of, mark_of, entries, mark_next, entries_next, log}
+use Rattle.scope_log.specs.Log.{LogValue, entry_of, mark_of, mark_next, entries_next, log}
 use Rattle.scope_log.specs.LocalForms.{is_join, before_join, answer_in, outcome_in, with_join, preview_in}
 use Rattle.scope_log.specs.Previews.{preview}
-use Rattle.scope_log.specs.LogLaws.{JoinGoesBy, JoinsGoByLogs}
+use Rattle.scope_log.specs.LogLaws.{JoinsGoByLogs}
 use Rattle.scope_log.proofs.FirstParts.{before_first-append}
 use Rattle.scope_log.proofs.LogOutcomes.{joined_told}
 use Rattle.scope_log.proofs.LogTells.{entries_there, tells_outcome}

@@ -1,11 +1,9 @@
 -- The entries of a scope, place by place.
-use Rattle.std.proofs.Common.{◌≡◌, ℕ, ◌+◌, Bool, cond, Option, Some, None, Ok, option_map, [], ◌∷◌, ◌++◌, length, slice_get, is_some, refl, ap, sym, ◌∙◌, arith, append_assoc}
-use Rattle.std.specs.Option.{option_and_then}
+use Rattle.std.proofs.Common.{◌≡◌, ℕ, ◌+◌, cond, Option, Some, None, Ok, [], ◌∷◌, ◌++◌, slice_get, refl, ap, sym, ◌∙◌, arith, append_assoc}
 use Rattle.std.specs.List.{flat_map, range_with_len, cons_option}
 use Rattle.scope_rules.specs.declared.types.events.Event.{Event}
 use Rattle.scope_rules.specs.declared.types.events.Event.TheVariants.{Fork}
-use Rattle.scope_rules.specs.declared.types.records.Opening.{Opening}
-use Rattle.scope_rules.specs.History.{History, before, is_fork, opening, tasks}
+use Rattle.scope_rules.specs.History.{History, before, is_fork, tasks}
 use Rattle.scope_rules.specs.Checks.{scope_check}
 use Rattle.scope_rules.proofs.NewScopes.{scope_passed}
 use Rattle.scope_rules.proofs.Prefixes.{count_by_at_yes}

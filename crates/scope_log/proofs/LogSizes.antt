@@ -2,9 +2,8 @@
 use Rattle.std.proofs.Common.{◌≡◌, ℕ, ◌+◌, ◌<◌, ◌≤◌, ◌^◌, [], ◌∷◌, length, refl, arith, length-append}
 use Rattle.scope_rules.specs.declared.types.capacity.Limits.{Limits}
 use Rattle.scope_rules.specs.declared.types.capacity.TheConstants.{LOAD_LIMIT}
-use Rattle.scope_rules.specs.declared.types.events.Event.{Event}
 use Rattle.scope_rules.specs.Origin.{Origin}
-use Rattle.scope_rules.specs.History.{History, followed}
+use Rattle.scope_rules.specs.History.{History}
 use Rattle.scope_rules.specs.Load.{load}
 use Rattle.scope_rules.specs.Owed.{owed, missing}
 use Rattle.scope_rules.specs.Legal.{Legal, IsWithin}
