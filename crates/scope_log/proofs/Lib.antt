@@ -9,5 +9,8 @@ pub mod CountSteps
 pub mod LogCounts
 pub mod LogOutcomes
 pub mod LogTells
+pub mod LogJoins
 pub mod NameBytes
 pub mod MarkPlaces
+pub mod LogSizes
+pub mod LogPlaces

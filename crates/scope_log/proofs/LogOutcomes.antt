@@ -20,13 +20,13 @@ use Rattle.scope_rules.specs.Origin.{Origin}
 use Rattle.scope_rules.specs.Search.{earliest}
 use Rattle.scope_rules.specs.Joining.{has_failed, has_succeeded}
 use Rattle.scope_rules.specs.History.{History, before, followed, opening}
-use Rattle.scope_rules.specs.Scopes.{joins}
+use Rattle.scope_rules.specs.Scopes.{joins, joined}
 use Rattle.scope_rules.specs.Cancels.{cause}
 use Rattle.scope_rules.specs.Outcomes.{first_failure, first_success, outcome_by, expired_outcome, outcome_by_kind, outcome_of, joining_at, joining, outcome}
 use Rattle.scope_rules.specs.Legal.{Legal}
 use Rattle.scope_rules.proofs.Answered.{joining_inside, joining_stays}
 use Rattle.scope_rules.proofs.Nesting.{legal_before}
-use Rattle.scope_rules.proofs.OneEventMore.{along, last_event}
+use Rattle.scope_rules.proofs.OneEventMore.{along, last_event, joined_grows}
 use Rattle.scope_rules.proofs.Prefixes.{get_push}
 use Rattle.scope_rules.proofs.Pushing.{before_push, before_last}
 use Rattle.scope_rules.proofs.Searching.{earliest_same}
@@ -134,6 +134,14 @@ join_start s b = record { none = λ none. refl; some = λ i is. absurd cc }
 
 join_told : (L : Limits) (h : History) (s : ℕ) → Legal L h → JoinTold s h
 join_told L h s legal = along L (JoinTold s) (join_start s) (λ g e lawful ok so. join_step L s g e lawful so) h legal
+
+none_joined : (s : ℕ) (b : Origin) → list_any is_join (entries (record { base = b; events = [] }) s) ≡ joined (record { base = b; events = [] }) s
+unfolding entries joined
+none_joined s b = refl
+
+-- the entries have a join where the scope is joined
+pub joined_told : (L : Limits) (h : History) (s : ℕ) → Legal L h → list_any is_join (entries h s) ≡ joined h s
+joined_told L h s legal = along L (λ g. list_any is_join (entries g s) ≡ joined g s) (none_joined s) (λ g e lawful ok so. joins_grow L s g e lawful ∙ (ap (λ b. b || joins s e) so ∙ sym (joined_grows g e s))) h legal
 
 -- ---- what it answered
 

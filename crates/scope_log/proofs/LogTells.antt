@@ -12,7 +12,7 @@ use Rattle.scope_log.proofs.LogStates.{completions_told, state_told}
 use Rattle.scope_log.proofs.LogTasks.{stage_told}
 use Rattle.scope_log.proofs.NewLogs.{log_there}
 
-entries_there : (h : History) (s : ℕ) (l : LogValue) → log h s ≡ Some l → l.entries ≡ entries h s
+pub entries_there : (h : History) (s : ℕ) (l : LogValue) → log h s ≡ Some l → l.entries ≡ entries h s
 entries_there h s l is = ap (λ (x : LogValue). x.entries) (log_there h s l is).log
 
 pub tells_cause : LogTellsCause

@@ -3,3 +3,4 @@ pub mod LocalForms
 pub mod Counting
 pub mod LogLaws
 pub mod LogText
+pub mod Previews

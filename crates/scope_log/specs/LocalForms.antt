@@ -1,6 +1,6 @@
 -- What can be told from the entries of a log alone: each answer of a scope, by its own events and the
 -- mark of its cancellation.
-use Rattle.std.specs.Prelude.{ℕ, ◌==◌, ◌||◌, Bool, true, false, not, Option, Some, None, List, map, count_by, if◌then◌else◌}
+use Rattle.std.specs.Prelude.{ℕ, ◌==◌, ◌||◌, Bool, true, false, not, Option, Some, None, List, [], ◌∷◌, ◌++◌, map, count_by, if◌then◌else◌}
 use Rattle.std.specs.Option.{option_and_then, option_map_or}
 use Rattle.std.specs.List.{list_any, filter_map, find, before_first, after_first}
 use Rattle.scope_rules.specs.declared.types.answers.Cause.{Cause}
@@ -25,6 +25,7 @@ use Rattle.scope_rules.specs.Tasks.{is_settled, is_stage, state_by_end}
 use Rattle.scope_rules.specs.Outcomes.{value_in, outcome_or}
 use Rattle.scope_log.specs.declared.entries.LogEntry.{LogEntry}
 use Rattle.scope_log.specs.declared.entries.LogEntry.TheVariants as entry
+use Rattle.scope_log.specs.declared.previews.Preview.{Preview}
 use Rattle.scope_log.specs.Log.{LogValue}
 
 -- ---- the mark
@@ -191,3 +192,11 @@ before_join l = record l { entries = before_first is_join l.entries }
 -- what the join answered, if there was one: decided by the entries before it
 unfoldable pub outcome_in : LogValue → Option Outcome
 outcome_in l = if list_any is_join l.entries then Some (answer_in (before_join l)) else None
+
+-- the log with a join by the actor at its end
+abbrev pub with_join : ℕ → LogValue → LogValue
+with_join a l = record l { entries = l.entries ++ entry.Join a ∷ [] }
+
+-- what a join by the actor would give next: what the log tells now, and the log with the join
+abbrev pub preview_in : ℕ → LogValue → Preview
+preview_in a l = record { outcome = answer_in l; log = with_join a l }

@@ -36,19 +36,23 @@ is_of h s (BeginClose actor scope) = scope == s
 is_of h s (EndClose actor scope) = scope == s
 is_of h s _ = false
 
--- what the event, the next after h, says in the log of its scope: a fork the number that it gives
+-- what the event says in the log of its scope; k is the number that a fork gives
+abbrev pub said_with : ℕ → Event → Option LogEntry
+said_with k (Open actor policy options) = Some (entry.Open actor policy options)
+said_with k (Fork actor scope label) = Some (entry.Fork k actor label)
+said_with k (Reject task) = Some (entry.Reject task)
+said_with k (Start task) = Some (entry.Start task)
+said_with k (Finish task end) = Some (entry.Finish task end)
+said_with k (Cancel scope) = Some entry.Cancel
+said_with k (Move scope deadline) = Some (entry.Move deadline)
+said_with k (Join actor scope) = Some (entry.Join actor)
+said_with k (BeginClose actor scope) = Some (entry.BeginClose actor)
+said_with k (EndClose actor scope) = Some (entry.EndClose actor)
+said_with k _ = None
+
+-- the same of the event, the next after h
 abbrev pub said : History → Event → Option LogEntry
-said h (Open actor policy options) = Some (entry.Open actor policy options)
-said h (Fork actor scope label) = Some (entry.Fork (tasks h + 1) actor label)
-said h (Reject task) = Some (entry.Reject task)
-said h (Start task) = Some (entry.Start task)
-said h (Finish task end) = Some (entry.Finish task end)
-said h (Cancel scope) = Some entry.Cancel
-said h (Move scope deadline) = Some (entry.Move deadline)
-said h (Join actor scope) = Some (entry.Join actor)
-said h (BeginClose actor scope) = Some (entry.BeginClose actor)
-said h (EndClose actor scope) = Some (entry.EndClose actor)
-said h _ = None
+said h e = said_with (tasks h + 1) e
 
 -- the entry of the event, the next after h, in the log of scope s
 abbrev pub entry_of : History → ℕ → Event → Option LogEntry

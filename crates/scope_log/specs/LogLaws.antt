@@ -5,6 +5,7 @@ use Rattle.std.specs.List.{filter, filter_map, range_with_len}
 use Rattle.scope_rules.specs.declared.types.answers.Cause.{Cause}
 use Rattle.scope_rules.specs.declared.types.capacity.Limits.{Limits}
 use Rattle.scope_rules.specs.declared.types.events.Event.{Event}
+use Rattle.scope_rules.specs.declared.types.events.Event.TheVariants.{Join}
 use Rattle.scope_rules.specs.declared.types.records.Opening.{Opening}
 use Rattle.scope_rules.specs.History.{History, followed, opening, task_numbers}
 use Rattle.scope_rules.specs.Cancels.{cause, cancelled_at}
@@ -15,7 +16,7 @@ use Rattle.scope_rules.specs.Legal.{Accepts, Legal}
 use Rattle.scope_log.specs.declared.entries.LogEntry.{LogEntry}
 use Rattle.scope_log.specs.declared.entries.LogEntry.TheVariants as entry
 use Rattle.scope_log.specs.Log.{LogValue, entry_at, entries, entries_next, log}
-use Rattle.scope_log.specs.LocalForms.{cause_in, tasks_in, stage_in, state_in, counts_in, settled_in, ready_in, completions_in, answer_in, outcome_in}
+use Rattle.scope_log.specs.LocalForms.{cause_in, tasks_in, stage_in, state_in, counts_in, settled_in, ready_in, completions_in, answer_in, outcome_in, with_join}
 
 -- how the log of scope s goes on with the event, the next after h
 pub record LogGoesOn (h : History) (e : Event) (s : ℕ) : Type 0 where
@@ -93,3 +94,14 @@ LogTellsNext = OfEachLog (λ h s l. (o : Opening) → opening h s ≡ Some o →
 -- and what its join answered
 abbrev pub LogTellsOutcome : Type 0
 LogTellsOutcome = OfEachLog (λ h s l. outcome_in l ≡ outcome h s)
+
+-- what an accepted join of scope s by the actor makes of the scope's log
+pub record JoinGoesBy (h : History) (a s : ℕ) (l : LogValue) : Type 0 where
+  -- it answers what the log told
+  pub answers : outcome (followed h (Join a s)) s ≡ Some (answer_in l)
+  -- and adds itself to it, and nothing else
+  pub adds : log (followed h (Join a s)) s ≡ Some (with_join a l)
+
+-- a join goes by the log of its scope
+abbrev pub JoinsGoByLogs : Type 0
+JoinsGoByLogs = (L : Limits) (h : History) (a s : ℕ) (l : LogValue) → Legal L h → Accepts L h (Join a s) → log h s ≡ Some l → JoinGoesBy h a s l

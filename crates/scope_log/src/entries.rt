@@ -1,6 +1,9 @@
 //! The entries of a log.
 
-use scope_rules::{Actor, Cause, End, Label, Options, Policy, TaskId};
+ghost use Rattle.std.specs.Prelude.{◌≡◌};
+ghost use Rattle.scope_log.specs.Log.{said_with};
+
+use scope_rules::{Actor, Cause, End, Event, Label, Options, Policy, TaskId};
 
 /// An entry of the log of a scope: an event that names the scope or a task of it, or the mark of the
 /// scope's cancellation.
@@ -52,4 +55,38 @@ pub enum LogEntry {
     /// The scope became cancelled, by this cause: after the entries before this one, and before those
     /// after it.
     Cancelled(Cause),
+}
+
+impl LogEntry {
+    /// What the event says in the log of its scope, if it is of one: the task is the one that a fork
+    /// gives. A bind, an unbind and a tick say nothing.
+    pub fn said(event: &Event, task: TaskId) -> Option<LogEntry>
+        ensures { result ≡ said_with task event.now }
+    {
+        Some(match *event {
+            Event::Open {
+                actor,
+                policy,
+                options,
+            } => LogEntry::Open {
+                actor,
+                policy,
+                options,
+            },
+            Event::Fork {
+                actor,
+                scope: _,
+                label,
+            } => LogEntry::Fork { task, actor, label },
+            Event::Reject { task } => LogEntry::Reject { task },
+            Event::Start { task } => LogEntry::Start { task },
+            Event::Finish { task, end } => LogEntry::Finish { task, end },
+            Event::Cancel { .. } => LogEntry::Cancel,
+            Event::Move { scope: _, deadline } => LogEntry::Move { deadline },
+            Event::Join { actor, scope: _ } => LogEntry::Join { actor },
+            Event::BeginClose { actor, scope: _ } => LogEntry::BeginClose { actor },
+            Event::EndClose { actor, scope: _ } => LogEntry::EndClose { actor },
+            Event::Tick { .. } | Event::Bind { .. } | Event::Unbind { .. } => return None,
+        })
+    }
 }

@@ -1,7 +1,7 @@
 //! Laws of the log of a scope, for every legal history. Each function does nothing: its contract is the
 //! law.
 
-ghost use Rattle.scope_log.specs.LogLaws.{LogGrows, LogsAreMarked, LogsAreShort, LogTellsCause, LogTellsTasks, LogTellsStages, LogTellsStates, LogTellsCounts, LogTellsSettled, LogTellsReady, LogTellsCompletions, LogTellsNext, LogTellsOutcome};
+ghost use Rattle.scope_log.specs.LogLaws.{LogGrows, LogsAreMarked, LogsAreShort, LogTellsCause, LogTellsTasks, LogTellsStages, LogTellsStates, LogTellsCounts, LogTellsSettled, LogTellsReady, LogTellsCompletions, LogTellsNext, LogTellsOutcome, JoinsGoByLogs};
 
 /// An accepted event adds its entry to the log of its scope, and the mark to the log of each scope that
 /// it cancels; all else stays.
@@ -46,4 +46,10 @@ pub fn logs_tell_counts()
 pub fn logs_tell_outcomes()
     ensures joined { LogTellsOutcome }
     ensures next { LogTellsNext }
+{}
+
+/// A join answers what the log of its scope told before it, and adds itself to that log, and nothing
+/// else.
+pub fn joins_go_by_logs()
+    ensures { JoinsGoByLogs }
 {}

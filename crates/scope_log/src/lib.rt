@@ -6,9 +6,11 @@ mod entries;
 pub mod laws;
 mod log;
 mod outcomes;
+mod previews;
 mod readings;
 mod shown;
 
 pub use entries::LogEntry;
 pub use log::ScopeLog;
+pub use previews::Preview;
 pub use shown::ShownEntry;

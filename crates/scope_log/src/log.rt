@@ -1,12 +1,13 @@
 //! The log of a scope.
 
-ghost use Rattle.std.specs.Prelude.{◌≡◌, ◌<◌, ◌^◌, length, IfOk};
-ghost use Rattle.scope_log.specs.LocalForms.{cause_in, stage_in, state_in, counts_in, ready_in, completions_in, outcome_in};
+ghost use Rattle.std.specs.Prelude.{◌≡◌, ◌+◌, ◌<◌, ◌^◌, length, IfOk};
+ghost use Rattle.scope_log.specs.LocalForms.{cause_in, stage_in, state_in, counts_in, ready_in, completions_in, outcome_in, preview_in};
 
 use crate::entries::LogEntry;
+use crate::previews::Preview;
 use crate::{outcomes, readings};
 use scope_rules::{
-    Cause, Completion, Counts, Expiry, Outcome, Policy, ScopeId, Stage, State, TaskId,
+    Actor, Cause, Completion, Counts, Expiry, Outcome, Policy, ScopeId, Stage, State, TaskId,
 };
 use std::alloc::{AllocError, Global};
 use std::marker::Model;
@@ -122,5 +123,16 @@ impl ScopeLog {
         ensures { IfOk result (λ o. o ≡ outcome_in self.now) }
     {
         outcomes::outcome(alloc, &self.items, self.scope, self.policy, self.expiry)
+    }
+
+    /// What a join of the scope by the actor would give next, where it wasn't joined: what the join would
+    /// answer, and the log with the join at its end. It is refused where memory is.
+    pub fn into_preview(mut self, alloc: Global, actor: Actor) -> Result<Preview, AllocError>
+        requires { length self.entries + 1 < 2 ^ 32 }
+        ensures { IfOk result (λ p. p ≡ preview_in actor self) }
+    {
+        let outcome = outcomes::answer(alloc, &self.items, self.scope, self.policy, self.expiry)?;
+        self.items.push(LogEntry::Join { actor })?;
+        Ok(Preview { outcome, log: self })
     }
 }

@@ -53,7 +53,7 @@ fn position_of_join(entries: &[LogEntry]) -> Option<usize>
 
 /// What a join answers after these entries.
 #[tactic(auto, unfolding(crate::specs::LocalForms::answer_in))]
-fn answer(
+pub(crate) fn answer(
     alloc: Global,
     entries: &[LogEntry],
     scope: ScopeId,

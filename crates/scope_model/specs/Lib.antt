@@ -26,3 +26,9 @@ pub use Rattle.scope_rules.specs.Replies
 pub use Rattle.scope_rules.specs.Legal
 pub use Rattle.scope_rules.specs.Owed
 pub use Rattle.scope_rules.specs.Laws
+pub use Rattle.scope_log.specs.Log
+pub use Rattle.scope_log.specs.LocalForms
+pub use Rattle.scope_log.specs.Counting
+pub use Rattle.scope_log.specs.LogLaws
+pub use Rattle.scope_log.specs.LogText
+pub use Rattle.scope_log.specs.Previews

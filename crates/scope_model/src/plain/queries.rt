@@ -1,15 +1,19 @@
-ghost use Rattle.std.specs.Prelude.{◌≡◌, Ok};
+ghost use Rattle.std.specs.Prelude.{◌≡◌, ◌+◌, ◌<◌, ◌^◌, length, Ok, IfOk};
 ghost use Rattle.scope_rules.specs.History.{moment};
 ghost use Rattle.scope_rules.specs.Cancels.{cause, cancelled_at, effective};
 ghost use Rattle.scope_rules.specs.Tasks.{stage, state, counts};
 ghost use Rattle.scope_rules.specs.Outcomes.{outcome};
 ghost use Rattle.scope_rules.specs.Checks.{scope_check, task_check};
-ghost use Rattle.scope_rules.specs.Table.{answering, until_check};
+ghost use Rattle.scope_rules.specs.Table.{answering, check_of, until_check};
 ghost use Rattle.scope_rules.specs.Replies.{AnswersValue, result_reply, fault_reply, binding_reply, outcome_check};
+ghost use Rattle.scope_log.specs.Log.{log};
+ghost use Rattle.scope_log.specs.Previews.{preview};
 
 use crate::plain::evaluator::Plain;
-use scope_checks::{checks, questions};
+use scope_checks::{checks, questions, table};
+use scope_log::{Preview, ScopeLog};
 use scope_rules::types::answers::{Cause, Counts, Effective, Stage, State};
+use scope_rules::types::events::Event;
 use scope_rules::types::names::Name;
 use scope_rules::types::outcomes::Outcome;
 use scope_rules::types::refusals::Refusal;
@@ -138,6 +142,44 @@ impl Plain {
         questions::outcome_check(&view, scope)?;
         match view.outcome(self.allocator(), scope) {
             Ok(Some(outcome)) => Ok(outcome),
+            Ok(None) => unreachable!(),
+            Err(_) => Err(Refusal::Memory),
+        }
+    }
+
+    /// The log of the scope: its own events since the base, in order, with the mark of its cancellation
+    /// among them. Refused for an unknown scope (`NoScope`, `Retired`), and where memory is refused
+    /// (`Memory`).
+    pub fn project(&self, scope: ScopeId) -> Result<ScopeLog, Refusal>
+        ensures { AnswersValue (scope_check self.now.history scope) (log self.now.history scope) result }
+    {
+        checks::scope_check(&self.view(), scope)?;
+        self.log(scope)
+    }
+
+    /// What a join of the actor's scope would give next: what it would answer, and the scope's log with
+    /// it. Refused where the join would be, and where memory is refused (`Memory`).
+    pub fn join_preview(&self, actor: Actor, scope: ScopeId) -> Result<Preview, Refusal>
+        ensures { AnswersValue (check_of self.now.limits self.now.history (Event.Join actor scope)) (preview self.now.history actor scope) result }
+    {
+        let _limits = self.limits();
+        table::join_row(&self.view(), actor, scope)?;
+        let log = self.log(scope)?;
+        match log.into_preview(self.allocator(), actor) {
+            Ok(preview) => Ok(preview),
+            Err(_) => Err(Refusal::Memory),
+        }
+    }
+
+    /// The log of the scope, which is there.
+    fn log(&self, scope: ScopeId) -> Result<ScopeLog, Refusal>
+        requires { scope_check self.now.history scope ≡ Ok tt }
+        ensures log { AnswersValue (Ok tt) (log self.now.history scope) result }
+        ensures small { IfOk result (λ l. length l.entries + 1 < 2 ^ 32) }
+    {
+        let _limits = self.limits();
+        match self.view().log(self.allocator(), scope) {
+            Ok(Some(log)) => Ok(log),
             Ok(None) => unreachable!(),
             Err(_) => Err(Refusal::Memory),
         }

@@ -89,7 +89,7 @@ impl<'a> HistoryView<'a> {
     {
         let mut values = Vec::new(alloc);
         for before in 0..self.forked_count() {
-            push_value(&mut values, self.value_of(scope, self.task_after(before)))?;
+            push_some(&mut values, self.value_of(scope, self.task_after(before)))?;
         }
         Ok(TaskValues::new(values))
     }
@@ -112,7 +112,7 @@ impl<'a> HistoryView<'a> {
     {
         let mut states = Vec::new(alloc);
         for before in 0..self.forked_count() {
-            push_state(&mut states, self.entry_of(scope, self.task_after(before)))?;
+            push_some(&mut states, self.entry_of(scope, self.task_after(before)))?;
         }
         Ok(TaskStates::new(states))
     }
@@ -239,22 +239,12 @@ impl<'a> HistoryView<'a> {
     }
 }
 
-/// Adds the value, if there is one.
-fn push_value(values: &mut Vec<TaskValue>, value: Option<TaskValue>) -> Result<(), AllocError>
-    ensures { OnOk result (values.new.items ≡ values.old.items ++ cons_option value []) }
+/// Adds the item, if there is one.
+pub fn push_some<T: Copy>(items: &mut Vec<T>, item: Option<T>) -> Result<(), AllocError>
+    ensures { OnOk result (items.new.items ≡ items.old.items ++ cons_option item []) }
 {
-    match value {
-        Some(value) => Ok(values.push(value)?),
-        None => Ok(()),
-    }
-}
-
-/// Adds the state, if there is one.
-fn push_state(states: &mut Vec<TaskState>, state: Option<TaskState>) -> Result<(), AllocError>
-    ensures { OnOk result (states.new.items ≡ states.old.items ++ cons_option state []) }
-{
-    match state {
-        Some(state) => Ok(states.push(state)?),
+    match item {
+        Some(item) => Ok(items.push(item)?),
         None => Ok(()),
     }
 }

@@ -1,0 +1,28 @@
+-- Logs are short within the limits, and a scope that is there has one.
+use Rattle.std.proofs.Common.{◌≡◌, ℕ, ◌+◌, ◌<◌, ◌≤◌, ◌^◌, length, sym, subst, ◌∙◌, arith}
+use Rattle.scope_rules.specs.declared.types.capacity.Limits.{Limits}
+use Rattle.scope_rules.specs.declared.types.capacity.TheConstants.{LOAD_LIMIT}
+use Rattle.scope_rules.specs.History.{History}
+use Rattle.scope_rules.specs.Legal.{Legal, IsWithin}
+use Rattle.scope_log.specs.Log.{entries}
+use Rattle.scope_log.proofs.LogPlaces.{log_there_where}
+use Rattle.scope_log.proofs.LogSizes.{entries_small}
+use Rattle.scope_log.proofs.LogTells.{entries_there}
+use Rattle.scope_model.proofs.plain.evaluator.Plain.log.Goals as goal
+
+short : (L M : Limits) (h : History) (s : ℕ) → M ≡ L → Legal L h → IsWithin L h → length (entries h s) + 1 < 2 ^ 32
+short L M h s same legal within = entries_small L h s legal within (subst (λ (x : Limits). x.load ≤ LOAD_LIMIT) same M.load_in_range)
+
+pub log-requires : goal.log-requires
+log-requires c =
+    let facts = c.limits-limits.ensures in
+    rw c.view.ensures (omega (arith, short _ _ _ c.args.scope facts.limits facts.legal facts.within))
+
+pub unreachable-requires : goal.unreachable-requires
+unreachable-requires c =
+    log_there_where _ c.args.scope c.requires (rw c.view.ensures at (sym c.in-Ok-None.ensures ∙ c.in-Ok-None.field-0-is))
+
+pub returns-in-Ok-Some-clause-small : goal.returns-in-Ok-Some-clause-small
+returns-in-Ok-Some-clause-small c =
+    let facts = c.limits-limits.ensures in
+    rw (entries_there _ _ _ (rw c.view.ensures at (sym c.in-Ok-Some.ensures ∙ c.in-Ok-Some.field-0-is))) (short _ _ _ c.args.scope facts.limits facts.legal facts.within)
