@@ -5,6 +5,7 @@ mod deadlines;
 mod joiners;
 mod logs;
 mod realms;
+mod trails;
 mod trees;
 mod types;
 

@@ -109,7 +109,7 @@ module _ (h : History) (e : Event) (t : TrailTable) (other : is_open e ≡ false
   is_its : (scope : Option ℕ) (s : ℕ) (b : Bool) → scope_of_event h e ≡ scope → is_this scope s ≡ b → is_of h s e ≡ b
   is_its scope s b named so = event_of h s e ∙ (ap (λ (o : Option ℕ). is_this o s) named ∙ so)
 
-  trails_told : (s : ℕ) → scope_of_event h e ≡ Some s → HasTrail t s → (i last : ℕ) → slice_get (with_event (Some s) t).lasts i ≡ Some last → IsTrailOf (followed h e) (t.before + 1 + i) (with_event (Some s) t).links last
+  trails_told : (s : ℕ) → scope_of_event h e ≡ Some s → HasTrail t s → (i last : ℕ) → slice_get (with_event t (Some s)).lasts i ≡ Some last → IsTrailOf (followed h e) (t.before + 1 + i) (with_event t (Some s)).links last
   trails_told s named has i last at =
       let n = (t.before + 1) + i in
       elim (altered_split (λ was. length t.links) t.lasts (place_of t.before s) i last at) [
@@ -117,13 +117,13 @@ module _ (h : History) (e : Event) (t : TrailTable) (other : is_open e ≡ false
             let number : n ≡ s = ap (λ j. (t.before + 1) + j) here.0 ∙ number_at t.before s has.0 in
             let was : here.1.was ≡ last_in t s = sym (get_or_from_slice_get t.lasts i here.1.was 0 here.1.at) ∙ ap (λ j. get_or t.lasts j 0) here.0 in
             let it = trail_more h e n t.links here.1.was (is_its (Some s) n true named (eq-eqb s n (sym number))) are.linked (are.trails i here.1.was here.1.at) in
-            subst (IsTrailOf (followed h e) n (with_event (Some s) t).links) here.1.is (subst (λ x. IsTrailOf (followed h e) n (t.links ++ x ∷ []) (length t.links)) was it)
+            subst (IsTrailOf (followed h e) n (with_event t (Some s)).links) here.1.is (subst (λ x. IsTrailOf (followed h e) n (t.links ++ x ∷ []) (length t.links)) was it)
         | inr there ↦
             let apart : s ≢ n = λ same. number_apart t.before i s has.0 there.0 (sym same) in
             trail_stays h e n t.links (last_in t s) last (is_its (Some s) n false named (ne_eqb s n apart)) (are.trails i last there.1)
       ]
 
-  one_told : (scope : Option ℕ) → scope_of_event h e ≡ scope → ((s : ℕ) → scope ≡ Some s → HasTrail t s) → AreTrailsOf (followed h e) (with_event scope t)
+  one_told : (scope : Option ℕ) → scope_of_event h e ≡ scope → ((s : ℕ) → scope ≡ Some s → HasTrail t s) → AreTrailsOf (followed h e) (with_event t scope)
   one_told (Some s) named has = record {
     numbered = are.numbered;
     linked = linked_more h e t.links (last_in t s) are.linked;
@@ -140,7 +140,7 @@ module _ (h : History) (e : Event) (t : TrailTable) (other : is_open e ≡ false
   }
 
 -- an event goes on with the trail of its scope, if it has one
-pub told_agrees : (h : History) (e : Event) (t u : TrailTable) (scope : Option ℕ) → u ≡ with_event scope t → ((s : ℕ) → scope ≡ Some s → HasTrail t s) → is_open e ≡ false → scope_of_event h e ≡ scope → HasLoadRoom (followed h e) t.room → AreTrailsOf h t
+pub told_agrees : (h : History) (e : Event) (t u : TrailTable) (scope : Option ℕ) → u ≡ with_event t scope → ((s : ℕ) → scope ≡ Some s → HasTrail t s) → is_open e ≡ false → scope_of_event h e ≡ scope → HasLoadRoom (followed h e) t.room → AreTrailsOf h t
     → AreTrailsOf (followed h e) u
 told_agrees h e t u scope is has other named loaded are = subst (AreTrailsOf (followed h e)) (sym is) (one_told h e t other loaded are scope named has)
 
@@ -197,7 +197,7 @@ last_moved v t s at x y place same there within read is =
 
 -- the link of a scope's event is put at the end, and its last place is moved
 pub told_scope : (v t : TrailTable) (s link place room : ℕ) (links : List ℕ) → v ≡ with_last t s place → place ≡ length t.links → link ≡ last_in t s → links ≡ v.links ++ link ∷ [] → room ≡ v.room
-    → record v { links = links; room = room } ≡ with_event (Some s) t
+    → record v { links = links; room = room } ≡ with_event t (Some s)
 told_scope v t s link place room links moved at was put same =
     ap (λ ls. record v { links = ls; room = room }) put
     ∙ (ap (λ r. record v { links = v.links ++ link ∷ []; room = r }) same
@@ -205,7 +205,7 @@ told_scope v t s link place room links moved at was put same =
     ∙ (ap (λ i. record (with_last t s place) { links = t.links ++ i ∷ [] }) was ∙ ap (λ i. record (with_last t s i) { links = t.links ++ last_in t s ∷ [] }) at)))
 
 -- an event of none has its own place for a link
-pub told_none : (v t : TrailTable) (link place room : ℕ) (links : List ℕ) → v ≡ t → place ≡ length t.links → link ≡ place → links ≡ v.links ++ link ∷ [] → room ≡ v.room → record v { links = links; room = room } ≡ with_event None t
+pub told_none : (v t : TrailTable) (link place room : ℕ) (links : List ℕ) → v ≡ t → place ≡ length t.links → link ≡ place → links ≡ v.links ++ link ∷ [] → room ≡ v.room → record v { links = links; room = room } ≡ with_event t None
 told_none v t link place room links moved at was put same =
     ap (λ ls. record v { links = ls; room = room }) put
     ∙ (ap (λ r. record v { links = v.links ++ link ∷ []; room = r }) same

@@ -66,6 +66,6 @@ abbrev pub with_last : TrailTable → ℕ → ℕ → TrailTable
 with_last t s i = record t { lasts = altered (λ was. i) t.lasts (place_of t.before s) }
 
 -- one event more, of this scope or of none, which opens none
-abbrev pub with_event : Option ℕ → TrailTable → TrailTable
-with_event (Some s) t = record (with_last t s (length t.links)) { links = t.links ++ last_in t s ∷ [] }
-with_event None t = record t { links = t.links ++ length t.links ∷ [] }
+abbrev pub with_event : TrailTable → Option ℕ → TrailTable
+with_event t (Some s) = record (with_last t s (length t.links)) { links = t.links ++ last_in t s ∷ [] }
+with_event t None = record t { links = t.links ++ length t.links ∷ [] }

@@ -120,7 +120,7 @@ impl Trails {
         requires place { place ≡ length self.old.links }
         requires room { HasEventRoom self.old }
         requires scope { (s : ℕ) → scope ≡ Some s → HasTrail self.old s }
-        ensures kept { self.new ≡ with_event scope self.old }
+        ensures kept { self.new ≡ with_event self.old scope }
         ensures agrees { (h : History) (e : Event) → is_open e ≡ false → scope_of_event h e ≡ scope → HasLoadRoom (followed h e) self.old.room → AreTrailsOf h self.old → AreTrailsOf (followed h e) self.new }
     {
         let link = match scope {

@@ -11,10 +11,10 @@ returns-clause-kept c =
     elim c.match-scope.branch [
       | in-Some w ↦
           told_scope _ c.args.self.now w.in-Some.scope c.match-scope.link c.args.place _ _ (c.self.view_is ∙ (w.self-is ∙ w.move_last-link.ensures.kept)) c.requires.place (w.link-is ∙ w.move_last-link.ensures.was) put.items put.capacity
-          ∙ ap (λ o. with_event o c.args.self.now) (sym w.in-Some.is)
+          ∙ ap (λ o. with_event c.args.self.now o) (sym w.in-Some.is)
       | in-None w ↦
           told_none _ c.args.self.now c.match-scope.link c.args.place _ _ (c.self.view_is ∙ w.self-is) c.requires.place w.link-is put.items put.capacity
-          ∙ ap (λ o. with_event o c.args.self.now) (sym w.in-None.is)
+          ∙ ap (λ o. with_event c.args.self.now o) (sym w.in-None.is)
     ]
 
 pub returns-clause-agrees : goal.returns-clause-agrees
