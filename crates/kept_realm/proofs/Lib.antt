@@ -1,2 +1,4 @@
 pub mod ActorsThere
 pub mod Ready
+pub mod Told
+pub mod Said

@@ -4,7 +4,9 @@
 
 mod commands;
 mod following;
+mod logs;
 mod readings;
 mod realm;
+mod telling;
 
 pub use realm::KeptRealm;

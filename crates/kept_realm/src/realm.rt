@@ -9,31 +9,35 @@ ghost use Rattle.scope_kept.specs.KeptTables.{IsKeptOf};
 ghost use Rattle.kept_realm.specs.Lending.{KeepsRealm};
 
 use crate::following::follow;
+use crate::telling::{make_room, scope_of_event, tell};
 use join_rules::StoredTest;
 use scope_checks::Readings;
 use scope_journal::{Journal, weight};
 use scope_kept::{CancelledScopes, Kept};
 use scope_rules::{Base, Event, Limits, Refusal};
+use scope_trails::Trails;
 use std::alloc::{AllocError, Global};
 use std::marker::Model;
 
-/// A realm that keeps its journal, and beside it what is asked of it. What is kept is always that of the
-/// journal's history.
+/// A realm that keeps its journal, and beside it what is asked of it and the places of each scope's
+/// events. What is kept is always that of the journal's history.
 #[derive(Drop)]
 pub struct KeptRealm {
     pub(crate) journal: Journal,
     pub(crate) kept: Kept,
+    pub(crate) trails: Trails,
 }
 
 impl Model for KeptRealm {
     ghost use Rattle.scope_rules.specs.Replies.{Realm};
     ghost use Rattle.scope_kept.specs.KeptTables.{IsKeptOf};
+    ghost use Rattle.scope_trails.specs.TrailsOf.{AreTrailsOf};
 
     ghost Value = { Realm };
 
     ghost view = { λ r. r.journal.realm };
 
-    ghost invariant = { λ r. IsKeptOf r.journal.realm.history r.kept };
+    ghost invariant = { λ r. IsKeptOf r.journal.realm.history r.kept × AreTrailsOf r.journal.realm.history r.trails };
 }
 
 impl KeptRealm {
@@ -46,6 +50,7 @@ impl KeptRealm {
         KeptRealm {
             journal: Journal::new(alloc, limits),
             kept: Kept::new(alloc),
+            trails: Trails::new(alloc, 0),
         }
     }
 
@@ -58,7 +63,12 @@ impl KeptRealm {
         let Ok(kept) = Kept::with_base(alloc, journal.base()) else {
             return Err(Refusal::Memory);
         };
-        Ok(KeptRealm { journal, kept })
+        let trails = Trails::new(alloc, journal.base().scopes());
+        Ok(KeptRealm {
+            journal,
+            kept,
+            trails,
+        })
     }
 
     /// The allocator that the realm grows by.
@@ -109,12 +119,18 @@ impl KeptRealm {
     {
         let _limits = self.journal.limits();
         let place = self.journal.events().len();
-        if self.journal.reserve(weight(&event)).is_err() {
+        let cost = weight(&event);
+        if self.journal.reserve(cost).is_err() {
             return Err(Refusal::Memory);
         }
+        if make_room(&mut self.trails, &event, self.journal.load() + cost).is_err() {
+            return Err(Refusal::Memory);
+        }
+        let scope = scope_of_event(&self.kept, &event);
         if follow(&mut self.kept, &event, listed, None, place).is_err() {
             return Err(Refusal::Memory);
         }
+        tell(&mut self.trails, &event, scope, place as u32);
         self.journal.record(event);
         Ok(())
     }
@@ -129,8 +145,12 @@ impl KeptRealm {
     {
         let _limits = self.journal.limits();
         let place = self.journal.events().len();
+        let scope = scope_of_event(&self.kept, &event);
         match follow(&mut self.kept, &event, false, test, place) {
-            Ok(()) => self.journal.record(event),
+            Ok(()) => {
+                tell(&mut self.trails, &event, scope, place as u32);
+                self.journal.record(event);
+            }
             Err(_) => unreachable!(),
         }
     }
@@ -141,6 +161,7 @@ impl KeptRealm {
         requires kept { IsKeptOf (record { base = base; events = [] }) kept }
         ensures { self.new ≡ starting self.old.limits base }
     {
+        self.trails = Trails::new(self.journal.allocator(), base.scopes());
         self.journal.restart(base);
         self.kept = kept;
     }

@@ -61,7 +61,7 @@ module _ (h : History) (s : ℕ) where
   within_by _ _ at opened why is = absurd cc
 
   -- a scope becomes cancelled by an event of the history
-  cancelled_within : (at : ℕ) → cancelled_at h s ≡ Some at → at < length h.events
+  pub cancelled_within : (at : ℕ) → cancelled_at h s ≡ Some at → at < length h.events
   unfolding cancelled_at
   cancelled_within at is = within_by (opening h s) (cut h s) at refl refl is
 
@@ -101,7 +101,7 @@ picked_length f (n ∷ ns) = by (f n) (picked_length f ns)
     by None so = omega (arith, so)
     by (Some x) so = omega (arith, so)
 
-causeless : (o : Option Opening) (c : Option Cut) (at : ℕ) → option_and_then (λ (y : Opening). option_map (λ (x : Cut). max y.place x.place) c) o ≡ Some at → option_map (λ (x : Cut). x.cause) c ≡ None → ⊥
+pub causeless : (o : Option Opening) (c : Option Cut) (at : ℕ) → option_and_then (λ (y : Opening). option_map (λ (x : Cut). max y.place x.place) c) o ≡ Some at → option_map (λ (x : Cut). x.cause) c ≡ None → ⊥
 causeless (Some o) None at is none = absurd cc
 causeless (Some o) (Some c) at is none = absurd cc
 causeless None c at is none = absurd cc

@@ -55,7 +55,7 @@ module _ (L : Limits) (h : History) (s : ℕ) where
   stays e it = record { opened = it.opened; is = opening_stays h e s it.opened it.is }
 
   -- an accepted event names a scope that is opened, or opens it
-  named_opened : (e : Event) → Legal L h → Accepts L h e → is_of h s e ≡ true → IsOpened (followed h e) s
+  pub named_opened : (e : Event) → Legal L h → Accepts L h e → is_of h s e ≡ true → IsOpened (followed h e) s
   unfolding check_of
   named_opened (Open actor policy options) legal ok so = subst (IsOpened (followed h (Open actor policy options))) (eqb-true (scopes h + 1) s so) (record { opened = _; is = next_opening h actor policy options })
   named_opened (Fork actor scope label) legal ok so = stays (Fork actor scope label) (by_number scope so (owned actor scope (fork_passed L h actor scope label ok).owner))

@@ -3,3 +3,5 @@ pub mod PlaceSteps
 pub mod LogPlaces
 pub mod EventRoom
 pub mod TrailSteps
+pub mod Trailed
+pub mod Projected

@@ -25,7 +25,7 @@ unsaid_there h s i None other = refl
 unsaid_there h s i (Some e) other = ap (λ b. cond b (said (before h i) e) None) other
 
 module _ (h : History) (s : ℕ) where
-  abbrev here : ℕ → List ℕ
+  abbrev pub here : ℕ → List ℕ
   here i = if_one (is_of_at h s i) i
 
   one_more : (a : ℕ) (rest ns : List ℕ) (b : Bool) → is_of_at h s a ≡ b → filter_map (entry_at h s) rest ≡ filter_map (entry_at h s) ns → filter_map (entry_at h s) (here a ++ rest) ≡ cons_option (entry_at h s a) (filter_map (entry_at h s) ns)
@@ -34,7 +34,7 @@ module _ (h : History) (s : ℕ) where
       ap (λ b. filter_map (entry_at h s) (if_one b a ++ rest)) other
       ∙ (same ∙ ap (λ o. cons_option o (filter_map (entry_at h s) ns)) (sym (unsaid_there h s a (slice_get h.events a) other)))
 
-  at_places : (a n : ℕ) → filter_map (entry_at h s) (flat_map here (range_with_len a n)) ≡ filter_map (entry_at h s) (range_with_len a n)
+  pub at_places : (a n : ℕ) → filter_map (entry_at h s) (flat_map here (range_with_len a n)) ≡ filter_map (entry_at h s) (range_with_len a n)
   at_places a zero = refl
   at_places a (suc n) = one_more a (flat_map here (range_with_len (a + 1) n)) (range_with_len (a + 1) n) (is_of_at h s a) refl (at_places (a + 1) n)
 

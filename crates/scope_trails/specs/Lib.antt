@@ -2,3 +2,4 @@ pub mod Places
 pub mod TrailTable
 pub mod TrailsOf
 pub mod TrailLaws
+pub mod Marks

@@ -1,9 +1,11 @@
-//! The book and the plain evaluator, which are told the same lines and have to answer every question alike.
+//! The book and the plain evaluator, which are told the same lines and have to answer every question
+//! alike; the logs of both tell the same.
 
+use crate::logs;
 use crate::plain::reply_of;
 use scope_book::BookState;
 use scope_model::Plain;
-use scope_rules::{AnyEnd, Limits, Name, Refusal};
+use scope_rules::{AnyEnd, Event, Limits, Name, Refusal, ScopeId};
 use scope_script::{Command, Line, Question, Reply, append_line, perform, read_line};
 use std::alloc::Global;
 use std::process::Abort;
@@ -67,19 +69,70 @@ impl Both {
         Ok(())
     }
 
+    /// Tells both the command of a line; of a join, what was seen of it before is compared with what came.
+    fn tell_line(
+        &mut self,
+        rt: &(impl Abort + AllocGlobal),
+        command: Command,
+        line: &str,
+    ) -> Result<(), Fail> {
+        let Command::Do(Event::Join { actor, scope }) = command else {
+            return self.tell(rt, command, line);
+        };
+        let by_book = self.book.join_preview(actor, scope);
+        let by_plain = self.plain.join_preview(actor, scope);
+        self.tell(rt, command, line)?;
+        logs::compare_join(rt, by_book, self.book.project(scope), &self.by_book, line)?;
+        logs::compare_join(
+            rt,
+            by_plain,
+            self.plain.project(scope),
+            &self.by_plain,
+            line,
+        )
+    }
+
+    /// Compares the logs of the scope, and that of the book with what the book answers of it.
+    fn compare_log(
+        &self,
+        rt: &(impl Abort + AllocGlobal),
+        scope: ScopeId,
+        line: &str,
+    ) -> Result<(), Fail> {
+        logs::compare_logs(
+            rt,
+            self.book.project(scope),
+            self.plain.project(scope),
+            line,
+        )?;
+        match self.book.project(scope) {
+            Ok(log) => logs::compare(rt, &self.book, &log, line),
+            Err(refusal) => {
+                assert_eq!(rt; self.book.cause(scope), Err(refusal), "{line}");
+                Ok(())
+            }
+        }
+    }
+
     /// Tells both the line, and then asks both everything. What the line is answered goes to the end of
     /// `replies`.
-    fn line(&mut self, rt: &impl Abort, line: &str, replies: &mut Vec<u8>) -> Result<(), Fail> {
+    fn line(
+        &mut self,
+        rt: &(impl Abort + AllocGlobal),
+        line: &str,
+        replies: &mut Vec<u8>,
+    ) -> Result<(), Fail> {
         match read_line(line.as_bytes()) {
             Line::Silent => {}
             Line::BadWord => append_line(replies, &Reply::Refused(Refusal::BadWord))?,
             Line::Command(command) => {
-                self.tell(rt, command, line)?;
+                self.tell_line(rt, command, line)?;
                 replies.extend_from_slice(&self.by_plain)?;
             }
         }
         for number in 0..NUMBERS {
             self.ask_of(rt, number, line)?;
+            self.compare_log(rt, number, line)?;
         }
         Ok(())
     }
@@ -87,7 +140,7 @@ impl Both {
     /// Tells both the lines that ` / ` parts.
     pub fn lines(
         &mut self,
-        rt: &impl Abort,
+        rt: &(impl Abort + AllocGlobal),
         script: &str,
         replies: &mut Vec<u8>,
     ) -> Result<(), Fail> {

@@ -10,6 +10,8 @@ mod doubles;
 #[cfg(test)]
 mod engine;
 #[cfg(test)]
+mod logs;
+#[cfg(test)]
 mod long_run;
 #[cfg(test)]
 mod plain;

@@ -4,14 +4,17 @@ ghost use Rattle.scope_rules.specs.Cancels.{cause, cancelled_at, effective};
 ghost use Rattle.scope_rules.specs.Tasks.{stage, state, counts};
 ghost use Rattle.scope_rules.specs.Outcomes.{outcome};
 ghost use Rattle.scope_rules.specs.Checks.{scope_check, task_check};
-ghost use Rattle.scope_rules.specs.Table.{answering, until_check};
+ghost use Rattle.scope_rules.specs.Table.{answering, check_of, until_check};
 ghost use Rattle.scope_rules.specs.Replies.{AnswersValue, result_reply, fault_reply, binding_reply, outcome_check};
-ghost use Rattle.scope_book.specs.Books.{history_of};
+ghost use Rattle.scope_log.specs.Log.{log};
+ghost use Rattle.scope_log.specs.Previews.{preview};
+ghost use Rattle.scope_book.specs.Books.{limits_of, history_of};
 
 use crate::state::book::BookState;
+use scope_log::{Preview, ScopeLog};
 use scope_rules::{
-    Actor, Catalog, Cause, Counts, Effective, Fault, Name, Outcome, Refusal, ScopeId, Stage, State,
-    TaskId, Value,
+    Actor, Catalog, Cause, Counts, Effective, Event, Fault, Name, Outcome, Refusal, ScopeId, Stage,
+    State, TaskId, Value,
 };
 
 /// The queries. Each answers its definition of the history, and changes nothing.
@@ -101,5 +104,22 @@ impl<C: Catalog> BookState<C> {
         ensures { AnswersValue (outcome_check (history_of self.now) scope) (outcome (history_of self.now) scope) result }
     {
         self.kept().outcome(scope)
+    }
+
+    /// The log of the scope: its own events since the base, in order, with the mark of its cancellation
+    /// among them. Refused for an unknown scope (`NoScope`, `Retired`), and where memory is refused
+    /// (`Memory`). It costs what the log is long, not what the history is.
+    pub fn project(&self, scope: ScopeId) -> Result<ScopeLog, Refusal>
+        ensures { AnswersValue (scope_check (history_of self.now) scope) (log (history_of self.now) scope) result }
+    {
+        self.realm.kept.project(scope)
+    }
+
+    /// What a join of the actor's scope would give next: what it would answer, and the scope's log with
+    /// it. Refused where the join would be, and where memory is refused (`Memory`).
+    pub fn join_preview(&self, actor: Actor, scope: ScopeId) -> Result<Preview, Refusal>
+        ensures { AnswersValue (check_of (limits_of self.now) (history_of self.now) (Event.Join actor scope)) (preview (history_of self.now) actor scope) result }
+    {
+        self.realm.kept.join_preview(actor, scope)
     }
 }

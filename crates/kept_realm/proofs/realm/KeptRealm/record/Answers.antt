@@ -1,10 +1,38 @@
-use Rattle.std.proofs.Common.{ap, length, sym, subst}
+-- What is kept, and the places, are told an event that costs nothing.
+use Rattle.std.proofs.Common.{◌≡◌, true, ap, length, sym, subst, refl, ◌∙◌}
+use Rattle.scope_rules.specs.History.{History}
 use Rattle.scope_rules.specs.Replies.{Realm}
-use Rattle.scope_rules.specs.Legal.{Accepts}
+use Rattle.scope_rules.specs.Legal.{Accepts, Legal}
+use Rattle.scope_kept.specs.KeptTables.{IsKeptOf}
+use Rattle.scope_trails.specs.TrailsOf.{AreTrailsOf}
+use Rattle.scope_trails.proofs.EventRoom.{free_room}
 use Rattle.kept_realm.proofs.Ready.{ready_at}
+use Rattle.kept_realm.proofs.Told.{can_tell, free_opens_none, of_next}
 use Rattle.kept_realm.proofs.realm.KeptRealm.record.Goals as goal
 
 pub follow-requires : goal.follow-requires
 follow-requires g c =
     let accepted = subst (λ (r : Realm). Accepts r.limits r.history c.args.event) (sym c.self.view_is) c.requires.accepted in
-    ready_at _ _ c.self.inside.kept c.args.event _ c.limits-limits.ensures.legal accepted c.self.invariant (ap length c.events-place.ensures.events)
+    ready_at _ _ c.self.inside.kept c.args.event _ c.limits-limits.ensures.legal accepted c.self.invariant.0 (ap length c.events-place.ensures.events)
+
+pub tell-requires : goal.tell-requires
+tell-requires g c =
+    let h = c.self.inside.journal.realm.history in
+    let t = c.self.inside.trails in
+    let accepted = subst (λ (r : Realm). Accepts r.limits r.history c.args.event) (sym c.self.view_is) c.requires.accepted in
+    can_tell c.self.inside.journal.realm.limits h c.args.event t c.scope_of_event-scope.result (length c.events-place.result.now) c.limits-limits.ensures.legal accepted c.self.invariant.1
+    (free_room h c.args.event t c.requires.free c.self.invariant.1)
+    (λ opens. absurd (free_opens_none c.args.event c.requires.free opens))
+    (λ other. c.scope_of_event-scope.ensures h c.self.invariant.0 other)
+    (ap length c.events-place.ensures.events)
+
+pub invariant_of-self : goal.invariant_of-self
+invariant_of-self g c =
+    let h = c.self.inside.journal.realm.history in
+    let L = c.self.inside.journal.realm.limits in
+    let accepted = subst (λ (r : Realm). Accepts r.limits r.history c.args.event) (sym c.self.view_is) c.requires.accepted in (
+      of_next (λ x. IsKeptOf x c.follow.new.kept) c.self.inside.journal.realm c.self.inside.journal.realm c.record.new.self.realm c.args.event c.record.ensures.added refl
+          (c.in-Ok.ensures.followed L h c.limits-limits.ensures.legal accepted c.self.invariant.0 (ap length c.events-place.ensures.events)),
+      of_next (λ x. AreTrailsOf x c.tell.new.trails) c.self.inside.journal.realm c.self.inside.journal.realm c.record.new.self.realm c.args.event c.record.ensures.added refl
+          (c.tell.ensures L h c.limits-limits.ensures.legal (free_room h c.args.event c.self.inside.trails c.requires.free c.self.invariant.1) (λ other. c.scope_of_event-scope.ensures h c.self.invariant.0 other) c.self.invariant.1),
+    )

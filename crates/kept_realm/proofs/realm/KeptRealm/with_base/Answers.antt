@@ -1,0 +1,15 @@
+-- A realm that begins with a base has no events, and so no places of them.
+use Rattle.std.proofs.Common.{◌≡◌, [], ap, sym, subst, ◌∙◌}
+use Rattle.scope_rules.specs.Origin.{Origin}
+use Rattle.scope_rules.specs.History.{History}
+use Rattle.scope_kept.specs.KeptTables.{IsKeptOf}
+use Rattle.scope_trails.specs.TrailsOf.{AreTrailsOf}
+use Rattle.kept_realm.proofs.Told.{at_base}
+use Rattle.kept_realm.proofs.realm.KeptRealm.with_base.Goals as goal
+
+pub invariant_of-result : goal.invariant_of-result
+invariant_of-result c =
+    let journal = c.in_ok-journal.ensures in (
+      at_base (λ h. IsKeptOf h c.in-Ok.kept) c.in_ok-journal.journal.realm c.args.limits c.args.base c.base.result.now journal c.base.ensures c.in-Ok.ensures,
+      at_base (λ h. AreTrailsOf h c.new-trails.result) c.in_ok-journal.journal.realm c.args.limits c.args.base c.base-2.result.now journal c.base-2.ensures (c.new-trails.ensures.agrees c.base-2.result.now (sym c.scopes.ensures)),
+    )
