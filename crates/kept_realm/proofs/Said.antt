@@ -2,7 +2,7 @@
 use Rattle.std.proofs.Common.{◌≡◌, ℕ, ◌+◌, ◌<◌, ◌≤◌, ◌^◌, Option, Some, None, option_map, List, [], ◌∷◌, ◌++◌, length, take, get_or, slice_get, refl, ap, sym, subst, ◌∙◌, arith, length-append}
 use Rattle.std.proofs.lemmas.List.{take_more}
 use Rattle.std.proofs.lemmas.Option.{slice_get-get_or, slice_get_within}
-use Rattle.std.specs.List.{filter, filter_map, cons_option}
+use Rattle.std.specs.List.{filter_map, cons_option}
 use Rattle.scope_rules.specs.declared.types.answers.Cause.{Cause}
 use Rattle.scope_rules.specs.declared.types.capacity.Limits.{Limits}
 use Rattle.scope_rules.specs.declared.types.capacity.TheConstants.{LOAD_LIMIT}
@@ -13,7 +13,7 @@ use Rattle.scope_rules.specs.Legal.{Legal, IsWithin}
 use Rattle.scope_rules.proofs.Completions.{filter_map-push}
 use Rattle.scope_log.specs.declared.entries.LogEntry.{LogEntry}
 use Rattle.scope_log.specs.LocalForms.{task_forked, tasks_in}
-use Rattle.scope_log.specs.Log.{LogValue, said_with, entry_at, entries, log}
+use Rattle.scope_log.specs.Log.{said_with, entry_at, entries, log}
 use Rattle.scope_log.proofs.LogSizes.{entries_small}
 use Rattle.scope_outcomes.specs.TasksOf.{tasks_of}
 use Rattle.scope_trails.specs.Marks.{cancel_of, marked}
@@ -88,10 +88,8 @@ made_small L M h s xs same legal within made =
     omega (arith, few, ap length made)
 
 -- so they are the log
-pub log_made : (h : History) (s : ℕ) (o : Opening) (ps : List ℕ) (m : Option (ℕ × Cause)) (es xs : List LogEntry) → opening h s ≡ Some o → ps ≡ places_of h s → m ≡ cancel_of h s → es ≡ filter_map (entry_at h s) ps → xs ≡ marked ps m es
-    → log h s ≡ Some (record { scope = s; policy = o.policy; expiry = o.options.expiry; entries = xs })
+pub log_is : (h : History) (s : ℕ) (o : Opening) (xs : List LogEntry) → opening h s ≡ Some o → xs ≡ entries h s → log h s ≡ Some (record { scope = s; policy = o.policy; expiry = o.options.expiry; entries = xs })
 unfolding log
-log_made h s o ps m es xs opened are cancel said made =
-    let same : xs ≡ entries h s = entries_made h s ps m es xs are cancel said made in
+log_is h s o xs opened same =
     ap (option_map (λ (x : Opening). record { scope = s; policy = x.policy; expiry = x.options.expiry; entries = entries h s })) opened
     ∙ ap (λ ys. Some (record { scope = s; policy = o.policy; expiry = o.options.expiry; entries = ys })) (sym same)

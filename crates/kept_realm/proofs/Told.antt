@@ -1,5 +1,5 @@
 -- When an accepted event can be told to the trails of its realm, and what they are of then.
-use Rattle.std.proofs.Common.{◌≡◌, ℕ, ◌+◌, ◌≤◌, true, false, Option, Some, [], Result, Ok, Err, OnOk, inl, inr, length, ap, sym, subst, ◌∙◌, arith}
+use Rattle.std.proofs.Common.{◌≡◌, ℕ, ◌+◌, ◌≤◌, true, false, Option, [], Result, Ok, Err, OnOk, inl, inr, length, ap, sym, subst, ◌∙◌, arith}
 use Rattle.std.specs.Result.{is_err}
 use Rattle.scope_rules.specs.declared.types.capacity.Limits.{Limits}
 use Rattle.scope_rules.specs.declared.types.events.Event.{Event}
@@ -14,7 +14,7 @@ use Rattle.scope_rules.proofs.Pushing.{load_push}
 use Rattle.scope_trails.specs.Places.{scope_of_event}
 use Rattle.scope_trails.specs.TrailTable.{TrailTable}
 use Rattle.scope_trails.specs.TrailsOf.{AreTrailsOf, HasLoadRoom}
-use Rattle.scope_trails.proofs.EventRoom.{events_room, free_room}
+use Rattle.scope_trails.proofs.EventRoom.{events_room}
 use Rattle.scope_trails.proofs.Trailed.{event_trail}
 use Rattle.kept_realm.specs.Telling.{HasRoomFor, CanBeTold}
 

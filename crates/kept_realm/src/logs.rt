@@ -1,12 +1,12 @@
 //! The log of a scope, read off its own events' places.
 
-ghost use Rattle.std.specs.Prelude.{◌≡◌, ◌+◌, ◌≤◌, ◌<◌, ◌^◌, [], Ok, Some, IfOk, IsSome, length, slice_index_or};
+ghost use Rattle.std.specs.Prelude.{◌≡◌, ◌+◌, ◌≤◌, ◌<◌, ◌^◌, [], Ok, Some, IfOk, length, slice_index_or};
 ghost use Rattle.std.specs.List.{filter_map, cons_option};
 ghost use Rattle.scope_rules.specs.History.{opening};
 ghost use Rattle.scope_rules.specs.Checks.{scope_check};
 ghost use Rattle.scope_rules.specs.Table.{check_of};
 ghost use Rattle.scope_rules.specs.Replies.{AnswersValue};
-ghost use Rattle.scope_log.specs.Log.{said_with, entry_at, log};
+ghost use Rattle.scope_log.specs.Log.{said_with, entry_at, entries, log};
 ghost use Rattle.scope_log.specs.LocalForms.{task_forked};
 ghost use Rattle.scope_log.specs.Previews.{preview};
 ghost use Rattle.scope_trails.specs.Places.{places_of};
@@ -68,12 +68,21 @@ impl KeptRealm {
         ensures log { IfOk result (λ l. log self.now.history scope ≡ Some l) }
         ensures small { IfOk result (λ l. length l.entries + 1 < 2 ^ 32) }
     {
-        let _limits = self.limits();
-        let places = self.trails.places(self.allocator(), scope)?;
-        let said = self.entries(scope, &places)?;
-        let entries = with_mark(said, &places, self.cancel_of(scope))?;
+        let entries = self.entries(scope)?;
         let expiry = opened.options.expiry;
         Ok(ScopeLog::new(scope, opened.policy, expiry, entries))
+    }
+
+    /// The entries of the log of the scope, which is there.
+    fn entries(&self, scope: ScopeId) -> Result<Vec<LogEntry>, AllocError>
+        requires { scope_check self.now.history scope ≡ Ok tt }
+        ensures entries { IfOk result (λ v. v.items ≡ entries self.now.history scope) }
+        ensures small { IfOk result (λ v. length v.items + 1 < 2 ^ 32) }
+    {
+        let _limits = self.limits();
+        let places = self.trails.places(self.allocator(), scope)?;
+        let said = self.said_at(scope, &places)?;
+        with_mark(said, &places, self.cancel_of(scope))
     }
 
     /// The place of the event by which the scope became cancelled, and why, if it is.
@@ -87,9 +96,9 @@ impl KeptRealm {
         Some((at, cause))
     }
 
-    /// What the events at the places say, which are the scope's.
-    fn entries(&self, scope: ScopeId, places: &[u32]) -> Result<Vec<LogEntry>, AllocError>
-        requires opened { IsSome (opening self.now.history scope) }
+    /// What the events at the places say, which are those of the scope, which is there.
+    fn said_at(&self, scope: ScopeId, places: &[u32]) -> Result<Vec<LogEntry>, AllocError>
+        requires check { scope_check self.now.history scope ≡ Ok tt }
         requires places { places.now ≡ places_of self.now.history scope }
         ensures { IfOk result (λ v. v.items ≡ filter_map (entry_at self.now.history scope) places.now) }
     {

@@ -2,7 +2,7 @@
 use Rattle.std.proofs.Common.{◌≡◌, ℕ, false, Some, arith, sym, ◌∙◌}
 use Rattle.scope_rules.specs.declared.types.capacity.Limits.{Limits}
 use Rattle.scope_rules.specs.declared.types.events.Event.{Event}
-use Rattle.scope_rules.specs.History.{History, followed, is_open}
+use Rattle.scope_rules.specs.History.{History, is_open}
 use Rattle.scope_rules.specs.Legal.{Accepts, Legal}
 use Rattle.scope_rules.proofs.Innermosts.{opened_after}
 use Rattle.scope_rules.proofs.Nesting.{IsOpened}

@@ -1,44 +1,40 @@
--- Each of the scope's places says its event's entry.
-use Rattle.std.proofs.Common.{◌≡◌, ◌+◌, ◌<◌, ◌≤◌, Some, None, length, get_or, slice_get, refl, ap, sym, subst, ◌∙◌, arith}
+-- What is said at the places of the scope's events, with the mark, are the entries of its log.
+use Rattle.std.proofs.Common.{length, ap, sym, subst, ◌∙◌}
+use Rattle.std.proofs.lemmas.Result.{IfOk-weaker}
 use Rattle.std.specs.List.{filter_map}
-use Rattle.std.proofs.lemmas.Option.{slice_get_read}
-use Rattle.scope_rules.specs.Legal.{Legal}
 use Rattle.scope_rules.specs.Replies.{Realm}
-use Rattle.scope_rules.proofs.Prefixes.{take_whole}
+use Rattle.scope_rules.proofs.NewScopes.{scope_passed}
 use Rattle.scope_log.specs.Log.{entry_at}
-use Rattle.scope_kept.specs.KeptTables.{IsKeptOf}
-use Rattle.kept_realm.proofs.Said.{AreSaid, none_said, place_there, said_next, one_said, not_unsaid}
+use Rattle.scope_trails.specs.TrailsOf.{AreTrailsOf}
+use Rattle.scope_trails.proofs.Projected.{each_said}
+use Rattle.scope_trails.proofs.Trailed.{opened_trail}
+use Rattle.kept_realm.proofs.Said.{entries_made, made_small}
 use Rattle.kept_realm.proofs.realm.KeptRealm.entries.Goals as goal
-use Rattle.kept_realm.proofs.realm.KeptRealm.entries.Goals.{in-Some+in_ok-push, in_default}
 
-pub loop-place-init : goal.loop-place-init
-loop-place-init c = none_said c.args.self.now.history c.args.scope c.args.places.now c.new-entries.result.items c.new-entries.ensures.items
+pub places-requires : goal.places-requires
+places-requires c =
+    let are = subst (λ (r : Realm). AreTrailsOf r.history c.self.inside.trails) c.self.view_is c.self.invariant.1 in
+    let it = scope_passed c.args.self.now.history c.args.scope c.requires in
+    opened_trail c.args.self.now.history c.self.inside.trails c.args.scope are (record { opened = it.opened; is = it.is })
 
-pub bounds-events-place : goal.bounds-events-place
-bounds-events-place c =
-    let events = c.events-events.ensures.events ∙ ap (λ (r : Realm). r.history.events) c.self.view_is in
-    subst (λ es. get_or c.args.places.now c.loop-place.place-index 0 < length es) (sym events) (place_there c.args.self.now.history c.args.scope c.args.places.now c.loop-place.place-index c.requires.places c.loop-place-test.true)
-
-pub loop-place-preserved : goal.loop-place-preserved
-loop-place-preserved c =
+pub with_mark-requires : goal.with_mark-requires
+with_mark-requires c =
     let h = c.args.self.now.history in
-    let ps = c.args.places.now in
-    let n = c.loop-place.place-index in
-    let so = c.loop-place.invariant in
-    let events = c.events-events.ensures.events ∙ ap (λ (r : Realm). r.history.events) c.self.view_is in
-    let tasks = c.tasks_of-tasks.ensures h (subst (λ (r : Realm). IsKeptOf r.history c.self.inside.kept) c.self.view_is c.self.invariant.0) c.requires.opened in
-    let within = subst (λ es. get_or ps n 0 < length es) (sym events) (place_there h c.args.scope ps n c.requires.places c.loop-place-test.true) in
-    let at = ap (λ es. slice_get es (get_or ps n 0)) (sym events) ∙ slice_get_read c.events-events.result.now (length c.events-events.result.now) (get_or ps n 0) c.index-events-place.result refl within c.index-events-place.is in
-    let says = c.said.ensures ∙ said_next c.limits-limits.result h c.args.scope ps c.tasks_of-tasks.result.now n c.loop-place.forked c.loop-place.entries.items c.index-events-place.result (subst (λ L. Legal L h) (sym c.limits-limits.ensures.limits) c.limits-limits.ensures.legal) c.requires.places tasks c.loop-place-test.true so at in
-    elim c.match-said.branch [
-      | in-Some+in_ok-push w ↦
-          subst (λ k. AreSaid h c.args.scope ps (n + 1) c.match-said.entries.items k) (sym w.forked-is)
-          (subst (λ v. AreSaid h c.args.scope ps (n + 1) v.items (c.loop-place.forked + w.forks-forked.result)) (sym w.entries-is)
-          (one_said h c.args.scope ps n c.loop-place.forked w.forks-forked.result c.loop-place.entries.items w.push.new.self.items w.in-Some.entry c.loop-place-test.true so (sym says ∙ w.in-Some.is) w.in_ok-push.ensures.items w.forks-forked.ensures.count w.forks-forked.ensures.small))
-      | in_default w ↦ absurd (not_unsaid h c.args.scope ps n c.requires.places c.loop-place-test.true (sym says ∙ w.in_default.is))
-    ]
+    let are = subst (λ (r : Realm). AreTrailsOf r.history c.self.inside.trails) c.self.view_is c.self.invariant.1 in
+    let places = c.in_ok-places.ensures.agrees h are in
+    ap length c.in_ok-said.ensures
+    ∙ (ap (λ ps. length (filter_map (entry_at h c.args.scope) ps)) (c.deref.ensures.value ∙ places)
+    ∙ (each_said h c.args.scope ∙ ap length (sym (c.deref-2.ensures.value ∙ places))))
 
-pub returns : goal.returns
-returns c =
-    let E = entry_at c.args.self.now.history c.args.scope in
-    c.loop-place.invariant.said ∙ ap (filter_map E) (take_whole c.args.places.now c.loop-place.place-index (omega (arith, c.loop-place-test.false)))
+pub returns-clause-entries : goal.returns-clause-entries
+returns-clause-entries c =
+    let h = c.args.self.now.history in
+    let are = subst (λ (r : Realm). AreTrailsOf r.history c.self.inside.trails) c.self.view_is c.self.invariant.1 in
+    let places = c.in_ok-places.ensures.agrees h are in
+    let said = c.in_ok-said.ensures ∙ ap (filter_map (entry_at h c.args.scope)) (c.deref.ensures.value ∙ sym c.deref-2.ensures.value) in
+    IfOk-weaker c.with_mark.result _ _ (λ v made. entries_made h c.args.scope c.deref-2.result.now _ _ v.items (c.deref-2.ensures.value ∙ places) c.cancel_of.ensures said made) c.with_mark.ensures
+
+pub returns-clause-small : goal.returns-clause-small
+returns-clause-small c =
+    let facts = c.limits-limits.ensures in
+    IfOk-weaker c.with_mark.result _ _ (λ v made. made_small _ _ c.args.self.now.history c.args.scope v.items facts.limits facts.legal facts.within made) (returns-clause-entries c)

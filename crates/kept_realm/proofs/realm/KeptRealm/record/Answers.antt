@@ -1,8 +1,7 @@
 -- What is kept, and the places, are told an event that costs nothing.
-use Rattle.std.proofs.Common.{◌≡◌, true, ap, length, sym, subst, refl, ◌∙◌}
-use Rattle.scope_rules.specs.History.{History}
+use Rattle.std.proofs.Common.{ap, length, sym, subst, refl}
 use Rattle.scope_rules.specs.Replies.{Realm}
-use Rattle.scope_rules.specs.Legal.{Accepts, Legal}
+use Rattle.scope_rules.specs.Legal.{Accepts}
 use Rattle.scope_kept.specs.KeptTables.{IsKeptOf}
 use Rattle.scope_trails.specs.TrailsOf.{AreTrailsOf}
 use Rattle.scope_trails.proofs.EventRoom.{free_room}

@@ -1,6 +1,5 @@
 -- What is kept, and the places, are told an event that there is room for.
-use Rattle.std.proofs.Common.{◌≡◌, ◌+◌, ap, length, sym, subst, refl, ◌∙◌, arith}
-use Rattle.scope_rules.specs.History.{History}
+use Rattle.std.proofs.Common.{◌≡◌, ◌+◌, ap, length, sym, subst, ◌∙◌, arith}
 use Rattle.scope_rules.specs.Replies.{Realm}
 use Rattle.scope_rules.specs.Legal.{Accepts, Legal}
 use Rattle.scope_rules.specs.Load.{load, weight}

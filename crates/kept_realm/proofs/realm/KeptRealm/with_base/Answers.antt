@@ -1,7 +1,5 @@
 -- A realm that begins with a base has no events, and so no places of them.
-use Rattle.std.proofs.Common.{◌≡◌, [], ap, sym, subst, ◌∙◌}
-use Rattle.scope_rules.specs.Origin.{Origin}
-use Rattle.scope_rules.specs.History.{History}
+use Rattle.std.proofs.Common.{sym}
 use Rattle.scope_kept.specs.KeptTables.{IsKeptOf}
 use Rattle.scope_trails.specs.TrailsOf.{AreTrailsOf}
 use Rattle.kept_realm.proofs.Told.{at_base}

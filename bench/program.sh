@@ -1,0 +1,23 @@
+# Sourced by the scripts beside it, at the top of the repository.
+
+# build_program NAME LIBRARY..: builds the program of bench/programs/NAME, which uses these libraries of
+# crates/, in a workspace of its own that shares what was proved of them, and sets `program` to it.
+build_program() {
+    local name=$1 room crate
+    room=$PWD/bench/out/$name
+    mkdir -p "$room/crates"
+    cp -p HANDLES "$room"
+    {
+        cat crates.txt
+        echo "$name: ${*:2}"
+    } >"$room/crates.txt"
+    for crate in crates/*/; do
+        ln -sfn "$PWD/${crate%/}" "$room/crates/$(basename "$crate")"
+    done
+    cp -a "bench/programs/$name" "$room/crates"
+    (cd "$room/crates/$name" && rt run >"$room/build.log" 2>&1) || {
+        tail -n 20 "$room/build.log" >&2
+        return 1
+    }
+    program=$room/crates/$name/out/$name
+}
