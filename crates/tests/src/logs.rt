@@ -189,9 +189,9 @@ fn compare_row(
     logs: &[&str],
 ) -> Result<(), Fail> {
     tell_lines(plain, script);
-    let mut scope = 0;
+    let mut scope: ScopeId = 0;
     for wanted in logs {
-        scope += 1;
+        scope = scope.wrapping_add(1);
         compare_lines(rt, plain, scope, wanted)?;
     }
     Ok(())
