@@ -1,9 +1,8 @@
 -- How the scopes that are not closed lie in one another, which tasks are a scope's, and what there is to
 -- say of a scope and of a task.
-use Rattle.std.specs.Prelude.{ℕ, ◌+◌, nat_lt, Option, Some, None, option_map, ok_or, Result, List, slice_get, if◌then◌else◌}
+use Rattle.std.specs.Prelude.{ℕ, ◌+◌, nat_lt, Option, None, option_map, ok_or, Result, List, slice_get, if◌then◌else◌}
 use Rattle.std.specs.Option.{option_and_then}
 use Rattle.std.specs.List.{filter}
-use Rattle.scope_rules.specs.declared.types.answers.Cause.{Cause}
 use Rattle.scope_rules.specs.declared.types.infos.ScopeStage.{ScopeStage}
 use Rattle.scope_rules.specs.declared.types.infos.ScopeStage.TheVariants.{Open, Closing, Closed}
 use Rattle.scope_rules.specs.declared.types.infos.ScopeInfo.{ScopeInfo}
