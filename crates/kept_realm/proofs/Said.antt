@@ -15,7 +15,7 @@ use Rattle.scope_log.specs.declared.entries.LogEntry.{LogEntry}
 use Rattle.scope_log.specs.LocalForms.{task_forked, tasks_in}
 use Rattle.scope_log.specs.Log.{said_with, entry_at, entries, log}
 use Rattle.scope_log.proofs.LogSizes.{entries_small}
-use Rattle.scope_outcomes.specs.TasksOf.{tasks_of}
+use Rattle.scope_rules.specs.Nests.{tasks_of}
 use Rattle.scope_trails.specs.Marks.{cancel_of, marked}
 use Rattle.scope_trails.specs.Places.{places_of}
 use Rattle.scope_trails.proofs.Projected.{IsSaid, place_said, next_said, projected}

@@ -12,7 +12,7 @@ ghost use Rattle.scope_rules.specs.Bindings.{stack, bound_as_opened, holds_last}
 ghost use Rattle.scope_rules.specs.Checks.{owner_check, refuse_closing};
 ghost use Rattle.scope_checks.specs.Passes.{Passes};
 ghost use Rattle.scope_rules.specs.Verdicts.{verdict};
-ghost use Rattle.scope_outcomes.specs.TasksOf.{tasks_of};
+ghost use Rattle.scope_rules.specs.Nests.{tasks_of};
 ghost use Rattle.scope_rows.specs.Table.{HasActor};
 ghost use Rattle.scope_rows.specs.Wants.{HasScopeNumbers, HasTaskNumbers};
 ghost use Rattle.scope_kept.specs.KeptTables.{IsKeptOf, opened_as_high, counts_some};
@@ -159,7 +159,7 @@ impl Kept {
         ensures { (h : History) → IsKeptOf h self.now → IsSome (opening h scope) → result.now ≡ tasks_of h scope }
     {
         match self.rows.scope(scope) {
-            Some(_) => self.forks.of(scope),
+            Some(_) => self.tasks(scope),
             None => &[],
         }
     }
