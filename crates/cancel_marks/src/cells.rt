@@ -136,10 +136,7 @@ impl MarkSetter {
                     cause,
                     number,
                 };
-                self.cell
-                    .once
-                    .set_as(blank, &mut self.seat.note)
-                    .is_ok()
+                self.cell.once.set_as(blank, &mut self.seat.note).is_ok()
             }
             None => false,
         }

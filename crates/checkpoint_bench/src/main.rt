@@ -38,7 +38,10 @@ fn measure<R: Threads + Sync + AllocGlobal + Clock + Print>(
     let sees_none = looks(rt, &cell, threads, rounds)?;
     let nanoseconds = begun.elapsed(rt)?.as_nanos();
     let picoseconds = nanoseconds.saturating_mul(1000) / rounds as u128;
-    println!(rt; "threads {threads} rounds {rounds} picoseconds {picoseconds} marks {}", !sees_none)
+    println!(rt;
+        "threads {threads} rounds {rounds} picoseconds {picoseconds} marks {}",
+        !sees_none
+    )
 }
 
 /// Whether none of the threads sees a mark.
@@ -48,9 +51,12 @@ fn looks<R: Threads + Sync + AllocGlobal>(
     threads: u32,
     rounds: u32,
 ) -> io::Result<bool> {
-    let seen = map_indices(rt, rt.alloc(), threads as usize, &|_thread: usize| {
-        sees_no_mark(cell, rounds)
-    })?;
+    let seen = map_indices(
+        rt,
+        rt.alloc(),
+        threads as usize,
+        &|_thread: usize| { sees_no_mark(cell, rounds) },
+    )?;
     Ok(seen.iter().all(|none| *none))
 }
 

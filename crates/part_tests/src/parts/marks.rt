@@ -75,7 +75,10 @@ fn check_both<R: Threads + Abort>(rt: &R, cell: MarkCell, mut seat: Seat) -> Res
     let in_thread = thread.join(rt);
     let mut here = cell.checkpoint(&mut seat).ok_or("no mark here")?;
     let spare = here.again();
-    assert_eq!(rt; (in_thread, said(&here), said(&spare)), (Some(REACHED), REACHED, REACHED));
+    assert_eq!(rt;
+        (in_thread, said(&here), said(&spare)),
+        (Some(REACHED), REACHED, REACHED)
+    );
     laws::agree(&mut here, spare);
     let again = cell.checkpoint(&mut seat).ok_or("no mark again")?;
     assert_eq!(rt; said(&again), REACHED);
