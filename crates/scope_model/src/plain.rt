@@ -3,3 +3,4 @@
 pub mod commands;
 pub mod evaluator;
 pub mod queries;
+pub mod readers;

@@ -7,6 +7,7 @@ pub mod completions;
 pub mod history;
 pub mod load;
 pub mod log;
+pub mod nests;
 pub mod outcomes;
 pub mod readings;
 pub mod scopes;

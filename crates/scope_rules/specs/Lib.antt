@@ -23,6 +23,7 @@ pub mod Load
 pub mod Checks
 pub mod Table
 pub mod Replies
+pub mod Nests
 pub mod Legal
 pub mod Owed
 pub mod Laws

@@ -12,6 +12,7 @@ pub use types::bases::Base;
 pub use types::capacity::Limits;
 pub use types::catalogs::{AnyEnd, Catalog, Due, is_runtime_fault};
 pub use types::events::{Binding, Event, Expiry, Options};
+pub use types::infos::{ScopeInfo, ScopeStage};
 pub use types::joiners::{Policy, Rule};
 pub use types::names::{Name, is_name};
 pub use types::outcomes::{Outcome, TaskState, TaskStates, TaskValue, TaskValues};

@@ -5,6 +5,7 @@ pub mod bases;
 pub mod capacity;
 pub mod catalogs;
 pub mod events;
+pub mod infos;
 pub mod joiners;
 pub mod names;
 pub mod outcomes;

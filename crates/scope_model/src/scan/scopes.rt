@@ -28,7 +28,7 @@ impl<'a> HistoryView<'a> {
 
     /// The scope that was opened after this many since the base, if the actor opened it and has not
     /// closed it.
-    fn unclosed_of(&self, actor: Actor, count: u32) -> Option<ScopeId>
+    pub fn unclosed_of(&self, actor: Actor, count: u32) -> Option<ScopeId>
         requires { count < opened_count self.now }
         ensures { result ≡ unclosed_of self.now actor count }
     {
