@@ -9,10 +9,12 @@ use Rattle.scope_outcomes.specs.ForksOf.{AreForksOf}
 use Rattle.scope_envs.specs.Agreement.{AreEnvsOf}
 use Rattle.scope_cuts.specs.CutTables.{CutTable}
 use Rattle.scope_cuts.specs.CutsOf.{AreCutsOf}
+use Rattle.own_deadlines.specs.DeadlineTable.{DeadlineTable}
+use Rattle.own_deadlines.specs.DeadlinesOf.{AreDeadlinesOf}
 use Rattle.scope_kept.specs.KeptTables.{AreAlike}
 
-pub alike : (h : History) (rows : RowTable) (cuts : CutTable) (envs : EnvTable) (forks : ForkTable) → AreRowsOf h rows → AreCutsOf h cuts → AreEnvsOf h envs → AreForksOf h forks → AreAlike rows cuts envs forks
-alike h rows cuts envs forks r c e f = record {
+pub alike : (h : History) (rows : RowTable) (cuts : CutTable) (envs : EnvTable) (forks : ForkTable) (deadlines : DeadlineTable) → AreRowsOf h rows → AreCutsOf h cuts → AreEnvsOf h envs → AreForksOf h forks → AreDeadlinesOf h deadlines → AreAlike rows cuts envs forks deadlines
+alike h rows cuts envs forks deadlines r c e f d = record {
   scopes_before = c.numbered ∙ sym r.scopes_before;
   scopes = c.count ∙ sym r.scope_count;
   accounts = c.counted ∙ sym r.scope_count;
@@ -20,4 +22,6 @@ alike h rows cuts envs forks r c e f = record {
   tasks = e.count ∙ sym r.task_count;
   forks_before = f.numbered ∙ sym r.scopes_before;
   lists = f.count ∙ sym r.scope_count;
+  deadlines_before = d.numbered ∙ sym r.scopes_before;
+  deadline_count = d.count ∙ sym r.scope_count;
 }

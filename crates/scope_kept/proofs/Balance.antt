@@ -1,6 +1,6 @@
 -- How forks, stages and completions of a scope balance in a legal history: a scope completes no more often
 -- than tasks were forked in it, and not as often while one of them waits or runs.
-use Rattle.std.proofs.Common.{◌≡◌, ◌≢◌, ℕ, zero, suc, ◌+◌, ◌≤◌, ◌<◌, ◌==◌, ◌&&◌, Bool, true, false, cond, Option, Some, None, List, [], ◌∷◌, ◌++◌, length, count_by, refl, ap, sym, subst, ◌∙◌, arith, length-append}
+use Rattle.std.proofs.Common.{◌≡◌, ℕ, ◌+◌, ◌≤◌, ◌<◌, ◌==◌, Bool, true, false, cond, Option, Some, None, List, [], ◌∷◌, ◌++◌, length, count_by, refl, ap, ◌∙◌, arith, length-append}
 use Rattle.std.specs.List.{cons_option}
 use Rattle.scope_rules.specs.declared.types.capacity.Limits.{Limits}
 use Rattle.scope_rules.specs.declared.types.capacity.TheConstants.{TASK_LIMIT}
@@ -11,10 +11,10 @@ use Rattle.scope_rules.specs.declared.types.events.Event.TheVariants.{Fork, Reje
 use Rattle.scope_rules.specs.declared.types.values.Completion.{Completion}
 use Rattle.scope_rules.specs.declared.types.records.Forking.{Forking}
 use Rattle.scope_rules.specs.Ends.{EndValue}
-use Rattle.scope_rules.specs.History.{History, followed, tasks, forking, forked_count, is_fork}
+use Rattle.scope_rules.specs.History.{History, followed, tasks, forking, is_fork}
 use Rattle.scope_rules.specs.Completions.{is_task_of, completion_of, completions}
 use Rattle.scope_rules.specs.Cancels.{is_cancelled}
-use Rattle.scope_rules.specs.Tasks.{rejects, starts, finishes, stage, is_stage, is_at}
+use Rattle.scope_rules.specs.Tasks.{rejects, starts, finishes, stage}
 use Rattle.scope_rules.specs.Legal.{Legal, Accepts}
 use Rattle.scope_rules.proofs.Completions.{count_by-cons}
 use Rattle.scope_rules.proofs.CompletionSteps.{completions_grow}
@@ -25,7 +25,7 @@ use Rattle.scope_rules.proofs.PassedRows.{start_passed, reject_passed, finish_pa
 use Rattle.scope_rules.proofs.StageSteps.{stage_started, stage_rejected, stage_finished, stage_forked, next_forking}
 use Rattle.scope_rules.proofs.Stages.{waiting_forked, running_forked}
 use Rattle.scope_rules.proofs.TallySteps.{tally, tally_stays}
-use Rattle.scope_rows.proofs.CountMoves.{NamesAlone, moved_by, forked_by}
+use Rattle.scope_rows.proofs.CountMoves.{moved_by, forked_by}
 use Rattle.scope_rows.proofs.Keeping.{count_same}
 use Rattle.scope_rows.proofs.TaskLaws.{waiting_is, running_is, names_rejected, names_started, names_finished}
 use Rattle.scope_rows.proofs.WantsMet.{forks_within}

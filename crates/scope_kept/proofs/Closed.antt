@@ -1,6 +1,5 @@
 -- How a scope was closed, by its row.
-use Rattle.std.proofs.Common.{◌≡◌, ℕ, ◌&&◌, Bool, not, cond, is_some, ap, ◌∙◌}
-use Rattle.scope_rules.specs.declared.types.answers.Verdict.{Verdict}
+use Rattle.std.proofs.Common.{◌≡◌, ℕ, ◌&&◌, not, cond, is_some, ap, ◌∙◌}
 use Rattle.scope_rules.specs.declared.types.answers.Verdict.TheVariants.{Plain, NotJoined, Violated}
 use Rattle.scope_rules.specs.History.{History}
 use Rattle.scope_rules.specs.Scopes.{joined}

@@ -1,5 +1,5 @@
 -- What counting a completion makes of the account, and what may be asked of it then.
-use Rattle.std.proofs.Common.{◌≡◌, ℕ, ◌+◌, ◌-◌, ◌<◌, ◌≤◌, Bool, Option, Some, List, [], ◌∷◌, ◌++◌, length, slice_get, refl, ap, sym, subst, ◌∙◌, arith}
+use Rattle.std.proofs.Common.{◌≡◌, ℕ, ◌+◌, ◌-◌, ◌<◌, ◌≤◌, Bool, Some, List, [], ◌∷◌, ◌++◌, length, slice_get, refl, ap, sym, subst, ◌∙◌, arith}
 use Rattle.std.specs.Option.{IfSome}
 use Rattle.scope_rules.specs.declared.types.capacity.TheConstants.{TASK_LIMIT}
 use Rattle.scope_rules.specs.declared.types.values.Completion.{Completion}

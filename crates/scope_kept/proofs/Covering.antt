@@ -1,13 +1,13 @@
 -- The walk that cancels the scopes which the beginning of a close covers, step by step.
-use Rattle.std.proofs.Common.{◌≡◌, ◌≢◌, ℕ, zero, suc, ◌+◌, ◌-◌, ◌≤◌, ◌<◌, ◌==◌, ◌&&◌, Bool, true, false, cond, eqb, nat_lt, Option, Some, None, option_map, List, length, refl, ap, sym, subst, ◌∙◌, arith, inl, inr}
+use Rattle.std.proofs.Common.{◌≡◌, ◌≢◌, ℕ, ◌+◌, ◌-◌, ◌≤◌, ◌<◌, ◌==◌, ◌&&◌, Bool, true, false, cond, eqb, nat_lt, Option, Some, None, option_map, length, refl, ap, sym, subst, ◌∙◌, arith}
 use Rattle.std.specs.Option.{option_or, option_and_then}
 use Rattle.std.proofs.lemmas.Bool.{eqb-true, eqb-false, eq-eqb, ne_eqb, lt-ltb, le-ltb, ltb-true, ltb-false}
 use Rattle.scope_rules.specs.declared.types.capacity.Limits.{Limits}
 use Rattle.scope_rules.specs.declared.types.answers.CauseKind.TheVariants.{Close}
 use Rattle.scope_rules.specs.declared.types.events.Event.TheVariants.{BeginClose}
 use Rattle.scope_rules.specs.declared.types.records.Cut.{Cut}
-use Rattle.scope_rules.specs.History.{History, followed}
-use Rattle.scope_rules.specs.Scopes.{covers, innermost, closed}
+use Rattle.scope_rules.specs.History.{History}
+use Rattle.scope_rules.specs.Scopes.{covers, innermost}
 use Rattle.scope_rules.specs.Legal.{Legal, Accepts}
 use Rattle.scope_rules.proofs.ClosingOwners.{live_is_unclosed}
 use Rattle.scope_rules.proofs.Innermosts.{HasUnclosed, innermost_unclosed, unclosed_innermost}
@@ -22,7 +22,6 @@ use Rattle.scope_rows.specs.Steps.{below_of, walk_length}
 use Rattle.scope_rows.proofs.CloseLaws.{are_below}
 use Rattle.scope_rows.proofs.MarkLaws.{covered_unclosed, unclosed_covered}
 use Rattle.scope_cuts.specs.CutTables.{CutTable, HasRow, cancelled}
-use Rattle.scope_cuts.specs.CutsOf.{AreCutsOf}
 use Rattle.scope_cuts.proofs.CancelSteps.{closing_next}
 use Rattle.scope_cuts.proofs.Readings.{has_row, latest_place}
 use Rattle.scope_cuts.proofs.TableSteps.{HasStepped, at_row, changed_rows}

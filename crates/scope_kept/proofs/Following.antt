@@ -1,34 +1,33 @@
 -- What is kept follows each event, part by part.
-use Rattle.std.proofs.Common.{◌≡◌, ℕ, ◌+◌, ◌≤◌, Bool, true, false, Option, Some, length, slice_get, refl, ap, sym, subst, ◌∙◌, arith}
+use Rattle.std.proofs.Common.{◌≡◌, ℕ, ◌+◌, ◌≤◌, true, false, length, slice_get, ap, sym, subst, ◌∙◌, arith}
 use Rattle.scope_rules.specs.declared.types.capacity.Limits.{Limits}
 use Rattle.scope_rules.specs.declared.types.events.Event.{Event}
 use Rattle.scope_rules.specs.History.{History, followed}
 use Rattle.scope_rules.specs.Legal.{Legal, Accepts}
-use Rattle.join_rules.specs.JoinerStanding.{JoinerStanding}
-use Rattle.scope_rows.specs.Table.{RowTable}
 use Rattle.scope_rows.specs.Agreement.{AreRowsOf}
 use Rattle.scope_rows.proofs.Keeping.{count_same}
 use Rattle.scope_cuts.specs.CutTables.{CutTable}
 use Rattle.scope_cuts.specs.CutsOf.{AreCutsOf}
 use Rattle.scope_cuts.proofs.EventSteps.{leaves_cuts, cuts_stay}
-use Rattle.scope_envs.specs.EnvTable.{EnvTable}
 use Rattle.scope_outcomes.specs.ForksOf.{AreForksOf, moves_forks}
 use Rattle.scope_outcomes.proofs.ForkSteps.{forks_stay}
 use Rattle.scope_envs.specs.Agreement.{AreEnvsOf, moves_envs}
 use Rattle.scope_envs.proofs.Steps.{envs_stay}
+use Rattle.own_deadlines.specs.DeadlinesOf.{AreDeadlinesOf, moves_deadlines}
+use Rattle.own_deadlines.proofs.DeadlineSteps.{deadlines_stay}
 use Rattle.scope_kept.specs.KeptTables.{KeptTable, IsKeptOf, AreAlike, HasRoomForEnds, forks_in, forks_of}
 use Rattle.scope_kept.specs.Events.{IsReadyFor, IsReadyAt, HasFollowed, HasFollowedAt}
 use Rattle.scope_kept.proofs.Alike.{alike}
 
 -- parts of one history are alike
-pub kept_alike : (h : History) (t : KeptTable) → IsKeptOf h t → AreAlike t.rows t.cuts t.envs t.forks
-kept_alike h t kept = alike h t.rows t.cuts t.envs t.forks kept.rows kept.cuts kept.envs kept.forks
+pub kept_alike : (h : History) (t : KeptTable) → IsKeptOf h t → AreAlike t.rows t.cuts t.envs t.forks t.deadlines
+kept_alike h t kept = alike h t.rows t.cuts t.envs t.forks t.deadlines kept.rows kept.cuts kept.envs kept.forks kept.deadlines
 
 -- what followed an event has parts that are alike
-pub alike_next : (old new : KeptTable) (e : Event) → IsReadyFor old e → HasFollowed old e new → AreAlike new.rows new.cuts new.envs new.forks
+pub alike_next : (old new : KeptTable) (e : Event) → IsReadyFor old e → HasFollowed old e new → AreAlike new.rows new.cuts new.envs new.forks new.deadlines
 alike_next old new e ready next = kept_alike (followed ready.history e) new (next ready.limits ready.history ready.legal ready.accepted ready.kept)
 
-pub alike_next_at : (old new : KeptTable) (e : Event) (place : ℕ) → IsReadyAt old e place → HasFollowedAt old e place new → AreAlike new.rows new.cuts new.envs new.forks
+pub alike_next_at : (old new : KeptTable) (e : Event) (place : ℕ) → IsReadyAt old e place → HasFollowedAt old e place new → AreAlike new.rows new.cuts new.envs new.forks new.deadlines
 alike_next_at old new e place ready next = kept_alike (followed ready.0.history e) new (next ready.0.limits ready.0.history ready.0.legal ready.0.accepted ready.0.kept ready.1)
 
 -- an event that forks none leaves the room of the same accounts
@@ -38,39 +37,43 @@ room_stays h e old new room before accounts none i a at listed =
     let same : forks_of (followed h e) (old.before + 1 + i) ≡ forks_of h (old.before + 1 + i) = count_same (forks_in (old.before + 1 + i)) h e (none (old.before + 1 + i)) in
     subst (λ b. forks_of (followed h e) (b + 1 + i) ≤ length a.seen + a.room) (sym before) (omega (arith, was, same))
 
--- an event that leaves cuts, environments and forks: what is kept follows it where its rows do
-pub rows_follow : (old new : KeptTable) (e : Event) → leaves_cuts e ≡ true → moves_envs e ≡ false → moves_forks e ≡ false → ((s : ℕ) → forks_in s e ≡ false) → new.cuts ≡ old.cuts → new.envs ≡ old.envs → new.forks ≡ old.forks
+-- an event that leaves cuts, environments, forks and own deadlines: what is kept follows it where its rows do
+pub rows_follow : (old new : KeptTable) (e : Event) → leaves_cuts e ≡ true → moves_envs e ≡ false → moves_forks e ≡ false → moves_deadlines e ≡ false → ((s : ℕ) → forks_in s e ≡ false) → new.cuts ≡ old.cuts → new.envs ≡ old.envs → new.forks ≡ old.forks → new.deadlines ≡ old.deadlines
     → ((L : Limits) (h : History) → Legal L h → Accepts L h e → AreRowsOf h old.rows → AreRowsOf (followed h e) new.rows) → HasFollowed old e new
-rows_follow old new e leaves still kept_forks none cuts envs forks rows L h legal ok kept = record {
+rows_follow old new e leaves still kept_forks kept_deadlines none cuts envs forks deadlines rows L h legal ok kept = record {
   rows = rows L h legal ok kept.rows;
   cuts = subst (AreCutsOf (followed h e)) (sym cuts) (cuts_stay L h e old.cuts legal kept.cuts leaves);
   envs = subst (AreEnvsOf (followed h e)) (sym envs) (envs_stay h e old.envs still kept.envs);
   forks = subst (AreForksOf (followed h e)) (sym forks) (forks_stay h e old.forks kept_forks kept.forks);
+  deadlines = subst (AreDeadlinesOf (followed h e)) (sym deadlines) (deadlines_stay h e old.deadlines kept_deadlines kept.deadlines);
   room = room_stays h e old.cuts new.cuts kept.room (ap (λ (t : CutTable). t.before) cuts) (ap (λ (t : CutTable). t.accounts) cuts) none;
 }
 
--- an event that moves cuts alone: what is kept follows it where its cuts do, with the same accounts
+-- an event that moves cuts, and perhaps own deadlines: what is kept follows it where these do, with the same accounts
 pub cuts_follow : (old new : KeptTable) (e : Event) (place : ℕ) → moves_envs e ≡ false → moves_forks e ≡ false → ((s : ℕ) → forks_in s e ≡ false) → new.rows ≡ old.rows → new.envs ≡ old.envs → new.forks ≡ old.forks → new.cuts.accounts ≡ old.cuts.accounts
+    → ((h : History) → AreDeadlinesOf h old.deadlines → AreDeadlinesOf (followed h e) new.deadlines)
     → ((L : Limits) (h : History) → Legal L h → AreRowsOf h old.rows → AreRowsOf (followed h e) old.rows)
     → ((L : Limits) (h : History) → Legal L h → Accepts L h e → AreCutsOf h old.cuts → place ≡ length h.events → AreCutsOf (followed h e) new.cuts) → HasFollowedAt old e place new
-cuts_follow old new e place still kept_forks none rows envs forks accounts stay cuts L h legal ok kept at =
+cuts_follow old new e place still kept_forks none rows envs forks accounts deadlines stay cuts L h legal ok kept at =
     let next = cuts L h legal ok kept.cuts at in
     record {
       rows = subst (AreRowsOf (followed h e)) (sym rows) (stay L h legal kept.rows);
       cuts = next;
       envs = subst (AreEnvsOf (followed h e)) (sym envs) (envs_stay h e old.envs still kept.envs);
       forks = subst (AreForksOf (followed h e)) (sym forks) (forks_stay h e old.forks kept_forks kept.forks);
+      deadlines = deadlines h kept.deadlines;
       room = room_stays h e old.cuts new.cuts kept.room (next.numbered ∙ sym kept.cuts.numbered) accounts none;
     }
 
 -- an event that moves environments alone, and forks none: what is kept follows it where they do
-pub envs_follow : (old new : KeptTable) (e : Event) → leaves_cuts e ≡ true → moves_forks e ≡ false → ((s : ℕ) → forks_in s e ≡ false) → new.rows ≡ old.rows → new.cuts ≡ old.cuts → new.forks ≡ old.forks
+pub envs_follow : (old new : KeptTable) (e : Event) → leaves_cuts e ≡ true → moves_forks e ≡ false → moves_deadlines e ≡ false → ((s : ℕ) → forks_in s e ≡ false) → new.rows ≡ old.rows → new.cuts ≡ old.cuts → new.forks ≡ old.forks → new.deadlines ≡ old.deadlines
     → ((L : Limits) (h : History) → Legal L h → AreRowsOf h old.rows → AreRowsOf (followed h e) old.rows)
     → ((h : History) → AreEnvsOf h old.envs → AreEnvsOf (followed h e) new.envs) → HasFollowed old e new
-envs_follow old new e leaves kept_forks none rows cuts forks stay envs L h legal ok kept = record {
+envs_follow old new e leaves kept_forks kept_deadlines none rows cuts forks deadlines stay envs L h legal ok kept = record {
   rows = subst (AreRowsOf (followed h e)) (sym rows) (stay L h legal kept.rows);
   cuts = subst (AreCutsOf (followed h e)) (sym cuts) (cuts_stay L h e old.cuts legal kept.cuts leaves);
   envs = envs h kept.envs;
   forks = subst (AreForksOf (followed h e)) (sym forks) (forks_stay h e old.forks kept_forks kept.forks);
+  deadlines = subst (AreDeadlinesOf (followed h e)) (sym deadlines) (deadlines_stay h e old.deadlines kept_deadlines kept.deadlines);
   room = room_stays h e old.cuts new.cuts kept.room (ap (λ (t : CutTable). t.before) cuts) (ap (λ (t : CutTable). t.accounts) cuts) none;
 }

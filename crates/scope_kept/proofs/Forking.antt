@@ -1,9 +1,8 @@
 -- What is kept where room is made for a fork, and after it.
-use Rattle.std.proofs.Common.{◌≡◌, ◌≢◌, ℕ, zero, suc, ◌+◌, ◌-◌, ◌≤◌, ◌<◌, ◌^◌, ◌==◌, Bool, true, false, cond, eqb, Option, Some, None, List, [], ◌∷◌, ◌++◌, length, slice_get, count_by, refl, ap, sym, subst, ◌∙◌, arith}
+use Rattle.std.proofs.Common.{◌≡◌, ◌≢◌, ℕ, zero, suc, ◌+◌, ◌-◌, ◌≤◌, ◌<◌, ◌^◌, ◌==◌, Bool, true, false, cond, eqb, Some, None, length, slice_get, refl, ap, sym, subst, ◌∙◌, arith}
 use Rattle.std.proofs.lemmas.Bool.{eqb-true, eqb-false, eq-eqb, ne_eqb}
 use Rattle.scope_rules.specs.declared.types.capacity.Limits.{Limits}
 use Rattle.scope_rules.specs.declared.types.answers.Counts.{Counts}
-use Rattle.scope_rules.specs.declared.types.answers.Stage.TheVariants.{Never, Waiting, Running, Finished}
 use Rattle.scope_rules.specs.declared.types.events.Event.TheVariants.{Fork}
 use Rattle.scope_rules.specs.declared.types.values.Label.{Label}
 use Rattle.scope_rules.specs.History.{History, followed, opening}
@@ -25,7 +24,7 @@ use Rattle.cancel_tree.specs.Rows as rows
 use Rattle.scope_cuts.proofs.Readings.{has_row}
 use Rattle.scope_envs.specs.EnvTable.{HasEnv}
 use Rattle.scope_envs.proofs.Held.{has_env_of_actor}
-use Rattle.scope_kept.specs.KeptTables.{KeptTable, IsKeptOf, HasRoomForEnds, HasRoomToFork, forks_in, forks_of, all_counts}
+use Rattle.scope_kept.specs.KeptTables.{KeptTable, HasRoomForEnds, HasRoomToFork, forks_in, forks_of, all_counts}
 use Rattle.scope_kept.specs.Events.{IsReadyFor}
 use Rattle.scope_kept.proofs.Balance.{balanced}
 use Rattle.scope_kept.proofs.Opening.{forks_opened}

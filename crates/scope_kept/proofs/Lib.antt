@@ -10,3 +10,4 @@ pub mod Counting
 pub mod Ending
 pub mod Covering
 pub mod Closed
+pub mod Infos

@@ -1,5 +1,5 @@
 -- Of a scope that was never opened, and of a task that was never forked, nothing is said.
-use Rattle.std.proofs.Common.{◌≡◌, ℕ, ◌+◌, ◌==◌, ◌&&◌, Bool, true, false, cond, not, is_some, nat_lt, Option, Some, None, length, refl, ap, sym, ◌∙◌, arith}
+use Rattle.std.proofs.Common.{◌≡◌, ℕ, ◌+◌, ◌==◌, ◌&&◌, Bool, true, false, not, is_some, nat_lt, Option, Some, None, length, refl, ap, sym, ◌∙◌, arith}
 use Rattle.std.proofs.lemmas.Bool.Decides.{nat_tests}
 use Rattle.std.specs.Option.{option_map_or}
 use Rattle.scope_rules.specs.declared.types.capacity.Limits.{Limits}
@@ -7,7 +7,6 @@ use Rattle.scope_rules.specs.declared.types.answers.Stage.TheVariants.{Never, Wa
 use Rattle.scope_rules.specs.declared.types.answers.Counts.{Counts}
 use Rattle.scope_rules.specs.declared.types.records.Opening.{Opening}
 use Rattle.scope_rules.specs.declared.types.records.Forking.{Forking}
-use Rattle.scope_rules.specs.declared.types.records.Cut.{Cut}
 use Rattle.scope_rules.specs.History.{History, before, opening, forking}
 use Rattle.scope_rules.specs.Scopes.{joined, closing, closed, innermost, surrounding, level, next_level}
 use Rattle.scope_rules.specs.Cancels.{cut, is_cancelled}

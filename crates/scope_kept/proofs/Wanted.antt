@@ -1,22 +1,21 @@
 -- What the parts want before each event, where the event is accepted.
-use Rattle.std.proofs.Common.{◌≡◌, ℕ, ◌+◌, ◌-◌, ◌≤◌, ◌<◌, ◌^◌, false, Option, Some, None, option_map, length, refl, ap, sym, subst, ◌∙◌, arith}
+use Rattle.std.proofs.Common.{◌≡◌, ℕ, ◌+◌, ◌-◌, ◌≤◌, ◌<◌, ◌^◌, false, Option, Some, None, option_map, length, refl, sym, subst, arith}
 use Rattle.std.specs.Option.{IfSome}
 use Rattle.std.proofs.lemmas.Bool.{ltb-false}
 use Rattle.scope_rules.specs.declared.types.capacity.Limits.{Limits}
-use Rattle.scope_rules.specs.declared.types.capacity.TheConstants.{LEVEL_LIMIT, GREATEST_NUMBER}
+use Rattle.scope_rules.specs.declared.types.capacity.TheConstants.{LEVEL_LIMIT}
 use Rattle.scope_rules.specs.declared.types.events.Event.{Event}
-use Rattle.scope_rules.specs.declared.types.events.Event.TheVariants.{Open, Fork, Cancel, Move, Tick, Bind, Unbind, Join}
+use Rattle.scope_rules.specs.declared.types.events.Event.TheVariants.{Open, Cancel, Move, Tick, Bind, Unbind, Join}
 use Rattle.scope_rules.specs.declared.types.joiners.Policy.{Policy}
 use Rattle.scope_rules.specs.declared.types.events.Options.{Options}
 use Rattle.scope_rules.specs.History.{History, moment}
 use Rattle.scope_rules.specs.Scopes.{joined, surrounding, next_level}
-use Rattle.scope_rules.specs.Checks.{refuse_if}
 use Rattle.scope_rules.specs.Table.{check_of}
 use Rattle.scope_rules.specs.Legal.{Legal, Accepts}
 use Rattle.scope_rules.proofs.Accepted.{checks_at, not_refused}
 use Rattle.scope_rules.proofs.NewScopes.{scope_passed}
 use Rattle.scope_rules.proofs.Nesting.{IsOpened, surrounding_opened}
-use Rattle.scope_rules.proofs.PassedRows.{IsActor, actor_passed, open_passed, fork_passed}
+use Rattle.scope_rules.proofs.PassedRows.{IsActor, actor_passed, open_passed}
 use Rattle.scope_rules.proofs.Pushing.{open_number}
 use Rattle.cancel_tree.specs.Rows.{IsLatest, level_in}
 use Rattle.scope_cuts.specs.CutTables.{CutTable, HasRow}
@@ -25,7 +24,7 @@ use Rattle.scope_cuts.proofs.Readings.{has_row, latest_place, level_in_read}
 use Rattle.scope_envs.specs.EnvTable.{HasEnv}
 use Rattle.scope_envs.proofs.Held.{has_env_of_actor}
 use Rattle.scope_rows.proofs.JoinLaws.{join_passed}
-use Rattle.scope_kept.specs.KeptTables.{KeptTable, IsKeptOf}
+use Rattle.scope_kept.specs.KeptTables.{KeptTable}
 use Rattle.scope_kept.specs.Events.{IsReadyFor, IsReadyAt}
 
 -- ---- what accepted events say

@@ -4,17 +4,22 @@ use Rattle.scope_rules.specs.declared.types.refusals.Refusal.{Refusal}
 use Rattle.scope_rules.specs.declared.types.refusals.Refusal.TheVariants.{Retired}
 use Rattle.std.specs.Option.{option_map_or}
 use Rattle.scope_rules.specs.declared.types.answers.Counts.{Counts}
+use Rattle.scope_rules.specs.declared.types.infos.ScopeStage.{ScopeStage}
+use Rattle.scope_rules.specs.declared.types.infos.ScopeStage.TheVariants.{Open, Closing, Closed}
 use Rattle.scope_rules.specs.declared.types.events.Event.{Event}
 use Rattle.scope_rules.specs.declared.types.events.Event.TheVariants.{Fork}
 use Rattle.join_rules.specs.JoinerStanding.{JoinerStanding}
 use Rattle.scope_rules.specs.History.{History, before, opening}
 use Rattle.scope_rules.specs.Bindings.{stack}
+use Rattle.scope_rows.specs.declared.records.ScopeRow.{ScopeRow}
 use Rattle.scope_rows.specs.Table.{RowTable}
 use Rattle.scope_rows.specs.Agreement.{AreRowsOf}
 use Rattle.scope_envs.specs.EnvTable.{EnvTable}
 use Rattle.scope_outcomes.specs.ForkTable.{ForkTable}
 use Rattle.scope_outcomes.specs.ForksOf.{AreForksOf}
 use Rattle.scope_envs.specs.Agreement.{AreEnvsOf}
+use Rattle.own_deadlines.specs.DeadlineTable.{DeadlineTable}
+use Rattle.own_deadlines.specs.DeadlinesOf.{AreDeadlinesOf}
 use Rattle.scope_cuts.specs.CutTables.{CutTable, account_at}
 use Rattle.scope_cuts.specs.CutsOf.{AreCutsOf}
 
@@ -23,6 +28,7 @@ pub record KeptTable : Type 0 where
   pub cuts : CutTable
   pub envs : EnvTable
   pub forks : ForkTable
+  pub deadlines : DeadlineTable
 
 -- the event forks a task in scope s
 abbrev pub forks_in : ℕ → Event → Bool
@@ -55,10 +61,11 @@ pub record IsKeptOf (h : History) (t : KeptTable) : Type 0 where
   pub cuts : AreCutsOf h t.cuts
   pub envs : AreEnvsOf h t.envs
   pub forks : AreForksOf h t.forks
+  pub deadlines : AreDeadlinesOf h t.deadlines
   pub room : HasRoomForEnds h t.cuts
 
 -- the parts have rows for the same scopes and tasks
-pub record AreAlike (rows : RowTable) (cuts : CutTable) (envs : EnvTable) (forks : ForkTable) : Type 0 where
+pub record AreAlike (rows : RowTable) (cuts : CutTable) (envs : EnvTable) (forks : ForkTable) (deadlines : DeadlineTable) : Type 0 where
   pub scopes_before : cuts.before ≡ rows.scopes_before
   pub scopes : length cuts.told ≡ length rows.scopes
   pub accounts : length cuts.accounts ≡ length rows.scopes
@@ -66,6 +73,8 @@ pub record AreAlike (rows : RowTable) (cuts : CutTable) (envs : EnvTable) (forks
   pub tasks : length envs.tasks ≡ length rows.tasks
   pub forks_before : forks.before ≡ rows.scopes_before
   pub lists : length forks.lists ≡ length rows.scopes
+  pub deadlines_before : deadlines.before ≡ rows.scopes_before
+  pub deadline_count : length deadlines.deadlines ≡ length rows.scopes
 
 -- why there is no row of the number: it was given before, or it is unknown
 abbrev pub absent : ℕ → ℕ → Refusal → Refusal
@@ -74,3 +83,7 @@ absent n before unknown = if nat_lt 0 n && nat_le n before then Retired else unk
 -- the actor has at most as many own pairs as the opener of the scope had at its opening
 abbrev pub opened_as_high : History → ℕ → ℕ → Bool
 opened_as_high h a s = option_map_or (λ o. nat_le (length (stack h a)) (length (stack (before h o.place) o.actor))) (opening h s) false
+
+-- how far the row's scope has come
+abbrev pub stage_in : ScopeRow → ScopeStage
+stage_in r = if r.closed then Closed else (if r.closing then Closing else Open)

@@ -41,6 +41,7 @@ impl Kept {
         let height = self.envs.stack_len(actor);
         self.rows.reserve_scope()?;
         self.forks.reserve_scope()?;
+        self.deadlines.reserve_scope()?;
         self.cuts.open(parent, policy, options, listed, place)?;
         let opening = Opening {
             place,
@@ -50,6 +51,7 @@ impl Kept {
         };
         self.rows.open(opening, parent, height);
         self.forks.open();
+        self.deadlines.open(options.deadline);
         Ok(())
     }
 
@@ -73,6 +75,7 @@ impl Kept {
         ensures refused { OnErr result (self.new ≡ self.old) }
     {
         self.cuts.move_deadline(scope, deadline, place)?;
+        self.deadlines.set(scope, deadline);
         Ok(())
     }
 

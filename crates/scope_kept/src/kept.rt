@@ -17,6 +17,7 @@ ghost use Rattle.scope_cuts.specs.Lent.{scopes_of};
 ghost use Rattle.scope_kept.specs.KeptTables.{IsKeptOf, absent};
 ghost use Rattle.scope_kept.specs.Lending.{KeepsAll};
 
+use own_deadlines::OwnDeadlines;
 use scope_cuts::{CancelledScopes, Cuts};
 use scope_envs::Envs;
 use scope_outcomes::Forks;
@@ -30,14 +31,15 @@ use scope_rules::{
 use std::alloc::{AllocError, Global};
 use std::marker::Model;
 
-/// What is kept of a realm's history, in four parts with the same scopes and tasks: rows, cancels,
-/// environments and forks. Its answers are those of every history that it is kept of.
+/// What is kept of a realm's history, in five parts with the same scopes and tasks: rows, cancels,
+/// environments, forks and own deadlines. Its answers are those of every history that it is kept of.
 #[derive(Drop)]
 pub struct Kept {
     pub(crate) rows: Rows,
     pub(crate) cuts: Cuts,
     pub(crate) envs: Envs,
     pub(crate) forks: Forks,
+    pub(crate) deadlines: OwnDeadlines,
     alloc: Global,
 }
 
@@ -46,9 +48,9 @@ impl Model for Kept {
 
     ghost Value = { KeptTable };
 
-    ghost view = { λ k. record { rows = k.rows; cuts = k.cuts; envs = k.envs; forks = k.forks } };
+    ghost view = { λ k. record { rows = k.rows; cuts = k.cuts; envs = k.envs; forks = k.forks; deadlines = k.deadlines } };
 
-    ghost invariant = { λ k. AreAlike k.rows k.cuts k.envs k.forks };
+    ghost invariant = { λ k. AreAlike k.rows k.cuts k.envs k.forks k.deadlines };
 }
 
 /// How what is kept begins.
@@ -64,6 +66,7 @@ impl Kept {
             cuts: Cuts::new(alloc, 0, 0),
             envs: Envs::new(alloc),
             forks: Forks::new(alloc, 0),
+            deadlines: OwnDeadlines::new(alloc, 0),
             alloc,
         }
     }
@@ -77,6 +80,7 @@ impl Kept {
             cuts: Cuts::new(alloc, base.scopes(), base.moment()),
             envs: Envs::with_base(alloc, base)?,
             forks: Forks::new(alloc, base.scopes()),
+            deadlines: OwnDeadlines::new(alloc, base.scopes()),
             alloc,
         })
     }
@@ -300,7 +304,7 @@ impl Kept {
 }
 
 /// What the cut says of why.
-fn cause_of(cut: Option<Cut>) -> Option<Cause>
+pub(crate) fn cause_of(cut: Option<Cut>) -> Option<Cause>
     ensures { result ≡ option_map (λ c. c.cause) cut }
 {
     match cut {

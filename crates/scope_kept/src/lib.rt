@@ -7,6 +7,7 @@ mod closing;
 mod completing;
 mod events;
 mod kept;
+mod readers;
 
 pub use kept::Kept;
 pub use scope_cuts::CancelledScopes;

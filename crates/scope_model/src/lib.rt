@@ -10,6 +10,6 @@ pub use scope_log::{LogEntry, Preview, ScopeLog, ShownEntry, laws as log_laws};
 pub use scope_rules::{
     Actor, AnyEnd, Base, Binding, Cancelling, Catalog, Cause, CauseKind, Completion, Counts, Due,
     Effective, End, Event, Expiry, Fault, ForkReply, Label, Limits, Name, Options, Outcome, Policy,
-    Refusal, Rule, ScopeId, ScopeInfo, ScopeStage, Stage, State, TaskId, TaskState, TaskStates, TaskValue, TaskValues,
-    Value, Verdict, is_name, is_runtime_fault, laws, types,
+    Refusal, Rule, ScopeId, ScopeInfo, ScopeStage, Stage, State, TaskId, TaskState, TaskStates,
+    TaskValue, TaskValues, Value, Verdict, is_name, is_runtime_fault, laws, types,
 };

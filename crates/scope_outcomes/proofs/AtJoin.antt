@@ -19,7 +19,7 @@ use Rattle.scope_rules.proofs.OneEventMore.{joined_grows, joined_stays}
 use Rattle.scope_rules.proofs.Openings.{if_some, and_then_some}
 use Rattle.scope_rules.proofs.Prefixes.{take_at}
 use Rattle.scope_rules.proofs.Searching.{earliest_where}
-use Rattle.scope_outcomes.specs.TasksOf.{tasks_of}
+use Rattle.scope_rules.specs.Nests.{tasks_of}
 use Rattle.scope_outcomes.proofs.Since.{since}
 use Rattle.scope_outcomes.proofs.TaskLists.{if_one, tasks_kept, tasks_forked}
 use Rattle.scope_outcomes.proofs.Over.{IsOver, forks_for, over_ready, over_stays, over_states, task_before}

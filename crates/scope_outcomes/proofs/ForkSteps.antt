@@ -26,7 +26,7 @@ use Rattle.scope_rows.proofs.Keeping.{count_same}
 use Rattle.scope_rows.proofs.Places.{number_at, number_apart, place_within}
 use Rattle.scope_outcomes.specs.ForkTable.{ForkTable, ForkedTasks, HasForks, no_forks, forks_in, tasks_in, no_lists, with_open, with_forks, roomy, with_task}
 use Rattle.scope_outcomes.specs.ForksOf.{AreForksOf, moves_forks}
-use Rattle.scope_outcomes.specs.TasksOf.{tasks_of}
+use Rattle.scope_rules.specs.Nests.{tasks_of}
 use Rattle.scope_outcomes.proofs.TaskLists.{if_one, tasks_kept, tasks_forked}
 
 -- ---- what is there

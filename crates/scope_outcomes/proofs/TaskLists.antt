@@ -13,7 +13,7 @@ use Rattle.scope_rules.proofs.Numbers.{range_push}
 use Rattle.scope_rules.proofs.OneEventMore.{forking_same, forking_other}
 use Rattle.scope_rules.proofs.Owing.{count_push}
 use Rattle.scope_rules.proofs.StageSteps.{next_forking}
-use Rattle.scope_outcomes.specs.TasksOf.{tasks_of}
+use Rattle.scope_rules.specs.Nests.{tasks_of}
 
 -- one of the list, where the test holds
 abbrev pub if_one : Bool → ℕ → List ℕ

@@ -38,7 +38,7 @@ use Rattle.scope_cuts.specs.CutTables.{CutTable, HasRow, account_at}
 use Rattle.scope_cuts.specs.CutsOf.{AreCutsOf, IsAccountOf}
 use Rattle.scope_outcomes.specs.ForkTable.{ForkTable}
 use Rattle.scope_outcomes.specs.ForksOf.{AreForksOf}
-use Rattle.scope_outcomes.specs.TasksOf.{tasks_of}
+use Rattle.scope_rules.specs.Nests.{tasks_of}
 use Rattle.scope_outcomes.specs.Answers.{answer_by, answer_at_expiry, answer_by_kind, answer_of, readable_of, cause_before, state_in, readable_in, values_in, listing_in, readable_by}
 use Rattle.scope_outcomes.proofs.AtJoin.{IsLike, join_at, join_wants, like_at_join}
 use Rattle.scope_outcomes.proofs.CutsBefore.{cause_at}

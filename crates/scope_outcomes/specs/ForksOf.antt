@@ -4,7 +4,7 @@ use Rattle.scope_rules.specs.declared.types.events.Event.{Event}
 use Rattle.scope_rules.specs.declared.types.events.Event.TheVariants.{Open, Fork}
 use Rattle.scope_rules.specs.History.{History, opened_count}
 use Rattle.scope_outcomes.specs.ForkTable.{ForkTable, ForkedTasks}
-use Rattle.scope_outcomes.specs.TasksOf.{tasks_of}
+use Rattle.scope_rules.specs.Nests.{tasks_of}
 
 -- the table has the tasks of each scope that was opened since the base
 pub record AreForksOf (h : History) (t : ForkTable) : Type 0 where

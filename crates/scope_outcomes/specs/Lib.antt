@@ -1,4 +1,3 @@
-pub mod TasksOf
 pub mod Answers
 pub mod ForkTable
 pub mod ForksOf

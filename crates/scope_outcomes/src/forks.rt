@@ -8,7 +8,7 @@ ghost use Rattle.scope_rules.specs.declared.types.values.Label.{Label};
 ghost use Rattle.scope_rules.specs.History.{History, followed, tasks};
 ghost use Rattle.scope_rules.specs.Legal.{Legal};
 ghost use Rattle.scope_rows.specs.Table.{place_of};
-ghost use Rattle.scope_outcomes.specs.TasksOf.{tasks_of};
+ghost use Rattle.scope_rules.specs.Nests.{tasks_of};
 ghost use Rattle.scope_outcomes.specs.ForkTable.{HasForks, HasForkRoom, forks_in, tasks_in, no_forks, no_lists, with_open, with_forks, roomy, with_task};
 ghost use Rattle.scope_outcomes.specs.ForksOf.{AreForksOf};
 

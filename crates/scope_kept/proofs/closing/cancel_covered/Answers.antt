@@ -1,6 +1,6 @@
 -- Each turn cancels a scope and goes on below it.
-use Rattle.std.proofs.Common.{◌≡◌, ◌<◌, cond, Option, Some, None, ap, sym, subst, ◌∙◌, refl, arith}
-use Rattle.scope_rows.specs.Steps.{below_of, walk_length}
+use Rattle.std.proofs.Common.{◌<◌, None, sym, subst, ◌∙◌, arith}
+use Rattle.scope_rows.specs.Steps.{walk_length}
 use Rattle.scope_kept.proofs.Covering.{IsWalked, walk_start, walk_on, walk_end, walk_falls, here_row, here_latest, onward_at, onward_past}
 use Rattle.scope_kept.proofs.closing.cancel_covered.Goals as goal
 

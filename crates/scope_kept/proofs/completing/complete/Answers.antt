@@ -1,6 +1,4 @@
 use Rattle.std.proofs.Common.{true, false, refl, sym, ◌∙◌}
-use Rattle.scope_rules.specs.declared.types.answers.CauseKind.TheVariants.{Joiner}
-use Rattle.scope_cuts.specs.CutTables.{cancelled}
 use Rattle.scope_kept.proofs.Counting.{few_counted, fires_counted}
 use Rattle.scope_kept.proofs.completing.complete.Goals as goal
 

@@ -9,14 +9,14 @@ use Rattle.scope_kept.proofs.kept.Kept.bind.Goals as goal
 
 pub bind-requires : goal.bind-requires
 bind-requires c =
-    let old : KeptTable = record { rows = c.self.inside.rows; cuts = c.self.inside.cuts; envs = c.self.inside.envs; forks = c.self.inside.forks } in
+    let old : KeptTable = record { rows = c.self.inside.rows; cuts = c.self.inside.cuts; envs = c.self.inside.envs; forks = c.self.inside.forks; deadlines = c.self.inside.deadlines } in
     bind_env old c.args.actor (record { key = c.args.key; value = c.args.value }) (subst (λ t. IsReadyFor t (Bind c.args.actor (record { key = c.args.key; value = c.args.value }))) (sym c.self.view_is) c.requires)
 
 pub returns-clause-followed : goal.returns-clause-followed
 returns-clause-followed c =
-    let old : KeptTable = record { rows = c.self.inside.rows; cuts = c.self.inside.cuts; envs = c.self.inside.envs; forks = c.self.inside.forks } in
-    let new : KeptTable = record { rows = c.self.inside.rows; cuts = c.self.inside.cuts; envs = c.bind.new.self; forks = c.self.inside.forks } in
+    let old : KeptTable = record { rows = c.self.inside.rows; cuts = c.self.inside.cuts; envs = c.self.inside.envs; forks = c.self.inside.forks; deadlines = c.self.inside.deadlines } in
+    let new : KeptTable = record { rows = c.self.inside.rows; cuts = c.self.inside.cuts; envs = c.bind.new.self; forks = c.self.inside.forks; deadlines = c.self.inside.deadlines } in
     subst (λ t. HasFollowed t (Bind c.args.actor (record { key = c.args.key; value = c.args.value })) new) c.self.view_is
-    (envs_follow old new (Bind c.args.actor (record { key = c.args.key; value = c.args.value })) refl refl (λ s. refl) refl refl refl
+    (envs_follow old new (Bind c.args.actor (record { key = c.args.key; value = c.args.value })) refl refl refl (λ s. refl) refl refl refl refl
     (λ L h legal rows. rows_bound L h old.rows c.args.actor (record { key = c.args.key; value = c.args.value }) legal rows)
     c.in_ok-bind.ensures.agrees)

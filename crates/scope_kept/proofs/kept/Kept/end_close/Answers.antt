@@ -13,12 +13,12 @@ end_close-requires c =
 
 pub returns : goal.returns
 returns c =
-    let old : KeptTable = record { rows = c.self.inside.rows; cuts = c.self.inside.cuts; envs = c.self.inside.envs; forks = c.self.inside.forks } in
-    let new : KeptTable = record { rows = c.end_close.new.self; cuts = c.self.inside.cuts; envs = c.self.inside.envs; forks = c.self.inside.forks } in
+    let old : KeptTable = record { rows = c.self.inside.rows; cuts = c.self.inside.cuts; envs = c.self.inside.envs; forks = c.self.inside.forks; deadlines = c.self.inside.deadlines } in
+    let new : KeptTable = record { rows = c.end_close.new.self; cuts = c.self.inside.cuts; envs = c.self.inside.envs; forks = c.self.inside.forks; deadlines = c.self.inside.deadlines } in
     subst (λ t. HasFollowed t (EndClose c.args.actor c.args.scope) new) c.self.view_is
-    (rows_follow old new (EndClose c.args.actor c.args.scope) refl refl refl (λ s. refl) refl refl refl c.end_close.ensures.agrees)
+    (rows_follow old new (EndClose c.args.actor c.args.scope) refl refl refl refl (λ s. refl) refl refl refl refl c.end_close.ensures.agrees)
 
 pub invariant_of-self : goal.invariant_of-self
 invariant_of-self c =
-    let new : KeptTable = record { rows = c.end_close.new.self; cuts = c.self.inside.cuts; envs = c.self.inside.envs; forks = c.self.inside.forks } in
+    let new : KeptTable = record { rows = c.end_close.new.self; cuts = c.self.inside.cuts; envs = c.self.inside.envs; forks = c.self.inside.forks; deadlines = c.self.inside.deadlines } in
     alike_next c.args.self.now new (EndClose c.args.actor c.args.scope) c.requires (returns c)

@@ -1,10 +1,11 @@
 use Rattle.std.proofs.Common.{◌≡◌, ap, sym, subst, refl, ◌∙◌}
 use Rattle.scope_rules.specs.declared.types.events.Event.TheVariants.{Finish}
 use Rattle.scope_rules.specs.Cancels.{is_cancelled}
-use Rattle.scope_rows.specs.Table.{HasTask, scope_of}
+use Rattle.scope_rows.specs.Table.{scope_of}
 use Rattle.scope_rows.proofs.WantsMet.{can_finish}
 use Rattle.scope_envs.proofs.Steps.{envs_stay}
 use Rattle.scope_outcomes.proofs.ForkSteps.{forks_stay}
+use Rattle.own_deadlines.proofs.DeadlineSteps.{deadlines_stay}
 use Rattle.scope_kept.specs.KeptTables.{KeptTable, IsKeptOf}
 use Rattle.scope_kept.specs.Events.{IsReadyAt, HasFollowedAt}
 use Rattle.scope_kept.proofs.Ending.{ends_in, room_for_end, few_ended, cuts_ended, room_ended}
@@ -19,14 +20,14 @@ scope_of-scope-requires g c =
 
 pub complete-requires-clause-row : goal.complete-requires-clause-row
 complete-requires-clause-row g c =
-    let old : KeptTable = record { rows = c.self.inside.rows; cuts = c.self.inside.cuts; envs = c.self.inside.envs; forks = c.self.inside.forks } in
+    let old : KeptTable = record { rows = c.self.inside.rows; cuts = c.self.inside.cuts; envs = c.self.inside.envs; forks = c.self.inside.forks; deadlines = c.self.inside.deadlines } in
     let ready = (subst (λ t. IsReadyAt t (Finish c.args.task c.args.end) c.args.place) (sym c.self.view_is) c.requires).0 in
     let scope : c.scope_of-scope.result ≡ scope_of old.rows c.args.task = c.scope_of-scope.ensures.row ∙ ap (λ (t : KeptTable). scope_of t.rows c.args.task) (sym c.self.view_is) in
     (ends_in ready.limits ready.history old c.args.task c.args.end c.scope_of-scope.result ready.legal ready.accepted ready.kept scope).row
 
 pub complete-requires-clause-room : goal.complete-requires-clause-room
 complete-requires-clause-room g c =
-    let old : KeptTable = record { rows = c.self.inside.rows; cuts = c.self.inside.cuts; envs = c.self.inside.envs; forks = c.self.inside.forks } in
+    let old : KeptTable = record { rows = c.self.inside.rows; cuts = c.self.inside.cuts; envs = c.self.inside.envs; forks = c.self.inside.forks; deadlines = c.self.inside.deadlines } in
     let ready = (subst (λ t. IsReadyAt t (Finish c.args.task c.args.end) c.args.place) (sym c.self.view_is) c.requires).0 in
     let scope : c.scope_of-scope.result ≡ scope_of old.rows c.args.task = c.scope_of-scope.ensures.row ∙ ap (λ (t : KeptTable). scope_of t.rows c.args.task) (sym c.self.view_is) in
     room_for_end ready.history old c.args.task c.scope_of-scope.result ready.kept
@@ -34,7 +35,7 @@ complete-requires-clause-room g c =
 
 pub complete-requires-clause-few : goal.complete-requires-clause-few
 complete-requires-clause-few g c =
-    let old : KeptTable = record { rows = c.self.inside.rows; cuts = c.self.inside.cuts; envs = c.self.inside.envs; forks = c.self.inside.forks } in
+    let old : KeptTable = record { rows = c.self.inside.rows; cuts = c.self.inside.cuts; envs = c.self.inside.envs; forks = c.self.inside.forks; deadlines = c.self.inside.deadlines } in
     let ready = (subst (λ t. IsReadyAt t (Finish c.args.task c.args.end) c.args.place) (sym c.self.view_is) c.requires).0 in
     let scope : c.scope_of-scope.result ≡ scope_of old.rows c.args.task = c.scope_of-scope.ensures.row ∙ ap (λ (t : KeptTable). scope_of t.rows c.args.task) (sym c.self.view_is) in
     few_ended ready.history old c.args.task c.scope_of-scope.result ready.kept
@@ -42,7 +43,7 @@ complete-requires-clause-few g c =
 
 pub complete-requires-clause-latest : goal.complete-requires-clause-latest
 complete-requires-clause-latest g c =
-    let old : KeptTable = record { rows = c.self.inside.rows; cuts = c.self.inside.cuts; envs = c.self.inside.envs; forks = c.self.inside.forks } in
+    let old : KeptTable = record { rows = c.self.inside.rows; cuts = c.self.inside.cuts; envs = c.self.inside.envs; forks = c.self.inside.forks; deadlines = c.self.inside.deadlines } in
     latest old (Finish c.args.task c.args.end) c.args.place (subst (λ t. IsReadyAt t (Finish c.args.task c.args.end) c.args.place) (sym c.self.view_is) c.requires)
 
 pub finish-requires : goal.finish-requires
@@ -52,8 +53,8 @@ finish-requires g c =
 
 pub returns : goal.returns
 returns g c =
-    let old : KeptTable = record { rows = c.self.inside.rows; cuts = c.self.inside.cuts; envs = c.self.inside.envs; forks = c.self.inside.forks } in
-    let new : KeptTable = record { rows = c.finish.new.self; cuts = c.complete.new.cuts; envs = c.self.inside.envs; forks = c.self.inside.forks } in
+    let old : KeptTable = record { rows = c.self.inside.rows; cuts = c.self.inside.cuts; envs = c.self.inside.envs; forks = c.self.inside.forks; deadlines = c.self.inside.deadlines } in
+    let new : KeptTable = record { rows = c.finish.new.self; cuts = c.complete.new.cuts; envs = c.self.inside.envs; forks = c.self.inside.forks; deadlines = c.self.inside.deadlines } in
     let scope : c.scope_of-scope.result ≡ scope_of old.rows c.args.task = c.scope_of-scope.ensures.row ∙ ap (λ (t : KeptTable). scope_of t.rows c.args.task) (sym c.self.view_is) in
     subst (λ t. HasFollowedAt t (Finish c.args.task c.args.end) c.args.place new) c.self.view_is
     (λ L h legal ok kept at.
@@ -65,10 +66,11 @@ returns g c =
       cuts = cuts;
       envs = envs_stay h (Finish c.args.task c.args.end) old.envs refl kept.envs;
       forks = forks_stay h (Finish c.args.task c.args.end) old.forks refl kept.forks;
+      deadlines = deadlines_stay h (Finish c.args.task c.args.end) old.deadlines refl kept.deadlines;
       room = room_ended h c.args.task c.args.end c.scope_of-scope.result c.args.place old.cuts new.cuts kept.room (cuts.numbered ∙ sym kept.cuts.numbered) c.complete.ensures;
     })
 
 pub invariant_of-self : goal.invariant_of-self
 invariant_of-self g c =
-    let new : KeptTable = record { rows = c.finish.new.self; cuts = c.complete.new.cuts; envs = c.self.inside.envs; forks = c.self.inside.forks } in
+    let new : KeptTable = record { rows = c.finish.new.self; cuts = c.complete.new.cuts; envs = c.self.inside.envs; forks = c.self.inside.forks; deadlines = c.self.inside.deadlines } in
     alike_next_at c.args.self.now new (Finish c.args.task c.args.end) c.args.place c.requires (returns g c)

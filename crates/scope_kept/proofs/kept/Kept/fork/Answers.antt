@@ -1,14 +1,12 @@
-use Rattle.std.proofs.Common.{ℕ, ◌+◌, refl, ap, sym, subst, ◌∙◌, arith}
-use Rattle.scope_rules.specs.declared.types.capacity.Limits.{Limits}
+use Rattle.std.proofs.Common.{◌+◌, refl, ap, sym, subst, arith}
 use Rattle.scope_rules.specs.declared.types.events.Event.TheVariants.{Fork}
-use Rattle.scope_rules.specs.History.{History}
-use Rattle.scope_rules.specs.Legal.{Legal}
 use Rattle.scope_rows.proofs.WantsMet.{can_fork}
 use Rattle.scope_cuts.specs.CutTables.{HasRow}
 use Rattle.scope_cuts.specs.CutsOf.{AreCutsOf}
 use Rattle.scope_cuts.proofs.EventSteps.{cuts_stay}
 use Rattle.scope_envs.specs.Agreement.{AreEnvsOf}
 use Rattle.scope_outcomes.proofs.Held.{still_has_forks}
+use Rattle.own_deadlines.proofs.DeadlineSteps.{deadlines_stay}
 use Rattle.scope_kept.specs.KeptTables.{KeptTable, IsKeptOf, HasRoomForEnds, HasRoomToFork}
 use Rattle.scope_kept.specs.Events.{IsReadyAt, HasFollowedAt}
 use Rattle.scope_kept.proofs.Following.{alike_next_at}
@@ -19,7 +17,7 @@ use Rattle.scope_kept.proofs.kept.Kept.fork.Goals as goal
 pub room_to_fork-more-requires : goal.room_to_fork-more-requires
 room_to_fork-more-requires c =
     let ready = (subst (λ t. IsReadyAt t (Fork c.args.actor c.args.scope c.args.label) c.args.place) (sym c.self.view_is) c.requires).0 in
-    let old : KeptTable = record { rows = c.self.inside.rows; cuts = c.self.inside.cuts; envs = c.self.inside.envs; forks = c.self.inside.forks } in
+    let old : KeptTable = record { rows = c.self.inside.rows; cuts = c.self.inside.cuts; envs = c.self.inside.envs; forks = c.self.inside.forks; deadlines = c.self.inside.deadlines } in
     subst (λ (t : KeptTable). HasRow t.cuts c.args.scope) c.self.view_is (fork_row old c.args.actor c.args.scope c.args.label ready)
 
 pub last_task-task-requires : goal.last_task-task-requires
@@ -36,7 +34,7 @@ overflow_add-task c =
 
 pub reserve-requires : goal.reserve-requires
 reserve-requires c =
-    let old : KeptTable = record { rows = c.self.inside.rows; cuts = c.self.inside.cuts; envs = c.self.inside.envs; forks = c.self.inside.forks } in
+    let old : KeptTable = record { rows = c.self.inside.rows; cuts = c.self.inside.cuts; envs = c.self.inside.envs; forks = c.self.inside.forks; deadlines = c.self.inside.deadlines } in
     fork_list old c.args.actor c.args.scope c.args.label (subst (λ t. IsReadyAt t (Fork c.args.actor c.args.scope c.args.label) c.args.place) (sym c.self.view_is) c.requires).0
 
 pub returns-in_err-reserve-clause-refused : goal.returns-in_err-reserve-clause-refused
@@ -49,12 +47,13 @@ returns-in_err-reserve-clause-refused c =
       cuts = was.cuts;
       envs = was.envs;
       forks = c.reserve.ensures.agrees h was.forks;
+      deadlines = was.deadlines;
       room = was.room;
     })
 
 pub reserve-requires-2 : goal.reserve-requires-2
 reserve-requires-2 c =
-    let old : KeptTable = record { rows = c.self.inside.rows; cuts = c.self.inside.cuts; envs = c.self.inside.envs; forks = c.self.inside.forks } in
+    let old : KeptTable = record { rows = c.self.inside.rows; cuts = c.self.inside.cuts; envs = c.self.inside.envs; forks = c.self.inside.forks; deadlines = c.self.inside.deadlines } in
     fork_row old c.args.actor c.args.scope c.args.label (subst (λ t. IsReadyAt t (Fork c.args.actor c.args.scope c.args.label) c.args.place) (sym c.self.view_is) c.requires).0
 
 pub returns-in_err-reserve-2-clause-refused : goal.returns-in_err-reserve-2-clause-refused
@@ -67,18 +66,19 @@ returns-in_err-reserve-2-clause-refused c =
       cuts = subst (AreCutsOf h) (sym c.in_err-reserve-2.ensures.refused) was.cuts;
       envs = was.envs;
       forks = c.reserve.ensures.agrees h was.forks;
+      deadlines = was.deadlines;
       room = subst (HasRoomForEnds h) (sym c.in_err-reserve-2.ensures.refused) was.room;
     })
 
 pub fork-requires : goal.fork-requires
 fork-requires c =
     let ready = (subst (λ t. IsReadyAt t (Fork c.args.actor c.args.scope c.args.label) c.args.place) (sym c.self.view_is) c.requires).0 in
-    let old : KeptTable = record { rows = c.self.inside.rows; cuts = c.self.inside.cuts; envs = c.self.inside.envs; forks = c.self.inside.forks } in
+    let old : KeptTable = record { rows = c.self.inside.rows; cuts = c.self.inside.cuts; envs = c.self.inside.envs; forks = c.self.inside.forks; deadlines = c.self.inside.deadlines } in
     fork_env old c.args.actor c.args.scope c.args.label ready
 
 pub returns-in_err-fork-clause-refused : goal.returns-in_err-fork-clause-refused
 returns-in_err-fork-clause-refused c =
-    let old : KeptTable = record { rows = c.self.inside.rows; cuts = c.self.inside.cuts; envs = c.self.inside.envs; forks = c.self.inside.forks } in
+    let old : KeptTable = record { rows = c.self.inside.rows; cuts = c.self.inside.cuts; envs = c.self.inside.envs; forks = c.self.inside.forks; deadlines = c.self.inside.deadlines } in
     let row = fork_row old c.args.actor c.args.scope c.args.label (subst (λ t. IsReadyAt t (Fork c.args.actor c.args.scope c.args.label) c.args.place) (sym c.self.view_is) c.requires).0 in
     on_err_anyway c.from_residual-in_err-fork.result
     (λ L h legal kept.
@@ -89,6 +89,7 @@ returns-in_err-fork-clause-refused c =
       cuts = cuts_roomier h old.cuts c.reserve-2.new.self c.args.scope c.room_to_fork-more.result c.in_ok-reserve-2.ensures.reserved was.cuts;
       envs = subst (AreEnvsOf h) (sym c.in_err-fork.ensures.err) was.envs;
       forks = c.reserve.ensures.agrees h was.forks;
+      deadlines = was.deadlines;
       room = room_reserved h old.cuts c.reserve-2.new.self c.args.scope c.room_to_fork-more.result row c.in_ok-reserve-2.ensures.reserved enough was.room;
     })
 
@@ -100,13 +101,13 @@ fork-requires-2-clause-there c =
 
 pub fork-requires-3-clause-list : goal.fork-requires-3-clause-list
 fork-requires-3-clause-list c =
-    let old : KeptTable = record { rows = c.self.inside.rows; cuts = c.self.inside.cuts; envs = c.self.inside.envs; forks = c.self.inside.forks } in
+    let old : KeptTable = record { rows = c.self.inside.rows; cuts = c.self.inside.cuts; envs = c.self.inside.envs; forks = c.self.inside.forks; deadlines = c.self.inside.deadlines } in
     still_has_forks old.forks c.reserve.new.self c.args.scope c.args.scope _ c.reserve.ensures.kept (fork_list old c.args.actor c.args.scope c.args.label (subst (λ t. IsReadyAt t (Fork c.args.actor c.args.scope c.args.label) c.args.place) (sym c.self.view_is) c.requires).0)
 
 pub returns-clause-followed : goal.returns-clause-followed
 returns-clause-followed c =
-    let old : KeptTable = record { rows = c.self.inside.rows; cuts = c.self.inside.cuts; envs = c.self.inside.envs; forks = c.self.inside.forks } in
-    let new : KeptTable = record { rows = c.fork-2.new.self; cuts = c.reserve-2.new.self; envs = c.fork.new.self; forks = c.fork-3.new.self } in
+    let old : KeptTable = record { rows = c.self.inside.rows; cuts = c.self.inside.cuts; envs = c.self.inside.envs; forks = c.self.inside.forks; deadlines = c.self.inside.deadlines } in
+    let new : KeptTable = record { rows = c.fork-2.new.self; cuts = c.reserve-2.new.self; envs = c.fork.new.self; forks = c.fork-3.new.self; deadlines = c.self.inside.deadlines } in
     let row = fork_row old c.args.actor c.args.scope c.args.label (subst (λ t. IsReadyAt t (Fork c.args.actor c.args.scope c.args.label) c.args.place) (sym c.self.view_is) c.requires).0 in
     subst (λ t. HasFollowedAt t (Fork c.args.actor c.args.scope c.args.label) c.args.place new) c.self.view_is
     (λ L h legal ok kept at.
@@ -119,10 +120,11 @@ returns-clause-followed c =
       cuts = cuts_stay L h (Fork c.args.actor c.args.scope c.args.label) new.cuts legal cuts refl;
       envs = c.in_ok-fork.ensures.agrees L h c.args.scope c.args.label legal kept.envs;
       forks = c.fork-3.ensures.agrees h c.args.actor c.args.label (c.reserve.ensures.agrees h kept.forks) (ap (λ n. n + 1) (c.last_task-task.ensures.agrees h kept.rows));
+      deadlines = deadlines_stay h (Fork c.args.actor c.args.scope c.args.label) old.deadlines refl kept.deadlines;
       room = room_forked h old.cuts new.cuts c.args.actor c.args.scope c.args.label c.room_to_fork-more.result row c.in_ok-reserve-2.ensures.reserved enough kept.room;
     })
 
 pub invariant_of-self-2 : goal.invariant_of-self-2
 invariant_of-self-2 c =
-    let new : KeptTable = record { rows = c.fork-2.new.self; cuts = c.reserve-2.new.self; envs = c.fork.new.self; forks = c.fork-3.new.self } in
+    let new : KeptTable = record { rows = c.fork-2.new.self; cuts = c.reserve-2.new.self; envs = c.fork.new.self; forks = c.fork-3.new.self; deadlines = c.self.inside.deadlines } in
     alike_next_at c.args.self.now new (Fork c.args.actor c.args.scope c.args.label) c.args.place c.requires (returns-clause-followed c)

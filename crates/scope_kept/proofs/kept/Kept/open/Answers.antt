@@ -1,7 +1,5 @@
 use Rattle.std.proofs.Common.{refl, sym, subst, ◌∙◌}
 use Rattle.scope_rules.specs.declared.types.events.Event.TheVariants.{Open}
-use Rattle.scope_rules.specs.History.{History}
-use Rattle.scope_rules.specs.Legal.{Legal}
 use Rattle.scope_rows.proofs.WantsMet.{can_open}
 use Rattle.scope_envs.proofs.Steps.{envs_stay}
 use Rattle.scope_cuts.specs.CutsOf.{AreCutsOf}
@@ -14,7 +12,7 @@ use Rattle.scope_kept.proofs.kept.Kept.open.Goals as goal
 
 pub stack_len-height-requires : goal.stack_len-height-requires
 stack_len-height-requires c =
-    let old : KeptTable = record { rows = c.self.inside.rows; cuts = c.self.inside.cuts; envs = c.self.inside.envs; forks = c.self.inside.forks } in
+    let old : KeptTable = record { rows = c.self.inside.rows; cuts = c.self.inside.cuts; envs = c.self.inside.envs; forks = c.self.inside.forks; deadlines = c.self.inside.deadlines } in
     open_env old c.args.actor c.args.policy c.args.options (subst (λ t. IsReadyAt t (Open c.args.actor c.args.policy c.args.options) c.args.place) (sym c.self.view_is) c.requires).0
 
 pub open-requires-clause-there : goal.open-requires-clause-there
@@ -36,7 +34,7 @@ open-requires-clause-number c =
 
 pub open-requires-clause-latest : goal.open-requires-clause-latest
 open-requires-clause-latest c =
-    let old : KeptTable = record { rows = c.self.inside.rows; cuts = c.self.inside.cuts; envs = c.self.inside.envs; forks = c.self.inside.forks } in
+    let old : KeptTable = record { rows = c.self.inside.rows; cuts = c.self.inside.cuts; envs = c.self.inside.envs; forks = c.self.inside.forks; deadlines = c.self.inside.deadlines } in
     latest old (Open c.args.actor c.args.policy c.args.options) c.args.place (subst (λ t. IsReadyAt t (Open c.args.actor c.args.policy c.args.options) c.args.place) (sym c.self.view_is) c.requires)
 
 pub open-requires-2-clause-there : goal.open-requires-2-clause-there
@@ -55,6 +53,21 @@ returns-in_err-reserve_scope-2-clause-refused c =
       cuts = was.cuts;
       envs = was.envs;
       forks = forks_roomier h c.self.inside.forks c.reserve_scope-2.new.self c.reserve_scope-2.ensures.kept was.forks;
+      deadlines = was.deadlines;
+      room = was.room;
+    })
+
+pub returns-in_err-reserve_scope-3-clause-refused : goal.returns-in_err-reserve_scope-3-clause-refused
+returns-in_err-reserve_scope-3-clause-refused c =
+    on_err_anyway c.from_residual-in_err-reserve_scope-3.result
+    (λ L h legal kept.
+    let was = subst (IsKeptOf h) (sym c.self.view_is) kept in
+    record {
+      rows = rows_roomier h c.self.inside.rows c.reserve_scope.new.self c.reserve_scope.ensures.kept was.rows;
+      cuts = was.cuts;
+      envs = was.envs;
+      forks = forks_roomier h c.self.inside.forks c.reserve_scope-2.new.self c.reserve_scope-2.ensures.kept was.forks;
+      deadlines = c.reserve_scope-3.ensures.agrees h was.deadlines;
       room = was.room;
     })
 
@@ -68,13 +81,14 @@ returns-in_err-open-clause-refused c =
       cuts = subst (AreCutsOf h) (sym c.in_err-open.ensures.refused) was.cuts;
       envs = was.envs;
       forks = forks_roomier h c.self.inside.forks c.reserve_scope-2.new.self c.reserve_scope-2.ensures.kept was.forks;
+      deadlines = c.reserve_scope-3.ensures.agrees h was.deadlines;
       room = subst (HasRoomForEnds h) (sym c.in_err-open.ensures.refused) was.room;
     })
 
 pub returns-clause-followed : goal.returns-clause-followed
 returns-clause-followed c =
-    let old : KeptTable = record { rows = c.self.inside.rows; cuts = c.self.inside.cuts; envs = c.self.inside.envs; forks = c.self.inside.forks } in
-    let new : KeptTable = record { rows = c.open-2.new.self; cuts = c.open.new.self; envs = c.self.inside.envs; forks = c.open-3.new.self } in
+    let old : KeptTable = record { rows = c.self.inside.rows; cuts = c.self.inside.cuts; envs = c.self.inside.envs; forks = c.self.inside.forks; deadlines = c.self.inside.deadlines } in
+    let new : KeptTable = record { rows = c.open-2.new.self; cuts = c.open.new.self; envs = c.self.inside.envs; forks = c.open-3.new.self; deadlines = c.open-4.new.self } in
     subst (λ t. HasFollowedAt t (Open c.args.actor c.args.policy c.args.options) c.args.place new) c.self.view_is
     (λ L h legal ok kept at.
     let parent = c.surrounding-parent.ensures L h legal (subst (IsKeptOf h) c.self.view_is kept) in
@@ -85,10 +99,11 @@ returns-clause-followed c =
       cuts = cuts;
       envs = envs_stay h (Open c.args.actor c.args.policy c.args.options) old.envs refl kept.envs;
       forks = c.open-3.ensures.agrees L h c.args.actor c.args.policy c.args.options legal (forks_roomier h c.self.inside.forks c.reserve_scope-2.new.self c.reserve_scope-2.ensures.kept kept.forks);
+      deadlines = c.open-4.ensures.agrees L h c.args.actor c.args.policy c.args.options legal refl (c.reserve_scope-3.ensures.agrees h kept.deadlines);
       room = room_opened L h c.args.actor c.args.policy c.args.options old.cuts new.cuts legal kept.cuts kept.room (cuts.numbered ∙ sym kept.cuts.numbered) c.in_ok-open.ensures.accounts;
     })
 
 pub invariant_of-self-2 : goal.invariant_of-self-2
 invariant_of-self-2 c =
-    let new : KeptTable = record { rows = c.open-2.new.self; cuts = c.open.new.self; envs = c.self.inside.envs; forks = c.open-3.new.self } in
+    let new : KeptTable = record { rows = c.open-2.new.self; cuts = c.open.new.self; envs = c.self.inside.envs; forks = c.open-3.new.self; deadlines = c.open-4.new.self } in
     alike_next_at c.args.self.now new (Open c.args.actor c.args.policy c.args.options) c.args.place c.requires (returns-clause-followed c)

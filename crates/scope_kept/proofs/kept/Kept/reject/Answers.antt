@@ -13,12 +13,12 @@ reject-requires c =
 
 pub returns : goal.returns
 returns c =
-    let old : KeptTable = record { rows = c.self.inside.rows; cuts = c.self.inside.cuts; envs = c.self.inside.envs; forks = c.self.inside.forks } in
-    let new : KeptTable = record { rows = c.reject.new.self; cuts = c.self.inside.cuts; envs = c.self.inside.envs; forks = c.self.inside.forks } in
+    let old : KeptTable = record { rows = c.self.inside.rows; cuts = c.self.inside.cuts; envs = c.self.inside.envs; forks = c.self.inside.forks; deadlines = c.self.inside.deadlines } in
+    let new : KeptTable = record { rows = c.reject.new.self; cuts = c.self.inside.cuts; envs = c.self.inside.envs; forks = c.self.inside.forks; deadlines = c.self.inside.deadlines } in
     subst (λ t. HasFollowed t (Reject c.args.task) new) c.self.view_is
-    (rows_follow old new (Reject c.args.task) refl refl refl (λ s. refl) refl refl refl c.reject.ensures.agrees)
+    (rows_follow old new (Reject c.args.task) refl refl refl refl (λ s. refl) refl refl refl refl c.reject.ensures.agrees)
 
 pub invariant_of-self : goal.invariant_of-self
 invariant_of-self c =
-    let new : KeptTable = record { rows = c.reject.new.self; cuts = c.self.inside.cuts; envs = c.self.inside.envs; forks = c.self.inside.forks } in
+    let new : KeptTable = record { rows = c.reject.new.self; cuts = c.self.inside.cuts; envs = c.self.inside.envs; forks = c.self.inside.forks; deadlines = c.self.inside.deadlines } in
     alike_next c.args.self.now new (Reject c.args.task) c.requires (returns c)

@@ -13,12 +13,12 @@ start-requires c =
 
 pub returns : goal.returns
 returns c =
-    let old : KeptTable = record { rows = c.self.inside.rows; cuts = c.self.inside.cuts; envs = c.self.inside.envs; forks = c.self.inside.forks } in
-    let new : KeptTable = record { rows = c.start.new.self; cuts = c.self.inside.cuts; envs = c.self.inside.envs; forks = c.self.inside.forks } in
+    let old : KeptTable = record { rows = c.self.inside.rows; cuts = c.self.inside.cuts; envs = c.self.inside.envs; forks = c.self.inside.forks; deadlines = c.self.inside.deadlines } in
+    let new : KeptTable = record { rows = c.start.new.self; cuts = c.self.inside.cuts; envs = c.self.inside.envs; forks = c.self.inside.forks; deadlines = c.self.inside.deadlines } in
     subst (λ t. HasFollowed t (Start c.args.task) new) c.self.view_is
-    (rows_follow old new (Start c.args.task) refl refl refl (λ s. refl) refl refl refl c.start.ensures.agrees)
+    (rows_follow old new (Start c.args.task) refl refl refl refl (λ s. refl) refl refl refl refl c.start.ensures.agrees)
 
 pub invariant_of-self : goal.invariant_of-self
 invariant_of-self c =
-    let new : KeptTable = record { rows = c.start.new.self; cuts = c.self.inside.cuts; envs = c.self.inside.envs; forks = c.self.inside.forks } in
+    let new : KeptTable = record { rows = c.start.new.self; cuts = c.self.inside.cuts; envs = c.self.inside.envs; forks = c.self.inside.forks; deadlines = c.self.inside.deadlines } in
     alike_next c.args.self.now new (Start c.args.task) c.requires (returns c)

@@ -1,6 +1,7 @@
 use Rattle.std.proofs.Common.{refl, sym, subst}
 use Rattle.scope_rules.specs.declared.types.events.Event.TheVariants.{Tick}
 use Rattle.scope_rows.proofs.Keeping.{rows_ticked}
+use Rattle.own_deadlines.proofs.DeadlineSteps.{deadlines_stay}
 use Rattle.scope_kept.specs.KeptTables.{KeptTable}
 use Rattle.scope_kept.specs.Events.{IsReadyAt, HasFollowedAt}
 use Rattle.scope_kept.proofs.Following.{cuts_follow}
@@ -9,19 +10,20 @@ use Rattle.scope_kept.proofs.kept.Kept.tick.Goals as goal
 
 pub tick-requires-clause-forward : goal.tick-requires-clause-forward
 tick-requires-clause-forward c =
-    let old : KeptTable = record { rows = c.self.inside.rows; cuts = c.self.inside.cuts; envs = c.self.inside.envs; forks = c.self.inside.forks } in
+    let old : KeptTable = record { rows = c.self.inside.rows; cuts = c.self.inside.cuts; envs = c.self.inside.envs; forks = c.self.inside.forks; deadlines = c.self.inside.deadlines } in
     tick_forward old c.args.now (subst (λ t. IsReadyAt t (Tick c.args.now) c.args.place) (sym c.self.view_is) c.requires).0
 
 pub tick-requires-clause-latest : goal.tick-requires-clause-latest
 tick-requires-clause-latest c =
-    let old : KeptTable = record { rows = c.self.inside.rows; cuts = c.self.inside.cuts; envs = c.self.inside.envs; forks = c.self.inside.forks } in
+    let old : KeptTable = record { rows = c.self.inside.rows; cuts = c.self.inside.cuts; envs = c.self.inside.envs; forks = c.self.inside.forks; deadlines = c.self.inside.deadlines } in
     latest old (Tick c.args.now) c.args.place (subst (λ t. IsReadyAt t (Tick c.args.now) c.args.place) (sym c.self.view_is) c.requires)
 
 pub returns : goal.returns
 returns c =
-    let old : KeptTable = record { rows = c.self.inside.rows; cuts = c.self.inside.cuts; envs = c.self.inside.envs; forks = c.self.inside.forks } in
-    let new : KeptTable = record { rows = c.self.inside.rows; cuts = c.tick.new.self; envs = c.self.inside.envs; forks = c.self.inside.forks } in
+    let old : KeptTable = record { rows = c.self.inside.rows; cuts = c.self.inside.cuts; envs = c.self.inside.envs; forks = c.self.inside.forks; deadlines = c.self.inside.deadlines } in
+    let new : KeptTable = record { rows = c.self.inside.rows; cuts = c.tick.new.self; envs = c.self.inside.envs; forks = c.self.inside.forks; deadlines = c.self.inside.deadlines } in
     subst (λ t. HasFollowedAt t (Tick c.args.now) c.args.place new) c.self.view_is
     (cuts_follow old new (Tick c.args.now) c.args.place refl refl (λ s. refl) refl refl refl c.tick.ensures.accounts
+    (λ h are. deadlines_stay h (Tick c.args.now) old.deadlines refl are)
     (λ L h legal rows. rows_ticked L h old.rows c.args.now legal rows)
     (λ L h legal ok cuts at. c.tick.ensures.agrees L h legal cuts at))

@@ -1,0 +1,11 @@
+-- The new scope has the deadline that it is opened with.
+use Rattle.std.proofs.Common.{arith}
+use Rattle.std.proofs.lemmas.Grind.{common_steps}
+use Rattle.own_deadlines.proofs.DeadlineSteps.{opened_agrees}
+use Rattle.own_deadlines.proofs.deadlines.OwnDeadlines.open.Goals as goal
+
+pub returns-clause-kept : goal.returns-clause-kept
+returns-clause-kept c = grind (arith, common_steps)
+
+pub returns-clause-agrees : goal.returns-clause-agrees
+returns-clause-agrees c = λ L h actor policy options legal given are. opened_agrees L h c.args.self.now _ actor policy options c.args.deadline (returns-clause-kept c) given legal are

@@ -1,0 +1,19 @@
+-- When what is kept of own deadlines is a history's.
+use Rattle.std.specs.Prelude.{◌≡◌, ℕ, ◌+◌, Bool, true, false, Option, Some, length, slice_get}
+use Rattle.scope_rules.specs.declared.types.events.Event.{Event}
+use Rattle.scope_rules.specs.declared.types.events.Event.TheVariants.{Open, Move}
+use Rattle.scope_rules.specs.History.{History, opened_count}
+use Rattle.scope_rules.specs.Cancels.{deadline}
+use Rattle.own_deadlines.specs.DeadlineTable.{DeadlineTable}
+
+-- the table has the own deadline of each scope that was opened since the base
+pub record AreDeadlinesOf (h : History) (t : DeadlineTable) : Type 0 where
+  pub numbered : t.before ≡ h.base.scopes
+  pub count : length t.deadlines ≡ opened_count h
+  pub deadlines : (i : ℕ) (d : Option ℕ) → slice_get t.deadlines i ≡ Some d → d ≡ deadline h (t.before + 1 + i)
+
+-- the event opens a scope, or moves a deadline
+abbrev pub moves_deadlines : Event → Bool
+moves_deadlines (Open actor policy options) = true
+moves_deadlines (Move scope deadline) = true
+moves_deadlines _ = false

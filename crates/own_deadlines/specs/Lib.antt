@@ -1,0 +1,2 @@
+pub mod DeadlineTable
+pub mod DeadlinesOf

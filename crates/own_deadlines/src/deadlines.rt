@@ -1,0 +1,96 @@
+ghost use Rattle.std.specs.Prelude.{◌≡◌, ℕ, ◌≤◌, ◌<◌, [], OnOk, OnErr, length};
+ghost use Rattle.scope_rules.specs.Origin.{Origin};
+ghost use Rattle.scope_rules.specs.declared.types.capacity.Limits.{Limits};
+ghost use Rattle.scope_rules.specs.declared.types.events.Event.TheVariants.{Open, Move};
+ghost use Rattle.scope_rules.specs.declared.types.events.Options.{Options};
+ghost use Rattle.scope_rules.specs.declared.types.joiners.Policy.{Policy};
+ghost use Rattle.scope_rules.specs.History.{History, followed};
+ghost use Rattle.scope_rules.specs.Cancels.{deadline};
+ghost use Rattle.scope_rules.specs.Legal.{Legal};
+ghost use Rattle.scope_rows.specs.Table.{place_of};
+ghost use Rattle.own_deadlines.specs.DeadlineTable.{HasDeadline, deadline_in, no_deadlines, with_open, with_deadline};
+ghost use Rattle.own_deadlines.specs.DeadlinesOf.{AreDeadlinesOf};
+
+use scope_rules::ScopeId;
+use std::alloc::{AllocError, Global};
+use std::marker::Model;
+
+/// The own deadline of each scope that was opened since a realm began, in order of the scopes' numbers.
+/// Each call takes constant time.
+#[derive(Drop)]
+pub struct OwnDeadlines {
+    // How many scopes were numbered before the first that has a deadline here.
+    before: u32,
+    deadlines: Vec<Option<u64>>,
+}
+
+impl Model for OwnDeadlines {
+    ghost use Rattle.std.specs.Prelude.{◌-◌, vec_capacity, vec_len};
+    ghost use Rattle.own_deadlines.specs.DeadlineTable.{DeadlineTable};
+
+    ghost Value = { DeadlineTable };
+
+    ghost view = { λ d. record { before = d.before; deadlines = d.deadlines.items; spare = vec_capacity d.deadlines - vec_len d.deadlines } };
+}
+
+impl OwnDeadlines {
+    /// No scopes, where so many were numbered before. It takes no memory; that of later calls comes
+    /// from `alloc`.
+    pub fn new(alloc: Global, before: u32) -> OwnDeadlines
+        ensures table { result ≡ no_deadlines before }
+        ensures agrees { (base : Origin) → base.scopes ≡ before → AreDeadlinesOf (record { base = base; events = [] }) result }
+    {
+        OwnDeadlines {
+            before,
+            deadlines: Vec::new(alloc),
+        }
+    }
+
+    /// The scope's own deadline, in milliseconds, if it has one.
+    pub fn of(&self, scope: ScopeId) -> Option<u64>
+        requires { HasDeadline self.now scope }
+        ensures table { result ≡ deadline_in self.now scope }
+        ensures agrees { (h : History) → AreDeadlinesOf h self.now → result ≡ deadline h scope }
+    {
+        self.deadlines[self.place(scope)]
+    }
+
+    /// Makes room for one scope more. It is refused for memory alone, and then changes nothing.
+    pub fn reserve_scope(&mut self) -> Result<(), AllocError>
+        ensures ok { OnOk result (1 ≤ self.new.spare) }
+        ensures kept { self.new ≡ record self.old { spare = self.new.spare } }
+        ensures agrees { (h : History) → AreDeadlinesOf h self.old → AreDeadlinesOf h self.new }
+        ensures err { OnErr result (self.new ≡ self.old) }
+    {
+        self.deadlines.reserve(1)
+    }
+
+    /// Adds a scope, for which there is room: it has the next number, and this deadline. It takes no
+    /// memory.
+    pub fn open(&mut self, deadline: Option<u64>)
+        requires { 1 ≤ self.old.spare }
+        ensures kept { self.new ≡ with_open self.old deadline }
+        ensures agrees { (L : Limits) (h : History) (actor : ℕ) (policy : Policy) (options : Options) → Legal L h → options.deadline ≡ deadline → AreDeadlinesOf h self.old → AreDeadlinesOf (followed h (Open actor policy options)) self.new }
+    {
+        self.deadlines.push_reserved(deadline);
+    }
+
+    /// Moves the scope's deadline, or takes it away. It takes no memory.
+    pub fn set(&mut self, scope: ScopeId, deadline: Option<u64>)
+        requires { HasDeadline self.old scope }
+        ensures kept { self.new ≡ with_deadline self.old scope deadline }
+        ensures agrees { (h : History) → AreDeadlinesOf h self.old → AreDeadlinesOf (followed h (Move scope deadline)) self.new }
+    {
+        let at = self.place(scope);
+        self.deadlines[at] = deadline;
+    }
+
+    /// The place of the scope's deadline.
+    fn place(&self, scope: ScopeId) -> usize
+        requires { HasDeadline self.now scope }
+        ensures place { result ≡ place_of self.now.before scope }
+        ensures within { result < length self.now.deadlines }
+    {
+        (scope - self.before - 1) as usize
+    }
+}

@@ -1,0 +1,3 @@
+pub mod LevelLimit
+pub mod FirstUnclosed
+pub mod NestWalks
