@@ -17,11 +17,13 @@
 //! own one, in milliseconds, also after the join. Tasks stand in fork order.
 #![tactic(auto)]
 
+mod book;
 mod objects;
 pub mod readings;
 pub mod told;
 pub mod walk;
 mod words;
 
+pub use book::dump;
 pub use readings::Nests;
 pub use walk::dump_of;
