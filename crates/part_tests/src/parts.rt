@@ -4,6 +4,7 @@ mod bindings;
 mod deadlines;
 mod joiners;
 mod logs;
+mod marks;
 mod realms;
 mod trails;
 mod trees;

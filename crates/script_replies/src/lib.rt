@@ -9,4 +9,6 @@ pub mod reply;
 mod words;
 
 pub use lines::append_line;
+pub use parts::name_text;
 pub use reply::Reply;
+pub use words::kind_word;

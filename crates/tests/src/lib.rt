@@ -8,6 +8,8 @@ mod beside;
 #[cfg(test)]
 mod doubles;
 #[cfg(test)]
+mod dumps;
+#[cfg(test)]
 mod engine;
 #[cfg(test)]
 mod logs;

@@ -1,0 +1,13 @@
+//! Marks of cancelled scopes, read without a lock (Trio, checkpoints): each scope has a cell that is
+//! set once, when the scope becomes cancelled, and that any thread may look at. A mark is evidence:
+//! two marks of one cell are equal.
+#![tactic(auto)]
+
+mod cancellation;
+mod cells;
+pub mod laws;
+mod marks;
+
+pub use cancellation::Cancellation;
+pub use cells::{MarkCell, MarkSetter};
+pub use marks::{Mark, Seat};

@@ -1,0 +1,96 @@
+//! Marks of cancelled scopes: what a seat is shown before and after the cell is set, by the setter's thread
+//! and by others.
+ghost use Rattle.std.specs.Prelude.{◌≡◌};
+
+use cancel_marks::{Cancellation, Mark, MarkCell, MarkSetter, Seat, laws};
+use scope_rules::{Cause, CauseKind};
+use std::process::Abort;
+use std::test::Fail;
+use std::thread;
+use std::thread::Threads;
+
+/// A cancel call on scope 1, which reached scope 2 as the fourth event.
+const REACHED: Cancellation = Cancellation {
+    scope: 2,
+    cause: Cause {
+        scope: 1,
+        kind: CauseKind::Call,
+    },
+    number: 3,
+};
+
+fn said(mark: &Mark) -> Cancellation {
+    Cancellation {
+        scope: mark.scope,
+        cause: mark.cause,
+        number: mark.number,
+    }
+}
+
+/// What a checkpoint with a fresh seat says.
+fn seen(cell: &MarkCell) -> Option<Cancellation> {
+    let mut seat = cell.seat();
+    let mark = cell.checkpoint(&mut seat)?;
+    Some(said(&mark))
+}
+
+fn set(setter: &mut MarkSetter, told: Cancellation) -> bool {
+    setter.set(told.scope, told.cause, told.number)
+}
+
+#[test]
+fn a_cell_is_set_once(rt: HostRuntime) -> Result<(), Fail> {
+    let mut setter = MarkSetter::new(rt.alloc())?;
+    let cell = setter.cell()?;
+    assert_eq!(rt; seen(&cell), None);
+    assert!(rt; set(&mut setter, REACHED));
+    assert_eq!(rt; seen(&cell), Some(REACHED));
+    let later = Cancellation {
+        number: 4,
+        ..REACHED
+    };
+    assert!(rt; !set(&mut setter, later));
+    assert_eq!(rt; seen(&cell), Some(REACHED));
+    assert_eq!(rt; seen(&setter.cell()?), Some(REACHED));
+    Ok(())
+}
+
+#[test]
+fn cells_are_set_one_by_one(rt: HostRuntime) -> Result<(), Fail> {
+    let mut setter = MarkSetter::new(rt.alloc())?;
+    let other = MarkSetter::new(rt.alloc())?;
+    assert!(rt; set(&mut setter, REACHED));
+    assert_eq!(rt; seen(&other.cell()?), None);
+    Ok(())
+}
+
+/// Looks in another thread, and here once that has ended: two marks of one cell, which agree.
+fn check_both<R: Threads + Abort>(rt: &R, cell: MarkCell, mut seat: Seat) -> Result<(), Fail>
+    requires { seat.cell ≡ cell }
+{
+    let theirs = cell.share()?;
+    let Ok(thread) = thread::spawn(rt, move || seen(&theirs)) else {
+        return Err("no thread")?;
+    };
+    let in_thread = thread.join(rt);
+    let mut here = cell.checkpoint(&mut seat).ok_or("no mark here")?;
+    let spare = here.again();
+    assert_eq!(rt;
+        (in_thread, said(&here), said(&spare)),
+        (Some(REACHED), REACHED, REACHED)
+    );
+    laws::agree(&mut here, spare);
+    let again = cell.checkpoint(&mut seat).ok_or("no mark again")?;
+    assert_eq!(rt; said(&again), REACHED);
+    Ok(())
+}
+
+#[test]
+fn threads_are_shown_the_same(rt: HostRuntime) -> Result<(), Fail> {
+    let mut setter = MarkSetter::new(rt.alloc())?;
+    let cell = setter.cell()?;
+    let mut seat = cell.seat();
+    assert!(rt; cell.checkpoint(&mut seat).is_none());
+    assert!(rt; set(&mut setter, REACHED));
+    check_both(&rt, cell, seat)
+}

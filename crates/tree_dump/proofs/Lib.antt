@@ -1,0 +1,4 @@
+mod Answered
+mod Counted
+mod Floats
+mod Walked

@@ -1,0 +1,46 @@
+-- The objects of a dump, member by member, in the order of their keys.
+use Rattle.std.specs.Prelude.{ℕ, List, Option, None, Some, codes}
+use Rattle.scope_rules.specs.Names.{text_of}
+use Rattle.scope_rules.specs.declared.types.answers.Cause.{Cause}
+use Rattle.scope_rules.specs.declared.types.infos.ScopeInfo.{ScopeInfo}
+use Rattle.script_lines.specs.Spelling.{policy_word}
+use Rattle.script_replies.specs.ReplyText.{kind_word}
+use Rattle.serde_json.specs.Data.{Data, null, boolean, number, unsigned, string, array, object, Items, Members, member, no_members}
+use Rattle.tree_dump.specs.Words.{expiry_word, scope_stage_word, stage_word, state_word}
+use Rattle.tree_dump.specs.declared.told.TaskTold.{TaskTold}
+
+-- a moment, where there is one
+abbrev pub number_or_null : Option ℕ → Data
+number_or_null None = null
+number_or_null (Some n) = number (unsigned n)
+
+-- the scope whose own cancel it is, and what made that
+abbrev pub cause_or_null : Option Cause → Data
+cause_or_null None = null
+cause_or_null (Some cause) =
+    object (member (codes "by") (number (unsigned cause.scope))
+      (member (codes "kind") (string (kind_word cause.kind)) no_members))
+
+-- a scope, of what there is to say of it, what lies inside it, and its tasks
+unfoldable pub scope_object : ScopeInfo → Data → Items → Data
+scope_object info inner tasks =
+    object (member (codes "cause") (cause_or_null info.cause)
+      (member (codes "deadline") (number_or_null info.deadline)
+      (member (codes "expiry") (string (expiry_word info.expiry))
+      (member (codes "id") (number (unsigned info.scope))
+      (member (codes "inner") inner
+      (member (codes "joined") (boolean info.joined)
+      (member (codes "joiner") (string (policy_word info.policy))
+      (member (codes "owner") (number (unsigned info.owner))
+      (member (codes "shield") (boolean info.shield)
+      (member (codes "stage") (string (scope_stage_word info.stage))
+      (member (codes "tasks") (array tasks) no_members)))))))))))
+
+-- a task, of what there is to say of it and what lies inside it
+unfoldable pub task_object : TaskTold → Data → Data
+task_object told inner =
+    object (member (codes "id") (number (unsigned told.task))
+      (member (codes "inner") inner
+      (member (codes "name") (string (text_of told.label.name))
+      (member (codes "stage") (string (stage_word told.stage))
+      (member (codes "state") (string (state_word told.state)) no_members)))))

@@ -1,0 +1,56 @@
+//! The walk over the tree.
+ghost use Rattle.std.specs.Prelude.{◌≡◌, IfOk, string_bytes};
+ghost use Rattle.serde_json.specs.View.{view};
+ghost use Rattle.tree_dump.specs.Tree.{nested, dump_data, dump_text};
+
+use crate::objects::{nothing, scope_object, task_object};
+use crate::readings::Nests;
+use crate::told::{info_at, inner_of, told_at};
+use scope_rules::ScopeId;
+use serde_json::{Value, json};
+use std::alloc::{AllocError, Global};
+
+/// How many levels of scopes there can be.
+const LEVELS: u8 = 16;
+
+/// What stands where the scope may lie: the scope with what lies inside it, down to so many levels, or
+/// `null`. It is refused for memory alone.
+#[tactic(auto, using(crate::proofs::Walked::nested_none, crate::proofs::Walked::nested_absent, crate::proofs::Walked::info_there))]
+fn nested<N: Nests>(
+    nests: &N,
+    alloc: Global,
+    levels: u8,
+    place: Option<ScopeId>,
+) -> Result<Value, AllocError>
+    ensures { IfOk result (λ value. view value ≡ nested (N.history nests.now) levels place) }
+{
+    if levels == 0 {
+        return Ok(nothing());
+    }
+    let Some(info) = info_at(nests, place) else {
+        return Ok(nothing());
+    };
+    let mut tasks = Vec::new(alloc);
+    while let Some(told) = told_at(nests, info.scope, tasks.len()) {
+        let inside = nested(nests, alloc, levels - 1, told.inner)?;
+        tasks.push(task_object(alloc, told, inside)?)?;
+    }
+    let inner = nested(nests, alloc, levels - 1, inner_of(nests, info.scope))?;
+    scope_object(alloc, info, inner, tasks)
+}
+
+/// The tree as a value.
+fn dump_value<N: Nests>(nests: &N, alloc: Global) -> Result<Value, AllocError>
+    ensures { IfOk result (λ value. view value ≡ dump_data (N.history nests.now)) }
+{
+    let root = nested(nests, alloc, LEVELS, nests.root())?;
+    json!(in alloc; {"moment": nests.moment(), "root": root})
+}
+
+/// The tree of what was read, as JSON without blanks. It is refused for memory alone.
+#[tactic(auto, using(crate::proofs::Floats::dump_whole), unfolding(crate::specs::Tree::dump_text))]
+pub fn dump_of<N: Nests>(alloc: Global, nests: &N) -> Result<String, AllocError>
+    ensures { IfOk result (λ text. string_bytes text ≡ dump_text (N.history nests.now)) }
+{
+    dump_value(nests, alloc)?.to_string(alloc)
+}
