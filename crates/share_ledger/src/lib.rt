@@ -1,0 +1,9 @@
+//! Who knows how much of a realm's list of steps. One keeper, which lies under the realm's lock, knows
+//! the whole list. Each token and each ticket holds a share: a beginning of the list that has all of the
+//! holder's own steps. The list stands nowhere at run time; it is what the contracts speak of.
+#![tactic(auto)]
+
+mod desk;
+mod moves;
+mod rule;
+mod views;
