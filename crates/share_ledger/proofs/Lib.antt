@@ -2,3 +2,4 @@ pub mod Seats
 pub mod Keeps
 pub mod Allowed
 pub mod Desks
+pub mod Sums

@@ -4,6 +4,15 @@
 #![tactic(auto)]
 
 mod desk;
+mod keeper;
 mod moves;
 mod rule;
+mod seed;
+mod shares;
+mod tickets;
 mod views;
+
+pub use keeper::Keeper;
+pub use seed::Seed;
+pub use shares::OwnerShare;
+pub use tickets::{Ticket, Totals, gather};
