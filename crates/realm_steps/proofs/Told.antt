@@ -1,6 +1,6 @@
 -- What a ticket's own steps say in a beginning of the list is what they say in the whole.
-use Rattle.std.proofs.Common.{◌≡◌, ℕ, ◌-◌, ◌==◌, ◌||◌, Bool, true, false, cond, Option, Some, None, is_some, List, [], ◌∷◌, ◌++◌, refl, sym, ap, ◌∙◌, inl, inr}
-use Rattle.std.proofs.lemmas.Bool.{cases_Bool}
+use Rattle.std.proofs.Common.{◌≡◌, ℕ, ◌+◌, ◌-◌, arith, ◌==◌, ◌||◌, Bool, true, false, cond, Option, Some, None, is_some, List, [], ◌∷◌, ◌++◌, refl, sym, ap, ◌∙◌, inl, inr}
+use Rattle.std.proofs.lemmas.Bool.{cases_Bool, eq-eqb, ne_eqb}
 use Rattle.std.proofs.lemmas.List.Folds.{list_any-append}
 use Rattle.std.proofs.Math.Bool.{or-false}
 use Rattle.std.specs.Option.{option_or}
@@ -9,13 +9,14 @@ use Rattle.scope_rules.specs.declared.types.events.Event.TheVariants.{Reject, St
 use Rattle.scope_rules.specs.Ends.{EndValue}
 use Rattle.scope_rules.specs.History.{History, is_fork}
 use Rattle.scope_rules.specs.Tasks.{rejects, starts, finishes}
+use Rattle.scope_rules.proofs.Completions.{count_by-cons}
 use Rattle.scope_rules.proofs.Prefixes.{option_or-assoc, option_or-none}
 use Rattle.realm_steps.specs.declared.steps.RealmStep.{RealmStep}
 use Rattle.realm_steps.specs.declared.steps.RealmStep.TheVariants.{Happened}
 use Rattle.realm_steps.specs.declared.steps.Holder.TheVariants.{TicketOf}
-use Rattle.realm_steps.specs.Steps.{fresh, advance}
+use Rattle.realm_steps.specs.Steps.{fresh, advance, advanced, history_of}
 use Rattle.realm_steps.specs.Holders.{is_own, Agrees}
-use Rattle.realm_steps.specs.Tickets.{Grant, is_event, granted, grant_in, rejected_in, started_in, end_of, end_in, finished_in}
+use Rattle.realm_steps.specs.Tickets.{Grant, is_event, forks, grant_of, granted, grant_in, rejected_in, started_in, end_of, end_in, finished_in}
 use Rattle.realm_steps.specs.StepLaws.{TellsAlike}
 use Rattle.realm_steps.proofs.Lists.{none_narrower}
 
@@ -87,3 +88,25 @@ others_tell k xs ys others = record {
 -- what a ticket has seen of its task is what the whole list says of it
 pub seen_tells : (k : ℕ) (seen whole : List RealmStep) → Agrees (TicketOf k) seen whole → TellsAlike k seen whole
 seen_tells k seen whole agrees = rw agrees.is (others_tell k seen agrees.later agrees.others)
+
+-- what the next fork gives
+granted-fork : (h : History) (n : ℕ) (xs : List RealmStep) (x : RealmStep) (g : Grant) → forks xs + 1 ≡ n → is_event is_fork x ≡ true → grant_of (advanced h xs) x ≡ Some g → granted h n (xs ++ x ∷ []) ≡ Some g
+granted-fork h n [] x g number forked at =
+    let one : (n == 1) ≡ true = eq-eqb n 1 (omega arith) in
+    rw (forked, one) at
+granted-fork h n (y ∷ xs) x g number forked at =
+    let counted = count_by-cons (is_event is_fork) y xs in
+    elim (cases_Bool (is_event is_fork y)) [
+      | inl so ↦
+          let count : forks (y ∷ xs) ≡ 1 + forks xs = counted ∙ ap (λ b. cond b 1 0 + forks xs) so in
+          let more : (n == 1) ≡ false = ne_eqb n 1 (λ one. absurd (omega arith)) in
+          rw (so, more) (granted-fork (advance h y) (n - 1) xs x g (omega arith) forked at)
+      | inr other ↦
+          let count : forks (y ∷ xs) ≡ 0 + forks xs = counted ∙ ap (λ b. cond b 1 0 + forks xs) other in
+          rw other (granted-fork (advance h y) n xs x g (omega arith) forked at)
+    ]
+
+-- what the next fork gives, by its number
+pub grant-fork : (k : ℕ) (xs : List RealmStep) (x : RealmStep) (g : Grant) → forks xs + 1 ≡ k → is_event is_fork x ≡ true → grant_of (history_of xs) x ≡ Some g → grant_in k (xs ++ x ∷ []) ≡ Some g
+unfolding grant_in history_of
+grant-fork k xs x g number forked at = granted-fork fresh k xs x g number forked at

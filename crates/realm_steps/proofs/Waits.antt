@@ -183,3 +183,8 @@ started_runs L xs k lawful given started unfinished =
     let parts = and_parts (is_some (grant_in k xs)) (not (rejected_in k xs)) given in
     let it = some_grant (grant_in k xs) parts.0 in
     running_is _ (granted_runs L fresh k k xs it.0 (legal_empty L fresh.base) lawful (omega arith) it.1 (not-true (rejected_in k xs) parts.1) started (sym (finished_is k xs) ∙ unfinished))
+
+-- tasks are numbered from 1
+pub grant_number : (k : ℕ) (xs : List RealmStep) (g : Grant) → grant_in k xs ≡ Some g → 1 ≤ k
+unfolding grant_in
+grant_number k xs g at = granted_number fresh k xs g at

@@ -1,18 +1,17 @@
 -- What the table asks of each move.
-use Rattle.std.proofs.Common.{◌≡◌, ◌≢◌, ℕ, ◌+◌, Bool, true, false, Option, Some, None, List, [], ◌∷◌, ◌++◌, set, refl, sym, ap, ◌∙◌, arith, subst}
+use Rattle.std.proofs.Common.{◌≡◌, ℕ, Some, List, [], ◌∷◌, ◌++◌, refl, ap, ◌∙◌}
 use mathlib.Core.Option as m
-use lib.ListN.{get_elem?}
 use Rattle.atomic_table.specs.Table.{State, Me, Allows, Splits, Joins, keeps}
 use Rattle.scope_rules.specs.declared.types.capacity.Limits.{Limits}
 use Rattle.realm_steps.specs.declared.steps.RealmStep.{RealmStep}
 use Rattle.realm_steps.specs.declared.steps.Holder.{Holder}
-use Rattle.realm_steps.specs.declared.steps.Holder.TheVariants.{TokenOf, TicketOf}
+use Rattle.realm_steps.specs.declared.steps.Holder.TheVariants.{TokenOf}
 use Rattle.share_ledger.specs.declared.views.Share.{Share}
 use Rattle.share_ledger.specs.declared.views.Said.{Said}
 use Rattle.share_ledger.specs.declared.views.Said.TheVariants.{Limited, Stepped}
 use Rattle.share_ledger.specs.declared.views.LedgerView.{LedgerView}
 use Rattle.share_ledger.specs.declared.views.LedgerView.TheVariants.{Opening, Keeping, Holding, Spent}
-use Rattle.share_ledger.specs.Views.{keeping, holding, newly_named, with_named, TellsLimited, TellsAppended, TellsLooked, handed_in, left_in, given_out}
+use Rattle.share_ledger.specs.Views.{keeping, newly_named, with_named, TellsLimited, TellsAppended, TellsLooked, handed_in, left_in, given_out}
 use Rattle.share_ledger.specs.Rule.{Ledger, MayAppend}
 use Rattle.share_ledger.proofs.Keeps.{limit_keeps, look_keeps, look_tells, hand_in_keeps, give_out_keeps, append_keeps, append_tells}
 

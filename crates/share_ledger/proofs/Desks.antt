@@ -1,5 +1,5 @@
 -- The keeper's seat between two moves, in the words of contracts.
-use Rattle.std.proofs.Common.{◌≡◌, ℕ, ◌<◌, Some, List, [], ◌∷◌, refl, sym, ap, ◌∙◌, arith}
+use Rattle.std.proofs.Common.{◌≡◌, ℕ, ◌<◌, Some, List, [], ◌∷◌, refl, ap, ◌∙◌, arith}
 use Rattle.atomic_table.specs.Table.{Me}
 use Rattle.scope_rules.specs.declared.types.capacity.Limits.{Limits}
 use Rattle.realm_steps.specs.declared.steps.RealmStep.{RealmStep}
@@ -9,7 +9,7 @@ use Rattle.share_ledger.specs.declared.views.Said.{Said}
 use Rattle.share_ledger.specs.declared.views.LedgerView.{LedgerView}
 use Rattle.share_ledger.specs.declared.views.LedgerView.TheVariants.{Keeping, Holding}
 use Rattle.share_ledger.specs.Views.{keeping, holding, handed_in}
-use Rattle.share_ledger.specs.Desks.{limits_of, steps_of, hand_of, holder_of, view_of, IsReady, IsShareOf}
+use Rattle.share_ledger.specs.Desks.{limits_of, steps_of, view_of, IsShareOf}
 
 pub a_word : (words : ℕ) → words ≡ 1 → 0 < words
 a_word words is = omega arith

@@ -1,6 +1,6 @@
 -- Each move keeps the rule.
-use Rattle.std.proofs.Common.{◌≡◌, ◌≢◌, ℕ, zero, suc, ◌+◌, Bool, true, false, Option, Some, None, List, [], ◌∷◌, ◌++◌, length, set, refl, sym, ap, ◌∙◌, arith, subst, ◌⊎◌, inl, inr}
-use Rattle.std.proofs.lemmas.Bool.{or_cases, or_from, cases_Bool, both_ways, false_from_ne_true}
+use Rattle.std.proofs.Common.{◌≡◌, ◌≢◌, ℕ, zero, suc, true, false, Option, Some, None, List, [], ◌∷◌, ◌++◌, length, set, refl, sym, ap, ◌∙◌, subst, ◌⊎◌, inl, inr}
+use Rattle.std.proofs.lemmas.Bool.{or_cases, or_from, both_ways, false_from_ne_true}
 use Rattle.std.specs.List.{list_any}
 use Rattle.std.proofs.Math.ListN.{length-set}
 use mathlib.Core.Option.{some, some-injective, some-ne-none}
@@ -10,14 +10,14 @@ use Rattle.atomic_table.proofs.Lists.{at_set, set_else}
 use Rattle.scope_rules.specs.declared.types.capacity.Limits.{Limits}
 use Rattle.realm_steps.specs.declared.steps.RealmStep.{RealmStep}
 use Rattle.realm_steps.specs.declared.steps.Holder.{Holder}
-use Rattle.realm_steps.specs.declared.steps.Holder.TheVariants.{TokenOf, TicketOf}
+use Rattle.realm_steps.specs.declared.steps.Holder.TheVariants.{TokenOf}
 use Rattle.realm_steps.specs.Holders.{is_own, Agrees}
 use Rattle.share_ledger.specs.declared.views.Share.{Share}
 use Rattle.share_ledger.specs.declared.views.LedgerView.{LedgerView}
 use Rattle.share_ledger.specs.declared.views.LedgerView.TheVariants.{Opening, Keeping, Holding, Spent}
 use Rattle.share_ledger.specs.Views.{keeping, holding, newly_named, with_named, IsFresh}
-use Rattle.share_ledger.specs.Rule.{same_holder, is_named, Absent, IsHeld, InHand, HasArrived, IsKept, IsOpening, Fits, Ledger, MayAppend}
-use Rattle.share_ledger.proofs.Seats.{same_one, same_itself, moved, moved_here, moved_other, moved_still, hand_seat, hand_named, hand_stays, hand_without, absent_elsewhere, absent_unnamed, named_still, named_newly, agrees_whole, agrees_more, at_push, at_below}
+use Rattle.share_ledger.specs.Rule.{same_holder, is_named, IsHeld, InHand, IsKept, IsOpening, Fits, Ledger, MayAppend}
+use Rattle.share_ledger.proofs.Seats.{same_one, moved, moved_here, moved_other, moved_still, hand_seat, hand_named, hand_stays, hand_without, absent_elsewhere, absent_unnamed, named_still, named_newly, agrees_whole, agrees_more, at_push}
 
 -- a view that fits fits at the number that its seat has
 fits_at : (place : ℕ) (limits : Option Limits) (whole : List RealmStep) (seat : Holder → ℕ) (i j : ℕ) (v w : LedgerView) → i ≡ j → v ≡ w → Fits place limits whole seat i v → Fits place limits whole seat j w
@@ -155,9 +155,9 @@ give_out_keeps views id L steps who hand r at =
       seat = seat';
       fits = λ i v there. elim (at_push (set views id (keeping L steps hand)) (holding L who steps) v i there) [
         | inl old ↦ elim (at_set views id i (keeping L steps hand) v old) [
-            | inl same ↦ fits_at r.place r.limits r.whole seat' id i (keeping L steps hand) v (sym same.0) same.1 kept
-            | inr else ↦ give_out_others r.place r.limits r.whole r.seat who id (length views) i v mine.at mine.taken.0 else.0 (r.fits i v else.1)
-          ]
+          | inl same ↦ fits_at r.place r.limits r.whole seat' id i (keeping L steps hand) v (sym same.0) same.1 kept
+          | inr else ↦ give_out_others r.place r.limits r.whole r.seat who id (length views) i v mine.at mine.taken.0 else.0 (r.fits i v else.1)
+        ]
         | inr new ↦ fits_at r.place r.limits r.whole seat' (length views) i (holding L who steps) v (sym (new.0 ∙ length-set views id (keeping L steps hand))) new.1 held
       ];
       unnamed = r.unnamed;

@@ -3,3 +3,4 @@ pub mod Keeps
 pub mod Allowed
 pub mod Desks
 pub mod Sums
+pub mod Telling

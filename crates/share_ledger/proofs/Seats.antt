@@ -1,8 +1,7 @@
 -- Holders, where they sit, and the keeper's hand.
-use Rattle.std.proofs.Common.{◌≡◌, ◌≢◌, ℕ, zero, suc, ◌+◌, ◌==◌, ◌≤◌, ◌||◌, ◌&&◌, Bool, true, false, cond, nat_le, Option, Some, None, List, [], ◌∷◌, ◌++◌, length, refl, sym, ap, ◌∙◌, arith, subst, ◌⊎◌, inl, inr}
-use Rattle.std.proofs.lemmas.Bool.{eq-eqb, eqb-true, or_cases, or_left, or_right, or_from, cases_Bool, both_ways, false_from_ne_true, and_parts, and_from, leb-true, le-leb, lt-leb, cond-true, cond-false}
+use Rattle.std.proofs.Common.{◌≡◌, ℕ, zero, suc, ◌+◌, ◌==◌, ◌||◌, Bool, true, false, cond, nat_le, Some, List, [], ◌∷◌, ◌++◌, length, refl, sym, ap, ◌∙◌, arith, subst, ◌⊎◌, inl, inr}
+use Rattle.std.proofs.lemmas.Bool.{eq-eqb, eqb-true, or_cases, or_left, or_right, or_from, both_ways, false_from_ne_true, and_parts, and_from, leb-true, le-leb, cond-true, cond-false}
 use Rattle.std.proofs.lemmas.List.{append-nil, append_assoc}
-use Rattle.std.proofs.lemmas.List.Folds.{list_any-append}
 use Rattle.std.proofs.lemmas.List.Sums.{sum_by-append}
 use Rattle.std.specs.List.{list_any}
 use mathlib.Core.Option.{some, some-injective, some-ne-none}
@@ -10,15 +9,14 @@ use lib.ListN.{get_elem?}
 use Rattle.scope_rules.specs.declared.types.events.Event.TheVariants.{Fork, Start}
 use Rattle.scope_rules.specs.History.{is_fork}
 use Rattle.scope_rules.specs.Tasks.{starts}
-use Rattle.scope_rules.proofs.Owing.{count_push}
 use Rattle.scope_rules.proofs.Numbers.{list_any-push}
 use Rattle.realm_steps.specs.declared.steps.RealmStep.{RealmStep}
-use Rattle.realm_steps.specs.declared.steps.RealmStep.TheVariants.{Happened, Retirement}
+use Rattle.realm_steps.specs.declared.steps.RealmStep.TheVariants.{Happened}
 use Rattle.realm_steps.specs.declared.steps.Holder.{Holder}
 use Rattle.realm_steps.specs.declared.steps.Holder.TheVariants.{TokenOf, TicketOf}
 use Rattle.realm_steps.specs.Holders.{is_own, Agrees}
 use Rattle.realm_steps.specs.Tickets.{is_event, forks, started_in}
-use Rattle.share_ledger.specs.Views.{newly_named, with_named}
+use Rattle.share_ledger.specs.Views.{newly_named}
 use Rattle.share_ledger.specs.Rule.{same_holder, is_named, Absent, InHand}
 
 pub same_itself : (who : Holder) → same_holder who who ≡ true

@@ -1,5 +1,5 @@
 -- What the keeper's seat and a badge know.
-use Rattle.std.specs.Prelude.{◌≡◌, unwrap_or, Option, Some, None, List, [], ◌∷◌}
+use Rattle.std.specs.Prelude.{◌≡◌, unwrap_or, List, [], ◌∷◌}
 use Rattle.std.proofs.Common.{lit≤}
 use Rattle.scope_rules.specs.declared.types.capacity.Limits.{Limits}
 use Rattle.realm_steps.specs.declared.steps.RealmStep.{RealmStep}
@@ -7,7 +7,7 @@ use Rattle.realm_steps.specs.declared.steps.Holder.{Holder}
 use Rattle.realm_steps.specs.declared.steps.Holder.TheVariants.{TokenOf}
 use Rattle.realm_steps.specs.Holders.{Agrees}
 use Rattle.share_ledger.specs.declared.views.LedgerView.{LedgerView}
-use Rattle.share_ledger.specs.declared.views.LedgerView.TheVariants.{Opening, Keeping, Holding, Spent}
+use Rattle.share_ledger.specs.declared.views.LedgerView.TheVariants.{Keeping, Holding, Spent}
 use Rattle.share_ledger.specs.Views.{keeping, holding, newly_named}
 
 -- what a seat knows that has no limits

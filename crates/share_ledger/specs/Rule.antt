@@ -1,5 +1,5 @@
 -- The rule of the table: a holder is named once, and its share agrees with the keeper's list.
-use Rattle.std.specs.Prelude.{◌≡◌, ◌≢◌, ℕ, ◌==◌, ◌&&◌, ◌||◌, Bool, true, false, nat_le, Option, Some, None, List, [], ◌∷◌, ◌++◌}
+use Rattle.std.specs.Prelude.{◌≡◌, ◌≢◌, ℕ, ◌==◌, ◌&&◌, ◌||◌, Bool, true, false, nat_le, Option, Some, None, List, [], ◌∷◌}
 use Rattle.std.specs.List.{list_any}
 use mathlib.Core.Option as m
 use lib.ListN.{get_elem?}

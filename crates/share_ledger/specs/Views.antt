@@ -1,21 +1,20 @@
 -- What the seats of the table know, and how that changes.
-use Rattle.std.specs.Prelude.{◌≡◌, ℕ, ◌+◌, ◌==◌, ◌&&◌, ◌||◌, Bool, true, false, nat_le, Option, Some, None, List, [], ◌∷◌, ◌++◌}
+use Rattle.std.specs.Prelude.{◌≡◌, ◌+◌, false, Option, Some, None, List, [], ◌∷◌, ◌++◌}
 use Rattle.std.specs.List.{list_any}
 use mathlib.Core.Option as m
 use Rattle.scope_rules.specs.declared.types.capacity.Limits.{Limits}
 use Rattle.scope_rules.specs.declared.types.events.Event.TheVariants.{Fork, Start}
 use Rattle.realm_steps.specs.declared.steps.RealmStep.{RealmStep}
-use Rattle.realm_steps.specs.declared.steps.RealmStep.TheVariants.{Happened, Retirement}
+use Rattle.realm_steps.specs.declared.steps.RealmStep.TheVariants.{Happened}
 use Rattle.realm_steps.specs.declared.steps.Holder.{Holder}
 use Rattle.realm_steps.specs.declared.steps.Holder.TheVariants.{TokenOf, TicketOf}
 use Rattle.realm_steps.specs.Holders.{is_own, Agrees}
 use Rattle.realm_steps.specs.Tickets.{forks}
 use Rattle.atomic_table.specs.Table.{Me}
-use Rattle.share_ledger.specs.declared.views.Share.{Share}
 use Rattle.share_ledger.specs.declared.views.Said.{Said}
 use Rattle.share_ledger.specs.declared.views.Said.TheVariants.{Limited, Stepped}
 use Rattle.share_ledger.specs.declared.views.LedgerView.{LedgerView}
-use Rattle.share_ledger.specs.declared.views.LedgerView.TheVariants.{Opening, Keeping, Holding, Spent}
+use Rattle.share_ledger.specs.declared.views.LedgerView.TheVariants.{Keeping, Holding, Spent}
 
 -- the keeper's view between two moves: nothing has just arrived
 abbrev pub keeping : Limits → List RealmStep → List Holder → LedgerView

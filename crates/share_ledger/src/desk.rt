@@ -56,9 +56,7 @@ impl Desk {
     {
         let other = badge.into_seat();
         let table = &self.table;
-        table
-            .shared
-            .join_seat::<HandIn>(&mut self.seat, other);
+        table.shared.join_seat::<HandIn>(&mut self.seat, other);
         table.shared.load::<Look>(&mut self.seat, 0);
     }
 
@@ -85,9 +83,7 @@ impl Desk {
         ensures share { result.views ≡ holding (limits_of self.old.seat.me.0) (first_in (hand_of self.old.seat.me.0)) (steps_of self.old.seat.me.0) ∷ [] }
     {
         let table = &self.table;
-        let share = table
-            .shared
-            .split_seat::<GiveOut>(&mut self.seat);
+        let share = table.shared.split_seat::<GiveOut>(&mut self.seat);
         share.into_badge()
     }
 }

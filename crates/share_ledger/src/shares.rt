@@ -11,7 +11,7 @@ use std::marker::Model;
 /// the token's own steps.
 #[derive(Drop)]
 pub struct OwnerShare {
-    actor: Actor,
+    pub(crate) actor: Actor,
     pub(crate) badge: Badge<LedgerView>,
 }
 

@@ -13,7 +13,7 @@ use std::marker::Model;
 /// which has all of the task's own: its reject, its start and its end.
 #[derive(Drop)]
 pub struct Ticket {
-    task: TaskId,
+    pub(crate) task: TaskId,
     scope: ScopeId,
     label: Label,
     pub(crate) given: bool,
