@@ -13,6 +13,8 @@ use Rattle.scope_rules.proofs.Owing.{count_push}
 use Rattle.scope_rules.proofs.Pushing.{legal_push}
 use Rattle.realm_steps.specs.declared.steps.RealmStep.{RealmStep}
 use Rattle.realm_steps.specs.declared.steps.RealmStep.TheVariants.{Happened, Retirement}
+use Rattle.realm_steps.specs.declared.steps.Holder.{Holder}
+use Rattle.realm_steps.specs.Holders.{Agrees, Adds}
 use Rattle.realm_steps.specs.Steps.{fresh, advance, advanced, history_of, Passes, LegalFrom, IsLegal}
 use Rattle.realm_steps.specs.Tickets.{is_event, forks}
 use Rattle.realm_steps.specs.StepLaws.{GoesOn}
@@ -95,3 +97,7 @@ nothing_there _ is = absurd cc
 pub retired_without_scopes : (h : History) → retire_check h 0 ≡ Ok tt → innermost h 0 ≡ None
 unfolding retire_check
 retired_without_scopes h ok = nothing_there (innermost h 0) (not_refused _ _ (checks_at _ 2 _ ok refl))
+
+-- a step that is accepted on a list with which the holder agrees makes a call that adds it
+pub adds : (who : Holder) (L : Limits) (seen whole : List RealmStep) (x : RealmStep) → Agrees who seen whole → IsLegal L whole → Passes L (history_of whole) x → Adds who L seen x (whole ++ x ∷ [])
+adds who L seen whole x agrees lawful ok = record { there = whole; agrees = agrees; is = refl; accepted = ok; legal = (goes_on L whole x lawful ok).legal }

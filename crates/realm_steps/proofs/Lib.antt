@@ -3,3 +3,4 @@ pub mod Histories
 pub mod Waits
 pub mod Told
 pub mod Ties
+pub mod Ends

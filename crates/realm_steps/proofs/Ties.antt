@@ -16,18 +16,16 @@ use Rattle.realm_steps.specs.declared.steps.RealmStep.{RealmStep}
 use Rattle.realm_steps.specs.declared.steps.RealmStep.TheVariants.{Happened, Retirement}
 use Rattle.realm_steps.specs.Steps.{fresh, advance, advanced, history_of, LegalFrom, IsLegal}
 use Rattle.realm_steps.specs.Tickets.{is_event, rejected_in, started_in}
-use Rattle.realm_steps.specs.StepLaws.{TellsHistory}
 use Rattle.realm_steps.proofs.Histories.{legal_empty, legal_advance, base_advanced}
-use Rattle.realm_steps.proofs.Told.{finished_is}
 
 -- a retirement leaves as many numbers before the base as were given
-base_after : (h : History) → (base_of h).tasks ≡ tasks h
+pub base_after : (h : History) → (base_of h).tasks ≡ tasks h
 unfolding base_of
 base_after h = refl
 
 -- a search for events of task k, which are accepted only once it is forked
 module _ (L : Limits) (k : ℕ) (test : Event → Bool) (forked : (h : History) → Legal L h → list_any test h.events ≡ true → IsForked h k) where
-  none_before : (h : History) (xs : List RealmStep) → Legal L h → (advanced (advance h Retirement) xs).base.tasks < k → list_any test h.events ≡ false
+  pub none_before : (h : History) (xs : List RealmStep) → Legal L h → (advanced (advance h Retirement) xs).base.tasks < k → list_any test h.events ≡ false
   none_before h xs legal above =
       false_from_ne_true (list_any test h.events)
       (λ found.
@@ -52,15 +50,15 @@ started_found : (L : Limits) (h : History) (k : ℕ) → Legal L h → list_any 
 unfolding started
 started_found L h k legal found = started_forked L h k legal found
 
-finished_found : (L : Limits) (h : History) (k : ℕ) → Legal L h → list_any (finishes k) h.events ≡ true → IsForked h k
+pub finished_found : (L : Limits) (h : History) (k : ℕ) → Legal L h → list_any (finishes k) h.events ≡ true → IsForked h k
 unfolding finished
 finished_found L h k legal found = finished_forked L h k legal found
 
--- of a task that was forked since the last retirement, the list says what the history says
-pub tells_history : (L : Limits) (xs : List RealmStep) (k : ℕ) → IsLegal L xs → (history_of xs).base.tasks < k → TellsHistory k xs
-unfolding history_of IsLegal rejected started finished rejected_in started_in
-tells_history L xs k lawful above = record {
-  rejected = search_tied L k (rejects k) (λ h. rejected_found L h k) fresh xs (legal_empty L fresh.base) lawful above;
-  started = search_tied L k (starts k) (λ h. started_found L h k) fresh xs (legal_empty L fresh.base) lawful above;
-  finished = search_tied L k (finishes k) (λ h. finished_found L h k) fresh xs (legal_empty L fresh.base) lawful above ∙ sym (finished_is k xs);
-}
+-- the list says whether the task was rejected and started
+pub rejected_told : (L : Limits) (xs : List RealmStep) (k : ℕ) → IsLegal L xs → (history_of xs).base.tasks < k → rejected_in k xs ≡ rejected (history_of xs) k
+unfolding history_of IsLegal rejected rejected_in
+rejected_told L xs k lawful above = sym (search_tied L k (rejects k) (λ h. rejected_found L h k) fresh xs (legal_empty L fresh.base) lawful above)
+
+pub started_told : (L : Limits) (xs : List RealmStep) (k : ℕ) → IsLegal L xs → (history_of xs).base.tasks < k → started_in k xs ≡ started (history_of xs) k
+unfolding history_of IsLegal started started_in
+started_told L xs k lawful above = sym (search_tied L k (starts k) (λ h. started_found L h k) fresh xs (legal_empty L fresh.base) lawful above)

@@ -1,5 +1,5 @@
 -- Tasks that wait or run go on so until their own steps, since no retirement passes meanwhile.
-use Rattle.std.proofs.Common.{◌≡◌, ℕ, ◌+◌, ◌-◌, ◌≤◌, ◌<◌, ◌==◌, Bool, true, false, not, cond, Option, Some, None, Ok, is_some, List, [], ◌∷◌, refl, sym, ◌∙◌, arith, subst, inl, inr}
+use Rattle.std.proofs.Common.{ap, ◌≡◌, ℕ, ◌+◌, ◌-◌, ◌≤◌, ◌<◌, ◌==◌, Bool, true, false, not, cond, Option, Some, None, Ok, is_some, List, [], ◌∷◌, refl, sym, ◌∙◌, arith, subst, inl, inr}
 use Rattle.std.proofs.lemmas.Bool.{or_parts, and_parts, cases_Bool, both_ways, false_from_ne_true, eqb-true, not-true}
 use Rattle.std.specs.List.{list_any}
 use Rattle.scope_rules.specs.declared.types.capacity.Limits.{Limits}
@@ -20,8 +20,11 @@ use Rattle.realm_steps.specs.declared.steps.RealmStep.{RealmStep}
 use Rattle.realm_steps.specs.declared.steps.RealmStep.TheVariants.{Happened, Retirement}
 use Rattle.realm_steps.specs.Steps.{fresh, advance, advanced, history_of, Passes, LegalFrom, IsLegal}
 use Rattle.realm_steps.specs.Tickets.{Grant, is_event, grant_of, granted, grant_in, rejected_in, started_in, finished_in, given_in}
+use Rattle.realm_steps.specs.StepLaws.{TellsAlike}
+use Rattle.realm_steps.specs.Holders.{Agrees}
+use Rattle.realm_steps.specs.declared.steps.Holder.TheVariants.{TicketOf}
 use Rattle.realm_steps.proofs.Histories.{legal_empty, legal_advance, tasks_advance, retired_without_scopes}
-use Rattle.realm_steps.proofs.Told.{finished_is}
+use Rattle.realm_steps.proofs.Told.{finished_is, seen_tells}
 
 -- a retirement finds each task settled
 retired_settled : (L : Limits) (h : History) (k : ℕ) → Legal L h → retire_check h 0 ≡ Ok tt → is_settled (stage h k) ≡ true
@@ -188,3 +191,21 @@ started_runs L xs k lawful given started unfinished =
 pub grant_number : (k : ℕ) (xs : List RealmStep) (g : Grant) → grant_in k xs ≡ Some g → 1 ≤ k
 unfolding grant_in
 grant_number k xs g at = granted_number fresh k xs g at
+
+given_still : (k : ℕ) (seen whole : List RealmStep) → TellsAlike k seen whole → given_in k seen ≡ true → given_in k whole ≡ true
+given_still k seen whole alike given =
+    let parts = and_parts (is_some (grant_in k seen)) (not (rejected_in k seen)) given in
+    let it = some_grant (grant_in k seen) parts.0 in
+    rw (alike.grant it.0 it.1, alike.rejected) parts.1
+
+-- a given ticket that isn't started waits, on the whole list
+pub given_ticket_waits : (L : Limits) (k : ℕ) (seen whole : List RealmStep) → IsLegal L whole → Agrees (TicketOf k) seen whole → given_in k seen ≡ true → started_in k seen ≡ false → stage (history_of whole) k ≡ Waiting
+given_ticket_waits L k seen whole lawful agrees given unstarted =
+    let alike = seen_tells k seen whole agrees in
+    given_waits L whole k lawful (given_still k seen whole alike given) (alike.started ∙ unstarted)
+
+-- a started ticket that isn't finished runs, on the whole list
+pub started_ticket_runs : (L : Limits) (k : ℕ) (seen whole : List RealmStep) → IsLegal L whole → Agrees (TicketOf k) seen whole → given_in k seen ≡ true → started_in k seen ≡ true → finished_in k seen ≡ false → stage (history_of whole) k ≡ Running
+started_ticket_runs L k seen whole lawful agrees given started unfinished =
+    let alike = seen_tells k seen whole agrees in
+    started_runs L whole k lawful (given_still k seen whole alike given) (alike.started ∙ started) (ap is_some alike.end ∙ unfinished)

@@ -1,6 +1,6 @@
 //! What holds of every list of steps. Each function does nothing: its contract is the law.
 
-ghost use Rattle.realm_steps.specs.StepLaws.{BeginningsAreLegal, HistoriesAreLegal, StepsGoOn, TasksAreForks, GivenTicketsWait, StartedTicketsRun, SeenTicketsTell, TicketsTellStages};
+ghost use Rattle.realm_steps.specs.StepLaws.{BeginningsAreLegal, HistoriesAreLegal, StepsGoOn, TasksAreForks, GivenTicketsWait, StartedTicketsRun, AcceptedStepsAdd, SeenTicketsTell, TicketsTellStages};
 
 /// A beginning of a legal list is legal.
 pub fn beginnings_are_legal()
@@ -22,15 +22,21 @@ pub fn tasks_are_forks()
     ensures { TasksAreForks }
 {}
 
-/// A task that was given a thread, and has no reject and no start, waits for its thread now: no
+/// The task of a ticket that was given a thread and isn't started waits, whatever happened since: no
 /// retirement passed meanwhile.
 pub fn given_tickets_wait()
     ensures { GivenTicketsWait }
 {}
 
-/// A task that was given a thread and started, and has no reject and no end, runs now.
+/// The task of a ticket that was given a thread and started, and isn't finished, runs, whatever happened
+/// since.
 pub fn started_tickets_run()
     ensures { StartedTicketsRun }
+{}
+
+/// A step that is accepted on a list with which its holder agrees makes a call that adds exactly it.
+pub fn accepted_steps_add()
+    ensures { AcceptedStepsAdd }
 {}
 
 /// What a ticket's own steps say is the same in the list that it has seen and in the whole list.

@@ -51,22 +51,22 @@ impl Desk {
     pub(crate) fn step_naming(
         &mut self,
         badge: Badge<LedgerView>,
-        step: RealmStep,
+        naming: RealmStep,
     ) -> (Badge<LedgerView>, Badge<LedgerView>)
         requires table { badge.table_id ≡ self.old.seat.table_id }
         requires desk { IsReady self.old.seat.me.0 [] }
         requires share { IsShareOf badge.views (holder_of (view_of badge.views)) }
-        requires may { IsKnown badge.views self.old.seat.me.0 → MayAppend (steps_of self.old.seat.me.0) (holder_of (view_of badge.views) ∷ []) step }
-        requires names { newly_named (steps_of self.old.seat.me.0) step ≡ Some (named_by (steps_of self.old.seat.me.0) step) }
+        requires may { IsKnown badge.views self.old.seat.me.0 → MayAppend (steps_of self.old.seat.me.0) (holder_of (view_of badge.views) ∷ []) naming }
+        requires names { newly_named (steps_of self.old.seat.me.0) naming ≡ Some (named_by (steps_of self.old.seat.me.0) naming) }
         ensures table { (self.new.seat.table_id ≡ self.old.seat.table_id) × (result.0.table_id ≡ self.old.seat.table_id) × (result.1.table_id ≡ self.old.seat.table_id) }
-        ensures desk { self.new.seat.me.0 ≡ keeping (limits_of self.old.seat.me.0) (steps_of self.old.seat.me.0 ++ step ∷ []) [] }
-        ensures new { result.0.views ≡ holding (limits_of self.old.seat.me.0) (named_by (steps_of self.old.seat.me.0) step) (steps_of self.old.seat.me.0 ++ step ∷ []) ∷ [] }
-        ensures share { result.1.views ≡ holding (limits_of self.old.seat.me.0) (holder_of (view_of badge.views)) (steps_of self.old.seat.me.0 ++ step ∷ []) ∷ [] }
+        ensures desk { self.new.seat.me.0 ≡ keeping (limits_of self.old.seat.me.0) (steps_of self.old.seat.me.0 ++ naming ∷ []) [] }
+        ensures new { result.0.views ≡ holding (limits_of self.old.seat.me.0) (named_by (steps_of self.old.seat.me.0) naming) (steps_of self.old.seat.me.0 ++ naming ∷ []) ∷ [] }
+        ensures share { result.1.views ≡ holding (limits_of self.old.seat.me.0) (holder_of (view_of badge.views)) (steps_of self.old.seat.me.0 ++ naming ∷ []) ∷ [] }
         ensures known { IsKnown badge.views self.old.seat.me.0 }
-        ensures fresh { IsFresh (steps_of self.old.seat.me.0) step }
+        ensures fresh { IsFresh (steps_of self.old.seat.me.0) naming }
     {
         self.take_in(badge);
-        self.append(step);
+        self.append(naming);
         let new = self.give_out();
         let share = self.give_out();
         (new, share)
@@ -78,23 +78,23 @@ impl Desk {
         &mut self,
         badge: Badge<LedgerView>,
         last: Badge<LedgerView>,
-        step: RealmStep,
+        end: RealmStep,
     ) -> Badge<LedgerView>
         requires table { (badge.table_id ≡ self.old.seat.table_id) × (last.table_id ≡ self.old.seat.table_id) }
         requires desk { IsReady self.old.seat.me.0 [] }
         requires share { IsShareOf badge.views (holder_of (view_of badge.views)) }
         requires last { IsShareOf last.views (holder_of (view_of last.views)) }
-        requires may { MayAppend (steps_of self.old.seat.me.0) (holder_of (view_of last.views) ∷ holder_of (view_of badge.views) ∷ []) step }
-        requires names { newly_named (steps_of self.old.seat.me.0) step ≡ None }
+        requires may { MayAppend (steps_of self.old.seat.me.0) (holder_of (view_of last.views) ∷ holder_of (view_of badge.views) ∷ []) end }
+        requires names { newly_named (steps_of self.old.seat.me.0) end ≡ None }
         ensures table { (self.new.seat.table_id ≡ self.old.seat.table_id) × (result.table_id ≡ self.old.seat.table_id) }
-        ensures desk { self.new.seat.me.0 ≡ keeping (limits_of self.old.seat.me.0) (steps_of self.old.seat.me.0 ++ step ∷ []) [] }
-        ensures share { result.views ≡ holding (limits_of self.old.seat.me.0) (holder_of (view_of badge.views)) (steps_of self.old.seat.me.0 ++ step ∷ []) ∷ [] }
+        ensures desk { self.new.seat.me.0 ≡ keeping (limits_of self.old.seat.me.0) (steps_of self.old.seat.me.0 ++ end ∷ []) [] }
+        ensures share { result.views ≡ holding (limits_of self.old.seat.me.0) (holder_of (view_of badge.views)) (steps_of self.old.seat.me.0 ++ end ∷ []) ∷ [] }
         ensures known { IsKnown badge.views self.old.seat.me.0 }
         ensures last_known { IsKnown last.views self.old.seat.me.0 }
     {
         self.take_in(badge);
         self.take_in(last);
-        self.append(step);
+        self.append(end);
         drop(self.give_out());
         self.give_out()
     }

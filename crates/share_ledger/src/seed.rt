@@ -1,4 +1,4 @@
-ghost use Rattle.std.specs.Prelude.{◌≡◌, []};
+ghost use Rattle.std.specs.Prelude.{◌≡◌, [], IfOk};
 
 use crate::desk::Desk;
 use crate::keeper::Keeper;
@@ -35,7 +35,9 @@ impl Seed {
     /// # Errors
     ///
     /// Where memory is refused. No later call of the ledger takes any.
-    pub fn new(alloc: Global) -> Result<Seed, AllocError> {
+    pub fn new(alloc: Global) -> Result<Seed, AllocError>
+        ensures { IfOk result (λ seed. seed.words ≡ 1) }
+    {
         let desk = Desk::new(alloc)?;
         Ok(Seed { desk })
     }
