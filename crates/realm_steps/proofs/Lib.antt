@@ -1,0 +1,6 @@
+pub mod Lists
+pub mod Histories
+pub mod Waits
+pub mod Told
+pub mod Ties
+pub mod Ends

@@ -1,0 +1,4 @@
+pub mod Steps
+pub mod Holders
+pub mod Tickets
+pub mod StepLaws

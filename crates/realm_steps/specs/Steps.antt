@@ -1,0 +1,42 @@
+-- A realm's list of steps: the history that it leaves, and which lists are legal.
+use Rattle.std.specs.Prelude.{◌≡◌, Ok, List, [], ◌∷◌}
+use Rattle.scope_rules.specs.declared.types.capacity.Limits.{Limits}
+use Rattle.scope_rules.specs.Origin.{the_start}
+use Rattle.scope_rules.specs.History.{History, followed}
+use Rattle.scope_rules.specs.Table.{retire_check}
+use Rattle.scope_rules.specs.Replies.{base_of}
+use Rattle.scope_rules.specs.Legal.{Accepts}
+use Rattle.realm_steps.specs.declared.steps.RealmStep.{RealmStep}
+use Rattle.realm_steps.specs.declared.steps.RealmStep.TheVariants.{Happened, Retirement}
+
+-- the history of a realm that begins
+abbrev pub fresh : History
+fresh = record { base = the_start; events = [] }
+
+-- what one step leaves: an event follows, and a retirement leaves the base alone
+abbrev pub advance : History → RealmStep → History
+advance h (Happened e) = followed h e
+advance h Retirement = record { base = base_of h; events = [] }
+
+-- what these steps leave, from the first on
+abbrev pub advanced : History → List RealmStep → History
+advanced h [] = h
+advanced h (x ∷ xs) = advanced (advance h x) xs
+
+-- the history of a list of steps
+unfoldable pub history_of : List RealmStep → History
+history_of xs = advanced fresh xs
+
+-- the step may come next after h: a retirement is main's
+abbrev pub Passes : Limits → History → RealmStep → Type 0
+Passes L h (Happened e) = Accepts L h e
+Passes L h Retirement = retire_check h 0 ≡ Ok tt
+
+-- each step was accepted on what the steps before it left
+abbrev pub LegalFrom : Limits → History → List RealmStep → Type 0
+LegalFrom L h [] = Unit {0}
+LegalFrom L h (x ∷ xs) = Passes L h x × LegalFrom L (advance h x) xs
+
+-- a legal list of steps, from the realm's beginning on
+unfoldable pub IsLegal : Limits → List RealmStep → Type 0
+IsLegal L xs = LegalFrom L fresh xs

@@ -1,0 +1,10 @@
+use Rattle.share_ledger.specs.Desks.{limits_of, steps_of, hand_of, first_in, others_in}
+use Rattle.share_ledger.proofs.Allowed.{give_out_allowed}
+use Rattle.share_ledger.proofs.Desks.{a_word}
+use Rattle.share_ledger.proofs.desk.Desk.give_out.Goals as goal
+
+pub split_seat-share-requires : goal.split_seat-share-requires
+split_seat-share-requires c =
+    let desk = c.args.self.now in
+    let v = desk.seat.me.0 in
+    (desk.fits, a_word _ desk.words, give_out_allowed desk.seat.id v (limits_of v) (steps_of v) (first_in (hand_of v)) (others_in (hand_of v)) c.requires.desk)

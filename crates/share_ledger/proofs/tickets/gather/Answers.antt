@@ -1,0 +1,17 @@
+use Rattle.std.proofs.Common.{arith}
+use Rattle.realm_steps.specs.Tickets.{given_in, started_in, finished_in}
+use Rattle.share_ledger.specs.Values.{TicketValue}
+use Rattle.share_ledger.proofs.Sums.{sum_bounded, one_at_most}
+use Rattle.share_ledger.proofs.tickets.gather.Goals as goal
+
+pub overflow_add-totals : goal.overflow_add-totals
+overflow_add-totals c =
+    omega (arith, sum_bounded (λ (t : TicketValue). given_in t.task t.seen) c.args.tickets.now c.loop-ticket.ticket-index (omega arith), one_at_most (given_in c.ticket-item.result.task c.ticket-item.result.seen), c.given.ensures, c.loop-ticket.invariant.given)
+
+pub overflow_add-totals-in-loop-ticket : goal.overflow_add-totals-in-loop-ticket
+overflow_add-totals-in-loop-ticket c =
+    omega (arith, sum_bounded (λ (t : TicketValue). started_in t.task t.seen) c.args.tickets.now c.loop-ticket.ticket-index (omega arith), one_at_most (started_in c.ticket-item.result.task c.ticket-item.result.seen), c.started.ensures, c.loop-ticket.invariant.started)
+
+pub overflow_add-totals-in-loop-ticket-2 : goal.overflow_add-totals-in-loop-ticket-2
+overflow_add-totals-in-loop-ticket-2 c =
+    omega (arith, sum_bounded (λ (t : TicketValue). finished_in t.task t.seen) c.args.tickets.now c.loop-ticket.ticket-index (omega arith), one_at_most (finished_in c.ticket-item.result.task c.ticket-item.result.seen), c.finished.ensures, c.loop-ticket.invariant.finished)

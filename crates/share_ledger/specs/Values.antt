@@ -1,0 +1,88 @@
+-- What contracts see of the keeper, of a token's share and of a ticket.
+use Rattle.std.specs.Prelude.{◌≡◌, ℕ, ◌==◌, Bool, true, false, Option, Some, List, if◌then◌else◌}
+use Rattle.scope_rules.specs.declared.types.capacity.Limits.{Limits}
+use Rattle.scope_rules.specs.declared.types.values.Label.{Label}
+use Rattle.scope_rules.specs.declared.types.events.Event.{Event}
+use Rattle.scope_rules.specs.declared.types.events.Event.TheVariants.{Open, Cancel, Move, Tick, Bind, Unbind, Join, BeginClose, EndClose}
+use Rattle.scope_rules.specs.Ends.{EndValue}
+use Rattle.realm_steps.specs.declared.steps.RealmStep.{RealmStep}
+use Rattle.realm_steps.specs.declared.steps.Holder.{Holder}
+use Rattle.realm_steps.specs.declared.steps.Holder.TheVariants.{TokenOf, TicketOf}
+use Rattle.realm_steps.specs.Holders.{Agrees}
+use Rattle.realm_steps.specs.Tickets.{grant_in, given_in, started_in, finished_in, end_in}
+use Rattle.atomic_table.specs.Seated.{TableId}
+use Rattle.share_ledger.specs.declared.views.LedgerView.{LedgerView}
+use Rattle.share_ledger.specs.Desks.{steps_of, view_of, IsShareOf}
+
+-- the keeper: its realm's table, the limits and the whole list
+pub record KeeperValue : Type 0 where
+  pub table : TableId
+  pub limits : Limits
+  pub steps : List RealmStep
+
+-- the share of an actor's token: what of the list it has seen
+pub record OwnerValue : Type 0 where
+  pub table : TableId
+  pub limits : Limits
+  pub actor : ℕ
+  pub seen : List RealmStep
+
+-- the ticket of a task
+pub record TicketValue : Type 0 where
+  pub table : TableId
+  pub limits : Limits
+  pub task : ℕ
+  pub scope : ℕ
+  pub label : Label
+  pub seen : List RealmStep
+
+-- the share is of the keeper's realm, and agrees with the keeper's list
+pub record AgreesWith (who : Holder) (limits : Limits) (seen : List RealmStep) (keeper : KeeperValue) : Type 0 where
+  pub limited : limits ≡ keeper.limits
+  pub agrees : Agrees who seen keeper.steps
+
+abbrev pub OwnerAgrees : OwnerValue → KeeperValue → Type 0
+OwnerAgrees share keeper = AgreesWith (TokenOf share.actor) share.limits share.seen keeper
+
+abbrev pub TicketAgrees : TicketValue → KeeperValue → Type 0
+TicketAgrees ticket keeper = AgreesWith (TicketOf ticket.task) ticket.limits ticket.seen keeper
+
+-- the event can be recorded with the token of the actor: it is the actor's own and no other's, and names
+-- nobody; or it is nobody's own
+abbrev pub is_recorded_by : ℕ → Event → Bool
+is_recorded_by a (Open actor policy options) = actor == a
+is_recorded_by a (Cancel scope) = true
+is_recorded_by a (Move scope deadline) = true
+is_recorded_by a (Tick now) = true
+is_recorded_by a (Bind actor pair) = actor == a
+is_recorded_by a (Unbind actor) = actor == a
+is_recorded_by a (Join actor scope) = actor == a
+is_recorded_by a (BeginClose actor scope) = actor == a
+is_recorded_by a (EndClose actor scope) = actor == a
+is_recorded_by a _ = false
+
+abbrev pub one_if : Bool → ℕ
+one_if b = if b then 1 else 0
+
+-- what a ticket says of itself, each 0 or 1
+abbrev pub given_count : TicketValue → ℕ
+given_count t = one_if (given_in t.task t.seen)
+
+abbrev pub started_count : TicketValue → ℕ
+started_count t = one_if (started_in t.task t.seen)
+
+abbrev pub finished_count : TicketValue → ℕ
+finished_count t = one_if (finished_in t.task t.seen)
+
+-- a ticket that waits for its thread
+pub record IsWaiting (t : TicketValue) : Type 0 where
+  pub given : given_in t.task t.seen ≡ true
+  pub unstarted : started_in t.task t.seen ≡ false
+
+-- what a ticket keeps: it is its task's share, its task was forked so, and what it says is so in its list
+pub record IsTicket (task scope : ℕ) (label : Label) (given started : Bool) (end : Option EndValue) (views : List LedgerView) : Type 0 where
+  pub share : IsShareOf views (TicketOf task)
+  pub grant : grant_in task (steps_of (view_of views)) ≡ Some (record { scope = scope; label = label })
+  pub is_given : given ≡ given_in task (steps_of (view_of views))
+  pub is_started : started ≡ started_in task (steps_of (view_of views))
+  pub is_ended : end ≡ end_in task (steps_of (view_of views))
