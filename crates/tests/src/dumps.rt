@@ -14,7 +14,13 @@ fn left_by(rt: &impl AllocGlobal, script: &str) -> Result<BookState<AnyEnd>, Fai
     let whole = lines(rt, script)?;
     let mut reader = Watched::new(whole.as_bytes());
     let mut writer = Watched::new(Vec::new(rt.alloc()));
-    match run(rt.alloc(), &mut reader, &mut writer, Limits::GREATEST, Mode::Quiet) {
+    match run(
+        rt.alloc(),
+        &mut reader,
+        &mut writer,
+        Limits::GREATEST,
+        Mode::Quiet,
+    ) {
         Ok(book) => Ok(book),
         Err(_) => Err(Fail::from("the run ends well")),
     }
@@ -86,12 +92,16 @@ fn sixteen_levels_are_shown(rt: HostRuntime) -> Result<(), Fail> {
     }
     let mut wanted = String::from_str(rt.alloc(), "{\"moment\":0,\"root\":")?;
     for scope in 1..17u32 {
-        let begun = format!(in rt.alloc(); "{{\"cause\":null,\"deadline\":null,\"expiry\":\"fail\",\"id\":{scope},\"inner\":")?;
+        let begun = format!(in rt.alloc();
+            "{{\"cause\":null,\"deadline\":null,\"expiry\":\"fail\",\"id\":{scope},\"inner\":"
+        )?;
         wanted.push_str(&begun)?;
     }
     wanted.push_str("null")?;
     for _ in 1..17u32 {
-        wanted.push_str(",\"joined\":false,\"joiner\":\"await-ok\",\"owner\":0,\"shield\":false,\"stage\":\"open\",\"tasks\":[]}")?;
+        wanted.push_str(
+            ",\"joined\":false,\"joiner\":\"await-ok\",\"owner\":0,\"shield\":false,\"stage\":\"open\",\"tasks\":[]}",
+        )?;
     }
     wanted.push('}')?;
     check(&rt, &script, &wanted)

@@ -130,6 +130,7 @@ task_labelled {A} h s i k at none = by (forking h k) refl
   where
     of_scope : is_task_of h s k ≡ true
     of_scope = filter_at (is_task_of h s) (task_numbers h) i k at
+
     by : (o : Option Forking) → forking h k ≡ o → A
     by None e = false_true (is_task_of h s k) (ap (λ o. option_map_or (λ f. f.scope == s) o false) e) of_scope
     by (Some f) e = none_some (label h k) f.label none (ap (option_map (λ f. f.label)) e)

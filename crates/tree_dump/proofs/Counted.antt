@@ -16,6 +16,7 @@ made_all f g xs ys none so = so ∙ ap (map f) (take_whole xs (length ys) past)
   where
     none_of : (x : _) → slice_get xs (length ys) ≡ Some x → length xs ≤ length ys
     none_of x some = absurd cc
+
     past : length xs ≤ length ys
     past = elim (slice_get_cases xs (length ys)).1 [ inl some ↦ none_of some.0 some.2 | inr end ↦ end.0 ]
 

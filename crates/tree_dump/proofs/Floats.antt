@@ -38,6 +38,7 @@ shown_whole h inside each s = by (info h s)
     task : (k : ℕ) (t : Option TaskTold) → has_float (option_map_or (λ told. task_object told (inside told.inner)) t null) ≡ false
     task k None = refl
     task k (Some t) = task_whole t (inside t.inner) (each t.inner)
+
     by : (i : Option ScopeInfo) → has_float (option_map_or (λ i. scope_object i (inside (inner h s)) (tasks_shown h inside s)) i null) ≡ false
     by None = refl
     by (Some i) = scope_whole i (inside (inner h s)) (tasks_shown h inside s) (each (inner h s)) (items_whole (task_shown h inside) (tasks_of h s) (λ k. task k (task_told h k)))

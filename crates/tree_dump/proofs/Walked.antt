@@ -56,9 +56,9 @@ told_shown h inside k told inner is so = ap (task_object told) so ∙ sym (ap (�
 
 -- one task more is shown
 pub tasks_more : (h : History) (inside : Option ℕ → Data) (s n : ℕ) (told : TaskTold) (inner : Data) (value : Value) (values more : List Value) →
-  n ≡ length values → option_and_then (task_told h) (slice_get (tasks_of h s) n) ≡ Some told → inner ≡ inside told.inner → view value ≡ task_object told inner →
-  map view values ≡ map (task_shown h inside) (take (length values) (tasks_of h s)) → more ≡ values ++ value ∷ [] →
-  map view more ≡ map (task_shown h inside) (take (length more) (tasks_of h s))
+    n ≡ length values → option_and_then (task_told h) (slice_get (tasks_of h s) n) ≡ Some told → inner ≡ inside told.inner → view value ≡ task_object told inner →
+    map view values ≡ map (task_shown h inside) (take (length values) (tasks_of h s)) → more ≡ values ++ value ∷ [] →
+    map view more ≡ map (task_shown h inside) (take (length more) (tasks_of h s))
 tasks_more h inside s n told inner value values more count there so made before is =
     let found = made_of (task_told h) (slice_get (tasks_of h s) n) told there in
     let at : slice_get (tasks_of h s) (length values) ≡ Some found.0 = ap (slice_get (tasks_of h s)) (sym count) ∙ found.1 in
@@ -68,9 +68,9 @@ tasks_more h inside s n told inner value values more count there so made before 
 
 -- the scope that is made is the one that stands there
 pub scope_made : (h : History) (levels n : ℕ) (place : Option ℕ) (i : ScopeInfo) (inside : Data) (values : List Value) →
-  0 < levels → option_and_then (info h) place ≡ Some i → inside ≡ nested h (levels - 1) (inner h i.scope) →
-  n ≡ length values → slice_get (tasks_of h i.scope) n ≡ None → map view values ≡ map (task_shown h (nested h (levels - 1))) (take (length values) (tasks_of h i.scope)) →
-  scope_object i inside (items_view values) ≡ nested h levels place
+    0 < levels → option_and_then (info h) place ≡ Some i → inside ≡ nested h (levels - 1) (inner h i.scope) →
+    n ≡ length values → slice_get (tasks_of h i.scope) n ≡ None → map view values ≡ map (task_shown h (nested h (levels - 1))) (take (length values) (tasks_of h i.scope)) →
+    scope_object i inside (items_view values) ≡ nested h levels place
 scope_made h levels n place i inside values more there so count none before =
     let all : map view values ≡ map (task_shown h (nested h (levels - 1))) (tasks_of h i.scope) = made_all (task_shown h (nested h (levels - 1))) view (tasks_of h i.scope) values (ap (slice_get (tasks_of h i.scope)) (sym count) ∙ none) before in
     let one : levels ≡ suc (levels - 1) = omega (arith, more) in

@@ -19,28 +19,28 @@ abbrev pub cause_or_null : Option Cause → Data
 cause_or_null None = null
 cause_or_null (Some cause) =
     object (member (codes "by") (number (unsigned cause.scope))
-      (member (codes "kind") (string (kind_word cause.kind)) no_members))
+    (member (codes "kind") (string (kind_word cause.kind)) no_members))
 
 -- a scope, of what there is to say of it, what lies inside it, and its tasks
 unfoldable pub scope_object : ScopeInfo → Data → Items → Data
 scope_object info inner tasks =
     object (member (codes "cause") (cause_or_null info.cause)
-      (member (codes "deadline") (number_or_null info.deadline)
-      (member (codes "expiry") (string (expiry_word info.expiry))
-      (member (codes "id") (number (unsigned info.scope))
-      (member (codes "inner") inner
-      (member (codes "joined") (boolean info.joined)
-      (member (codes "joiner") (string (policy_word info.policy))
-      (member (codes "owner") (number (unsigned info.owner))
-      (member (codes "shield") (boolean info.shield)
-      (member (codes "stage") (string (scope_stage_word info.stage))
-      (member (codes "tasks") (array tasks) no_members)))))))))))
+    (member (codes "deadline") (number_or_null info.deadline)
+    (member (codes "expiry") (string (expiry_word info.expiry))
+    (member (codes "id") (number (unsigned info.scope))
+    (member (codes "inner") inner
+    (member (codes "joined") (boolean info.joined)
+    (member (codes "joiner") (string (policy_word info.policy))
+    (member (codes "owner") (number (unsigned info.owner))
+    (member (codes "shield") (boolean info.shield)
+    (member (codes "stage") (string (scope_stage_word info.stage))
+    (member (codes "tasks") (array tasks) no_members)))))))))))
 
 -- a task, of what there is to say of it and what lies inside it
 unfoldable pub task_object : TaskTold → Data → Data
 task_object told inner =
     object (member (codes "id") (number (unsigned told.task))
-      (member (codes "inner") inner
-      (member (codes "name") (string (text_of told.label.name))
-      (member (codes "stage") (string (stage_word told.stage))
-      (member (codes "state") (string (state_word told.state)) no_members)))))
+    (member (codes "inner") inner
+    (member (codes "name") (string (text_of told.label.name))
+    (member (codes "stage") (string (stage_word told.stage))
+    (member (codes "state") (string (state_word told.state)) no_members)))))

@@ -39,7 +39,7 @@ levels = 16
 abbrev pub dump_data : History → Data
 dump_data h =
     object (member (codes "moment") (number (unsigned (moment h)))
-      (member (codes "root") (nested h levels (outermost h 0)) no_members))
+    (member (codes "root") (nested h levels (outermost h 0)) no_members))
 
 -- what a dump of the history is
 unfoldable pub dump_text : History → List ℕ
