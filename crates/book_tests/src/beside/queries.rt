@@ -77,37 +77,6 @@ impl Both {
         }
     }
 
-    fn compare_nest(&self, rt: &impl Abort, scope: ScopeId, tasks: u32) {
-        let (seed, commands) = (self.seed, self.commands);
-        let found = (self.book.inner(scope), self.book.info(scope));
-        let wanted = (self.realm.inner(scope), self.realm.info(scope));
-        assert_eq!(rt;
-            found,
-            wanted,
-            "script {seed}, {commands} commands, nest of {scope}"
-        );
-        for place in 0..=tasks {
-            let found = self.book.task_at(scope, place as usize);
-            let wanted = self.realm.task_at(scope, place as usize);
-            assert_eq!(rt;
-                found,
-                wanted,
-                "script {seed}, {commands} commands, task {place} of {scope}"
-            );
-        }
-    }
-
-    fn compare_task_nest(&self, rt: &impl Abort, task: TaskId) {
-        let (seed, commands) = (self.seed, self.commands);
-        let found = (self.book.task_inner(task), self.book.label(task));
-        let wanted = (self.realm.task_inner(task), self.realm.label(task));
-        assert_eq!(rt;
-            found,
-            wanted,
-            "script {seed}, {commands} commands, nest of task {task}"
-        );
-    }
-
     /// The book tells all scopes that are cancelled, by the events that cancelled them and then by their
     /// numbers.
     pub fn compare_cancels(&mut self, rt: &impl Abort, scopes: u32) {
@@ -141,14 +110,11 @@ impl Both {
             "script {}",
             self.seed
         );
-        assert_eq!(rt; self.book.root(), self.realm.root(), "script {}", self.seed);
         for scope in 0..=script.scopes().saturating_add(1) {
             self.compare_scope(rt, scope);
-            self.compare_nest(rt, scope, script.tasks());
         }
         for task in 0..=script.tasks().saturating_add(1) {
             self.compare_task(rt, task, script.owner_of_task(task));
-            self.compare_task_nest(rt, task);
             self.compare_actor(rt, task, script.names());
         }
     }
