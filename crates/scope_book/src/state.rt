@@ -4,3 +4,4 @@ pub mod book;
 pub mod commands;
 pub mod fitting;
 pub mod queries;
+pub mod readers;
