@@ -1,16 +1,14 @@
-//! Dumps of realms: the text of each, written by hand from the format, and the same by the plain
-//! evaluator's readers.
+//! Dumps of realms: the text of each, written by hand from the format.
 
 use crate::rows::lines;
-use scope_book::BookState;
-use scope_rules::{AnyEnd, Limits};
+use scope_rules::Limits;
 use scope_script::{Mode, Watched, run};
 use std::process::Abort;
 use std::test::Fail;
 use tree_dump::dump;
 
-/// The book that the lines leave.
-fn left_by(rt: &impl AllocGlobal, script: &str) -> Result<BookState<AnyEnd>, Fail> {
+/// The dump of the realm that the lines leave.
+fn dumped(rt: &impl AllocGlobal, script: &str) -> Result<String, Fail> {
     let whole = lines(rt, script)?;
     let mut reader = Watched::new(whole.as_bytes());
     let mut writer = Watched::new(Vec::new(rt.alloc()));
@@ -21,14 +19,14 @@ fn left_by(rt: &impl AllocGlobal, script: &str) -> Result<BookState<AnyEnd>, Fai
         Limits::GREATEST,
         Mode::Quiet,
     ) {
-        Ok(book) => Ok(book),
+        Ok(book) => Ok(dump(rt.alloc(), &book)?),
         Err(_) => Err(Fail::from("the run ends well")),
     }
 }
 
 /// Compares the dump of the realm that the lines leave with the text wanted.
 fn check(rt: &(impl Abort + AllocGlobal), script: &str, wanted: &str) -> Result<(), Fail> {
-    let text = dump(rt.alloc(), &left_by(rt, script)?)?;
+    let text = dumped(rt, script)?;
     assert!(rt; text.as_str() == wanted, "{script}: {text}");
     Ok(())
 }
