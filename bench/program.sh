@@ -1,7 +1,8 @@
 # Sourced by the scripts beside it, at the top of the repository.
 
 # build_program NAME LIBRARY..: builds the program of bench/programs/NAME, which uses these libraries of
-# crates/, in a workspace of its own that shares what was proved of them, and sets `program` to it.
+# crates/, in a workspace of its own that shares what was proved of them, and sets `program` to it. Its
+# sources end in .in, since the gate wants each source of Rattle to be a crate's of the repository.
 build_program() {
     local name=$1 room crate
     room=$PWD/bench/out/$name
@@ -15,6 +16,9 @@ build_program() {
         ln -sfn "$PWD/${crate%/}" "$room/crates/$(basename "$crate")"
     done
     cp -a "bench/programs/$name" "$room/crates"
+    find "$room/crates/$name" -name '*.in' | while read -r source; do
+        mv "$source" "${source%.in}"
+    done
     (cd "$room/crates/$name" && rt run >"$room/build.log" 2>&1) || {
         tail -n 20 "$room/build.log" >&2
         return 1
