@@ -1,12 +1,13 @@
 # Sourced by the scripts beside it, at the top of the repository.
 
 # build_program NAME LIBRARY..: builds the program of bench/programs/NAME, which uses these libraries of
-# crates/, in a workspace of its own that shares what was proved of them, and sets `program` to it. Its
+# crates/, in a workspace of its own for as long as the script runs, which shares what was proved of them, and sets `program` to it. Its
 # sources end in .in, since the gate wants each source of Rattle to be a crate's of the repository.
 build_program() {
-    local name=$1 room crate
-    room=$PWD/bench/out/$name
-    mkdir -p "$room/crates"
+    local name=$1 crate
+    room=$(mktemp -d)
+    trap 'rm -rf "$room"' EXIT
+    mkdir "$room/crates"
     cp -p HANDLES "$room"
     {
         cat crates.txt
