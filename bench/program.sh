@@ -1,8 +1,9 @@
 # Sourced by the scripts beside it, at the top of the repository.
 
 # build_program NAME LIBRARY..: builds the program of bench/programs/NAME, which uses these libraries of
-# crates/, in a workspace of its own for as long as the script runs, which shares what was proved of them, and sets `program` to it. Its
-# sources end in .in, since the gate wants each source of Rattle to be a crate's of the repository.
+# crates/, and sets `program` to it. It is built in a workspace of its own, which shares what was proved of
+# the libraries and is gone when the script ends. Its sources end in .in, since the gate wants each source
+# of Rattle to be that of a crate of the repository.
 build_program() {
     local name=$1 crate
     room=$(mktemp -d)
