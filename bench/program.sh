@@ -21,7 +21,7 @@ build_program() {
     done
     echo "$0: building $name, and what it stands on where that was not proved yet" >&2
     (cd "$room/crates/$name" && rt run >"$room/build.log" 2>&1) || {
-        tail -n 20 "$room/build.log" >&2
+        grep -v "^library\|^statements" "$room/build.log" | tail -n 20 >&2
         return 1
     }
     program=$room/crates/$name/out/$name
