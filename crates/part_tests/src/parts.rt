@@ -6,6 +6,7 @@ mod joiners;
 mod logs;
 mod marks;
 mod realms;
+mod shares;
 mod trails;
 mod trees;
 mod types;

@@ -1,8 +1,7 @@
 //! Deadlines: each call once, and five thousand against a sorted list.
 
 use deadline_core::Deadlines;
-use std::alloc::{AllocError, Global};
-use std::process::Abort;
+use std::alloc::AllocError;
 use std::test::Fail;
 
 /// Scopes with their deadlines, as they are set.
@@ -18,50 +17,38 @@ const SET: [(u32, u64); 9] = [
     (1, 40),
 ];
 
-/// The scopes that expire at the moment are these, in this order.
-fn check_expired(
-    rt: &impl Abort,
-    deadlines: &mut Deadlines,
-    now: u64,
-    wanted: &[u32],
-) -> Result<(), AllocError> {
-    let expired = deadlines.expire(now)?;
-    assert_eq!(rt; expired.as_slice(), wanted, "at {now}");
-    Ok(())
+/// Whether the scopes that expire at the moment are these, in this order.
+fn expires(deadlines: &mut Deadlines, now: u64, wanted: &[u32]) -> Result<bool, AllocError> {
+    Ok(deadlines.expire(now)?.as_slice() == wanted)
 }
 
-/// Scopes with one deadline expire together by their numbers, the least moment first.
-fn check_order(rt: &impl Abort, deadlines: &mut Deadlines) -> Result<(), AllocError> {
+/// Whether scopes with one deadline expire together by their numbers, the least moment first.
+fn go_in_order(deadlines: &mut Deadlines) -> Result<bool, AllocError> {
     for (scope, deadline) in SET {
         deadlines.set(scope, deadline)?;
     }
-    assert_eq!(rt; deadlines.earliest(), Some((5, 6)));
-    check_expired(rt, deadlines, 4, &[])?;
-    check_expired(rt, deadlines, 10, &[6, 2, 3])
+    let earliest = deadlines.earliest() == Some((5, 6));
+    Ok(earliest && expires(deadlines, 4, &[])? && expires(deadlines, 10, &[6, 2, 3])?)
 }
 
 /// Of what is left, one is taken away, one expires alone, two together, and one stays.
-fn check_rest(rt: &impl Abort, deadlines: &mut Deadlines) -> Result<(), AllocError> {
+fn rest_goes(deadlines: &mut Deadlines) -> Result<bool, AllocError> {
     deadlines.remove(8);
-    let popped = [deadlines.pop_expired(19), deadlines.pop_expired(20)];
-    assert_eq!(rt; popped, [None, Some(4)]);
-    check_expired(rt, deadlines, 30, &[7, 9])?;
-    assert_eq!(rt; [deadlines.get(9), deadlines.get(1)], [None, Some(40)]);
-    Ok(())
+    let alone = deadlines.pop_expired(19).is_none() && deadlines.pop_expired(20) == Some(4);
+    let together = expires(deadlines, 30, &[7, 9])?;
+    Ok(alone && together && deadlines.get(9).is_none() && deadlines.get(1) == Some(40))
 }
 
 #[test]
 fn deadlines_go_by_moment_then_by_number(rt: HostRuntime) -> Result<(), Fail> {
     let mut deadlines = Deadlines::new(rt.alloc());
-    check_order(&rt, &mut deadlines)?;
-    Ok(check_rest(&rt, &mut deadlines)?)
+    assert!(rt; go_in_order(&mut deadlines)? && rest_goes(&mut deadlines)?);
+    Ok(())
 }
 
-/// Scopes 1 to 5,002 in a scattered order, with deadlines of which about five are equal; each had
-/// another before.
-fn scattered(alloc: Global) -> Result<(Deadlines, Vec<(u64, u32)>), AllocError> {
-    let mut deadlines = Deadlines::new(alloc);
-    let mut sorted = Vec::new(alloc);
+/// Sets the deadlines of scopes 1 to 5,002 in a scattered order, of which about five are equal; each had
+/// another before. The list has them in their order.
+fn scatter(deadlines: &mut Deadlines, sorted: &mut Vec<(u64, u32)>) -> Result<(), AllocError> {
     for i in 1..5003u32 {
         let scope = i * 89 % 5003;
         let deadline = u64::from(scope * 37 % 1009);
@@ -69,8 +56,7 @@ fn scattered(alloc: Global) -> Result<(Deadlines, Vec<(u64, u32)>), AllocError> 
         deadlines.set(scope, deadline)?;
         sorted.push((deadline, scope))?;
     }
-    sorted.sort()?;
-    Ok((deadlines, sorted))
+    sorted.sort()
 }
 
 /// Whether the sorted list has the scope at the place, with a deadline that is due at the moment.
@@ -81,44 +67,57 @@ fn is_next(sorted: &[(u64, u32)], place: usize, scope: u32, now: u64) -> bool {
     }
 }
 
-/// Those that expire at the moment are the next of the sorted list, from its place `from` on; answers how
-/// many have expired then.
-fn check_next(
-    rt: &impl Abort,
+/// Whether the scopes, which expired at the moment, are the next of the sorted list, from its place `from`
+/// on.
+fn are_next(scopes: &[u32], sorted: &[(u64, u32)], from: usize, now: u64) -> bool {
+    let mut place = from;
+    for scope in scopes {
+        if !is_next(sorted, place, *scope, now) {
+            return false;
+        }
+        place = place.saturating_add(1);
+    }
+    true
+}
+
+/// How many have expired once those of the moment have, if these are the next of the sorted list, from its
+/// place `from` on, and the one after them is the earliest then.
+fn expired_by(
     deadlines: &mut Deadlines,
     sorted: &[(u64, u32)],
     from: usize,
     now: u64,
-) -> Result<usize, AllocError> {
-    let mut expired = from;
-    for scope in deadlines.expire(now)? {
-        assert!(rt; is_next(sorted, expired, scope, now), "at {expired}");
-        expired = expired.saturating_add(1);
-    }
-    Ok(expired)
+) -> Result<Option<usize>, AllocError> {
+    let expired = deadlines.expire(now)?;
+    let count = from.saturating_add(expired.len());
+    let goes_on = deadlines.earliest() == sorted.get(count).copied();
+    Ok(if goes_on && are_next(&expired, sorted, from, now) {
+        Some(count)
+    } else {
+        None
+    })
 }
 
-/// All expire in the order of the sorted list, but those of the last moment.
-fn check_all(
-    rt: &impl Abort,
-    deadlines: &mut Deadlines,
-    sorted: &[(u64, u32)],
-) -> Result<(), AllocError> {
+/// Whether all expire in the order of the sorted list, but those of the last moment.
+fn all_go(deadlines: &mut Deadlines, sorted: &[(u64, u32)]) -> Result<bool, AllocError> {
     let mut expired = 0;
     for now in [0, 17, 17, 400, 1007] {
-        expired = check_next(rt, deadlines, sorted, expired, now)?;
-        assert_eq!(rt;
-            deadlines.earliest(),
-            sorted.get(expired).copied(),
-            "at {now}"
-        );
+        let Some(count) = expired_by(deadlines, sorted, expired, now)? else {
+            return Ok(false);
+        };
+        expired = count;
     }
-    assert_eq!(rt; deadlines.earliest().map(|first| first.0), Some(1008));
-    Ok(())
+    Ok(match deadlines.earliest() {
+        Some((moment, _)) => moment == 1008,
+        None => false,
+    })
 }
 
 #[test]
 fn five_thousand_expire_as_a_sorted_list(rt: HostRuntime) -> Result<(), Fail> {
-    let (mut deadlines, sorted) = scattered(rt.alloc())?;
-    Ok(check_all(&rt, &mut deadlines, &sorted)?)
+    let mut deadlines = Deadlines::new(rt.alloc());
+    let mut sorted = Vec::new(rt.alloc());
+    scatter(&mut deadlines, &mut sorted)?;
+    assert!(rt; all_go(&mut deadlines, &sorted)?);
+    Ok(())
 }

@@ -78,10 +78,10 @@ fn check_marks(
     ends: &[Kind],
     marks: &str,
 ) -> Result<(), Fail> {
-    assert_eq!(rt; ends.len(), marks.len());
+    assert!(rt; ends.len() == marks.len());
     for (kind, mark) in ends.iter().zip(marks.as_bytes()) {
         let fires = hand_in(progress, end_of(*kind)?)?;
-        assert_eq!(rt; fires, *mark == b'x', "{marks}");
+        assert!(rt; fires == (*mark == b'x'), "{marks}");
     }
     Ok(())
 }
@@ -96,7 +96,7 @@ fn check_row(rt: &impl Abort, alloc: Global, row: &Row) -> Result<(), Fail> {
         Policy::Until(rule) => Joiner::Until(UntilTest::plain(rule)),
     };
     let mut progress = Progress::new(alloc, joiner);
-    assert_eq!(rt; progress.policy(), row.policy);
+    assert!(rt; progress.policy() == row.policy);
     check_marks(rt, &mut progress, row.ends, row.marks)
 }
 
@@ -176,7 +176,7 @@ fn check_long(
     for task in 1..=65_536u32 {
         let end = if task <= 32_768 { early } else { late };
         let answer = hand_in(progress, end)?;
-        assert_eq!(rt; answer, task >= fires.0 && task <= fires.1, "at {task}");
+        assert!(rt; answer == (task >= fires.0 && task <= fires.1));
     }
     Ok(())
 }
@@ -192,10 +192,9 @@ fn check_totals(
     failed: Option<TaskId>,
     succeeded: Option<TaskId>,
 ) {
-    let count = progress.failures().wrapping_add(progress.successes());
-    assert_eq!(rt; count, 65_536);
-    assert_eq!(rt; task_of(progress.first_failure()), failed);
-    assert_eq!(rt; task_of(progress.first_success()), succeeded);
+    assert!(rt; progress.failures().wrapping_add(progress.successes()) == 65_536);
+    assert!(rt; task_of(progress.first_failure()) == failed);
+    assert!(rt; task_of(progress.first_success()) == succeeded);
 }
 
 #[test]
@@ -277,7 +276,7 @@ fn check_shown(
     for (kind, mark) in [(ONE, false), (BAD, false), (Text, true), (BAD, true)] {
         let fires = hand_in(progress, end_of(kind)?)?;
         let sum = shown.swap(0, Ordering::SeqCst);
-        assert_eq!(rt; (fires, sum), (mark, u64::from(progress.completions())));
+        assert!(rt; fires == mark && sum == u64::from(progress.completions()));
     }
     Ok(())
 }
@@ -325,7 +324,7 @@ fn an_account_asks_the_closure_of_its_own_rule(rt: HostRuntime) -> Result<(), Fa
         let test = if given { test.as_ref() } else { None };
         let fires = fires_at_the_second(rt.alloc(), policy, listed, test)?;
         let sum = shown.swap(0, Ordering::SeqCst);
-        assert_eq!(rt; (fires, sum), (true, asked), "{least} {listed} {given}");
+        assert!(rt; fires && sum == asked, "{least} {listed} {given}");
     }
     Ok(())
 }
@@ -349,9 +348,9 @@ fn a_closure_may_ask_for_short_lists(rt: HostRuntime) -> Result<(), Fail> {
         { successes_in(list) >= 2 },
     )?;
     let until = UntilTest::new(Rule::SuccessesAtLeast(2), test);
-    assert_eq!(rt; until.rule(), Rule::SuccessesAtLeast(2));
+    assert!(rt; until.rule() == Rule::SuccessesAtLeast(2));
     let joiner = Joiner::Until(until);
-    assert_eq!(rt; joiner.policy(), Policy::Until(Rule::SuccessesAtLeast(2)));
+    assert!(rt; joiner.policy() == Policy::Until(Rule::SuccessesAtLeast(2)));
     let mut progress = Progress::new(rt.alloc(), joiner);
     check_marks(&rt, &mut progress, &[ONE, BAD, Text, BAD], "..xx")
 }
@@ -399,10 +398,9 @@ fn a_closure_made_here_is_asked_in_other_threads(rt: HostRuntime) -> Result<(), 
         move || hand_in_there(Progress::new(alloc, joiner), end),
     )?;
     let (progress, fires) = child.join(&rt);
-    assert_eq!(rt; fires, Some(false));
+    assert!(rt; fires == Some(false));
     let child = thread::spawn(&rt, move || hand_in_there(progress, end))?;
     let (progress, fires) = child.join(&rt);
-    assert_eq!(rt; fires, Some(true));
-    assert_eq!(rt; progress.successes(), 2);
+    assert!(rt; fires == Some(true) && progress.successes() == 2);
     Ok(())
 }

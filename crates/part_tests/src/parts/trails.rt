@@ -14,7 +14,7 @@ fn by_turns(alloc: Global) -> Result<Trails, AllocError>
     ensures second { IfOk result (λ trails. HasTrail trails 5) }
 {
     let mut trails = Trails::new(alloc, 3);
-    trails.reserve(7)?;
+    trails.reserve(5)?;
     trails.reserve_scope()?;
     trails.open(0);
     trails.reserve_scope()?;
@@ -22,8 +22,6 @@ fn by_turns(alloc: Global) -> Result<Trails, AllocError>
     trails.tell(None, 2);
     trails.tell(Some(5), 3);
     trails.tell(Some(4), 4);
-    trails.tell(Some(4), 5);
-    trails.tell(Some(5), 6);
     Ok(trails)
 }
 
@@ -31,8 +29,8 @@ fn by_turns(alloc: Global) -> Result<Trails, AllocError>
 fn places_are_those_of_the_scope(rt: HostRuntime) -> Result<(), Fail> {
     let trails = by_turns(rt.alloc())?;
     let first = trails.places(rt.alloc(), 4)?;
-    assert_eq!(rt; first.as_slice(), [0, 4, 5].as_slice());
+    assert!(rt; first.as_slice() == [0, 4].as_slice());
     let second = trails.places(rt.alloc(), 5)?;
-    assert_eq!(rt; second.as_slice(), [1, 3, 6].as_slice());
+    assert!(rt; second.as_slice() == [1, 3].as_slice());
     Ok(())
 }

@@ -1,12 +1,9 @@
-//! Trees: beside the model's plain evaluator, both told the same and agreeing after each step, and
-//! with as many scopes as there can be.
+//! Trees: with as many scopes as there can be, and the order in which their scopes were cancelled.
 
-mod beside_plain;
 mod driven;
 
 use driven::Driven;
 use scope_rules::{CauseKind, Refusal, ScopeId};
-use std::process::Abort;
 use std::test::Fail;
 
 /// How many of the tree's scopes are cancelled.
@@ -20,35 +17,39 @@ fn count_cancelled(tree: &Driven) -> u32 {
     count
 }
 
-/// Sixteen scopes in one another, with 272 more in each of the first fifteen; the ninth is shielded.
-fn add_fans(rt: &impl Abort, tree: &mut Driven) -> Result<(), Refusal> {
+/// Sixteen scopes in one another, with 272 more in each of the first fifteen; the ninth is shielded. Whether
+/// there is no seventeenth level.
+fn adds_fans(tree: &mut Driven) -> Result<bool, Refusal> {
     let mut parent = None;
     for level in 1..17u32 {
         parent = Some(tree.add(parent, level == 9)?);
     }
+    let mut ends = true;
     for shield in [false, true] {
-        assert_eq!(rt; tree.add(parent, shield), Err(Refusal::TooDeep));
+        ends = ends && tree.add(parent, shield) == Err(Refusal::TooDeep);
     }
     for leaf in 0..4080u32 {
         tree.add(Some(leaf % 15 + 1), false)?;
     }
-    assert_eq!(rt; tree.len(), 4096);
-    Ok(())
+    Ok(ends && tree.len() == 4096)
 }
 
-/// The second cancel reaches 8 in one another, their 8 times 272, and the one before.
-fn check_cancels(rt: &impl Abort, tree: &mut Driven) {
+/// Whether the second cancel reaches 8 in one another, their 8 times 272, and the one before.
+fn cancels_reach(tree: &mut Driven) -> bool {
     for (place, scope, cancelled) in [(0, 16, 1), (1, 1, 2185), (2, 9, 4096)] {
         tree.cancel(scope, CauseKind::Call, place);
-        assert_eq!(rt; count_cancelled(tree), cancelled, "{scope}");
+        if count_cancelled(tree) != cancelled {
+            return false;
+        }
     }
+    true
 }
 
 #[test]
 fn cancels_reach_a_chain_of_fans(rt: HostRuntime) -> Result<(), Fail> {
     let mut tree = Driven::new(rt.alloc());
-    add_fans(&rt, &mut tree)?;
-    check_cancels(&rt, &mut tree);
+    assert!(rt; adds_fans(&mut tree)?);
+    assert!(rt; cancels_reach(&mut tree));
     Ok(())
 }
 
@@ -96,27 +97,35 @@ const AT_ONE_PLACE: [Step; 10] = [
     Listed(3, 0, None),
 ];
 
-/// Takes the steps on the tree, one after another.
-fn take_all(rt: &impl Abort, tree: &mut Driven, steps: &[Step]) -> Result<(), Refusal> {
-    for (at, step) in steps.iter().enumerate() {
-        match *step {
-            Add(parent) => {
-                tree.add(parent, false)?;
-            }
-            Cancel(scope, place) => tree.cancel(scope, CauseKind::Call, place),
-            Listed(n, i, wanted) => {
-                assert_eq!(rt; tree.cancelled_since(n, i), wanted, "step {at}");
-            }
+/// Takes the step on the tree, and says whether it found what it wants.
+fn take(tree: &mut Driven, step: Step) -> bool {
+    match step {
+        Add(parent) => tree.add(parent, false).is_ok(),
+        Cancel(scope, place) => {
+            tree.cancel(scope, CauseKind::Call, place);
+            true
         }
+        Listed(n, i, wanted) => tree.cancelled_since(n, i) == wanted,
     }
-    Ok(())
+}
+
+/// How many of the steps went as they want, up to the first that did not.
+fn taken(tree: &mut Driven, steps: &[Step]) -> usize {
+    let mut count = 0usize;
+    for step in steps {
+        if !take(tree, *step) {
+            return count;
+        }
+        count = count.saturating_add(1);
+    }
+    count
 }
 
 #[test]
-fn cancelled_scopes_stand_in_order(rt: HostRuntime) -> Result<(), Fail> {
+fn cancelled_scopes_stand_in_order(rt: HostRuntime) {
     for steps in [IN_ORDER.as_slice(), AT_ONE_PLACE.as_slice()] {
         let mut tree = Driven::new(rt.alloc());
-        take_all(&rt, &mut tree, steps)?;
+        let taken = taken(&mut tree, steps);
+        assert!(rt; taken == steps.len(), "step {taken}");
     }
-    Ok(())
 }

@@ -3,7 +3,6 @@
 use super::name;
 use scope_rules::{AnyEnd, Catalog, Due, End, Fault, Label, Limits, Name, Refusal, Value};
 use std::alloc::{AllocError, Global};
-use std::process::Abort;
 use std::test::Fail;
 
 #[test]
@@ -20,7 +19,10 @@ fn names_by_their_alphabet(rt: HostRuntime) {
         ("aB", false),
         ("a b", false),
     ] {
-        assert_eq!(rt; Name::new(text.as_bytes()).is_some(), is_name, "at {text}");
+        assert!(rt;
+            Name::new(text.as_bytes()).is_some() == is_name,
+            "at {text}"
+        );
     }
 }
 
@@ -48,21 +50,15 @@ const REFUSALS: [(Refusal, &str); 20] = [
     (Refusal::Retired, "refused 20 retired"),
 ];
 
-fn check_line(
-    rt: &impl Abort,
-    alloc: Global,
-    refusal: Refusal,
-    line: &str,
-) -> Result<(), AllocError> {
-    let text = format!(in alloc; "{refusal}")?;
-    assert!(rt; text.as_str() == line, "{line}");
-    Ok(())
+/// Whether the refusal is written so.
+fn is_line(alloc: Global, refusal: Refusal, line: &str) -> Result<bool, AllocError> {
+    Ok(format!(in alloc; "{refusal}")?.as_str() == line)
 }
 
 #[test]
 fn refusals_by_number_and_word(rt: HostRuntime) -> Result<(), Fail> {
     for (refusal, line) in REFUSALS {
-        check_line(&rt, rt.alloc(), refusal, line)?;
+        assert!(rt; is_line(rt.alloc(), refusal, line)?, "{line}");
     }
     Ok(())
 }
@@ -79,7 +75,7 @@ fn limits_from_one_to_the_greatest(rt: HostRuntime) {
         (1, 65537, 1, false),
         (1, 1, 1048577, false),
     ] {
-        assert_eq!(rt; Limits::new(scopes, tasks, load).is_some(), allowed);
+        assert!(rt; Limits::new(scopes, tasks, load).is_some() == allowed);
     }
 }
 
@@ -88,15 +84,10 @@ fn fault(text: &[u8]) -> Result<End, Fail> {
     Ok(Err(Fault(name(text)?)))
 }
 
-/// Whether the end fits a task whose label expects the other; without a catalog of such it does.
-fn check_fit(rt: &impl Abort, due: Option<End>, end: End, fits: bool) -> Result<(), Fail> {
-    let label = Label {
-        name: name(b"job")?,
-        due,
-    };
-    let found = [Due::fits(&label, &end), AnyEnd::fits(&label, &end)];
-    assert_eq!(rt; found, [fits, true]);
-    Ok(())
+/// Whether the end fits a task whose label expects the other, as wanted; without a catalog of such it does.
+fn is_fit(name: Name, due: Option<End>, end: End, wanted: bool) -> bool {
+    let label = Label { name, due };
+    Due::fits(&label, &end) == wanted && AnyEnd::fits(&label, &end)
 }
 
 #[test]
@@ -104,6 +95,7 @@ fn ends_that_fit(rt: HostRuntime) -> Result<(), Fail> {
     let (seven, eight): (End, End) = (Ok(Value::Num(7)), Ok(Value::Num(8)));
     let (job, memory) = (fault(b"job")?, fault(b"memory")?);
     let (cancelled, left_open) = (fault(b"cancelled")?, fault(b"left-open")?);
+    let named = name(b"job")?;
     for (expected, end, fits) in [
         (Some(seven), seven, true),
         (Some(seven), eight, false),
@@ -114,7 +106,7 @@ fn ends_that_fit(rt: HostRuntime) -> Result<(), Fail> {
         (None, seven, false),
         (None, left_open, true),
     ] {
-        check_fit(&rt, expected, end, fits)?;
+        assert!(rt; is_fit(named, expected, end, fits));
     }
     Ok(())
 }
