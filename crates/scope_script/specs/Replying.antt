@@ -2,7 +2,6 @@
 use Rattle.std.specs.Prelude.{◌≡◌, ◌⊎◌, Bool, true, false, not, ◌&&◌, ok_or, List, [], ◌∷◌, ◌++◌, Result, Ok, Err, is_ok, if◌then◌else◌}
 use Rattle.scope_rules.specs.declared.types.events.Event.{Event}
 use Rattle.scope_rules.specs.declared.types.events.Event.TheVariants as event
-use Rattle.scope_rules.specs.declared.types.capacity.Limits.{Limits}
 use Rattle.scope_rules.specs.declared.types.refusals.Refusal.{Refusal}
 use Rattle.scope_rules.specs.declared.types.refusals.Refusal.TheVariants.{Memory, NotJoined}
 use Rattle.scope_rules.specs.declared.types.answers.Cancelling.{Cancelling}

@@ -1,5 +1,5 @@
 -- What a script is answered: the replies to its lines, and what they leave of the realm.
-use Rattle.std.specs.Prelude.{◌≡◌, ℕ, ◌==◌, Bool, true, false, Option, Some, None, List, [], ◌∷◌, ◌++◌, if◌then◌else◌}
+use Rattle.std.specs.Prelude.{ℕ, List, [], ◌∷◌, ◌++◌}
 use Rattle.scope_rules.specs.declared.types.capacity.Limits.{Limits}
 use Rattle.scope_rules.specs.declared.types.refusals.Refusal.TheVariants.{BadWord as bad_word}
 use Rattle.scope_rules.specs.Origin.{the_start}

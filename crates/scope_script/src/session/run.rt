@@ -1,9 +1,10 @@
-ghost use Rattle.std.specs.Prelude.{◌≡◌, ◌⊎◌, [], true, false, IfOk, OnOk, OnErr, IsErrOf, vec_len};
+ghost use Rattle.std.specs.Prelude.{◌≡◌, ◌<◌, ◌⊎◌, [], true, false, length, IfOk, OnOk, OnErr, IsErrOf, vec_len};
+ghost use Rattle.scope_rules.specs.declared.types.capacity.Limits.{Limits};
 ghost use Rattle.std.specs.Io.KnownBytes.{Appends};
 ghost use Rattle.scope_book.specs.Books.{realm_of};
 ghost use Rattle.scope_script.specs.Books.{session_of};
 ghost use Rattle.scope_script.specs.Sessions.{shown};
-ghost use Rattle.scope_script.specs.ByBytes.{after_bytes, bytes_reply, end_reply};
+ghost use Rattle.scope_script.specs.ByBytes.{after_bytes, bytes_reply, end_reply, the_beginning};
 ghost use Rattle.scope_script.specs.Streams.{AppendsPart};
 ghost use Rattle.scope_script.specs.Running.{RunsToEnd, RunsPartly};
 
@@ -62,21 +63,67 @@ pub fn run<R: Read + Drop, W: Write + Drop>(
     ensures write_failed { writer.new.failed ≡ true → IsErrOf result ScriptFault.Write }
 {
     let mut script = Script::new(alloc, limits);
+    match read_all(alloc, &mut script, reader, writer, mode) {
+        Ok(()) => Ok(script.into_book()),
+        Err(fault) => Err(fault),
+    }
+}
+
+/// Takes all of a script that begins. It keeps the piece that was read last, and the replies to it.
+fn read_all<R: Read + Drop, W: Write + Drop>(
+    alloc: Global,
+    script: &mut Script,
+    reader: &mut Watched<R>,
+    writer: &mut Watched<W>,
+    mode: Mode,
+) -> Result<(), ScriptFault>
+    requires reader { reader.old.failed ≡ false }
+    requires writer { writer.old.failed ≡ false }
+    ensures ok { (L : Limits) → session_of script.old ≡ the_beginning L → OnOk result (RunsToEnd (R.remaining reader.old.inner) (R.remaining reader.new.inner) (W.contents writer.old.inner) (W.contents writer.new.inner) mode L (session_of script.new).realm) }
+    ensures fault { (L : Limits) → session_of script.old ≡ the_beginning L → OnErr result (RunsPartly (R.remaining reader.old.inner) (R.remaining reader.new.inner) (W.contents writer.old.inner) (W.contents writer.new.inner) mode L) }
+    ensures read { IsErrOf result ScriptFault.Read → (reader.new.failed ≡ true) ⊎ (reader.new.reads ≡ u64.MAX) }
+    ensures read_failed { reader.new.failed ≡ true → IsErrOf result ScriptFault.Read }
+    ensures write { IsErrOf result ScriptFault.Write → writer.new.failed ≡ true }
+    ensures write_failed { writer.new.failed ≡ true → IsErrOf result ScriptFault.Write }
+{
     let Ok(mut replies) = Vec::with_capacity(alloc, PIECE) else {
         return Err(ScriptFault::Memory);
     };
     let mut piece = [0; PIECE];
+    read_pieces(script, reader, writer, mode, &mut piece, &mut replies)
+}
+
+/// Takes the pieces of a script that begins, and writes what each is answered, and then what the end is.
+fn read_pieces<R: Read + Drop, W: Write + Drop>(
+    script: &mut Script,
+    reader: &mut Watched<R>,
+    writer: &mut Watched<W>,
+    mode: Mode,
+    piece: &mut [u8],
+    replies: &mut Vec<u8>,
+) -> Result<(), ScriptFault>
+    requires some { 0 < length piece.old }
+    requires empty { replies.old.items ≡ [] }
+    requires reader { reader.old.failed ≡ false }
+    requires writer { writer.old.failed ≡ false }
+    ensures ok { (L : Limits) → session_of script.old ≡ the_beginning L → OnOk result (RunsToEnd (R.remaining reader.old.inner) (R.remaining reader.new.inner) (W.contents writer.old.inner) (W.contents writer.new.inner) mode L (session_of script.new).realm) }
+    ensures fault { (L : Limits) → session_of script.old ≡ the_beginning L → OnErr result (RunsPartly (R.remaining reader.old.inner) (R.remaining reader.new.inner) (W.contents writer.old.inner) (W.contents writer.new.inner) mode L) }
+    ensures read { IsErrOf result ScriptFault.Read → (reader.new.failed ≡ true) ⊎ (reader.new.reads ≡ u64.MAX) }
+    ensures read_failed { reader.new.failed ≡ true → IsErrOf result ScriptFault.Read }
+    ensures write { IsErrOf result ScriptFault.Write → writer.new.failed ≡ true }
+    ensures write_failed { writer.new.failed ≡ true → IsErrOf result ScriptFault.Write }
+{
     'reading: while !reader.has_given_up() {
-        let Ok(count) = reader.read_piece(&mut piece) else {
+        let Ok(count) = reader.read_piece(piece) else {
             return Err(ScriptFault::Read);
         };
         if count == 0 {
-            return match finish(&script, writer, mode, &mut replies) {
-                Ok(()) => Ok(script.into_book()),
+            return match finish(script, writer, mode, replies) {
+                Ok(()) => Ok(()),
                 Err(fault) => Err(fault),
             };
         }
-        match step(&mut script, writer, mode, &piece[..count], &mut replies) {
+        match step(script, writer, mode, &piece[..count], replies) {
             Ok(()) => {}
             Err(fault) => return Err(fault),
         }
