@@ -5,6 +5,7 @@ use scope_rules::{Name, Refusal, Value};
 use scoped_env::Env;
 use std::alloc::{AllocError, Global};
 use std::process::Abort;
+use std::rt::Files;
 use std::test::Fail;
 use std::thread;
 use std::thread::Threads;
@@ -207,15 +208,6 @@ fn unbind_all(env: &mut Env) -> usize {
     count
 }
 
-/// An environment that inherited a thousand pairs of one key and has as many of another.
-fn two_thousand(alloc: Global, below: Name, above: Name) -> Result<Env, AllocError> {
-    let mut parent = Env::new(alloc);
-    bind_a_thousand(&mut parent, below)?;
-    let mut env = parent.inherit()?;
-    bind_a_thousand(&mut env, above)?;
-    Ok(env)
-}
-
 /// Whether the environment sees the key bound to the number.
 fn has(env: &Env, key: Name, number: i64) -> bool {
     env.get(key) == Some(Value::Num(number))
@@ -234,17 +226,35 @@ fn check_unbound(rt: &impl Abort, env: &mut Env, user: Name, trace: Name) {
     assert!(rt; has(env, user, 999) && env.get(trace).is_none());
 }
 
-/// Two thousand pairs take 35 pages, and a thousand heirs would take 35,000 if each had a copy.
+/// Binds a thousand pairs above those that the environment inherited. Two thousand pairs take 35 pages, and
+/// a thousand heirs would take 35,000 if each had a copy.
+fn check_shared(
+    rt: &(impl Files + Abort + AllocGlobal),
+    env: &mut Env,
+    user: Name,
+    trace: Name,
+) -> Result<(), Fail> {
+    bind_a_thousand(env, trace)?;
+    let before = pages(rt);
+    let heirs = heirs(rt.alloc(), env)?;
+    assert!(rt; pages(rt) < before.saturating_add(2000));
+    check_heirs(rt, &heirs, user);
+    check_unbound(rt, env, user, trace);
+    Ok(())
+}
+
+/// Checks an environment that inherits a thousand pairs of the parent.
+fn check_heir(rt: &(impl Files + Abort + AllocGlobal), parent: &mut Env) -> Result<(), Fail> {
+    let (user, trace) = (name(b"user")?, name(b"trace")?);
+    bind_a_thousand(parent, user)?;
+    let mut env = parent.inherit()?;
+    check_shared(rt, &mut env, user, trace)
+}
+
 #[test]
 fn a_thousand_pairs_are_shared(rt: HostRuntime) -> Result<(), Fail> {
-    let (user, trace) = (name(b"user")?, name(b"trace")?);
-    let mut env = two_thousand(rt.alloc(), user, trace)?;
-    let before = pages(&rt);
-    let heirs = heirs(rt.alloc(), &mut env)?;
-    assert!(rt; pages(&rt) < before.saturating_add(2000));
-    check_heirs(&rt, &heirs, user);
-    check_unbound(&rt, &mut env, user, trace);
-    Ok(())
+    let mut parent = Env::new(rt.alloc());
+    check_heir(&rt, &mut parent)
 }
 
 /// What a task does in its own thread: it looks the key up, and binds it to 2.
@@ -256,6 +266,7 @@ fn task(mut env: Env, key: Name) -> (Option<Value>, Option<Value>, usize) {
 
 /// Hands a child of the environment to a thread, and unbinds the environment meanwhile.
 fn check_crossing<R: Threads + Abort>(rt: &R, parent: &mut Env, key: Name) -> Result<(), Fail> {
+    parent.bind(key, Value::Num(1))?;
     let child = parent.inherit()?;
     let Ok(thread) = thread::spawn(rt, move || task(child, key)) else {
         return Err("no thread")?;
@@ -271,6 +282,5 @@ fn check_crossing<R: Threads + Abort>(rt: &R, parent: &mut Env, key: Name) -> Re
 fn an_environment_crosses_threads(rt: HostRuntime) -> Result<(), Fail> {
     let key = name(b"user")?;
     let mut parent = Env::new(rt.alloc());
-    parent.bind(key, Value::Num(1))?;
     check_crossing(&rt, &mut parent, key)
 }

@@ -3,7 +3,13 @@
 use super::name;
 use scope_log::{LogEntry, ScopeLog};
 use scope_rules::{Cause, CauseKind, End, Expiry, Options, Policy, Rule, Value};
+use std::alloc::{AllocError, Global};
 use std::test::Fail;
+
+/// Whether the log's lines are these.
+fn is_shown(alloc: Global, log: &ScopeLog, wanted: &str) -> Result<bool, AllocError> {
+    Ok(format!(in alloc; "{log}")?.as_str() == wanted)
+}
 
 #[test]
 fn entries_by_their_lines(rt: HostRuntime) -> Result<(), Fail> {
@@ -34,9 +40,8 @@ fn entries_by_their_lines(rt: HostRuntime) -> Result<(), Fail> {
         LogEntry::EndClose { actor: 2 },
     ]?;
     let log = ScopeLog::new(7, policy, Expiry::MoveOn, entries);
-    let text = format!(in rt.alloc(); "{log}")?;
     let wanted =
         "open 2 until:sum:-5 deadline=5 move-on shield\nreject 3\nok 4 done\nmove 7 9\nmove 7 never\ncancel 7\ncancelled 1 deadline\nclose 2 7\nclosed 2 7\n";
-    assert!(rt; text.as_str() == wanted);
+    assert!(rt; is_shown(rt.alloc(), &log, wanted)?);
     Ok(())
 }

@@ -38,28 +38,42 @@ fn set(setter: &mut MarkSetter, told: Cancellation) -> bool {
     setter.set(told.scope, told.cause, told.number)
 }
 
-#[test]
-fn a_cell_is_set_once(rt: HostRuntime) -> Result<(), Fail> {
-    let mut setter = MarkSetter::new(rt.alloc())?;
-    let cell = setter.cell()?;
-    assert!(rt; seen(&cell).is_none());
-    assert!(rt; set(&mut setter, REACHED));
-    assert!(rt; seen(&cell) == Some(REACHED));
+/// Whether a seat of the setter's cell is shown this.
+fn shows(setter: &MarkSetter, wanted: Option<Cancellation>) -> bool {
+    match setter.cell() {
+        Ok(cell) => seen(&cell) == wanted,
+        Err(_) => false,
+    }
+}
+
+/// Whether the cell is set by the first call alone.
+fn is_set_once(setter: &mut MarkSetter) -> bool {
     let later = Cancellation {
         number: 4,
         ..REACHED
     };
-    assert!(rt; !set(&mut setter, later));
-    assert!(rt; seen(&cell) == Some(REACHED) && seen(&setter.cell()?) == Some(REACHED));
+    let fresh = shows(setter, None);
+    let first = set(setter, REACHED) && shows(setter, Some(REACHED));
+    fresh && first && !set(setter, later) && shows(setter, Some(REACHED))
+}
+
+#[test]
+fn a_cell_is_set_once(rt: HostRuntime) -> Result<(), Fail> {
+    let mut setter = MarkSetter::new(rt.alloc())?;
+    assert!(rt; is_set_once(&mut setter));
     Ok(())
+}
+
+/// Whether the first alone is set.
+fn is_set_alone(setter: &mut MarkSetter, other: &MarkSetter) -> bool {
+    set(setter, REACHED) && shows(other, None)
 }
 
 #[test]
 fn cells_are_set_one_by_one(rt: HostRuntime) -> Result<(), Fail> {
     let mut setter = MarkSetter::new(rt.alloc())?;
     let other = MarkSetter::new(rt.alloc())?;
-    assert!(rt; set(&mut setter, REACHED));
-    assert!(rt; seen(&other.cell()?).is_none());
+    assert!(rt; is_set_alone(&mut setter, &other));
     Ok(())
 }
 

@@ -1,18 +1,12 @@
--- The list is known step by step.
-use Rattle.std.proofs.Common.{◌≡◌, ◌+◌, ℕ, false, List, [], ◌∷◌, ◌++◌, refl, sym, ap, subst}
-use Rattle.scope_rules.specs.declared.types.values.Label.{Label}
-use Rattle.scope_rules.specs.declared.types.events.Event.TheVariants.{Fork, Start, Finish}
+-- The list is empty before the fork.
+use Rattle.std.proofs.Common.{◌≡◌, ◌+◌, false, List, refl, sym, subst}
 use Rattle.scope_rules.specs.History.{tasks, opening}
 use Rattle.scope_rules.specs.Scopes.{outer}
 use Rattle.scope_rules.specs.Search.{earliest}
 use Rattle.scope_rules.specs.Chains.{chain_by, cut_by}
 use Rattle.scope_rules.specs.Cancels.{is_cancelled, cut, own, own_at}
-use Rattle.scope_rules.specs.Ends.{EndValue}
 use Rattle.realm_steps.specs.declared.steps.RealmStep.{RealmStep}
-use Rattle.realm_steps.specs.declared.steps.RealmStep.TheVariants.{Happened}
 use Rattle.realm_steps.specs.Steps.{history_of}
-use Rattle.realm_steps.specs.Tickets.{finished_in, end_in}
-use Rattle.share_ledger.specs.Values.{KeeperValue, TicketValue}
 use Rattle.part_tests.proofs.parts.shares.one_rejected.Goals as goal
 
 pub fork-ticket-requires-clause-number : goal.fork-ticket-requires-clause-number

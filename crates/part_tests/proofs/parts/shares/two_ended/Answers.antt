@@ -1,13 +1,12 @@
 -- The list is known step by step.
 use Rattle.std.proofs.Common.{◌≡◌, ◌+◌, ℕ, false, List, [], ◌∷◌, ◌++◌, refl, sym, ap, subst}
 use Rattle.scope_rules.specs.declared.types.values.Label.{Label}
-use Rattle.scope_rules.specs.declared.types.events.Event.TheVariants.{Fork, Start, Finish}
+use Rattle.scope_rules.specs.declared.types.events.Event.TheVariants.{Fork, Start}
 use Rattle.scope_rules.specs.History.{tasks, opening}
 use Rattle.scope_rules.specs.Scopes.{outer}
 use Rattle.scope_rules.specs.Search.{earliest}
 use Rattle.scope_rules.specs.Chains.{chain_by, cut_by}
 use Rattle.scope_rules.specs.Cancels.{is_cancelled, cut, own, own_at}
-use Rattle.scope_rules.specs.Ends.{EndValue}
 use Rattle.realm_steps.specs.declared.steps.RealmStep.{RealmStep}
 use Rattle.realm_steps.specs.declared.steps.RealmStep.TheVariants.{Happened}
 use Rattle.realm_steps.specs.Steps.{history_of}
