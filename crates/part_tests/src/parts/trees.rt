@@ -1,5 +1,7 @@
-//! Trees: with as many scopes as there can be, and the order in which their scopes were cancelled.
+//! Trees: beside the model's plain evaluator, both told the same and agreeing after each step; with as many
+//! scopes as there can be; and the order in which scopes were cancelled.
 
+mod beside_plain;
 mod driven;
 
 use driven::Driven;

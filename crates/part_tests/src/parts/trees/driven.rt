@@ -4,7 +4,7 @@ ghost use Rattle.std.specs.Prelude.{◌≡◌};
 ghost use Rattle.cancel_tree.specs.Rows.{IsLatest};
 
 use cancel_tree::Tree;
-use scope_rules::{CauseKind, Refusal, ScopeId};
+use scope_rules::{Cause, CauseKind, Effective, Refusal, ScopeId};
 use std::alloc::Global;
 
 /// A tree with the latest place that was handed to it. What a tree may not be asked is passed over.
@@ -14,6 +14,9 @@ pub struct Driven {
     latest: u64,
     ghost is_latest: { IsLatest tree latest },
 }
+
+/// What a scope answers: its cause, the place of that, and its deadline in effect.
+pub type Answer = (Option<Cause>, Option<u64>, Effective);
 
 impl Driven {
     pub fn new(alloc: Global) -> Driven {
@@ -51,11 +54,31 @@ impl Driven {
         self.tree.cancelled_since(n).get(i).copied()
     }
 
+    pub fn set_deadline(&mut self, scope: ScopeId, deadline: Option<u64>) {
+        if scope == 0 || scope as usize > self.tree.len() {
+            return;
+        }
+        match deadline {
+            Some(deadline) => self.tree.set_deadline(scope, deadline),
+            None => self.tree.clear_deadline(scope),
+        }
+    }
+
     pub fn len(&self) -> u32 {
         self.tree.len().min(4096) as u32
     }
 
     pub fn is_cancelled(&self, scope: ScopeId) -> bool {
         scope > 0 && scope as usize <= self.tree.len() && self.tree.is_cancelled(scope)
+    }
+
+    /// What the scope answers, if it is one of the tree's.
+    pub fn answer(&self, scope: ScopeId) -> Option<Answer> {
+        if scope == 0 || scope as usize > self.tree.len() {
+            return None;
+        }
+        let cause = self.tree.cause(scope);
+        let place = self.tree.number(scope);
+        Some((cause, place, self.tree.effective_deadline(scope)))
     }
 }
