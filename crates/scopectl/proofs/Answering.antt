@@ -14,8 +14,7 @@ use Rattle.clap.specs.declared.error.kind.ErrorKind.TheVariants as kind
 use Rattle.scopectl.proofs.Clearing.{said_clear}
 use Rattle.scopectl.proofs.Requests.{asked_alone}
 use Rattle.scopectl.specs.Application.{scopectl}
-use Rattle.scopectl.specs.CommandLine.{replay_said}
-use Rattle.scopectl.specs.Settings.{Numbers}
+use Rattle.scopectl.specs.CommandLine.{Said, command_said}
 use Rattle.scopectl.specs.Faults.{Answers, AsksHelp, AsksVersion, IsUsageOrMemory, TellsKind}
 use Rattle.scopectl.specs.declared.command_line.faults.LineFault.{LineFault}
 use Rattle.scopectl.specs.declared.command_line.faults.LineFault.TheVariants.{Help, Version, Usage, Memory}
@@ -66,10 +65,10 @@ memory_is Memory k told is = refl
 
 -- a parse fails for want of memory alone where the words say a command
 pub refused_of : (words : List Text) (fault : LineFault) (k : ErrorKind) (kinds : Kinds) → TellsKind k fault → (k ≡ kind.OutOfMemory) ⊎ IsAmong k kinds
-    → kinds ≡ fault_of scopectl words → (fault ≡ Memory) ⊎ (replay_said words ≡ None)
-refused_of words fault k kinds told h same = go (replay_said words) refl
+    → kinds ≡ fault_of scopectl words → (fault ≡ Memory) ⊎ (command_said words ≡ None)
+refused_of words fault k kinds told h same = go (command_said words) refl
   where
-    go : (o : Option Numbers) → replay_said words ≡ o → (fault ≡ Memory) ⊎ (replay_said words ≡ None)
+    go : (o : Option Said) → command_said words ≡ o → (fault ≡ Memory) ⊎ (command_said words ≡ None)
     go None is = inr is
     go (Some numbers) is =
         let none : kinds ≡ [] = same ∙ said_clear words numbers is in

@@ -2,12 +2,15 @@
 use Rattle.std.proofs.Common.{◌≡◌, ◌==◌, ◌||◌, ℕ, Bool, cond, true, false, true≢false, refl, subst, ap, List, [], ◌∷◌, Some, None, codes}
 use Rattle.std.specs.Prelude.{unwrap_or}
 use Rattle.std.specs.Str.{bytes_eq}
-use Rattle.clap.specs.Faults.{use_fault}
+use Rattle.clap.specs.Faults.{check_fault, defaults_fault, level_fault, settle_fault, turn_fault, use_fault, walk_fault}
+use Rattle.clap.specs.Kinds.{Kinds, or_else}
 use Rattle.clap.specs.Simple.{App, Shape, built, filled, help_rule, version_rule}
 use Rattle.clap.specs.Faults.{is_simple_and_free}
-use Rattle.clap.specs.Walk.{Names, Row, Rule, Text, arg_by_id, arg_by_long, arg_by_short, takes_values}
-use Rattle.scopectl.specs.Application.{option_rule, replay, scopectl}
-use Rattle.scopectl.specs.CommandLine.{is_name}
+use Rattle.clap.specs.Walk.{Names, Row, Rule, Text, Walk, arg_by_id, arg_by_long, arg_by_short, finished, nothing_held, settled, takes_values, walk, walk_from, walked}
+use Rattle.scopectl.specs.Application.{command_of, option_rule, scopectl}
+use Rattle.scopectl.specs.CommandLine.{command_word, is_name}
+use Rattle.scopectl.specs.declared.command_line.Job.{Job}
+use Rattle.scopectl.specs.declared.command_line.Job.TheVariants.{Replay, Dump}
 use Rattle.scopectl.specs.Settings.{name_of}
 use Rattle.scopectl.specs.declared.command_line.settings.Setting.{Setting}
 use Rattle.scopectl.specs.declared.command_line.settings.Setting.TheVariants.{Scopes, Tasks, Load}
@@ -70,21 +73,25 @@ built_top = record {
   is_built = true;
 }
 
+-- the command of a job: that of `replay`, but for its name
+abbrev pub built_command : Job → Shape
+built_command job = record built_replay { name = command_word job }
+
 abbrev pub built_app : App
-built_app = record { top = built_top; subs = built_replay ∷ [] }
+built_app = record { top = built_top; subs = built_command Replay ∷ built_command Dump ∷ [] }
 
 abbrev pub command_names : Names
-command_names = (codes "replay", []) ∷ []
+command_names = (command_word Replay, []) ∷ (command_word Dump, []) ∷ []
 
 pub is_built : built scopectl ≡ built_app
-unfolding scopectl replay replay_rules top_rules
+unfolding scopectl command_of replay_rules top_rules
 is_built = refl
 
 pub is_simple_app : is_simple_and_free scopectl ≡ true
-unfolding scopectl replay
+unfolding scopectl command_of
 is_simple_app = refl
 
--- ---- `replay`
+-- ---- the command of a job
 
 pub finds_long : (s : Setting) → arg_by_long replay_rules (name_of s) ≡ Some (built_option s)
 unfolding replay_rules
@@ -137,6 +144,23 @@ replay_level = record {
   flag = λ x a is. (replay_asks x a is).0;
   asks = λ x a is. (replay_asks x a is).1;
 }
+
+-- ---- the name of a command says nothing of its faults
+
+same_walk : (job : Job) (w : Walk) (words : List Text) → walk_fault (built_command job) [] w words ≡ walk_fault built_replay [] w words
+unfolding walk_fault
+same_walk job w [] = refl
+same_walk job w (word ∷ rest) = ap (or_else (turn_fault built_replay [] w word)) (same_walk job (walked replay_rules [] w word) rest)
+
+-- the faults of the words after a job's word
+abbrev pub options_fault : List Text → Kinds
+options_fault rest = level_fault built_replay [] nothing_held rest false []
+
+pub same_level : (job : Job) (rest : List Text) → level_fault (built_command job) [] nothing_held rest false [] ≡ options_fault rest
+same_level job rest =
+    let end = (walk replay_rules [] nothing_held rest).held in
+    ap (λ (ks : Kinds). or_else ks (or_else (settle_fault replay_rules false end)
+    (or_else (defaults_fault (settled replay_rules end).rows replay_rules) (check_fault built_replay (finished replay_rules end) false)))) (same_walk job (walk_from nothing_held) rest)
 
 -- ---- the program
 

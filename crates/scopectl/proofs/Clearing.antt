@@ -1,6 +1,6 @@
 -- Words that say a command meet no fault.
 use Rattle.std.proofs.Common.{◌≡◌, ◌∙◌, ◌&&◌, ◌||◌, ℕ, Bool, cond, true, false, refl, sym, ap, subst, List, [], ◌∷◌, ◌++◌, Option, Some, None, is_some, codes}
-use Rattle.std.specs.Prelude.{option_and_then, option_map}
+use Rattle.std.specs.Prelude.{option_and_then, option_map, unwrap_or}
 use Rattle.std.specs.Option.{option_map_or}
 use Rattle.std.specs.List.{list_all}
 use Rattle.std.specs.Str.{bytes_eq}
@@ -10,13 +10,15 @@ use Rattle.clap.specs.Faults.{built_fault, check_fault, default_fault, defaults_
 use Rattle.clap.specs.Simple.{entered}
 use Rattle.clap.specs.Walk.{Row, Rule, Text, Walk, finished, has_row, is_empty, nothing_held, settled, walk, walk_from, walked, with_default}
 use Rattle.scopectl.specs.Application.{scopectl}
-use Rattle.scopectl.specs.CommandLine.{Given, numbers_given, options_said, replay_said, text_given}
+use Rattle.scopectl.specs.CommandLine.{Given, Said, command_said, command_word, job_named, numbers_given, options_said, said_with, text_given}
 use Rattle.scopectl.specs.Settings.{Numbers, greatest_of, is_plain, name_of, setting_number, plain_number}
+use Rattle.scopectl.specs.declared.command_line.Job.{Job}
+use Rattle.scopectl.specs.declared.command_line.Job.TheVariants.{Replay, Dump}
 use Rattle.scopectl.specs.declared.command_line.settings.Setting.{Setting}
 use Rattle.scopectl.specs.declared.command_line.settings.Setting.TheVariants.{Scopes, Tasks, Load}
-use Rattle.scopectl.proofs.BuiltReplay.{built_app, built_replay, built_top, command_names, replay_rules, top_rules}
+use Rattle.scopectl.proofs.BuiltReplay.{built_app, built_replay, built_top, command_names, options_fault, replay_rules, top_rules}
 use Rattle.scopectl.proofs.Passing.{AllPlain, or_else-both, passes}
-use Rattle.scopectl.proofs.TopLevel.{fault_is, replay_fault, replay_has_none, stopped_at, stops}
+use Rattle.scopectl.proofs.TopLevel.{entered_is, fault_is, replay_has_none, stopped_at, stops}
 
 -- ---- defaults
 
@@ -48,27 +50,32 @@ top_checks rows = refl
 
 -- ---- the words
 
-stopped_clear : (words rest : List Text) → walk_fault built_top command_names (stopped_at words) rest ≡ []
+stopped_clear : (job : Job) (words rest : List Text) → walk_fault built_top command_names (stopped_at job words) rest ≡ []
 unfolding walk_fault walked
-stopped_clear words [] = refl
-stopped_clear words (word ∷ rest) = stopped_clear (words ++ word ∷ []) rest
+stopped_clear job words [] = refl
+stopped_clear job words (word ∷ rest) = stopped_clear job (words ++ word ∷ []) rest
 
-top_walk : (rest : List Text) → walk_fault built_top command_names (walk_from nothing_held) (codes "replay" ∷ rest) ≡ []
+top_walk : (job : Job) (rest : List Text) → walk_fault built_top command_names (walk_from nothing_held) (command_word job ∷ rest) ≡ []
 unfolding walk_fault walked
-top_walk rest = stopped_clear [] rest
+top_walk Replay rest = stopped_clear Replay [] rest
+top_walk Dump rest = stopped_clear Dump [] rest
 
-built_clear : (rest : List Text) → replay_fault rest ≡ [] → built_fault built_app nothing_held (codes "replay" ∷ rest) ≡ []
-built_clear rest e =
-    let w = walk top_rules command_names nothing_held (codes "replay" ∷ rest) in
-    let entered_clear : entered_fault built_app w.stopped ≡ [] = subst (λ (w : Walk). entered_fault built_app w.stopped ≡ []) (sym (stops rest)) e in
-    let settle_clear : settle_fault top_rules false w.held ≡ [] = subst (λ (w : Walk). settle_fault top_rules false w.held ≡ []) (sym (stops rest)) refl in
+met_checks : (job : Job) (rows : List Row) (rest : List Text) → check_fault built_top rows (is_some (entered built_app (Some (command_word job, rest)))) ≡ []
+met_checks Replay rows rest = top_checks rows
+met_checks Dump rows rest = top_checks rows
+
+built_clear : (job : Job) (rest : List Text) → options_fault rest ≡ [] → built_fault built_app nothing_held (command_word job ∷ rest) ≡ []
+built_clear job rest e =
+    let w = walk top_rules command_names nothing_held (command_word job ∷ rest) in
+    let entered_clear : entered_fault built_app w.stopped ≡ [] = subst (λ (w : Walk). entered_fault built_app w.stopped ≡ []) (sym (stops job rest)) (entered_is job rest ∙ e) in
+    let settle_clear : settle_fault top_rules false w.held ≡ [] = subst (λ (w : Walk). settle_fault top_rules false w.held ≡ []) (sym (stops job rest)) refl in
     let checks : check_fault built_top (finished top_rules w.held) (is_some (entered built_app w.stopped)) ≡ [] =
-    subst (λ (w : Walk). check_fault built_top (finished top_rules w.held) (is_some (entered built_app w.stopped)) ≡ []) (sym (stops rest)) (top_checks _) in
-    or_else-both _ _ (top_walk rest)
+    subst (λ (w : Walk). check_fault built_top (finished top_rules w.held) (is_some (entered built_app w.stopped)) ≡ []) (sym (stops job rest)) (met_checks job _ rest) in
+    or_else-both _ _ (top_walk job rest)
     (or_else-both _ _ entered_clear (or_else-both _ _ settle_clear (or_else-both _ _ (defaults_clear top_rules (settled top_rules w.held).rows top_has_none) checks)))
 
-replay_clear : (rest : List Text) (final : Given) → options_said [] rest ≡ Some final → AllPlain final → replay_fault rest ≡ []
-replay_clear rest final said plain =
+given_clear : (rest : List Text) (final : Given) → options_said [] rest ≡ Some final → AllPlain final → options_fault rest ≡ []
+given_clear rest final said plain =
     let passed = passes rest [] final [] None (refl, refl) said plain in
     let end = (walk replay_rules [] nothing_held rest).held in
     or_else-both _ _ passed.0 (or_else-both _ _ passed.1
@@ -120,19 +127,34 @@ all_plain final numbers e s text is = go s text is
 
 -- ---- words that say a command
 
-options_clear : (rest : List Text) (numbers : Numbers) (o : Option Given) → options_said [] rest ≡ o → option_and_then numbers_given o ≡ Some numbers → replay_fault rest ≡ []
+options_clear : (rest : List Text) (numbers : Numbers) (o : Option Given) → options_said [] rest ≡ o → option_and_then numbers_given o ≡ Some numbers → options_fault rest ≡ []
 options_clear rest numbers None is e = absurd (cc)
-options_clear rest numbers (Some final) is e = replay_clear rest final is (all_plain final numbers e)
+options_clear rest numbers (Some final) is e = given_clear rest final is (all_plain final numbers e)
 
-pub said_clear : (words : List Text) (numbers : Numbers) → replay_said words ≡ Some numbers → fault_of scopectl words ≡ []
-unfolding replay_said
-said_clear [] numbers e = absurd (cc)
-said_clear (program ∷ []) numbers e = absurd (cc)
-said_clear (program ∷ word ∷ rest) numbers e = go (bytes_eq (codes "replay") word) refl e
+-- the job that a word names has that word
+named_word : (word : Text) (job : Job) → job_named word ≡ Some job → command_word job ≡ word
+unfolding job_named
+named_word word job e = go (bytes_eq (codes "replay") word) refl (bytes_eq (codes "dump") word) refl e
   where
-    go : (b : Bool) → bytes_eq (codes "replay") word ≡ b → cond b (option_and_then numbers_given (options_said [] rest)) None ≡ Some numbers → fault_of scopectl (program ∷ word ∷ rest) ≡ []
-    go false is e = absurd (cc)
-    go true is e =
-        let same = (bytes_eq-Decides (codes "replay") word).0 is in
+    go : (a : Bool) → bytes_eq (codes "replay") word ≡ a → (b : Bool) → bytes_eq (codes "dump") word ≡ b → cond a (Some Replay) (cond b (Some Dump) None) ≡ Some job → command_word job ≡ word
+    go true replays b dumps e = ap (λ o. command_word (unwrap_or o Replay)) (sym e) ∙ (bytes_eq-Decides (codes "replay") word).0 replays
+    go false replays true dumps e = ap (λ o. command_word (unwrap_or o Replay)) (sym e) ∙ (bytes_eq-Decides (codes "dump") word).0 dumps
+    go false replays false dumps e = absurd (cc)
+
+has_numbers : (job : Job) (o : Option Numbers) (said : Said) → option_map (said_with job) o ≡ Some said → (numbers : Numbers) × (o ≡ Some numbers)
+has_numbers job None said e = absurd (cc)
+has_numbers job (Some numbers) said e = (numbers, refl)
+
+pub said_clear : (words : List Text) (said : Said) → command_said words ≡ Some said → fault_of scopectl words ≡ []
+unfolding command_said
+said_clear [] said e = absurd (cc)
+said_clear (program ∷ []) said e = absurd (cc)
+said_clear (program ∷ word ∷ rest) said e = go (job_named word) refl e
+  where
+    go : (o : Option Job) → job_named word ≡ o → option_and_then (λ job. option_map (said_with job) (option_and_then numbers_given (options_said [] rest))) o ≡ Some said
+        → fault_of scopectl (program ∷ word ∷ rest) ≡ []
+    go None is e = absurd (cc)
+    go (Some job) is e =
+        let got = has_numbers job (option_and_then numbers_given (options_said [] rest)) said e in
         fault_is (program ∷ word ∷ rest)
-        ∙ subst (λ w. built_fault built_app nothing_held (w ∷ rest) ≡ []) same (built_clear rest (options_clear rest numbers (options_said [] rest) refl e))
+        ∙ subst (λ w. built_fault built_app nothing_held (w ∷ rest) ≡ []) (named_word word job is) (built_clear job rest (options_clear rest got.0 (options_said [] rest) refl got.1))

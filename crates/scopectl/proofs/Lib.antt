@@ -1,8 +1,10 @@
 mod Answering
 mod BuiltReplay
 mod Clearing
+mod Jobs
 mod Levels
 mod Numbers
+mod Parsed
 mod Passing
 mod Requests
 mod Saying

@@ -19,7 +19,8 @@ use Rattle.clap.specs.declared.builder.value_parser.ValueParser.{ValueParser}
 use Rattle.clap.specs.declared.error.kind.ErrorKind.{ErrorKind}
 use Rattle.clap.specs.declared.error.kind.ErrorKind.TheVariants as kind
 use Rattle.scopectl.specs.Application.{scopectl}
-use Rattle.scopectl.proofs.BuiltReplay.{built_app, built_replay, built_top}
+use Rattle.scopectl.specs.declared.command_line.Job.TheVariants.{Replay, Dump}
+use Rattle.scopectl.proofs.BuiltReplay.{built_app, built_command, built_top}
 use Rattle.scopectl.proofs.TopLevel.{fault_is}
 
 abbrev pub is_request : ErrorKind → Bool
@@ -197,11 +198,12 @@ module _ (s : Shape) (no_help : s.disable_help_subcommand ≡ true) where
 -- ---- the program
 
 entered_alone : (stop : Option (Text × List Text)) → Alone (entered_fault built_app stop)
-entered_alone stop = may _ stop (λ p. go p (answers_to p.0 (label_of built_replay)))
+entered_alone stop = may _ stop (λ p. go p (answers_to p.0 (label_of (built_command Replay))) (answers_to p.0 (label_of (built_command Dump))))
   where
-    go : (p : Text × List Text) (b : Bool) → Alone (option_map_or (λ s. level_fault s [] nothing_held p.1 false []) (cond b (Some built_replay) None) [])
-    go p true = level_alone built_replay refl [] nothing_held p.1 false [] none
-    go p false = none
+    go : (p : Text × List Text) (a b : Bool) → Alone (option_map_or (λ s. level_fault s [] nothing_held p.1 false []) (cond a (Some (built_command Replay)) (cond b (Some (built_command Dump)) None)) [])
+    go p true b = level_alone (built_command Replay) refl [] nothing_held p.1 false [] none
+    go p false true = level_alone (built_command Dump) refl [] nothing_held p.1 false [] none
+    go p false false = none
 
 fault_alone : (words : List Text) → Alone (fault_of scopectl words)
 fault_alone words =

@@ -1,4 +1,4 @@
--- From the program's words to the words after `replay`.
+-- From the program's words to the words after that of a job.
 use Rattle.std.proofs.Common.{◌≡◌, ◌∙◌, ◌||◌, Bool, cond, true, false, refl, sym, ap, subst, arith, List, [], ◌∷◌, ◌++◌, length, drop, Option, Some, None, is_some, append-nil, append_assoc, codes, eqb-true}
 use Rattle.std.specs.Prelude.{find, fold, option_and_then, option_map, slice_get}
 use Rattle.std.specs.List.{list_all}
@@ -13,10 +13,12 @@ use Rattle.clap.specs.Faults.{built_fault, check_fault, defaults_fault, entered_
 use Rattle.clap.specs.Simple.{App, argument_words, entered, names_of, subcommand_of}
 use Rattle.clap.specs.Walk.{Held, Row, Rule, Text, Walk, arg_by_long, default_rows, finished, first_of, has_row, idle, is_empty, nothing_held, reading_by, rows_of, settled, stop_after, subcommand_met, walk, walk_from, walked, with_default}
 use Rattle.scopectl.specs.Application.{scopectl}
-use Rattle.scopectl.specs.CommandLine.{Given, numbers_given, replay_said, text_given}
-use Rattle.scopectl.specs.Settings.{name_of, numbers_by}
+use Rattle.scopectl.specs.CommandLine.{Given, Said, command_said, command_word, job_named, numbers_given, options_said, said_with, text_given}
+use Rattle.scopectl.specs.Settings.{Numbers, name_of, numbers_by}
+use Rattle.scopectl.specs.declared.command_line.Job.{Job}
+use Rattle.scopectl.specs.declared.command_line.Job.TheVariants.{Replay, Dump}
 use Rattle.scopectl.specs.declared.command_line.settings.Setting.{Setting}
-use Rattle.scopectl.proofs.BuiltReplay.{asks_help, asks_version, built_app, built_help, built_replay, built_top, built_version, command_names, is_built, replay_rules, top_level, top_rules}
+use Rattle.scopectl.proofs.BuiltReplay.{asks_help, asks_version, built_app, built_help, built_replay, built_top, built_version, command_names, is_built, options_fault, replay_rules, same_level, top_level, top_rules}
 use Rattle.scopectl.proofs.Levels.{at, dashes, dashes_end, holding, long_clear, no_value, nothing_past_dashes, or_else-nil, past_dashes}
 use Rattle.scopectl.proofs.Saying.{reads}
 use Rattle.scopectl.proofs.Walking.{row_given, rows_given}
@@ -35,25 +37,26 @@ subcommand_is words =
     ap (λ (a : App). entered a (stop_after a.top.rules (names_of a) (argument_words scopectl words))) is_built
     ∙ ap (λ (b : Bool). entered built_app (stop_after top_rules command_names (cond b words (drop 1 words)))) no_binary
 
--- ---- at `replay` the walk stops
+-- ---- at the word of a job the walk stops
 
-abbrev pub stopped_at : List Text → Walk
-stopped_at words = record {
+abbrev pub stopped_at : Job → List Text → Walk
+stopped_at job words = record {
   held = holding [] None;
   waiting = idle;
   position = 1;
   is_trailing = false;
-  stopped = Some (codes "replay", words);
+  stopped = Some (command_word job, words);
 }
 
-stop_more : (words rest : List Text) → fold (walked top_rules command_names) (stopped_at words) rest ≡ stopped_at (words ++ rest)
+stop_more : (job : Job) (words rest : List Text) → fold (walked top_rules command_names) (stopped_at job words) rest ≡ stopped_at job (words ++ rest)
 unfolding walked
-stop_more words [] = ap stopped_at (sym (append-nil words))
-stop_more words (word ∷ rest) = stop_more (words ++ word ∷ []) rest ∙ ap stopped_at (append_assoc words (word ∷ []) rest)
+stop_more job words [] = ap (stopped_at job) (sym (append-nil words))
+stop_more job words (word ∷ rest) = stop_more job (words ++ word ∷ []) rest ∙ ap (stopped_at job) (append_assoc words (word ∷ []) rest)
 
-pub stops : (rest : List Text) → walk top_rules command_names nothing_held (codes "replay" ∷ rest) ≡ stopped_at rest
+pub stops : (job : Job) (rest : List Text) → walk top_rules command_names nothing_held (command_word job ∷ rest) ≡ stopped_at job rest
 unfolding walked
-stops rest = stop_more [] rest
+stops Replay rest = stop_more Replay [] rest
+stops Dump rest = stop_more Dump [] rest
 
 -- ---- any other first word meets a fault
 
@@ -109,16 +112,17 @@ module _ (word : Text) (rest : List Text) (own : subcommand_met command_names id
       go true e = after_dashes rest refl e
       go false e = long e (long_of word) refl
 
--- ---- the options of `replay`
+-- ---- the options of a job
 
-abbrev pub replay_fault : List Text → Kinds
-replay_fault rest = level_fault built_replay [] nothing_held rest false []
+pub entered_is : (job : Job) (rest : List Text) → entered_fault built_app (Some (command_word job, rest)) ≡ options_fault rest
+entered_is Replay rest = same_level Replay rest
+entered_is Dump rest = same_level Dump rest
 
-replay_clear : (rest : List Text) → built_fault built_app nothing_held (codes "replay" ∷ rest) ≡ [] → replay_fault rest ≡ []
-replay_clear rest e =
+options_clear : (job : Job) (rest : List Text) → built_fault built_app nothing_held (command_word job ∷ rest) ≡ [] → options_fault rest ≡ []
+options_clear job rest e =
     let all = or_else-nil _ _ e in
-    let below : entered_fault built_app (walk top_rules command_names nothing_held (codes "replay" ∷ rest)).stopped ≡ [] = (or_else-nil _ _ all.1).0 in
-    subst (λ (w : Walk). entered_fault built_app w.stopped ≡ []) (stops rest) below
+    let below : entered_fault built_app (walk top_rules command_names nothing_held (command_word job ∷ rest)).stopped ≡ [] = (or_else-nil _ _ all.1).0 in
+    sym (entered_is job rest) ∙ subst (λ (w : Walk). entered_fault built_app w.stopped ≡ []) (stops job rest) below
 
 same_either : {A : Type 0} (b : Bool) (x : A) → cond b x x ≡ x
 same_either true x = refl
@@ -143,33 +147,50 @@ pub replay_has_none : list_all (λ a. is_empty a.defaults) replay_rules ≡ true
 unfolding replay_rules
 replay_has_none = refl
 
--- what `replay` was given, where the words meet no fault
+-- the job, and what it was given, where the words meet no fault
 pub record IsRead (words : List Text) : Type 0 where
+  pub job : Job
   pub given : Given
-  pub rows : subcommand_of scopectl words ≡ Some (codes "replay", rows_given given)
-  pub said : replay_said words ≡ numbers_given given
+  pub rows : subcommand_of scopectl words ≡ Some (command_word job, rows_given given)
+  pub said : command_said words ≡ option_map (said_with job) (numbers_given given)
 
-read_replay : (program : Text) (rest : List Text) → replay_fault rest ≡ [] → IsRead (program ∷ codes "replay" ∷ rest)
-unfolding replay_said
-read_replay program rest e =
+pub named_is : (job : Job) → job_named (command_word job) ≡ Some job
+unfolding job_named
+named_is Replay = refl
+named_is Dump = refl
+
+rows_entered : (job : Job) (rest : List Text) → entered built_app (Some (command_word job, rest)) ≡ Some (command_word job, finished replay_rules (walk replay_rules [] nothing_held rest).held)
+rows_entered Replay rest = refl
+rows_entered Dump rest = refl
+
+said_at : (program : Text) (job : Job) (rest : List Text) → command_said (program ∷ command_word job ∷ rest) ≡ option_map (said_with job) (option_and_then numbers_given (options_said [] rest))
+unfolding command_said
+said_at program job rest = ap (option_and_then (λ j. option_map (said_with j) (option_and_then numbers_given (options_said [] rest)))) (named_is job)
+
+read_command : (program : Text) (job : Job) (rest : List Text) → options_fault rest ≡ [] → IsRead (program ∷ command_word job ∷ rest)
+read_command program job rest e =
     let parts = or_else-nil _ _ e in
     let settles = or_else-nil _ _ parts.1 in
     let read = reads rest (Some []) [] None (λ _. ([], refl, refl)) parts.0 settles.0 in
     record {
+      job = job;
       given = read.0;
-      rows = subcommand_is (program ∷ codes "replay" ∷ rest) ∙ ap (λ (w : Walk). entered built_app w.stopped) (stops rest)
-          ∙ ap (λ r. Some (codes "replay", r)) (no_defaults replay_rules _ replay_has_none ∙ read.2);
-      said = ap (option_and_then numbers_given) read.1;
+      rows = subcommand_is (program ∷ command_word job ∷ rest) ∙ ap (λ (w : Walk). entered built_app w.stopped) (stops job rest)
+          ∙ rows_entered job rest ∙ ap (λ r. Some (command_word job, r)) (no_defaults replay_rules _ replay_has_none ∙ read.2);
+      said = said_at program job rest ∙ ap (λ o. option_map (said_with job) (option_and_then numbers_given o)) read.1;
     }
 
 read_after : (program word : Text) (rest : List Text) → built_fault built_app nothing_held (word ∷ rest) ≡ [] → IsRead (program ∷ word ∷ rest)
-read_after program word rest e = go (bytes_eq (codes "replay") word) refl
+read_after program word rest e = go (bytes_eq (codes "replay") word) refl (bytes_eq (codes "dump") word) refl
   where
-    go : (b : Bool) → bytes_eq (codes "replay") word ≡ b → IsRead (program ∷ word ∷ rest)
-    go true is =
-        let same = (bytes_eq-Decides (codes "replay") word).0 is in
-        subst (λ w. IsRead (program ∷ w ∷ rest)) same (read_replay program rest (replay_clear rest (subst (λ w. built_fault built_app nothing_held (w ∷ rest) ≡ []) (sym same) e)))
-    go false is = absurd (no_other word rest (rw is refl) e)
+    at_job : (job : Job) → command_word job ≡ word → IsRead (program ∷ word ∷ rest)
+    at_job job same =
+        subst (λ w. IsRead (program ∷ w ∷ rest)) same (read_command program job rest (options_clear job rest (subst (λ w. built_fault built_app nothing_held (w ∷ rest) ≡ []) (sym same) e)))
+
+    go : (a : Bool) → bytes_eq (codes "replay") word ≡ a → (b : Bool) → bytes_eq (codes "dump") word ≡ b → IsRead (program ∷ word ∷ rest)
+    go true replays b dumps = at_job Replay ((bytes_eq-Decides (codes "replay") word).0 replays)
+    go false replays true dumps = at_job Dump ((bytes_eq-Decides (codes "dump") word).0 dumps)
+    go false replays false dumps = absurd (no_other word rest (rw (replays, dumps) refl) e)
 
 pub read : (words : List Text) → fault_of scopectl words ≡ [] → IsRead words
 read [] e = absurd (none_met [] refl (sym (fault_is []) ∙ e))
@@ -189,5 +210,5 @@ module _ (words : List Text) (found : Found) (got : IsRead words) (same : rows_o
   text_is s = first_value-rows found (name_of s) ∙ ap (first_of (name_of s)) same ∙ text_in_rows got.given (name_of s)
 
   -- the numbers of the rows are those that the words say
-  pub numbers_said : numbers_by (λ s. first_value found (name_of s)) ≡ replay_said words
-  numbers_said = ap numbers_by (λ i s. text_is s i) ∙ sym got.said
+  pub numbers_said : option_map (said_with got.job) (numbers_by (λ s. first_value found (name_of s))) ≡ command_said words
+  numbers_said = ap (λ given. option_map (said_with got.job) (numbers_by given)) (λ i s. text_is s i) ∙ sym got.said

@@ -6,7 +6,8 @@ use Rattle.std.specs.Str.{bytes_eq}
 use Rattle.clap.specs.Lexer.{long_of}
 use Rattle.scopectl.specs.Settings.{Numbers, name_of, numbers_by, numbers_of}
 use Rattle.scopectl.specs.declared.command_line.CommandLine.{CommandLine}
-use Rattle.scopectl.specs.declared.command_line.Job.TheVariants.{Replay}
+use Rattle.scopectl.specs.declared.command_line.Job.{Job}
+use Rattle.scopectl.specs.declared.command_line.Job.TheVariants.{Replay, Dump}
 use Rattle.scopectl.specs.declared.command_line.settings.Setting.TheVariants.{Scopes, Tasks, Load}
 
 -- the name and the text of each option that was given, in order
@@ -24,7 +25,7 @@ is_given given name = list_any (λ option. bytes_eq option.0 name) given
 abbrev pub text_given : Given → List ℕ → Option (List ℕ)
 text_given given name = option_map (λ option. option.1) (find (λ option. bytes_eq option.0 name) given)
 
--- one more option is given: it is one of `replay`, and was not given before
+-- one more option is given: it is one of a job's, and was not given before
 abbrev pub with_option : Given → List ℕ → List ℕ → Option Given
 with_option given name text =
     if is_name name && not (is_given given name) then Some (given ++ (name, text) ∷ []) else None
@@ -56,16 +57,35 @@ options_said given (word ∷ after ∷ rest) = option_and_then (λ long.
 abbrev pub numbers_given : Given → Option Numbers
 numbers_given given = numbers_by (λ setting. text_given given (name_of setting))
 
--- the program's name, `replay` and its options
-unfoldable pub replay_said : List (List ℕ) → Option Numbers
-replay_said (program ∷ command ∷ options) = if bytes_eq (codes "replay") command
-    then option_and_then numbers_given (options_said [] options) else None
-replay_said _ = None
+-- the word of a job
+abbrev pub command_word : Job → List ℕ
+command_word Replay = codes "replay"
+command_word Dump = codes "dump"
+
+-- the job that has this word
+unfoldable pub job_named : List ℕ → Option Job
+job_named word = if bytes_eq (command_word Replay) word then Some Replay
+    else (if bytes_eq (command_word Dump) word then Some Dump else None)
+
+-- a job, and the numbers of its options
+pub record Said : Type 0 where
+  pub job : Job
+  pub numbers : Numbers
+
+abbrev pub said_with : Job → Numbers → Said
+said_with job numbers = record { job = job; numbers = numbers }
+
+-- the program's name, the word of a job and its options
+unfoldable pub command_said : List (List ℕ) → Option Said
+command_said (program ∷ command ∷ options) = option_and_then (λ job. option_map (said_with job)
+    (option_and_then numbers_given (options_said [] options))) (job_named command)
+command_said _ = None
 
 -- the words say the command
 abbrev pub Says : List (List ℕ) → CommandLine → Type 0
-Says words command = (command.job ≡ Replay) × (replay_said words ≡ Some (numbers_of command.limits))
+Says words command =
+    command_said words ≡ Some (said_with command.job (numbers_of command.limits))
 
 -- the words say no command
 abbrev pub SaysNone : List (List ℕ) → Type 0
-SaysNone words = replay_said words ≡ None
+SaysNone words = command_said words ≡ None

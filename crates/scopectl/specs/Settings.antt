@@ -1,4 +1,4 @@
--- The options of `replay`, and the numbers that they say.
+-- The options of a job, and the numbers that they say.
 use Rattle.std.specs.Prelude.{ℕ, Bool, List, [], ◌∷◌, Option, Some, None, ◌&&◌, ◌==◌, not, false, nat_le, codes, if◌then◌else◌}
 use Rattle.std.specs.Prelude.{option_map, option_and_then}
 use Rattle.std.specs.List.{list_all}

@@ -4,14 +4,15 @@ use Rattle.std.specs.Option.{option_map_or}
 use Rattle.std.specs.Str.{bytes_eq}
 use Rattle.scope_script.specs.declared.session.run.ScriptFault.{ScriptFault}
 use Rattle.scope_script.specs.declared.session.run.ScriptFault.TheVariants as script
-use Rattle.scopectl.specs.declared.command_line.help.TheConstants.{HELP, REPLAY_HELP}
+use Rattle.scopectl.specs.declared.command_line.help.TheConstants.{HELP, REPLAY_HELP, DUMP_HELP}
 use Rattle.scopectl.specs.declared.fault.ProgramFault.{ProgramFault}
 use Rattle.scopectl.specs.declared.fault.ProgramFault.TheVariants.{Read, Write, Memory}
 use Rattle.scopectl.specs.Faults.{AsksHelp, AsksVersion}
 
--- the help at a first word after the program's name: that of `replay` at `replay`
+-- the help at a first word after the program's name: that of a job at its word
 abbrev pub help_at : List ℕ → List ℕ
-help_at command = if bytes_eq command (codes "replay") then REPLAY_HELP.now else HELP.now
+help_at command = if bytes_eq command (codes "replay") then REPLAY_HELP.now
+    else (if bytes_eq command (codes "dump") then DUMP_HELP.now else HELP.now)
 
 -- the help that the words ask for
 abbrev pub help_of : List (List ℕ) → List ℕ

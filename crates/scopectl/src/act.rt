@@ -1,17 +1,18 @@
 //! All that the program does.
-ghost use Rattle.std.specs.Prelude.{◌≡◌, ◌≢◌, ◌≤◌, ◌⊎◌, false, true, map};
+ghost use Rattle.std.specs.Prelude.{◌≡◌, ◌≢◌, ◌≤◌, ◌⊎◌, ◌++◌, [], ◌∷◌, false, true, map, IfOk, IfErr, OnErr, string_bytes};
 ghost use Rattle.std.specs.Io.KnownBytes.{Appends};
-ghost use Rattle.scope_rules.specs.Replies.{Realm};
-ghost use Rattle.scope_script.specs.Running.{RunsToEnd, RunsPartly};
+ghost use Rattle.scope_book.specs.Books.{history_of};
 ghost use Rattle.scope_script.specs.Streams.{AppendsPart};
-ghost use Rattle.scopectl.specs.Program.{DidAsSaid, DidPartly, GaveText, GaveTextPartly, IsNotUnderstood, IsSaid, NamesFault};
+ghost use Rattle.tree_dump.specs.Tree.{dump_text};
+ghost use Rattle.scopectl.specs.Program.{CameFrom, DidAsSaid, DidJob, DidPart, DidPartly, Dumped, DumpedNothing, GaveText, GaveTextPartly, IsNotUnderstood, IsSaid, NamesFault};
 ghost use Rattle.scopectl.specs.Texts.{line_of};
 
-use crate::command_line::{LineFault, VERSION_LINE, help_of, line};
+use crate::command_line::{Job, LineFault, VERSION_LINE, help_of, line};
 use crate::fault::ProgramFault;
-use scope_rules::Limits;
+use scope_book::BookState;
+use scope_rules::{AnyEnd, Limits};
 use scope_script::{Mode, Watched, run};
-use std::alloc::Global;
+use std::alloc::{AllocError, Global};
 use std::io::{ErrorKind, Read, Write};
 
 /// The status of a line that was understood and carried out.
@@ -29,12 +30,14 @@ pub const NOT_UNDERSTOOD: u8 = 2;
 ///
 /// With status 0 the words asked for help or the version, and exactly that text was written and nothing
 /// read; or they said a replay, all bytes were read, and exactly the reply text of them was written, in
-/// a realm of the limits that stand in the words. Nothing was said on `errors`.
+/// a realm of the limits that stand in the words; or they said a dump, all bytes were read, and exactly
+/// the dump text of the realm that they leave was written, and a line feed. Nothing was said on `errors`.
 ///
 /// With status 1 one line on `errors` names the fault: `read` or `write` only where that stream failed,
 /// or the reader was given up after 2^64 - 1 reads.
 /// Nothing was read or written, or the writer failed at the text that was asked for, or what was written
-/// is a beginning of the replies to what was read.
+/// is a beginning of the replies to what was read. Of a dump nothing was written, but where all bytes
+/// were read and the writer failed.
 ///
 /// With status 2 the words say no command and ask for no text, and nothing was read or written. So words
 /// that say a command or ask for a text never end with 2, and other words with 2, or with 1 where memory
@@ -56,13 +59,16 @@ pub fn act<'a, R: Read + Drop, W: Write + Drop, E: Write + Drop>(
     ensures fault { result ≡ 1 → ((reader.new ≡ reader.old) × (writer.new ≡ writer.old))
         ⊎ (((reader.new ≡ reader.old)
         × GaveTextPartly (map (λ word. word.now) words.now) (W.contents writer.old.inner) (W.contents writer.new.inner) writer.new.failed)
-        ⊎ DidPartly (map (λ word. word.now) words.now) (R.remaining reader.old.inner) (R.remaining reader.new.inner) (W.contents writer.old.inner) (W.contents writer.new.inner)) }
+        ⊎ DidPartly (map (λ word. word.now) words.now) (R.remaining reader.old.inner) (R.remaining reader.new.inner) (W.contents writer.old.inner) (W.contents writer.new.inner) writer.new.failed) }
     ensures named { result ≡ 1 → NamesFault (E.contents errors.old.inner) (E.contents errors.new.inner) errors.new.failed ((reader.new.failed ≡ true) ⊎ (reader.new.reads ≡ u64.MAX)) (writer.new.failed ≡ true) }
     ensures not_understood { result ≡ 2 → IsNotUnderstood (map (λ word. word.now) words.now)
         × (reader.new ≡ reader.old) × (writer.new ≡ writer.old) }
 {
     match line(alloc, words) {
-        Ok(command) => replay(alloc, command.limits, reader, writer, errors),
+        Ok(command) => match command.job {
+            Job::Replay => replay(alloc, command.limits, reader, writer, errors),
+            Job::Dump => dump(alloc, command.limits, reader, writer, errors),
+        },
         Err(LineFault::Help) => tell(help_of(words), writer, errors),
         Err(LineFault::Version) => tell(VERSION_LINE, writer, errors),
         Err(LineFault::Usage(text)) => {
@@ -98,9 +104,9 @@ fn replay<R: Read + Drop, W: Write + Drop, E: Write + Drop>(
     requires reader { reader.old.failed ≡ false }
     requires writer { writer.old.failed ≡ false }
     ensures status { result ≤ 1 }
-    ensures done { result ≡ 0 → (realm : Realm) × RunsToEnd (R.remaining reader.old.inner) (R.remaining reader.new.inner) (W.contents writer.old.inner) (W.contents writer.new.inner) Mode.Replies limits realm }
+    ensures done { result ≡ 0 → DidJob Job.Replay limits (R.remaining reader.old.inner) (R.remaining reader.new.inner) (W.contents writer.old.inner) (W.contents writer.new.inner) }
     ensures silent { result ≡ 0 → errors.new ≡ errors.old }
-    ensures fault { result ≡ 1 → RunsPartly (R.remaining reader.old.inner) (R.remaining reader.new.inner) (W.contents writer.old.inner) (W.contents writer.new.inner) Mode.Replies limits }
+    ensures fault { result ≡ 1 → DidPart Job.Replay limits (R.remaining reader.old.inner) (R.remaining reader.new.inner) (W.contents writer.old.inner) (W.contents writer.new.inner) writer.new.failed }
     ensures named { result ≡ 1 → NamesFault (E.contents errors.old.inner) (E.contents errors.new.inner) errors.new.failed ((reader.new.failed ≡ true) ⊎ (reader.new.reads ≡ u64.MAX)) (writer.new.failed ≡ true) }
 {
     let fault = match run(alloc, reader, writer, limits, Mode::Replies) {
@@ -108,6 +114,59 @@ fn replay<R: Read + Drop, W: Write + Drop, E: Write + Drop>(
         Err(fault) => fault,
     };
     fail(ProgramFault::of_run(fault), errors)
+}
+
+/// Dumps the realm that the script which is read leaves.
+fn dump<R: Read + Drop, W: Write + Drop, E: Write + Drop>(
+    alloc: Global,
+    limits: Limits,
+    reader: &mut Watched<R>,
+    writer: &mut Watched<W>,
+    errors: &mut Watched<E>,
+) -> u8
+    requires reader { reader.old.failed ≡ false }
+    requires writer { writer.old.failed ≡ false }
+    ensures status { result ≤ 1 }
+    ensures done { result ≡ 0 → DidJob Job.Dump limits (R.remaining reader.old.inner) (R.remaining reader.new.inner) (W.contents writer.old.inner) (W.contents writer.new.inner) }
+    ensures silent { result ≡ 0 → errors.new ≡ errors.old }
+    ensures fault { result ≡ 1 → DidPart Job.Dump limits (R.remaining reader.old.inner) (R.remaining reader.new.inner) (W.contents writer.old.inner) (W.contents writer.new.inner) writer.new.failed }
+    ensures named { result ≡ 1 → NamesFault (E.contents errors.old.inner) (E.contents errors.new.inner) errors.new.failed ((reader.new.failed ≡ true) ⊎ (reader.new.reads ≡ u64.MAX)) (writer.new.failed ≡ true) }
+{
+    match dumped(alloc, limits, reader, writer) {
+        Ok(text) => tell(&text, writer, errors),
+        Err(fault) => fail(fault, errors),
+    }
+}
+
+/// The dump of the realm that the script which is read leaves, and a line feed. Nothing is written.
+fn dumped<R: Read + Drop, W: Write + Drop>(
+    alloc: Global,
+    limits: Limits,
+    reader: &mut Watched<R>,
+    writer: &mut Watched<W>,
+) -> Result<String, ProgramFault>
+    requires reader { reader.old.failed ≡ false }
+    requires writer { writer.old.failed ≡ false }
+    ensures ok { IfOk result (λ text. Dumped limits (R.remaining reader.old.inner) (R.remaining reader.new.inner) (W.contents writer.old.inner) (W.contents writer.new.inner) (string_bytes text)) }
+    ensures nothing { OnErr result (DumpedNothing (R.remaining reader.old.inner) (R.remaining reader.new.inner) (W.contents writer.old.inner) (W.contents writer.new.inner)) }
+    ensures came { IfErr result (λ fault. CameFrom fault ((reader.new.failed ≡ true) ⊎ (reader.new.reads ≡ u64.MAX)) (writer.new.failed ≡ true)) }
+{
+    match run(alloc, reader, writer, limits, Mode::Quiet) {
+        Ok(book) => match dump_line(alloc, &book) {
+            Ok(text) => Ok(text),
+            Err(_) => Err(ProgramFault::Memory),
+        },
+        Err(fault) => Err(ProgramFault::of_run(fault)),
+    }
+}
+
+/// The dump of the book's realm, and a line feed.
+fn dump_line(alloc: Global, book: &BookState<AnyEnd>) -> Result<String, AllocError>
+    ensures { IfOk result (λ text. string_bytes text ≡ dump_text (history_of book.now) ++ 10 ∷ []) }
+{
+    let mut text = tree_dump::dump(alloc, book)?;
+    text.push('\n')?;
+    Ok(text)
 }
 
 /// Writes the text that was asked for.

@@ -1,6 +1,6 @@
 //! The command line: from the program's words to the command that they say.
 ghost use Rattle.std.specs.Prelude.{◌≡◌, ◌⊎◌, IfOk, IfErr, map};
-ghost use Rattle.scopectl.specs.CommandLine.{Says, SaysNone};
+ghost use Rattle.scopectl.specs.CommandLine.{Says, SaysNone, command_word, job_named};
 ghost use Rattle.scopectl.specs.Faults.{Answers};
 
 mod application;
@@ -26,6 +26,34 @@ pub struct CommandLine {
 pub enum Job {
     /// Replays the script on standard input, and writes the replies.
     Replay,
+    /// Runs the script on standard input without replies, and writes the tree of what it leaves.
+    Dump,
+}
+
+impl Job {
+    /// The word that says the job on a command line.
+    pub fn word(self) -> &'static str
+        ensures { result.now ≡ command_word self }
+    {
+        match self {
+            Job::Replay => "replay",
+            Job::Dump => "dump",
+        }
+    }
+
+    /// The job that has this word.
+    #[tactic(auto, unfolding(crate::specs::CommandLine::job_named))]
+    pub fn named(word: &str) -> Option<Job>
+        ensures { result ≡ job_named word.now }
+    {
+        if word == "replay" {
+            Some(Job::Replay)
+        } else if word == "dump" {
+            Some(Job::Dump)
+        } else {
+            None
+        }
+    }
 }
 
 /// The command that the words say, of which the first is the program's name. An option that is not
@@ -45,14 +73,12 @@ pub fn line<'a>(alloc: Global, words: &'a [&'a str]) -> Result<CommandLine, Line
         Ok(matches) => matches,
         Err(error) => return Err(LineFault::of_parse(alloc, &error)),
     };
-    match matches.subcommand_matches("replay") {
-        Some(replay) => {
-            let limits = settings::limits(alloc, replay)?;
-            Ok(CommandLine {
-                job: Job::Replay,
-                limits,
-            })
-        }
-        None => unreachable!(),
-    }
+    let Some((word, options)) = matches.subcommand() else {
+        unreachable!()
+    };
+    let Some(job) = Job::named(word) else {
+        unreachable!()
+    };
+    let limits = settings::limits(alloc, options)?;
+    Ok(CommandLine { job, limits })
 }

@@ -1,4 +1,4 @@
-//! `scopectl` replays scripts of commands on task scopes.
+//! `scopectl` replays scripts of commands on task scopes, and dumps the realms that they leave.
 #![tactic(auto)]
 
 mod act;

@@ -1,8 +1,8 @@
 //! The book and the plain evaluator, which are told the same lines and have to answer every question
-//! alike; the logs of both tell the same.
+//! alike; the logs of both tell the same, and so do their dumps.
 
-use crate::logs;
 use crate::plain::reply_of;
+use crate::{dumps, logs};
 use scope_book::BookState;
 use scope_model::Plain;
 use scope_rules::{AnyEnd, Event, Limits, Name, Refusal, ScopeId};
@@ -114,7 +114,7 @@ impl Both {
         }
     }
 
-    /// Tells both the line, and then asks both everything. What the line is answered goes to the end of
+    /// Tells both the line, and then asks both everything and compares their dumps. What the line is answered goes to the end of
     /// `replies`.
     fn line(
         &mut self,
@@ -134,7 +134,7 @@ impl Both {
             self.ask_of(rt, number, line)?;
             self.compare_log(rt, number, line)?;
         }
-        Ok(())
+        dumps::compare(rt, &self.book, &self.plain, line)
     }
 
     /// Tells both the lines that ` / ` parts.

@@ -3,10 +3,10 @@
 ghost use Rattle.std.specs.Prelude.{◌≡◌, IfOk, false};
 ghost use Rattle.clap.specs.Words.{app_of, rule_of};
 ghost use Rattle.clap.specs.declared.builder.command.Command.TheViews.{out-Command as fields_of};
-ghost use Rattle.scopectl.specs.Application.{option_rule, replay, scopectl};
+ghost use Rattle.scopectl.specs.Application.{command_of, option_rule, scopectl};
 
-use super::help;
 use super::settings::Setting;
+use super::{Job, help};
 use clap::{Arg, Command};
 use std::alloc::{AllocError, Global};
 
@@ -17,23 +17,26 @@ use std::alloc::{AllocError, Global};
 pub fn application<'a>(alloc: Global) -> Result<Command<'a>, AllocError>
     ensures { IfOk result (λ command. app_of command ≡ scopectl) }
 {
-    let replay = replay(alloc)?;
+    let replay = command(alloc, Job::Replay)?;
+    let dump = command(alloc, Job::Dump)?;
     Command::new(alloc, "scopectl")
         .version(help::VERSION)
         .subcommand_required(true)
         .disable_help_subcommand(true)
-        .subcommand(replay)
+        .subcommand(replay)?
+        .subcommand(dump)
 }
 
-// The command `replay` with its options.
-fn replay<'a>(alloc: Global) -> Result<Command<'a>, AllocError>
-    ensures app { IfOk result (λ command. app_of command ≡ replay) }
+// The command of the job, with its options.
+fn command<'a>(alloc: Global, job: Job) -> Result<Command<'a>, AllocError>
+    ensures app { IfOk result (λ command. app_of command ≡ command_of job) }
     ensures local { IfOk result (λ command. (fields_of command).has_globals ≡ false) }
 {
+    let word: &'a str = job.word();
     let scopes: &'a str = Setting::Scopes.name();
     let tasks: &'a str = Setting::Tasks.name();
     let load: &'a str = Setting::Load.name();
-    Command::new(alloc, "replay")
+    Command::new(alloc, word)
         .arg(option(alloc, scopes))?
         .arg(option(alloc, tasks))?
         .arg(option(alloc, load))

@@ -15,6 +15,7 @@ Usage: scopectl <COMMAND>
 
 Commands:
   replay  Reads a script of commands from standard input, and writes the replies
+  dump    Reads a script of commands from standard input, and writes what it leaves as JSON
 
 Options:
   -h, --help     Print help
@@ -25,7 +26,7 @@ Exit status:
   1  standard error has one line: scopectl: read, scopectl: write or scopectl: memory
   2  the command line is not understood
 
-Try 'scopectl replay --help' for an example session.
+Try 'scopectl replay --help' or 'scopectl dump --help' for an example.
 ";
 
 /// What `scopectl replay --help` writes.
@@ -57,6 +58,37 @@ Exit status:
   2  the command line is not understood
 ";
 
+/// What `scopectl dump --help` writes.
+pub const DUMP_HELP: &str =
+    "Reads a script of commands from standard input, one a line, and writes no replies, but in the end
+one line of JSON: the tree of the scopes that are not closed, each with its tasks, what lies inside
+it and inside them, and why it is cancelled.
+
+Usage: scopectl dump [OPTIONS]
+
+Options:
+      --scopes <N>  How many scopes may be opened, from 1 to 4096 [default: 4096]
+      --tasks <N>   How many tasks may be forked, from 1 to 65536 [default: 65536]
+      --load <N>    How much load the realm takes, from 1 to 1048576 units [default: 1048576]
+  -h, --help        Print help
+
+Example: the script
+
+  open 0 all deadline=100
+  fork 0 1 a
+
+has the dump (one line, which is broken here)
+
+  {\"moment\":0,\"root\":{\"cause\":null,\"deadline\":100,\"expiry\":\"fail\",\"id\":1,\"inner\":null,
+  \"joined\":false,\"joiner\":\"all\",\"owner\":0,\"shield\":false,\"stage\":\"open\",\"tasks\":[
+  {\"id\":1,\"inner\":null,\"name\":\"a\",\"stage\":\"waiting\",\"state\":\"unavailable\"}]}}
+
+Exit status:
+  0  the script was read to its end, also where commands were refused
+  1  standard error has one line: scopectl: read, scopectl: write or scopectl: memory
+  2  the command line is not understood
+";
+
 /// The help that the words ask for, of which the first is the program's name.
 pub fn help_of(words: &[&str]) -> &'static str
     ensures { result.now ≡ help_of (map (λ word. word.now) words.now) }
@@ -73,6 +105,8 @@ fn help_at(command: &str) -> &'static str
 {
     if command == "replay" {
         REPLAY_HELP
+    } else if command == "dump" {
+        DUMP_HELP
     } else {
         HELP
     }

@@ -1,4 +1,4 @@
-//! The options of `replay`, each a number.
+//! The options of a job, each a number.
 ghost use Rattle.std.specs.Prelude.{◌≡◌, ◌≤◌, ◌⊎◌, IfOk, IfErr, IfSome, Some, None};
 ghost use Rattle.std.specs.List.{list_all};
 ghost use Rattle.clap.specs.Words.{first_value, found_of};
@@ -43,7 +43,7 @@ impl Setting {
     }
 }
 
-/// The limits that the options of `replay` say.
+/// The limits that the options of a job say.
 ///
 /// # Errors
 /// `Usage` where a number is none or too great, `Memory` where memory was refused.
@@ -122,7 +122,7 @@ fn refused_value(alloc: Global, setting: Setting, text: &str) -> LineFault
     let name = setting.name();
     let greatest = setting.greatest();
     let message = format!(in alloc;
-        "error: invalid value '{text}' for '--{name} <N>': a decimal number from 1 to {greatest} is wanted\n\nFor more information, try 'scopectl replay --help'.\n"
+        "error: invalid value '{text}' for '--{name} <N>': a decimal number from 1 to {greatest} is wanted\n\nFor more information, try '--help'.\n"
     );
     match message {
         Ok(message) => LineFault::Usage(message),

@@ -1,21 +1,19 @@
 use Rattle.std.proofs.Common.{inl, inr, refl, subst}
 use Rattle.scopectl.specs.Faults.{Answers}
+use Rattle.scopectl.proofs.Jobs.{did, did_part}
 use Rattle.scopectl.proofs.act.act.Goals as goal
 
-pub returns-in-Ok-clause-done : goal.returns-in-Ok-clause-done
-returns-in-Ok-clause-done g c = λ e. inr (record {
-  command = c.in-Ok.command;
-  said = c.in-Ok.ensures.said;
-  realm = (c.replay.ensures.done e).0;
-  ran = (c.replay.ensures.done e).1;
-})
+pub returns-in-Replay-clause-done : goal.returns-in-Replay-clause-done
+returns-in-Replay-clause-done g c = λ e. inr (did _ c.in-Ok.command _ c.in-Ok.ensures.said c.in-Replay.is _ _ _ _ (c.replay.ensures.done e))
 
-pub returns-in-Ok-clause-fault : goal.returns-in-Ok-clause-fault
-returns-in-Ok-clause-fault g c = λ e. inr (inr (record {
-  command = c.in-Ok.command;
-  said = c.in-Ok.ensures.said;
-  ran = c.replay.ensures.fault e;
-}))
+pub returns-in-Replay-clause-fault : goal.returns-in-Replay-clause-fault
+returns-in-Replay-clause-fault g c = λ e. inr (inr (did_part _ c.in-Ok.command _ c.in-Ok.ensures.said c.in-Replay.is _ _ _ _ _ (c.replay.ensures.fault e)))
+
+pub returns-in-Dump-clause-done : goal.returns-in-Dump-clause-done
+returns-in-Dump-clause-done g c = λ e. inr (did _ c.in-Ok.command _ c.in-Ok.ensures.said c.in-Dump.is _ _ _ _ (c.dump.ensures.done e))
+
+pub returns-in-Dump-clause-fault : goal.returns-in-Dump-clause-fault
+returns-in-Dump-clause-fault g c = λ e. inr (inr (did_part _ c.in-Ok.command _ c.in-Ok.ensures.said c.in-Dump.is _ _ _ _ _ (c.dump.ensures.fault e)))
 
 pub returns-in-Err-Help-clause-done : goal.returns-in-Err-Help-clause-done
 returns-in-Err-Help-clause-done g c = λ e. inl (

@@ -2,7 +2,8 @@ use Rattle.std.proofs.Common.{◌≡◌, ◌∙◌, ap, ap₂, rules, codes, tru
 use Rattle.std.proofs.lemmas.Result.{IfOk-weaker}
 use Rattle.clap.specs.Simple.{on_top}
 use Rattle.clap.specs.Words.{App, app_of, new_app, with_subcommand}
-use Rattle.scopectl.specs.Application.{scopectl}
+use Rattle.scopectl.specs.Application.{command_of, scopectl}
+use Rattle.scopectl.specs.declared.command_line.Job.TheVariants.{Replay, Dump}
 use Rattle.scopectl.proofs.command_line.application.application.Goals as goal
 
 abbrev alone : App
@@ -16,5 +17,7 @@ pub returns : goal.returns
 unfolding scopectl
 returns c =
     let start_is : app_of c.disable_help_subcommand.result ≡ alone = search rules in
-    IfOk-weaker c.subcommand.result _ _ (λ m h. h.shape c.in_ok-replay.ensures.local
-    ∙ ap₂ with_subcommand start_is (ap (λ (a : App). a.top) c.in_ok-replay.ensures.app)) c.subcommand.ensures
+    let one_is : app_of c.in_ok-subcommand.field-0 ≡ with_subcommand alone (command_of Replay).top = c.in_ok-subcommand.ensures.shape c.in_ok-replay.ensures.local
+    ∙ ap₂ with_subcommand start_is (ap (λ (a : App). a.top) c.in_ok-replay.ensures.app) in
+    IfOk-weaker c.subcommand-2.result _ _ (λ m h. h.shape c.in_ok-dump.ensures.local
+    ∙ ap₂ with_subcommand one_is (ap (λ (a : App). a.top) c.in_ok-dump.ensures.app)) c.subcommand-2.ensures

@@ -1,16 +1,18 @@
-use Rattle.std.proofs.Common.{◌≡◌, ◌∙◌, ◌||◌, ap, ap₂, false, rules, codes}
+use Rattle.std.proofs.Common.{◌≡◌, ◌∙◌, ◌||◌, ap, ap₂, false, rules}
 use Rattle.std.proofs.lemmas.Result.{IfOk-weaker}
 use Rattle.clap.specs.Words.{app_of, new_app, rule_of, with_rule}
 use Rattle.clap.specs.declared.builder.command.Command.TheViews.{out-Command}
-use Rattle.scopectl.specs.Application.{option_rule, replay}
+use Rattle.scopectl.specs.Application.{command_of, option_rule}
+use Rattle.scopectl.specs.CommandLine.{command_word}
 use Rattle.scopectl.specs.Settings.{name_of}
 use Rattle.scopectl.specs.declared.command_line.settings.Setting.TheVariants.{Scopes, Tasks, Load}
-use Rattle.scopectl.proofs.command_line.application.replay.Goals as goal
+use Rattle.scopectl.proofs.command_line.application.command.Goals as goal
 
 pub returns-clause-app : goal.returns-clause-app
-unfolding replay
+unfolding command_of
 returns-clause-app c =
-    let start_is : app_of c.new.result ≡ new_app (codes "replay") = search rules in
+    let named_is : app_of c.new.result ≡ new_app c.word-word.result.now = search rules in
+    let start_is : app_of c.new.result ≡ new_app (command_word c.args.job) = named_is ∙ ap new_app c.word-word.ensures in
     let scopes_is : rule_of c.option.result ≡ option_rule (name_of Scopes) = c.option.ensures.rule ∙ ap option_rule c.name-scopes.ensures in
     let tasks_is : rule_of c.option-2.result ≡ option_rule (name_of Tasks) = c.option-2.ensures.rule ∙ ap option_rule c.name-tasks.ensures in
     let load_is : rule_of c.option-3.result ≡ option_rule (name_of Load) = c.option-3.ensures.rule ∙ ap option_rule c.name-load.ensures in
