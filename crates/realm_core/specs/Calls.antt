@@ -63,22 +63,18 @@ pub record FoundSo (old new : OwnerValue) (e : Event) : Type 0 where
   pub passed : check_of old.limits (history_seen new) e ≡ Ok tt
   pub already : is_already (history_seen new) e ≡ true
 
--- what a command that takes no memory did
-abbrev pub Does : {A : Type 0} → OwnerValue → OwnerValue → RealmStep → (History → A) → Result A Refusal → Type 0
-Does old new x reply (Ok answer) = Accepted old new x reply answer
-Does old new x reply (Err refusal) = Refused old new x refusal
-
--- and what one did that takes memory
+-- what a command did that takes memory
 abbrev pub DoesOrMemory : {A : Type 0} → OwnerValue → OwnerValue → RealmStep → (History → A) → Result A Refusal → Type 0
 DoesOrMemory old new x reply (Ok answer) = Accepted old new x reply answer
 DoesOrMemory old new x reply (Err refusal) = Refused old new x refusal ⊎ OutOfMemory old new x refusal
 
--- the same of a command that may find that all is so already
+-- what a command did that takes none, and may find that all is so already
 abbrev pub Records : OwnerValue → OwnerValue → Event → Result Cancelling Refusal → Type 0
 Records old new e (Ok Recorded) = Added old new (Happened e)
 Records old new e (Ok Already) = FoundSo old new e
 Records old new e (Err refusal) = Refused old new (Happened e) refusal
 
+-- the same of one that takes memory
 abbrev pub RecordsOrMemory : OwnerValue → OwnerValue → Event → Result Cancelling Refusal → Type 0
 RecordsOrMemory old new e (Ok Recorded) = Added old new (Happened e)
 RecordsOrMemory old new e (Ok Already) = FoundSo old new e

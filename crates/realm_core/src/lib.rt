@@ -5,18 +5,18 @@
 #![tactic(auto)]
 
 mod commands;
-mod core;
 mod forking;
 mod joins;
 pub mod laws;
 mod names;
 mod queries;
+mod state;
 mod task_calls;
 mod telling;
 mod views;
 
-pub use core::RealmCore;
 pub use forking::Forked;
 pub use joins::Joined;
 pub use names::RealmName;
+pub use state::RealmCore;
 pub use views::View;

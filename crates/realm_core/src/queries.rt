@@ -8,8 +8,9 @@ ghost use Rattle.scope_rules.specs.Table.{answering, check_of, until_check};
 ghost use Rattle.scope_rules.specs.Replies.{result_reply, fault_reply, binding_reply};
 ghost use Rattle.realm_core.specs.Calls.{Looked, history_seen};
 
-use crate::core::RealmCore;
+use crate::state::RealmCore;
 use crate::names::RealmName;
+use scope_checks::checks::scope_check;
 use scope_rules::{
     Catalog, Effective, Event, Fault, Name, Refusal, ScopeId, State, TaskId, Value,
 };
@@ -51,8 +52,7 @@ impl<C: Catalog, N: RealmName> RealmCore<C, N> {
         ensures answer { result ≡ scope_check (history_seen share.new) scope }
     {
         self.keeper.follow(share);
-        self.realm.kept().cause(scope)?;
-        Ok(())
+        scope_check(&self.realm, scope)
     }
 
     /// What the token's actor sees the key bound to (JEP 506, `ScopedValue.get`). Refused where the actor

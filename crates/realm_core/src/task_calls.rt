@@ -4,7 +4,7 @@ ghost use Rattle.share_ledger.specs.Values.{IsWaiting};
 ghost use Rattle.realm_core.specs.Calls.{TicketAdded};
 ghost use Rattle.realm_core.specs.Tasks.{IsRunning, Finishes};
 
-use crate::core::RealmCore;
+use crate::state::RealmCore;
 use crate::names::RealmName;
 use join_rules::StoredTest;
 use realm_steps::RealmStep;
@@ -23,10 +23,10 @@ impl<C: Catalog, N: RealmName> RealmCore<C, N> {
         ensures added { TicketAdded ticket.old ticket.new (RealmStep.Happened (Event.Reject ticket.old.task)) }
         ensures given { given_in ticket.new.task ticket.new.seen ≡ false }
     {
-        match self.realm.reject(ticket.task()) {
-            Ok(()) => self.keeper.reject(ticket),
-            Err(_) => unreachable!(),
-        }
+        let task = ticket.task();
+        self.keeper.reject(ticket);
+        let rejected = self.realm.reject(task);
+        prove!(rejected.is_ok());
     }
 
     /// Starts the ticket's task, whose thread has come, and gives the task's token.
@@ -39,10 +39,11 @@ impl<C: Catalog, N: RealmName> RealmCore<C, N> {
         ensures started { started_in ticket.new.task ticket.new.seen ≡ true }
         ensures token { result ≡ record { table = N.table; limits = ticket.old.limits; actor = ticket.old.task; seen = ticket.new.seen } }
     {
-        match self.realm.start(ticket.task()) {
-            Ok(()) => self.keeper.start(ticket),
-            Err(_) => unreachable!(),
-        }
+        let task = ticket.task();
+        let token = self.keeper.start(ticket);
+        let started = self.realm.start(task);
+        prove!(started.is_ok());
+        token
     }
 
     /// Records the end of the ticket's task, which runs, and takes the task's token. `test` is the
@@ -63,6 +64,7 @@ impl<C: Catalog, N: RealmName> RealmCore<C, N> {
         ensures core { self.new ≡ record self.old { steps = ticket.new.seen } }
         ensures answer { Finishes ticket.old ticket.new share end result }
     {
+        let _label = ticket.label();
         match self.realm.finish(ticket.task(), end, test) {
             Ok(()) => {
                 self.keeper.finish(ticket, share, end);

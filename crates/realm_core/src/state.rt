@@ -1,13 +1,13 @@
-ghost use Rattle.std.specs.Prelude.{◌≡◌, ℕ, [], Ok, List, Some, MatchOption, slice_get};
-ghost use Rattle.scope_rules.specs.Cancels.{is_cancelled};
+ghost use Rattle.std.specs.Prelude.{◌≡◌, ℕ, [], Ok, List, slice_get};
 ghost use Rattle.scope_rules.specs.Checks.{scope_check};
 ghost use Rattle.scope_cuts.specs.CutsOf.{IsCancelOrderOf};
 ghost use Rattle.realm_steps.specs.Steps.{history_of, IsLegal};
 ghost use Rattle.scope_book.specs.Fits.{Fitting};
-ghost use Rattle.realm_core.specs.Views.{IsMarkOf};
+ghost use Rattle.realm_core.specs.Views.{cancellation_of};
 
 use crate::names::RealmName;
 use kept_realm::KeptRealm;
+use scope_checks::checks::scope_check;
 use scope_rules::types::values::MAIN;
 use scope_rules::{Catalog, Cause, Limits, ScopeId};
 use share_ledger::{Keeper, OwnerShare, Seed};
@@ -81,10 +81,22 @@ impl<C: Catalog, N: RealmName> RealmCore<C, N> {
     /// Why the scope is cancelled, and the place of the event by which it became so since the last
     /// retirement, if it is there and cancelled. It takes no memory.
     pub fn cancellation(&self, scope: ScopeId) -> Option<(Cause, usize)>
-        ensures { MatchOption result (scope_check (history_of self.now.steps) scope ≡ Ok tt → is_cancelled (history_of self.now.steps) scope ≡ false) (λ mark. IsMarkOf (history_of self.now.steps) scope mark.0 mark.1) }
+        ensures { result ≡ cancellation_of (history_of self.now.steps) scope }
     {
-        let cause = self.realm.kept().cause(scope).ok()??;
-        let place = self.realm.kept().cancelled_at(scope).ok()??;
-        Some((cause, place))
+        match scope_check(&self.realm, scope) {
+            Ok(()) => cancellation_of(&self.realm, scope),
+            Err(_) => None,
+        }
     }
+}
+
+/// Why the scope, which is there, is cancelled, and the place of the event by which it became so.
+fn cancellation_of(realm: &KeptRealm, scope: ScopeId) -> Option<(Cause, usize)>
+    requires { scope_check realm.now.history scope ≡ Ok tt }
+    ensures { result ≡ cancellation_of realm.now.history scope }
+{
+    let _limits = realm.limits();
+    let place = realm.kept().cancelled_at(scope).ok()??;
+    let cause = realm.kept().cause(scope).ok()??;
+    Some((cause, place))
 }
