@@ -23,7 +23,7 @@ use Rattle.realm_steps.proofs.Histories.{history-push}
 use Rattle.atomic_table.specs.Seated.{TableId}
 use Rattle.share_ledger.specs.Values.{KeeperValue, OwnerValue, OwnerAgrees}
 use Rattle.realm_core.specs.Cores.{Tied}
-use Rattle.realm_core.specs.Calls.{history_seen, step_check, Accepted, Refused, OutOfMemory, FoundSo, DoesOrMemory, Records, RecordsOrMemory}
+use Rattle.realm_core.specs.Calls.{history_seen, step_check, Accepted, Refused, OutOfMemory, FoundSo, Does, DoesOrMemory, Records, RecordsOrMemory}
 use Rattle.realm_core.specs.Telling.{told}
 use Rattle.realm_core.proofs.Steps.{FitsStep, stepped, tied_next, same_limits, looks_now, passes_here, adds_now}
 
@@ -116,6 +116,11 @@ module _ (fits : LabelValue → EndValue → Type 0) (name : TableId) (realm : R
           | inl by ↦ inl (refuses_now x r by)
           | inr memory ↦ inr (no_memory_now x r memory.0 memory.1)
         ])
+
+    -- the same of one that takes no memory
+    pub does_surely : {A : Type 0} (x : RealmStep) (reply : History → A) (result : Result A Refusal) (keeper' : KeeperValue) (new : OwnerValue) → Passing old.actor x → Answers (step_check realm.limits old.actor x realm.history) (reply realm.history) result → keeper' ≡ told keeper x (is_ok result) → new ≡ record old { seen = keeper'.steps } → Does old new x reply result
+    does_surely x reply (Ok answer) keeper' new passing said keeper_is new_is = does_now x reply (Ok answer) keeper' new passing (answers_so _ _ _ said) keeper_is new_is
+    does_surely x reply (Err r) keeper' new passing said keeper_is new_is = rw (new_is, keeper_is) (refuses_now x r (refused_by _ (reply realm.history) r said))
 
     -- the same of a command that may find all so already
     found_now : (e : Event) → check_of realm.limits realm.history e ≡ Ok tt → is_already realm.history e ≡ true → FoundSo old (record old { seen = keeper.steps }) e

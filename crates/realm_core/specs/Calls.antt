@@ -63,7 +63,12 @@ pub record FoundSo (old new : OwnerValue) (e : Event) : Type 0 where
   pub passed : check_of old.limits (history_seen new) e ≡ Ok tt
   pub already : is_already (history_seen new) e ≡ true
 
--- what a command did that takes memory
+-- what a command did that takes no memory
+abbrev pub Does : {A : Type 0} → OwnerValue → OwnerValue → RealmStep → (History → A) → Result A Refusal → Type 0
+Does old new x reply (Ok answer) = Accepted old new x reply answer
+Does old new x reply (Err refusal) = Refused old new x refusal
+
+-- and what one did that takes memory
 abbrev pub DoesOrMemory : {A : Type 0} → OwnerValue → OwnerValue → RealmStep → (History → A) → Result A Refusal → Type 0
 DoesOrMemory old new x reply (Ok answer) = Accepted old new x reply answer
 DoesOrMemory old new x reply (Err refusal) = Refused old new x refusal ⊎ OutOfMemory old new x refusal

@@ -4,6 +4,7 @@
 //! the waiting, are of the crate above.
 #![tactic(auto)]
 
+mod closing;
 mod commands;
 mod forking;
 mod joins;
