@@ -1,5 +1,5 @@
 -- What a command of the realm, and the keeper's step after it, come to.
-use Rattle.std.proofs.Common.{◌≡◌, ℕ, true, false, Bool, ◌⊎◌, inl, inr, Result, Ok, Err, is_ok, List, [], ◌∷◌, ◌++◌, refl, sym, ap, ◌∙◌, subst}
+use Rattle.std.proofs.Common.{◌≡◌, ℕ, true, false, Bool, ◌⊎◌, inl, inr, Result, Ok, Err, is_ok, [], refl, sym, ap, ◌∙◌, subst}
 use Rattle.std.specs.Prelude.{if◌then◌else◌, IfOk}
 use Rattle.scope_rules.specs.declared.types.capacity.Limits.{Limits}
 use Rattle.scope_rules.specs.declared.types.events.Event.{Event}
@@ -10,7 +10,7 @@ use Rattle.scope_rules.specs.declared.types.answers.Cancelling.TheVariants.{Reco
 use Rattle.scope_rules.specs.Ends.{LabelValue, EndValue}
 use Rattle.scope_rules.specs.History.{History}
 use Rattle.scope_rules.specs.Checks.{Checked}
-use Rattle.scope_rules.specs.Table.{check_of, is_already, answering, retire_check}
+use Rattle.scope_rules.specs.Table.{check_of, is_already, retire_check}
 use Rattle.scope_rules.proofs.Accepted.{checks_at, not_refused, not_not}
 use Rattle.std.proofs.lemmas.Bool.{eqb-true}
 use Rattle.scope_rules.specs.Replies.{Realm, Answers, AnswersOrMemory, recording, recorded, base_of}
@@ -18,23 +18,23 @@ use Rattle.scope_rules.specs.Origin.{Origin}
 use Rattle.realm_steps.specs.declared.steps.RealmStep.{RealmStep}
 use Rattle.realm_steps.specs.declared.steps.RealmStep.TheVariants.{Happened, Retirement}
 use Rattle.realm_steps.specs.declared.steps.Holder.TheVariants.{TokenOf}
-use Rattle.realm_steps.specs.Steps.{advance, history_of, Passes}
+use Rattle.realm_steps.specs.Steps.{history_of, Passes}
 use Rattle.realm_steps.proofs.Histories.{history-push}
 use Rattle.atomic_table.specs.Seated.{TableId}
 use Rattle.share_ledger.specs.Values.{KeeperValue, OwnerValue, OwnerAgrees}
 use Rattle.realm_core.specs.Cores.{Tied}
-use Rattle.realm_core.specs.Calls.{history_seen, step_check, Accepted, Refused, OutOfMemory, FoundSo, Does, DoesOrMemory, Records, RecordsOrMemory}
+use Rattle.realm_core.specs.Calls.{history_seen, step_check, Refused, OutOfMemory, FoundSo, Does, DoesOrMemory, Records, RecordsOrMemory}
 use Rattle.realm_core.specs.Telling.{told}
 use Rattle.realm_core.proofs.Steps.{FitsStep, stepped, tied_next, same_limits, looks_now, passes_here, adds_now}
 
 -- an accepted command passed its check, and answers its value
 pub answered : {A : Type 0} (check : Checked) (value answer : A) → AnswersOrMemory check value (Ok answer) → (check ≡ Ok tt) × (answer ≡ value)
-answered (Ok done) value answer said = elim said [ | inl is ↦ (refl, cc) | inr other ↦ absurd cc ]
+answered (Ok done) value answer said = elim said [ inl is ↦ (refl, cc) | inr other ↦ absurd cc ]
 answered (Err r) value answer said = absurd cc
 
 -- a refused one was refused by its check, or memory once that passed
 pub refused : {A : Type 0} (check : Checked) (value : A) (r : Refusal) → AnswersOrMemory check value (Err r) → (check ≡ Err r) ⊎ ((check ≡ Ok tt) × (r ≡ Memory))
-refused (Ok done) value r said = elim said [ | inl other ↦ absurd cc | inr is ↦ inr (refl, cc) ]
+refused (Ok done) value r said = elim said [ inl other ↦ absurd cc | inr is ↦ inr (refl, cc) ]
 refused (Err q) value r said = let same : q ≡ r = cc in rw same (inl refl)
 
 -- one that takes no memory is one that may take it

@@ -1,5 +1,5 @@
 -- What a join answers, by what was made before it.
-use Rattle.std.proofs.Common.{◌≡◌, ℕ, Option, Some, None, option_map, ◌⊎◌, inl, inr, Result, Ok, Err, is_ok, List, [], ◌∷◌, ◌++◌, refl, sym, ap, ◌∙◌, subst}
+use Rattle.std.proofs.Common.{◌≡◌, ℕ, Option, Some, None, option_map, ◌⊎◌, inl, inr, Result, Ok, Err, is_ok, [], ◌∷◌, ◌++◌, refl, ap, ◌∙◌}
 use Rattle.std.specs.Option.{option_and_then}
 use Rattle.scope_rules.specs.declared.types.events.Event.TheVariants.{Join}
 use Rattle.scope_rules.specs.declared.types.outcomes.Outcome.{Outcome}
@@ -9,7 +9,6 @@ use Rattle.scope_rules.specs.History.{History, followed}
 use Rattle.scope_rules.specs.Outcomes.{outcome}
 use Rattle.scope_rules.specs.Checks.{Checked}
 use Rattle.scope_rules.specs.Replies.{AnswersValue}
-use Rattle.scope_rules.specs.declared.types.capacity.Limits.{Limits}
 use Rattle.scope_rules.specs.Ends.{LabelValue, EndValue}
 use Rattle.scope_rules.specs.Table.{check_of}
 use Rattle.scope_rules.specs.Legal.{Accepts}

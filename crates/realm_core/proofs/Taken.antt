@@ -1,5 +1,5 @@
 -- What a ticket's task is on the realm's history, and what the calls with it come to.
-use Rattle.std.proofs.Common.{◌≡◌, ℕ, ◌<◌, true, false, Bool, Option, Some, None, Result, Ok, Err, is_ok, is_some, List, [], ◌∷◌, ◌++◌, refl, sym, ap, ◌∙◌, subst, arith}
+use Rattle.std.proofs.Common.{◌≡◌, ℕ, true, false, Bool, Some, Result, Ok, Err, is_ok, is_some, [], ◌∷◌, ◌++◌, refl, sym, ap, ◌∙◌, subst, arith}
 use Rattle.std.specs.Prelude.{if◌then◌else◌}
 use Rattle.scope_rules.specs.declared.types.capacity.Limits.{Limits}
 use Rattle.scope_rules.specs.declared.types.events.Event.{Event}
@@ -9,7 +9,7 @@ use Rattle.scope_rules.specs.declared.types.records.Forking.{Forking}
 use Rattle.scope_rules.specs.declared.types.refusals.Refusal.{Refusal}
 use Rattle.scope_rules.specs.declared.types.refusals.Refusal.TheVariants.{Structure}
 use Rattle.scope_rules.specs.Ends.{LabelValue, EndValue}
-use Rattle.scope_rules.specs.History.{History, forking}
+use Rattle.scope_rules.specs.History.{History}
 use Rattle.scope_rules.specs.Scopes.{innermost}
 use Rattle.scope_rules.specs.Cancels.{cancelled_before}
 use Rattle.scope_rules.specs.Tasks.{stage}
@@ -20,7 +20,6 @@ use Rattle.scope_rules.specs.Replies.{Realm, Answers}
 use Rattle.scope_rules.proofs.Forkings.{forked_after}
 use Rattle.scope_rules.proofs.Stages.{waiting_forked, running_forked}
 use Rattle.scope_kept.proofs.Checked.{task_passes}
-use Rattle.realm_steps.specs.declared.steps.RealmStep.{RealmStep}
 use Rattle.realm_steps.specs.declared.steps.RealmStep.TheVariants.{Happened}
 use Rattle.realm_steps.specs.declared.steps.Holder.TheVariants.{TicketOf}
 use Rattle.realm_steps.specs.Steps.{history_of}

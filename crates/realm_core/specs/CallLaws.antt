@@ -1,5 +1,5 @@
 -- How the words for what calls did are put together, where one call follows another.
-use Rattle.std.specs.Prelude.{◌≡◌, List}
+use Rattle.std.specs.Prelude.{List}
 use Rattle.scope_rules.specs.declared.types.capacity.Limits.{Limits}
 use Rattle.realm_steps.specs.declared.steps.RealmStep.{RealmStep}
 use Rattle.realm_steps.specs.declared.steps.Holder.{Holder}

@@ -1,6 +1,6 @@
 -- What a call on a token did to what the token has seen, and what it answered: the public words of a
 -- realm's calls.
-use Rattle.std.specs.Prelude.{◌≡◌, ℕ, Bool, true, false, ◌⊎◌, Result, Ok, Err}
+use Rattle.std.specs.Prelude.{◌≡◌, ℕ, true, ◌⊎◌, Result, Ok, Err}
 use Rattle.scope_rules.specs.declared.types.capacity.Limits.{Limits}
 use Rattle.scope_rules.specs.declared.types.events.Event.{Event}
 use Rattle.scope_rules.specs.declared.types.refusals.Refusal.{Refusal}

@@ -1,5 +1,5 @@
 -- What a fork gives, and what the calls with a ticket do.
-use Rattle.std.specs.Prelude.{◌≡◌, ℕ, Bool, true, false, None, Some, Result, Ok, Err}
+use Rattle.std.specs.Prelude.{◌≡◌, ℕ, true, false, None, Some, Result, Ok, Err}
 use Rattle.scope_rules.specs.declared.types.answers.ForkReply.{ForkReply}
 use Rattle.scope_rules.specs.declared.types.answers.ForkReply.TheVariants as reply
 use Rattle.scope_rules.specs.declared.types.events.Event.TheVariants.{Finish}

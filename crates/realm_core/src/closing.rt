@@ -25,11 +25,7 @@ impl<C: Catalog, N: RealmName> RealmCore<C, N> {
     /// for a scope that is unknown (`NoScope`, `Retired`), another's (`NotOwner`), not closing
     /// (`WrongStage`) or closed (`Closed`), while the actor has a later scope that is not closed
     /// (`Structure`), and while a task of the scope waits or runs (`NotReady`).
-    pub fn end_close(
-        &mut self,
-        share: &mut OwnerShare,
-        scope: ScopeId,
-    ) -> Result<Verdict, Refusal>
+    pub fn end_close(&mut self, share: &mut OwnerShare, scope: ScopeId) -> Result<Verdict, Refusal>
         requires named { share.old.table ≡ N.table }
         ensures token { share.new ≡ record share.old { seen = share.new.seen } }
         ensures core { self.new ≡ record self.old { steps = share.new.seen } }

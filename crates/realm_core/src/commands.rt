@@ -2,8 +2,8 @@ ghost use Rattle.std.specs.Prelude.{◌≡◌, [], IfOk};
 ghost use Rattle.scope_rules.specs.Replies.{next_scope, base_of, recorded};
 ghost use Rattle.realm_core.specs.Calls.{DoesOrMemory, Records, RecordsOrMemory, history_seen};
 
-use crate::state::RealmCore;
 use crate::names::RealmName;
+use crate::state::RealmCore;
 use crate::telling::{tell, tell_retired};
 use realm_steps::RealmStep;
 use scope_rules::{
@@ -103,11 +103,7 @@ impl<C: Catalog, N: RealmName> RealmCore<C, N> {
     /// Cancels the scope and all that it reaches, with any actor's token (Trio, `cancel`). A scope that
     /// is cancelled already stays as it is. Refused for a scope that is unknown (`NoScope`, `Retired`),
     /// or closing or closed (`Closed`), and where the limit of load is met (`TooMany`).
-    pub fn cancel(
-        &mut self,
-        share: &mut OwnerShare,
-        scope: ScopeId,
-    ) -> Result<Cancelling, Refusal>
+    pub fn cancel(&mut self, share: &mut OwnerShare, scope: ScopeId) -> Result<Cancelling, Refusal>
         requires named { share.old.table ≡ N.table }
         ensures token { share.new ≡ record share.old { seen = share.new.seen } }
         ensures core { self.new ≡ record self.old { steps = share.new.seen } }

@@ -1,8 +1,8 @@
 ghost use Rattle.std.specs.Prelude.{◌≡◌};
 ghost use Rattle.realm_core.specs.Views.{Joins};
 
-use crate::state::RealmCore;
 use crate::names::RealmName;
+use crate::state::RealmCore;
 use crate::telling::tell;
 use scope_log::ScopeLog;
 use scope_rules::{Catalog, Event, Outcome, Refusal, ScopeId};

@@ -8,12 +8,10 @@ ghost use Rattle.scope_rules.specs.Table.{answering, check_of, until_check};
 ghost use Rattle.scope_rules.specs.Replies.{result_reply, fault_reply, binding_reply};
 ghost use Rattle.realm_core.specs.Calls.{Looked, history_seen};
 
-use crate::state::RealmCore;
 use crate::names::RealmName;
+use crate::state::RealmCore;
 use scope_checks::checks::scope_check;
-use scope_rules::{
-    Catalog, Effective, Event, Fault, Name, Refusal, ScopeId, State, TaskId, Value,
-};
+use scope_rules::{Catalog, Effective, Event, Fault, Name, Refusal, ScopeId, State, TaskId, Value};
 use share_ledger::OwnerShare;
 
 /// The queries with a token. Each lets the token see all that has happened, adds nothing, and answers its
