@@ -5,3 +5,5 @@ pub mod Taken
 pub mod ForkedTasks
 pub mod Previewed
 pub mod Marks
+pub mod LaterClosing
+pub mod Ended

@@ -4,3 +4,4 @@ pub mod Telling
 pub mod Tasks
 pub mod Views
 pub mod CallLaws
+pub mod Endings

@@ -1,4 +1,4 @@
-ghost use Rattle.std.specs.Prelude.{◌≡◌};
+ghost use Rattle.std.specs.Prelude.{◌≡◌, IsOk};
 ghost use Rattle.scope_rules.specs.Scopes.{innermost, closed};
 ghost use Rattle.scope_rules.specs.Tasks.{settled};
 ghost use Rattle.scope_rules.specs.Verdicts.{verdict};
@@ -7,6 +7,7 @@ ghost use Rattle.scope_rules.specs.Replies.{AnswersValue};
 ghost use Rattle.scope_log.specs.Log.{log};
 ghost use Rattle.realm_steps.specs.Steps.{history_of};
 ghost use Rattle.realm_core.specs.Calls.{Does};
+ghost use Rattle.realm_core.specs.Endings.{CanEnd};
 
 use crate::names::RealmName;
 use crate::state::RealmCore;
@@ -24,15 +25,18 @@ impl<C: Catalog, N: RealmName> RealmCore<C, N> {
     /// Closes the actor's scope. It takes no memory. Refused where the actor is no running task or main,
     /// for a scope that is unknown (`NoScope`, `Retired`), another's (`NotOwner`), not closing
     /// (`WrongStage`) or closed (`Closed`), while the actor has a later scope that is not closed
-    /// (`Structure`), and while a task of the scope waits or runs (`NotReady`).
+    /// (`Structure`), and while a task of the scope waits or runs (`NotReady`). Where none of this holds it
+    /// is never refused.
     pub fn end_close(&mut self, share: &mut OwnerShare, scope: ScopeId) -> Result<Verdict, Refusal>
         requires named { share.old.table ≡ N.table }
         ensures token { share.new ≡ record share.old { seen = share.new.seen } }
         ensures core { self.new ≡ record self.old { steps = share.new.seen } }
         ensures answer { Does share.old share.new (RealmStep.Happened (Event.EndClose share.old.actor scope)) (λ h. verdict h scope) result }
+        ensures sure { CanEnd (history_of self.old.steps) share.old.actor scope → IsOk result }
     {
         let actor = share.actor();
         let event = Event::EndClose { actor, scope };
+        let _limits = self.realm.limits();
         let result = self.realm.end_close(actor, scope);
         tell(&mut self.keeper, share, &event, result.is_ok());
         result

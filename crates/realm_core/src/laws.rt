@@ -1,7 +1,7 @@
 //! How what calls did is put together, where one follows another, as by a call that waits. Each function
 //! does nothing: its contract is the law.
 
-ghost use Rattle.realm_core.specs.CallLaws.{HoldersAgree, AgreementsGoOn, LooksGoOn, AddsGoOn};
+ghost use Rattle.realm_core.specs.CallLaws.{HoldersAgree, AgreementsGoOn, LooksGoOn, AddsGoOn, LaterScopesClose};
 
 /// A holder agrees with what it has seen.
 pub fn holders_agree()
@@ -21,4 +21,10 @@ pub fn looks_go_on()
 /// A step that is added after looks is added.
 pub fn adds_go_on()
     ensures { AddsGoOn }
+{}
+
+/// Where a scope is closing and not closed, each scope that its owner opened later and has not closed is
+/// closing.
+pub fn later_scopes_close()
+    ensures { LaterScopesClose }
 {}
