@@ -1,5 +1,5 @@
 -- Where the close of a scope can end, nothing refuses it.
-use Rattle.std.proofs.Common.{◌≡◌, ℕ, ◌==◌, Bool, true, false, not, cond, Some, Result, Ok, [], ◌∷◌, refl, ap, subst, inl, inr}
+use Rattle.std.proofs.Common.{◌≡◌, ℕ, ◌==◌, Bool, true, false, not, cond, Result, Ok, [], ◌∷◌, refl, subst, inl, inr}
 use Rattle.std.specs.Prelude.{IsOk}
 use Rattle.std.proofs.lemmas.Bool.{eq-eqb}
 use Rattle.scope_rules.specs.declared.types.capacity.Limits.{Limits}

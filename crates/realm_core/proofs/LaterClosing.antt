@@ -1,6 +1,6 @@
 -- In a legal history, what an owner opened later than a scope whose close has begun, and has not closed,
 -- is closing too.
-use Rattle.std.proofs.Common.{◌≡◌, ℕ, ◌+◌, ◌<◌, ◌≤◌, cond, ◌==◌, ◌&&◌, ◌||◌, Bool, true, false, not, Option, Some, None, [], length, refl, sym, ap, ◌∙◌, subst, arith, inl, inr, ◌⊎◌}
+use Rattle.std.proofs.Common.{◌≡◌, ℕ, ◌+◌, ◌<◌, ◌≤◌, cond, ◌==◌, ◌||◌, Bool, true, false, not, Option, Some, None, [], length, refl, sym, ap, ◌∙◌, subst, arith, inl, inr, ◌⊎◌}
 use Rattle.std.proofs.lemmas.Bool.{both_ways, eqb-true, eq-eqb, cases_lt, and_parts, and_from, ltb-true, lt-ltb}
 use Rattle.scope_rules.specs.declared.types.capacity.Limits.{Limits}
 use Rattle.scope_rules.specs.declared.types.events.Event.{Event}
@@ -16,7 +16,7 @@ use Rattle.scope_rules.proofs.Accepted.{checks_at, not_refused}
 use Rattle.scope_rules.proofs.Owing.{count_push}
 use Rattle.scope_rules.specs.Legal.{Accepts, Legal}
 use Rattle.scope_rules.proofs.OneEventMore.{along, opening_split, unclosed_earlier, closing_grows, closing_stays}
-use Rattle.scope_rules.proofs.Innermosts.{HasUnclosed, opened_after, innermost_unclosed, unclosed_innermost}
+use Rattle.scope_rules.proofs.Innermosts.{opened_after, innermost_unclosed, unclosed_innermost}
 
 abbrev LaterClose : History → Type 0
 LaterClose h = (s t : ℕ) (o x : Opening) → opening h s ≡ Some o → opening h t ≡ Some x → o.actor ≡ x.actor → s < t → closing h s ≡ true → closed h s ≡ false → closed h t ≡ false → closing h t ≡ true

@@ -7,3 +7,4 @@ pub mod Previewed
 pub mod Marks
 pub mod LaterClosing
 pub mod Ended
+pub mod Closes

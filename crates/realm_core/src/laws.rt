@@ -2,6 +2,7 @@
 //! does nothing: its contract is the law.
 
 ghost use Rattle.realm_core.specs.CallLaws.{HoldersAgree, AgreementsGoOn, LooksGoOn, AddsGoOn, LaterScopesClose};
+ghost use Rattle.realm_core.specs.Endings.{ClosesGoOn};
 
 /// A holder agrees with what it has seen.
 pub fn holders_agree()
@@ -27,4 +28,10 @@ pub fn adds_go_on()
 /// closing.
 pub fn later_scopes_close()
     ensures { LaterScopesClose }
+{}
+
+/// A close that can come to its end goes on with the actor's innermost scope: nothing refuses the end of
+/// that, and then the close can still come to its end.
+pub fn closes_go_on()
+    ensures { ClosesGoOn }
 {}
