@@ -1,6 +1,6 @@
-ghost use Rattle.std.specs.Prelude.{◌≡◌, true, false, None};
+ghost use Rattle.std.specs.Prelude.{◌≡◌, true, false, None, Some};
 ghost use Rattle.std.specs.List.{sum_by};
-ghost use Rattle.realm_steps.specs.Tickets.{end_in};
+ghost use Rattle.realm_steps.specs.Tickets.{grant_in, end_in};
 ghost use Rattle.share_ledger.specs.Values.{IsTicket, given_count, started_count, finished_count};
 ghost use Rattle.share_ledger.specs.Desks.{limits_of, steps_of, view_of};
 
@@ -77,9 +77,11 @@ impl Ticket {
         self.scope
     }
 
-    /// What the task was forked with.
+    /// What the task was forked with. It also says of the list that it has that fork, which gave the task
+    /// a thread.
     pub fn label(&self) -> Label
-        ensures { result ≡ self.now.label }
+        ensures label { result ≡ self.now.label }
+        ensures granted { grant_in self.now.task self.now.seen ≡ Some (record { scope = self.now.scope; label = self.now.label }) }
     {
         self.label
     }

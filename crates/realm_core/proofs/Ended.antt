@@ -1,0 +1,46 @@
+-- Where the close of a scope can end, nothing refuses it.
+use Rattle.std.proofs.Common.{◌≡◌, ℕ, ◌==◌, Bool, true, false, not, cond, Result, Ok, [], ◌∷◌, refl, subst, inl, inr}
+use Rattle.std.specs.Prelude.{IsOk}
+use Rattle.std.proofs.lemmas.Bool.{eq-eqb}
+use Rattle.scope_rules.specs.declared.types.capacity.Limits.{Limits}
+use Rattle.scope_rules.specs.declared.types.events.Event.TheVariants.{EndClose}
+use Rattle.scope_rules.specs.declared.types.refusals.Refusal.TheVariants.{WrongStage}
+use Rattle.scope_rules.specs.History.{History}
+use Rattle.scope_rules.specs.Tasks.{stage, is_running}
+use Rattle.scope_rules.specs.Checks.{Checked, checks, then_check, refuse_if, task_check, actor_check, owns, is_innermost}
+use Rattle.scope_rules.specs.Table.{check_of}
+use Rattle.scope_rules.specs.Legal.{Legal}
+use Rattle.scope_rules.proofs.PassedRows.{IsActor}
+use Rattle.scope_rules.proofs.Stages.{running_forked}
+use Rattle.scope_rules.proofs.ClosingOwners.{owners_act}
+use Rattle.scope_kept.proofs.Checked.{scope_passes, task_passes}
+use Rattle.realm_core.specs.Endings.{CanEnd}
+
+task_acts : (h : History) (a : ℕ) → is_running (stage h a) ≡ true → checks (task_check h a ∷ refuse_if (not (is_running (stage h a))) WrongStage ∷ []) ≡ Ok tt
+unfolding checks then_check
+task_acts h a runs =
+    let it = running_forked h a runs in
+    rw (task_passes h a it.forked it.is, runs) refl
+
+either_way : (b : Bool) (c : Checked) → c ≡ Ok tt → cond b (Ok tt) c ≡ Ok tt
+either_way true c so = refl
+either_way false c so = so
+
+actor_passes : (h : History) (a : ℕ) → IsActor h a → actor_check h a ≡ Ok tt
+unfolding actor_check
+actor_passes h a acts =
+    elim acts [
+      | inl main ↦ rw main refl
+      | inr runs ↦ either_way (a == 0) _ (task_acts h a runs)
+    ]
+
+pub end_passes : (L : Limits) (h : History) (a s : ℕ) → Legal L h → CanEnd h a s → check_of L h (EndClose a s) ≡ Ok tt
+unfolding check_of checks then_check owns is_innermost
+end_passes L h a s legal can =
+    let acts = subst (IsActor h) can.by (owners_act L h s can.opened legal can.is can.unclosed) in
+    let owner : (can.opened.actor == a) ≡ true = eq-eqb can.opened.actor a can.by in
+    let itself : (s == s) ≡ true = eq-eqb s s refl in
+    rw (actor_passes h a acts, scope_passes h s can.opened can.is, can.is, owner, can.begun, can.unclosed, can.innermost, itself, can.settled) refl
+
+pub ok_is : {A E : Type 0} (result : Result A E) (x : A) → result ≡ Ok x → IsOk result
+ok_is result x is = rw is refl

@@ -1,0 +1,10 @@
+pub mod Joining
+pub mod Steps
+pub mod Performed
+pub mod Taken
+pub mod ForkedTasks
+pub mod Previewed
+pub mod Marks
+pub mod LaterClosing
+pub mod Ended
+pub mod Closes

@@ -1,0 +1,107 @@
+-- What a ticket's task is on the realm's history, and what the calls with it come to.
+use Rattle.std.proofs.Common.{◌≡◌, ℕ, true, false, Bool, Some, Result, Ok, Err, is_ok, is_some, [], ◌∷◌, ◌++◌, refl, sym, ap, ◌∙◌, subst, arith}
+use Rattle.std.specs.Prelude.{if◌then◌else◌}
+use Rattle.scope_rules.specs.declared.types.capacity.Limits.{Limits}
+use Rattle.scope_rules.specs.declared.types.events.Event.{Event}
+use Rattle.scope_rules.specs.declared.types.events.Event.TheVariants.{Reject, Start, Finish}
+use Rattle.scope_rules.specs.declared.types.answers.Stage.TheVariants.{Waiting, Running}
+use Rattle.scope_rules.specs.declared.types.records.Forking.{Forking}
+use Rattle.scope_rules.specs.declared.types.refusals.Refusal.{Refusal}
+use Rattle.scope_rules.specs.declared.types.refusals.Refusal.TheVariants.{Structure}
+use Rattle.scope_rules.specs.Ends.{LabelValue, EndValue}
+use Rattle.scope_rules.specs.History.{History}
+use Rattle.scope_rules.specs.Scopes.{innermost}
+use Rattle.scope_rules.specs.Cancels.{cancelled_before}
+use Rattle.scope_rules.specs.Tasks.{stage}
+use Rattle.scope_rules.specs.Checks.{checks, then_check, refuse_if}
+use Rattle.scope_rules.specs.Table.{check_of}
+use Rattle.scope_rules.specs.Legal.{Accepts}
+use Rattle.scope_rules.specs.Replies.{Realm, Answers}
+use Rattle.scope_rules.proofs.Forkings.{forked_after}
+use Rattle.scope_rules.proofs.Stages.{waiting_forked, running_forked}
+use Rattle.scope_kept.proofs.Checked.{task_passes}
+use Rattle.realm_steps.specs.declared.steps.RealmStep.TheVariants.{Happened}
+use Rattle.realm_steps.specs.declared.steps.Holder.TheVariants.{TicketOf}
+use Rattle.realm_steps.specs.Steps.{history_of}
+use Rattle.realm_steps.specs.Tickets.{Grant, grant_in}
+use Rattle.realm_steps.specs.StepLaws.{grant_shown}
+use Rattle.realm_steps.proofs.Waits.{given_ticket_waits, started_ticket_runs}
+use Rattle.realm_steps.proofs.Told.{seen_tells}
+use Rattle.realm_steps.proofs.Ends.{tells_history}
+use Rattle.atomic_table.specs.Seated.{TableId}
+use Rattle.share_ledger.specs.Values.{KeeperValue, TicketValue, TicketAgrees, IsWaiting}
+use Rattle.scope_book.specs.Fits.{FitsTask, FitsEvent}
+use Rattle.realm_core.specs.Cores.{Tied}
+use Rattle.realm_core.specs.Calls.{TicketAdded}
+use Rattle.realm_core.specs.Tasks.{IsRunning}
+use Rattle.realm_core.proofs.Steps.{stepped, tied_next, adds_now}
+
+-- a task that waits may be started, and rejected
+pub may_start : (L : Limits) (h : History) (k : ℕ) → stage h k ≡ Waiting → check_of L h (Start k) ≡ Ok tt
+unfolding check_of checks then_check
+may_start L h k waits =
+    let it = waiting_forked h k (rw waits refl) in
+    rw (task_passes h k it.forked it.is, waits) refl
+
+pub may_reject : (L : Limits) (h : History) (k : ℕ) → stage h k ≡ Waiting → check_of L h (Reject k) ≡ Ok tt
+unfolding check_of checks then_check
+may_reject L h k waits =
+    let it = waiting_forked h k (rw waits refl) in
+    rw (task_passes h k it.forked it.is, waits) refl
+
+structure_alone : (b : Bool) (r : Refusal) → then_check (Ok tt) (then_check (Ok tt) (then_check (refuse_if b Structure) (Ok tt))) ≡ Err r → r ≡ Structure
+unfolding then_check
+structure_alone true r is = cc
+structure_alone false r is = absurd cc
+
+-- the end of a task that runs is refused for its scopes alone
+pub only_structure : (L : Limits) (h : History) (k : ℕ) (end : EndValue) (r : Refusal) → stage h k ≡ Running → check_of L h (Finish k end) ≡ Err r → r ≡ Structure
+unfolding check_of checks
+only_structure L h k end r runs refusing =
+    let it = running_forked h k (rw runs refl) in
+    structure_alone (is_some (innermost h k)) r (rw (task_passes h k it.forked it.is, runs) at refusing)
+
+-- where its check passes, a command that takes no memory is accepted
+pub accepted_ok : {A : Type 0} (L : Limits) (h : History) (e : Event) (value : A) (result : Result A Refusal) → check_of L h e ≡ Ok tt → Answers (check_of L h e) value result → result ≡ Ok value
+accepted_ok L h e value result passed said = rw passed at said
+
+label_shown : (b : Bool) (scope : ℕ) (label : LabelValue) (f : Forking) → Some (record { scope = scope; label = label }) ≡ grant_shown b f → label ≡ f.label
+label_shown true scope label f is = absurd cc
+label_shown false scope label f is = let same : record { scope = scope; label = label } ≡ record { scope = f.scope; label = f.label } = cc in ap (λ (g : Grant). g.label) same
+
+module _ (fits : LabelValue → EndValue → Type 0) (name : TableId) (realm : Realm) (keeper : KeeperValue) (tied : Tied fits name realm keeper) (ticket : TicketValue) (agrees : TicketAgrees ticket keeper) where
+  -- a ticket that is given and not started: its task waits
+  pub waits_now : IsWaiting ticket → stage realm.history ticket.task ≡ Waiting
+  waits_now waiting =
+      subst (λ (h : History). stage h ticket.task ≡ Waiting) tied.replay (given_ticket_waits keeper.limits ticket.task ticket.seen keeper.steps tied.lawful agrees.agrees waiting.given waiting.unstarted)
+
+  -- one that is started and not finished: its task runs
+  pub runs_now : IsRunning ticket → stage realm.history ticket.task ≡ Running
+  runs_now running =
+      subst (λ (h : History). stage h ticket.task ≡ Running) tied.replay (started_ticket_runs keeper.limits ticket.task ticket.seen keeper.steps tied.lawful agrees.agrees running.given running.started running.unfinished)
+
+  pub start_accepted : IsWaiting ticket → Accepts realm.limits realm.history (Start ticket.task)
+  start_accepted waiting = record { passed = may_start realm.limits realm.history ticket.task (waits_now waiting); recorded = refl }
+
+  pub reject_accepted : IsWaiting ticket → Accepts realm.limits realm.history (Reject ticket.task)
+  reject_accepted waiting = record { passed = may_reject realm.limits realm.history ticket.task (waits_now waiting); recorded = refl }
+
+  fits_there : (label : LabelValue) (scope : ℕ) (end : EndValue) → grant_in ticket.task ticket.seen ≡ Some (record { scope = scope; label = label }) → fits label end → FitsTask fits (history_of keeper.steps) ticket.task end
+  fits_there label scope end granted fit f is =
+      let number = forked_after (history_of keeper.steps) ticket.task f is in
+      let told = tells_history keeper.limits keeper.steps ticket.task tied.lawful (omega (arith, number.1, number.2)) in
+      let shown = sym ((seen_tells ticket.task ticket.seen keeper.steps agrees.agrees).grant (record { scope = scope; label = label }) granted) ∙ told.grant f is in
+      subst (λ (l : LabelValue). fits l end) (label_shown (cancelled_before (history_of keeper.steps) f.scope f.place) scope label f shown) fit
+
+  -- an end that fits the ticket's label fits its task
+  pub fits_now : (end : EndValue) → grant_in ticket.task ticket.seen ≡ Some (record { scope = ticket.scope; label = ticket.label }) → fits ticket.label end → FitsTask fits realm.history ticket.task end
+  fits_now end granted fit = subst (λ (h : History). FitsTask fits h ticket.task end) tied.replay (fits_there ticket.label ticket.scope end granted fit)
+
+  -- the realm and the keeper after an accepted event
+  pub tied_taken : (e : Event) (result : Result (Unit {0}) Refusal) (realm' : Realm) (keeper' : KeeperValue) → Accepts realm.limits realm.history e → FitsEvent fits realm.history e → Answers (check_of realm.limits realm.history e) tt result → realm' ≡ (if is_ok result then stepped realm (Happened e) else realm) → keeper' ≡ record keeper { steps = keeper.steps ++ Happened e ∷ [] } → Tied fits name realm' keeper'
+  tied_taken e result realm' keeper' ok fit said realm_is keeper_is =
+      let accepted = accepted_ok realm.limits realm.history e tt result ok.passed said in
+      rw (realm_is, accepted, keeper_is) (tied_next fits name realm keeper tied (Happened e) ok fit)
+
+  pub adds_taken : (e : Event) (new : TicketValue) → Accepts realm.limits realm.history e → new ≡ record ticket { seen = keeper.steps ++ Happened e ∷ [] } → TicketAdded ticket new (Happened e)
+  adds_taken e new ok new_is = rw new_is (adds_now fits name realm keeper tied (TicketOf ticket.task) ticket.limits ticket.seen agrees (Happened e) ok)

@@ -1,0 +1,18 @@
+use Rattle.std.proofs.Common.{refl}
+use Rattle.scope_rules.specs.declared.types.events.Event.TheVariants.{Join}
+use Rattle.realm_steps.specs.declared.steps.RealmStep.TheVariants.{Happened}
+use Rattle.realm_core.proofs.Performed.{answers_so, tied_after}
+use Rattle.realm_core.proofs.Previewed.{joins_now}
+use Rattle.realm_core.proofs.state.RealmCore.join.Goals as goal
+
+pub invariant_of-self : goal.invariant_of-self
+invariant_of-self g c =
+    let told_so = rw c.is_ok.ensures.value at c.tell.ensures.keeper in
+    tied_after g.C.Catalog.fitting g.N.RealmName.table c.self.inside.realm c.self.inside.keeper c.self.invariant c.actor-actor.result (Happened (Join c.actor-actor.result c.args.scope)) tt c.join_now-joined.result _ _ (λ L h ok. record { passed = ok; recorded = refl }) tt (answers_so _ _ _ c.join_now-joined.ensures.answer) c.join_now-joined.ensures.history told_so
+
+pub returns-in-Ok-clause-answer : goal.returns-in-Ok-clause-answer
+returns-in-Ok-clause-answer g c =
+    let made = rw c.actor-actor.ensures at c.in-Ok.ensures in
+    let said = rw c.actor-actor.ensures at c.join_now-joined.ensures.answer in
+    let told_so = rw (c.is_ok.ensures.value, c.actor-actor.ensures) at c.tell.ensures.keeper in
+    joins_now g.C.Catalog.fitting g.N.RealmName.table c.self.inside.realm c.self.inside.keeper c.self.invariant c.args.share.now c.tell.ensures.agreed c.args.scope c.in-Ok.preview c.join_now-joined.result _ c.tell.new.share made said told_so c.tell.ensures.share

@@ -1,0 +1,24 @@
+use Rattle.std.proofs.Common.{◌≡◌, true, ap, ◌∙◌}
+use Rattle.std.specs.Prelude.{is_ok}
+use Rattle.scope_rules.specs.declared.types.events.Event.TheVariants.{Reject}
+use Rattle.realm_core.proofs.Taken.{accepted_ok, reject_accepted, tied_taken, adds_taken}
+use Rattle.realm_core.proofs.state.RealmCore.reject.Goals as goal
+
+pub prove-unreachable-requires : goal.prove-unreachable-requires
+prove-unreachable-requires g c =
+    let ok = reject_accepted g.C.Catalog.fitting g.N.RealmName.table c.self.inside.realm c.self.inside.keeper c.self.invariant c.args.ticket.now c.reject.ensures.agreed c.requires.waiting in
+    let answer = rw c.task-task.ensures at c.reject-rejected.ensures.answer in
+    let so : c.is_ok.result ≡ true = c.is_ok.ensures.value ∙ ap is_ok (accepted_ok _ _ (Reject c.args.ticket.now.task) tt c.reject-rejected.result ok.passed answer) in
+    absurd cc
+
+pub invariant_of-self : goal.invariant_of-self
+invariant_of-self g c =
+    let ok = reject_accepted g.C.Catalog.fitting g.N.RealmName.table c.self.inside.realm c.self.inside.keeper c.self.invariant c.args.ticket.now c.reject.ensures.agreed c.requires.waiting in
+    let answer = rw c.task-task.ensures at c.reject-rejected.ensures.answer in
+    let history = rw c.task-task.ensures at c.reject-rejected.ensures.history in
+    tied_taken g.C.Catalog.fitting g.N.RealmName.table c.self.inside.realm c.self.inside.keeper c.self.invariant c.args.ticket.now c.reject.ensures.agreed (Reject c.args.ticket.now.task) c.reject-rejected.result _ _ ok tt answer history c.reject.ensures.keeper
+
+pub returns-clause-added : goal.returns-clause-added
+returns-clause-added g c =
+    let ok = reject_accepted g.C.Catalog.fitting g.N.RealmName.table c.self.inside.realm c.self.inside.keeper c.self.invariant c.args.ticket.now c.reject.ensures.agreed c.requires.waiting in
+    adds_taken g.C.Catalog.fitting g.N.RealmName.table c.self.inside.realm c.self.inside.keeper c.self.invariant c.args.ticket.now c.reject.ensures.agreed (Reject c.args.ticket.now.task) c.reject.new.ticket ok (rw c.reject.ensures.keeper at c.reject.ensures.ticket)

@@ -1,0 +1,86 @@
+-- What a call on a token did to what the token has seen, and what it answered: the public words of a
+-- realm's calls.
+use Rattle.std.specs.Prelude.{◌≡◌, ℕ, true, ◌⊎◌, Result, Ok, Err}
+use Rattle.scope_rules.specs.declared.types.capacity.Limits.{Limits}
+use Rattle.scope_rules.specs.declared.types.events.Event.{Event}
+use Rattle.scope_rules.specs.declared.types.refusals.Refusal.{Refusal}
+use Rattle.scope_rules.specs.declared.types.refusals.Refusal.TheVariants.{Memory}
+use Rattle.scope_rules.specs.declared.types.answers.Cancelling.{Cancelling}
+use Rattle.scope_rules.specs.declared.types.answers.Cancelling.TheVariants.{Recorded, Already}
+use Rattle.scope_rules.specs.History.{History}
+use Rattle.scope_rules.specs.Checks.{Checked}
+use Rattle.scope_rules.specs.Table.{check_of, is_already, retire_check}
+use Rattle.realm_steps.specs.declared.steps.RealmStep.{RealmStep}
+use Rattle.realm_steps.specs.declared.steps.RealmStep.TheVariants.{Happened, Retirement}
+use Rattle.realm_steps.specs.declared.steps.Holder.TheVariants.{TokenOf, TicketOf}
+use Rattle.realm_steps.specs.Steps.{history_of}
+use Rattle.realm_steps.specs.Holders.{Adds, Looks}
+use Rattle.share_ledger.specs.Values.{OwnerValue, TicketValue}
+
+-- what was seen with a token, as the history that it leaves
+abbrev pub history_seen : OwnerValue → History
+history_seen token = history_of token.seen
+
+-- a call on a token that added nothing: the token has seen what it had seen, and steps of others
+abbrev pub Looked : OwnerValue → OwnerValue → Type 0
+Looked old new = Looks (TokenOf old.actor) old.limits old.seen new.seen
+
+-- a call on a token that added exactly the step, where it was accepted
+abbrev pub Added : OwnerValue → OwnerValue → RealmStep → Type 0
+Added old new x = Adds (TokenOf old.actor) old.limits old.seen x new.seen
+
+-- the same of a ticket
+abbrev pub TicketLooked : TicketValue → TicketValue → Type 0
+TicketLooked old new = Looks (TicketOf old.task) old.limits old.seen new.seen
+
+abbrev pub TicketAdded : TicketValue → TicketValue → RealmStep → Type 0
+TicketAdded old new x = Adds (TicketOf old.task) old.limits old.seen x new.seen
+
+-- what the rules refuse the step for, taken by the actor after h
+abbrev pub step_check : Limits → ℕ → RealmStep → History → Checked
+step_check L a (Happened e) h = check_of L h e
+step_check L a Retirement h = retire_check h a
+
+-- the call added exactly the step, and answered what the rules reply on the steps before it
+pub record Accepted {A : Type 0} (old new : OwnerValue) (x : RealmStep) (reply : History → A) (answer : A) : Type 0 where
+  pub adds : Added old new x
+  pub replied : answer ≡ reply (history_of adds.there)
+
+-- the call added nothing, and refused what the rules refuse on what is seen by then
+pub record Refused (old new : OwnerValue) (x : RealmStep) (refusal : Refusal) : Type 0 where
+  pub looks : Looked old new
+  pub by : step_check old.limits old.actor x (history_seen new) ≡ Err refusal
+
+-- the call added nothing: the step would be accepted on what is seen by then, but memory was refused
+pub record OutOfMemory (old new : OwnerValue) (x : RealmStep) (refusal : Refusal) : Type 0 where
+  pub looks : Looked old new
+  pub passed : step_check old.limits old.actor x (history_seen new) ≡ Ok tt
+  pub memory : refusal ≡ Memory
+
+-- the call added nothing, since all is so already on what is seen by then
+pub record FoundSo (old new : OwnerValue) (e : Event) : Type 0 where
+  pub looks : Looked old new
+  pub passed : check_of old.limits (history_seen new) e ≡ Ok tt
+  pub already : is_already (history_seen new) e ≡ true
+
+-- what a command did that takes no memory
+abbrev pub Does : {A : Type 0} → OwnerValue → OwnerValue → RealmStep → (History → A) → Result A Refusal → Type 0
+Does old new x reply (Ok answer) = Accepted old new x reply answer
+Does old new x reply (Err refusal) = Refused old new x refusal
+
+-- and what one did that takes memory
+abbrev pub DoesOrMemory : {A : Type 0} → OwnerValue → OwnerValue → RealmStep → (History → A) → Result A Refusal → Type 0
+DoesOrMemory old new x reply (Ok answer) = Accepted old new x reply answer
+DoesOrMemory old new x reply (Err refusal) = Refused old new x refusal ⊎ OutOfMemory old new x refusal
+
+-- what a command did that takes none, and may find that all is so already
+abbrev pub Records : OwnerValue → OwnerValue → Event → Result Cancelling Refusal → Type 0
+Records old new e (Ok Recorded) = Added old new (Happened e)
+Records old new e (Ok Already) = FoundSo old new e
+Records old new e (Err refusal) = Refused old new (Happened e) refusal
+
+-- the same of one that takes memory
+abbrev pub RecordsOrMemory : OwnerValue → OwnerValue → Event → Result Cancelling Refusal → Type 0
+RecordsOrMemory old new e (Ok Recorded) = Added old new (Happened e)
+RecordsOrMemory old new e (Ok Already) = FoundSo old new e
+RecordsOrMemory old new e (Err refusal) = Refused old new (Happened e) refusal ⊎ OutOfMemory old new (Happened e) refusal

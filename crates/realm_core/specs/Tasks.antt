@@ -1,0 +1,48 @@
+-- What a fork gives, and what the calls with a ticket do.
+use Rattle.std.specs.Prelude.{◌≡◌, ℕ, true, false, None, Some, Result, Ok, Err}
+use Rattle.scope_rules.specs.declared.types.answers.ForkReply.{ForkReply}
+use Rattle.scope_rules.specs.declared.types.answers.ForkReply.TheVariants as reply
+use Rattle.scope_rules.specs.declared.types.events.Event.TheVariants.{Finish}
+use Rattle.scope_rules.specs.declared.types.refusals.Refusal.{Refusal}
+use Rattle.scope_rules.specs.declared.types.refusals.Refusal.TheVariants.{Structure}
+use Rattle.scope_rules.specs.Ends.{LabelValue, EndValue}
+use Rattle.realm_steps.specs.declared.steps.RealmStep.TheVariants.{Happened}
+use Rattle.realm_steps.specs.Tickets.{given_in, started_in, end_in, finished_in}
+use Rattle.share_ledger.specs.Values.{OwnerValue, TicketValue, IsWaiting}
+use Rattle.realm_core.specs.declared.forking.Forked.{Forked}
+use Rattle.realm_core.specs.declared.forking.Forked.TheVariants.{Thread, Never}
+use Rattle.realm_core.specs.Calls.{TicketLooked, TicketAdded, Refused}
+
+-- the task's number, and whether it gets a thread
+abbrev pub reply_of : Forked → ForkReply
+reply_of (Thread ticket) = reply.Thread ticket.task
+reply_of (Never task) = reply.Never task
+
+-- what was answered, without the ticket
+abbrev pub ticket_aside : Result Forked Refusal → Result ForkReply Refusal
+ticket_aside (Ok forked) = Ok (reply_of forked)
+ticket_aside (Err refusal) = Err refusal
+
+-- the ticket is of a task that was forked so, with the token that has seen so much, and that waits for its
+-- thread
+pub record IsNewTicket (token : OwnerValue) (scope : ℕ) (label : LabelValue) (ticket : TicketValue) : Type 0 where
+  pub is : ticket ≡ record { table = token.table; limits = token.limits; task = ticket.task; scope = scope; label = label; seen = token.seen }
+  pub waiting : IsWaiting ticket
+  pub unended : end_in ticket.task ticket.seen ≡ None
+
+-- a fork that gives a thread gives the task's ticket
+abbrev pub GivesTicket : OwnerValue → ℕ → LabelValue → Result Forked Refusal → Type 0
+GivesTicket token scope label (Ok (Thread ticket)) = IsNewTicket token scope label ticket
+GivesTicket token scope label _ = Unit {0}
+
+-- a ticket whose task was started and has not ended
+pub record IsRunning (t : TicketValue) : Type 0 where
+  pub given : given_in t.task t.seen ≡ true
+  pub started : started_in t.task t.seen ≡ true
+  pub unfinished : finished_in t.task t.seen ≡ false
+
+-- what the end of a ticket's task did: it is there; or it was refused since the task has a scope that is
+-- not closed, and then the token is handed back
+abbrev pub Finishes : TicketValue → TicketValue → OwnerValue → EndValue → Result Unit (Refusal × OwnerValue) → Type 0
+Finishes old new token end (Ok done) = TicketAdded old new (Happened (Finish old.task end)) × (end_in old.task new.seen ≡ Some end)
+Finishes old new token end (Err back) = TicketLooked old new × (back.1 ≡ record token { seen = new.seen }) × Refused token back.1 (Happened (Finish old.task end)) back.0 × (back.0 ≡ Structure)

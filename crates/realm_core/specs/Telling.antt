@@ -1,0 +1,8 @@
+-- What the keeper of a realm's list is told of a call.
+use Rattle.std.specs.Prelude.{Bool, [], ◌∷◌, ◌++◌, if◌then◌else◌}
+use Rattle.realm_steps.specs.declared.steps.RealmStep.{RealmStep}
+use Rattle.share_ledger.specs.Values.{KeeperValue}
+
+-- the keeper's list with the step, or as it was
+abbrev pub told : KeeperValue → RealmStep → Bool → KeeperValue
+told keeper x recorded = if recorded then record keeper { steps = keeper.steps ++ x ∷ [] } else keeper

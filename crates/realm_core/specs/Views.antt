@@ -1,0 +1,54 @@
+-- What views and joins show.
+use Rattle.std.specs.Prelude.{◌≡◌, ℕ, ◌⊎◌, Option, Some, option_map, Result, Ok, Err}
+use Rattle.std.specs.Option.{option_and_then}
+use Rattle.scope_rules.specs.declared.types.answers.Cause.{Cause}
+use Rattle.scope_rules.specs.declared.types.events.Event.TheVariants.{Join}
+use Rattle.scope_rules.specs.declared.types.refusals.Refusal.{Refusal}
+use Rattle.scope_rules.specs.declared.types.refusals.Refusal.TheVariants.{Memory, Unavailable}
+use Rattle.scope_rules.specs.History.{History, moment}
+use Rattle.scope_rules.specs.Cancels.{cause, cancelled_at}
+use Rattle.scope_rules.specs.Tasks.{counts}
+use Rattle.scope_rules.specs.Outcomes.{outcome}
+use Rattle.scope_rules.specs.Checks.{scope_check}
+use Rattle.scope_log.specs.Log.{log}
+use Rattle.realm_steps.specs.declared.steps.RealmStep.TheVariants.{Happened}
+use Rattle.share_ledger.specs.Values.{OwnerValue}
+use Rattle.realm_core.specs.declared.views.View.{View}
+use Rattle.realm_core.specs.declared.joins.Joined.{Joined}
+use Rattle.realm_core.specs.Calls.{history_seen, Added, Refused, OutOfMemory}
+
+-- the view is of scope s after h
+pub record IsViewOf (h : History) (s : ℕ) (view : View) : Type 0 where
+  pub logged : log h s ≡ Some view.log
+  pub caused : view.cause ≡ cause h s
+  pub counted : view.counts ≡ counts h s
+  pub timed : view.moment ≡ moment h
+
+-- scope s became cancelled for this cause, by the event at this place since the base
+pub record IsMarkOf (h : History) (s : ℕ) (because : Cause) (number : ℕ) : Type 0 where
+  pub caused : cause h s ≡ Some because
+  pub placed : cancelled_at h s ≡ Some number
+
+-- why scope s is cancelled, and the place of the event by which it became so, if it is
+abbrev pub cancellation_of : History → ℕ → Option (Cause × ℕ)
+cancellation_of h s = option_and_then (λ at. option_map (λ c. (c, at)) (cause h s)) (cancelled_at h s)
+
+-- what a view of scope s answers after h: it is refused for an unknown scope, and where memory is
+abbrev pub ViewAnswers : History → ℕ → Result View Refusal → Type 0
+ViewAnswers h s (Ok view) = IsViewOf h s view
+ViewAnswers h s (Err refusal) = (scope_check h s ≡ Err refusal) ⊎ ((scope_check h s ≡ Ok tt) × (refusal ≡ Memory))
+
+-- what a view with a mark answers: it is refused also where the mark says something else than h
+abbrev pub MarkedViewAnswers : History → ℕ → Cause → ℕ → Result View Refusal → Type 0
+MarkedViewAnswers h s because number (Ok view) = IsViewOf h s view × IsMarkOf h s because number
+MarkedViewAnswers h s because number (Err refusal) = (scope_check h s ≡ Err refusal) ⊎ (((scope_check h s ≡ Ok tt) × (IsMarkOf h s because number) × (refusal ≡ Memory)) ⊎ ((scope_check h s ≡ Ok tt) × (IsMarkOf h s because number → ⊥) × (refusal ≡ Unavailable)))
+
+-- the log and the outcome are those of scope s after h
+pub record IsJoinOf (h : History) (s : ℕ) (joined : Joined) : Type 0 where
+  pub logged : log h s ≡ Some joined.log
+  pub decided : outcome h s ≡ Some joined.outcome
+
+-- what a join of scope s did: it is there, and the log and the outcome are those with it
+abbrev pub Joins : OwnerValue → OwnerValue → ℕ → Result Joined Refusal → Type 0
+Joins old new s (Ok joined) = Added old new (Happened (Join old.actor s)) × IsJoinOf (history_seen new) s joined
+Joins old new s (Err refusal) = Refused old new (Happened (Join old.actor s)) refusal ⊎ OutOfMemory old new (Happened (Join old.actor s)) refusal

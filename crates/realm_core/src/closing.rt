@@ -1,0 +1,76 @@
+ghost use Rattle.std.specs.Prelude.{◌≡◌, IsOk};
+ghost use Rattle.scope_rules.specs.Scopes.{innermost, closed};
+ghost use Rattle.scope_rules.specs.Tasks.{settled};
+ghost use Rattle.scope_rules.specs.Verdicts.{verdict};
+ghost use Rattle.scope_rules.specs.Checks.{scope_check};
+ghost use Rattle.scope_rules.specs.Replies.{AnswersValue};
+ghost use Rattle.scope_log.specs.Log.{log};
+ghost use Rattle.realm_steps.specs.Steps.{history_of};
+ghost use Rattle.realm_core.specs.Calls.{Does};
+ghost use Rattle.realm_core.specs.Endings.{CanEnd};
+
+use crate::names::RealmName;
+use crate::state::RealmCore;
+use crate::telling::tell;
+use realm_steps::RealmStep;
+use scope_checks::Readings;
+use scope_log::ScopeLog;
+use scope_rules::{Actor, Catalog, Event, Refusal, ScopeId, Verdict};
+use share_ledger::OwnerShare;
+
+/// What the end of a close is made of. The hold that ends one records the ends of several scopes, the
+/// innermost first, each by one call; the readers say, without a token, which comes next and whether it
+/// can end, for the list as it is.
+impl<C: Catalog, N: RealmName> RealmCore<C, N> {
+    /// Closes the actor's scope. It takes no memory. Refused where the actor is no running task or main,
+    /// for a scope that is unknown (`NoScope`, `Retired`), another's (`NotOwner`), not closing
+    /// (`WrongStage`) or closed (`Closed`), while the actor has a later scope that is not closed
+    /// (`Structure`), and while a task of the scope waits or runs (`NotReady`). Where none of this holds it
+    /// is never refused.
+    pub fn end_close(&mut self, share: &mut OwnerShare, scope: ScopeId) -> Result<Verdict, Refusal>
+        requires named { share.old.table ≡ N.table }
+        ensures token { share.new ≡ record share.old { seen = share.new.seen } }
+        ensures core { self.new ≡ record self.old { steps = share.new.seen } }
+        ensures answer { Does share.old share.new (RealmStep.Happened (Event.EndClose share.old.actor scope)) (λ h. verdict h scope) result }
+        ensures sure { CanEnd (history_of self.old.steps) share.old.actor scope → IsOk result }
+    {
+        let actor = share.actor();
+        let event = Event::EndClose { actor, scope };
+        let _limits = self.realm.limits();
+        let result = self.realm.end_close(actor, scope);
+        tell(&mut self.keeper, share, &event, result.is_ok());
+        result
+    }
+
+    /// The latest scope that the actor opened and has not closed.
+    pub fn innermost(&self, actor: Actor) -> Option<ScopeId>
+        ensures { result ≡ innermost (history_of self.now.steps) actor }
+    {
+        let _limits = self.realm.limits();
+        self.realm.innermost(actor)
+    }
+
+    /// Whether no task of the scope waits or runs.
+    pub fn is_settled(&self, scope: ScopeId) -> bool
+        ensures { result ≡ settled (history_of self.now.steps) scope }
+    {
+        let _limits = self.realm.limits();
+        self.realm.settled(scope)
+    }
+
+    /// Whether the scope is closed.
+    pub fn is_closed(&self, scope: ScopeId) -> bool
+        ensures { result ≡ closed (history_of self.now.steps) scope }
+    {
+        let _limits = self.realm.limits();
+        self.realm.closed(scope)
+    }
+
+    /// The log of the scope as it is. Refused for an unknown scope (`NoScope`, `Retired`), and where
+    /// memory is refused (`Memory`).
+    pub fn log(&self, scope: ScopeId) -> Result<ScopeLog, Refusal>
+        ensures { AnswersValue (scope_check (history_of self.now.steps) scope) (log (history_of self.now.steps) scope) result }
+    {
+        self.realm.project(scope)
+    }
+}

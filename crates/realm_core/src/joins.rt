@@ -1,0 +1,49 @@
+ghost use Rattle.std.specs.Prelude.{◌≡◌};
+ghost use Rattle.realm_core.specs.Views.{Joins};
+
+use crate::names::RealmName;
+use crate::state::RealmCore;
+use crate::telling::tell;
+use scope_log::ScopeLog;
+use scope_rules::{Catalog, Event, Outcome, Refusal, ScopeId};
+use share_ledger::OwnerShare;
+
+/// What a join gives.
+#[derive(Debug, Drop)]
+pub struct Joined {
+    /// What the scope's joiner made of the ends of its tasks, or why not.
+    pub outcome: Outcome,
+    /// The log of the scope, with the join at its end.
+    pub log: ScopeLog,
+}
+
+impl<C: Catalog, N: RealmName> RealmCore<C, N> {
+    /// Joins the actor's scope (JEP 505, `join`). All that it gives is made before the join is recorded,
+    /// so want of memory leaves the scope unjoined. Refused where the actor is no running task or main,
+    /// for a scope that is unknown (`NoScope`, `Retired`), another's (`NotOwner`), closing or closed
+    /// (`Closed`) or joined (`AlreadyJoined`), and while it is neither cancelled nor all its tasks have
+    /// ended (`NotReady`).
+    pub fn join(&mut self, share: &mut OwnerShare, scope: ScopeId) -> Result<Joined, Refusal>
+        requires named { share.old.table ≡ N.table }
+        ensures token { share.new ≡ record share.old { seen = share.new.seen } }
+        ensures core { self.new ≡ record self.old { steps = share.new.seen } }
+        ensures answer { Joins share.old share.new scope result }
+    {
+        let actor = share.actor();
+        let event = Event::Join { actor, scope };
+        match self.realm.join_preview(actor, scope) {
+            Ok(preview) => {
+                let joined = self.realm.join_now(actor, scope);
+                tell(&mut self.keeper, share, &event, joined.is_ok());
+                Ok(Joined {
+                    outcome: preview.outcome,
+                    log: preview.log,
+                })
+            }
+            Err(refusal) => {
+                self.keeper.follow(share);
+                Err(refusal)
+            }
+        }
+    }
+}

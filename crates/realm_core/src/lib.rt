@@ -1,0 +1,23 @@
+//! What lies under a realm's lock, as data: the realm, which is the replay of its list of steps, and the
+//! keeper of that list. Each call is one hold of the lock: it checks, records at most one event (a close
+//! its ends), and leaves in the caller's token or ticket what that has seen then. The lock itself, and
+//! the waiting, are of the crate above.
+#![tactic(auto)]
+
+mod closing;
+mod commands;
+mod forking;
+mod joins;
+pub mod laws;
+mod names;
+mod queries;
+mod state;
+mod task_calls;
+mod telling;
+mod views;
+
+pub use forking::Forked;
+pub use joins::Joined;
+pub use names::RealmName;
+pub use state::RealmCore;
+pub use views::View;

@@ -1,0 +1,80 @@
+ghost use Rattle.std.specs.Prelude.{◌≡◌, true, false};
+ghost use Rattle.realm_steps.specs.Tickets.{given_in, started_in};
+ghost use Rattle.share_ledger.specs.Values.{IsWaiting};
+ghost use Rattle.realm_core.specs.Calls.{TicketAdded};
+ghost use Rattle.realm_core.specs.Tasks.{IsRunning, Finishes};
+
+use crate::names::RealmName;
+use crate::state::RealmCore;
+use join_rules::StoredTest;
+use realm_steps::RealmStep;
+use scope_rules::{Catalog, End, Event, Refusal};
+use share_ledger::{OwnerShare, Ticket};
+
+/// The calls with a ticket. The task of a ticket that is given and not started waits, whatever others did
+/// meanwhile, and that of one that is started and not finished runs. None takes memory.
+impl<C: Catalog, N: RealmName> RealmCore<C, N> {
+    /// Records that no thread was had for the ticket's task.
+    pub fn reject(&mut self, ticket: &mut Ticket)
+        requires named { ticket.old.table ≡ N.table }
+        requires waiting { IsWaiting ticket.old }
+        ensures ticket { ticket.new ≡ record ticket.old { seen = ticket.new.seen } }
+        ensures core { self.new ≡ record self.old { steps = ticket.new.seen } }
+        ensures added { TicketAdded ticket.old ticket.new (RealmStep.Happened (Event.Reject ticket.old.task)) }
+        ensures given { given_in ticket.new.task ticket.new.seen ≡ false }
+    {
+        let task = ticket.task();
+        self.keeper.reject(ticket);
+        let rejected = self.realm.reject(task);
+        prove!(rejected.is_ok());
+    }
+
+    /// Starts the ticket's task, whose thread has come, and gives the task's token.
+    pub fn start(&mut self, ticket: &mut Ticket) -> OwnerShare
+        requires named { ticket.old.table ≡ N.table }
+        requires waiting { IsWaiting ticket.old }
+        ensures ticket { ticket.new ≡ record ticket.old { seen = ticket.new.seen } }
+        ensures core { self.new ≡ record self.old { steps = ticket.new.seen } }
+        ensures added { TicketAdded ticket.old ticket.new (RealmStep.Happened (Event.Start ticket.old.task)) }
+        ensures started { started_in ticket.new.task ticket.new.seen ≡ true }
+        ensures token { result ≡ record { table = N.table; limits = ticket.old.limits; actor = ticket.old.task; seen = ticket.new.seen } }
+    {
+        let task = ticket.task();
+        let token = self.keeper.start(ticket);
+        let started = self.realm.start(task);
+        prove!(started.is_ok());
+        token
+    }
+
+    /// Records the end of the ticket's task, which runs, and takes the task's token. `test` is the
+    /// caller's closure, if the scope's joiner has one. Refused only while the task has a scope that is
+    /// not closed (`Structure`); then the token is handed back.
+    pub fn finish(
+        &mut self,
+        ticket: &mut Ticket,
+        mut share: OwnerShare,
+        end: End,
+        test: Option<&StoredTest>,
+    ) -> Result<(), (Refusal, OwnerShare)>
+        requires named { (ticket.old.table ≡ N.table) × (share.table ≡ N.table) }
+        requires actor { share.actor ≡ ticket.old.task }
+        requires running { IsRunning ticket.old }
+        requires fits { C.fitting ticket.old.label end }
+        ensures ticket { ticket.new ≡ record ticket.old { seen = ticket.new.seen } }
+        ensures core { self.new ≡ record self.old { steps = ticket.new.seen } }
+        ensures answer { Finishes ticket.old ticket.new share end result }
+    {
+        let _label = ticket.label();
+        match self.realm.finish(ticket.task(), end, test) {
+            Ok(()) => {
+                self.keeper.finish(ticket, share, end);
+                Ok(())
+            }
+            Err(refusal) => {
+                self.keeper.follow_ticket(ticket);
+                self.keeper.follow(&mut share);
+                Err((refusal, share))
+            }
+        }
+    }
+}
