@@ -1,0 +1,16 @@
+-- What is answered where the cell of a scope is asked for.
+use Rattle.std.specs.Prelude.{◌≡◌, ℕ, ◌⊎◌, None, Result, Ok, Err}
+use Rattle.scope_rules.specs.declared.types.refusals.Refusal.{Refusal}
+use Rattle.scope_rules.specs.declared.types.refusals.Refusal.TheVariants.{Memory}
+use Rattle.scope_rules.specs.History.{History}
+use Rattle.scope_rules.specs.Checks.{scope_check}
+use Rattle.cancel_marks.specs.Seats.{Seen}
+
+-- the seat is of the cell, and was shown nothing yet
+abbrev pub IsFresh : ℕ → Seen → Type 0
+IsFresh cell seat = (seat.cell ≡ cell) × (seat.known ≡ None)
+
+-- the cell of scope s after h: it is refused for an unknown scope, and where a share of it is
+abbrev pub CellAnswers : History → ℕ → Result (ℕ × Seen) Refusal → Type 0
+CellAnswers h s (Ok given) = (scope_check h s ≡ Ok tt) × IsFresh given.0 given.1
+CellAnswers h s (Err refusal) = (scope_check h s ≡ Err refusal) ⊎ ((scope_check h s ≡ Ok tt) × (refusal ≡ Memory))

@@ -1,0 +1,162 @@
+ghost use Rattle.std.specs.Prelude.{◌≡◌, [], IfOk};
+ghost use Rattle.scope_rules.specs.Replies.{fork_reply, base_of};
+ghost use Rattle.realm_core.specs.Calls.{DoesOrMemory, Records, RecordsOrMemory, history_seen};
+ghost use Rattle.realm_core.specs.Tasks.{ticket_aside, GivesTicket};
+
+use crate::realm::Realm;
+use realm_core::{Forked, RealmName};
+use realm_steps::RealmStep;
+use scope_rules::{Base, Cancelling, Catalog, Event, Label, Name, Refusal, ScopeId, Value};
+use share_ledger::OwnerShare;
+use std::sync::Wait;
+
+/// The commands with a token, each one hold of the lock. Where one is accepted, what the token has seen
+/// then ends with exactly its event, and the reply is the rules' on the steps before; else nothing is
+/// added, and the refusal, or that all is so already, is the rules' on what the token has seen by then.
+/// `Memory` is answered only where the command would be accepted there.
+impl<C: Catalog, N: RealmName> Realm<C, N> {
+    /// Forks the next task in the actor's scope (JEP 505, `fork`), and gives its ticket, unless the scope
+    /// is cancelled. Refused where the actor is no running task or main, for a scope that is unknown
+    /// (`NoScope`, `Retired`), another's (`NotOwner`), closing or closed (`Closed`) or joined
+    /// (`AlreadyJoined`), while the actor's bindings are not those at the scope's opening (`Structure`;
+    /// JEP 506), and where a limit is met (`TooMany`).
+    pub fn fork<R: Wait>(
+        &self,
+        rt: &R,
+        token: &mut OwnerShare,
+        scope: ScopeId,
+        label: Label,
+    ) -> Result<Forked, Refusal>
+        requires named { token.old.table ≡ N.table }
+        ensures token { token.new ≡ record token.old { seen = token.new.seen } }
+        ensures answer { DoesOrMemory token.old token.new (RealmStep.Happened (Event.Fork token.old.actor scope label)) (λ h. fork_reply h scope) (ticket_aside result) }
+        ensures ticket { GivesTicket token.new scope label result }
+    {
+        let mut locked = self.room.locked.lock(rt);
+        locked.core.fork(token, scope, label)
+    }
+
+    /// Binds the key above the actor's other bindings (JEP 506, `where`). Refused where the actor is no
+    /// running task or main, and where the limit of load is met (`TooMany`).
+    pub fn bind<R: Wait>(
+        &self,
+        rt: &R,
+        token: &mut OwnerShare,
+        key: Name,
+        value: Value,
+    ) -> Result<(), Refusal>
+        requires named { token.old.table ≡ N.table }
+        ensures token { token.new ≡ record token.old { seen = token.new.seen } }
+        ensures answer { DoesOrMemory token.old token.new (RealmStep.Happened (Event.Bind token.old.actor (record { key = key; value = value }))) (λ _. tt) result }
+    {
+        let mut locked = self.room.locked.lock(rt);
+        locked.core.bind(token, key, value)
+    }
+
+    /// Takes away the actor's last own binding. Refused where the actor is no running task or main, has
+    /// no own binding (`NotBound`), or has a scope open or closing that was opened while the binding
+    /// stood (`Structure`), and where the limit of load is met (`TooMany`).
+    pub fn unbind<R: Wait>(&self, rt: &R, token: &mut OwnerShare) -> Result<(), Refusal>
+        requires named { token.old.table ≡ N.table }
+        ensures token { token.new ≡ record token.old { seen = token.new.seen } }
+        ensures answer { DoesOrMemory token.old token.new (RealmStep.Happened (Event.Unbind token.old.actor)) (λ _. tt) result }
+    {
+        let mut locked = self.room.locked.lock(rt);
+        locked.core.unbind(token)
+    }
+
+    /// Begins to close the actor's scope, and with it each scope that the actor opened later and has not
+    /// closed (JEP 505, `close` cancels first). A scope that is closing or closed stays as it is.
+    /// Refused where the actor is no running task or main, and for a scope that is unknown (`NoScope`,
+    /// `Retired`) or another's (`NotOwner`). It takes no memory.
+    pub fn begin_close<R: Wait>(
+        &self,
+        rt: &R,
+        token: &mut OwnerShare,
+        scope: ScopeId,
+    ) -> Result<Cancelling, Refusal>
+        requires named { token.old.table ≡ N.table }
+        ensures token { token.new ≡ record token.old { seen = token.new.seen } }
+        ensures answer { Records token.old token.new (Event.BeginClose token.old.actor scope) result }
+    {
+        let mut locked = self.room.locked.lock(rt);
+        let answer = locked.core.begin_close(token, scope);
+        locked.set_marks();
+        self.room.changed.notify_all();
+        answer
+    }
+
+    /// Cancels the scope and all that it reaches, with any actor's token (Trio, `cancel`). A scope that
+    /// is cancelled already stays as it is. Refused for a scope that is unknown (`NoScope`, `Retired`),
+    /// or closing or closed (`Closed`), and where the limit of load is met (`TooMany`).
+    pub fn cancel<R: Wait>(
+        &self,
+        rt: &R,
+        token: &mut OwnerShare,
+        scope: ScopeId,
+    ) -> Result<Cancelling, Refusal>
+        requires named { token.old.table ≡ N.table }
+        ensures token { token.new ≡ record token.old { seen = token.new.seen } }
+        ensures answer { RecordsOrMemory token.old token.new (Event.Cancel scope) result }
+    {
+        let mut locked = self.room.locked.lock(rt);
+        let answer = locked.core.cancel(token, scope);
+        locked.set_marks();
+        self.room.changed.notify_all();
+        answer
+    }
+
+    /// Sets the deadline of the scope anew, in milliseconds, or takes it away, with any actor's token
+    /// (Trio: a cancel scope's deadline may be moved). Refused for a scope that is unknown (`NoScope`,
+    /// `Retired`), closing or closed (`Closed`) or joined (`AlreadyJoined`), and where the limit of load
+    /// is met (`TooMany`).
+    pub fn move_deadline<R: Wait>(
+        &self,
+        rt: &R,
+        token: &mut OwnerShare,
+        scope: ScopeId,
+        deadline: Option<u64>,
+    ) -> Result<(), Refusal>
+        requires named { token.old.table ≡ N.table }
+        ensures token { token.new ≡ record token.old { seen = token.new.seen } }
+        ensures answer { DoesOrMemory token.old token.new (RealmStep.Happened (Event.Move scope deadline)) (λ _. tt) result }
+    {
+        let mut locked = self.room.locked.lock(rt);
+        let answer = locked.core.move_deadline(token, scope, deadline);
+        locked.set_marks();
+        self.room.changed.notify_all();
+        answer
+    }
+
+    /// Sets the moment, in milliseconds, with any actor's token. Refused for a moment before the present
+    /// one (`ClockBack`), and where the limit of load is met (`TooMany`).
+    pub fn tick<R: Wait>(&self, rt: &R, token: &mut OwnerShare, now: u64) -> Result<(), Refusal>
+        requires named { token.old.table ≡ N.table }
+        ensures token { token.new ≡ record token.old { seen = token.new.seen } }
+        ensures answer { DoesOrMemory token.old token.new (RealmStep.Happened (Event.Tick now)) (λ _. tt) result }
+    {
+        let mut locked = self.room.locked.lock(rt);
+        let answer = locked.core.tick(token, now);
+        locked.set_marks();
+        self.room.changed.notify_all();
+        answer
+    }
+
+    /// Takes the events out and leaves a base, once main's outermost scope is closed; what is left goes
+    /// on, with numbers after the base's. It answers that base. Refused where the token's actor is no
+    /// running task or main, is not main (`NotOwner`), and while main has a scope that is not closed
+    /// (`Structure`).
+    pub fn retire<R: Wait>(&self, rt: &R, token: &mut OwnerShare) -> Result<Base, Refusal>
+        requires named { token.old.table ≡ N.table }
+        ensures token { token.new ≡ record token.old { seen = token.new.seen } }
+        ensures answer { DoesOrMemory token.old token.new RealmStep.Retirement base_of result }
+        ensures base { IfOk result (λ base. history_seen token.new ≡ record { base = base; events = [] }) }
+    {
+        let mut locked = self.room.locked.lock(rt);
+        let answer = locked.core.retire(token);
+        if answer.is_ok() {
+            locked.clear();
+        }
+        answer
+    }
+}

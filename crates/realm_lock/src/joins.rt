@@ -1,0 +1,37 @@
+ghost use Rattle.std.specs.Prelude.{◌≡◌, Err};
+ghost use Rattle.realm_core.specs.Views.{Joins};
+
+use crate::realm::Realm;
+use realm_core::{Joined, RealmName};
+use scope_rules::{Catalog, Refusal, ScopeId};
+use share_ledger::OwnerShare;
+use std::sync::Wait;
+
+impl<C: Catalog, N: RealmName> Realm<C, N> {
+    /// Joins the actor's scope (JEP 505, `join`): waits until the scope is cancelled or all its tasks
+    /// have ended, and gives its outcome and its log, with the join at the end. Nothing is recorded
+    /// while it waits. All that it gives is made before the join is recorded, so want of memory leaves
+    /// the scope unjoined. Refused where the actor is no running task or main, for a scope that is
+    /// unknown (`NoScope`, `Retired`), another's (`NotOwner`), closing or closed (`Closed`) or joined
+    /// (`AlreadyJoined`). That it returns is not promised.
+    pub fn join<R: Wait>(
+        &self,
+        rt: &R,
+        token: &mut OwnerShare,
+        scope: ScopeId,
+    ) -> Result<Joined, Refusal>
+        requires named { token.old.table ≡ N.table }
+        ensures token { token.new ≡ record token.old { seen = token.new.seen } }
+        ensures answer { Joins token.old token.new scope result }
+        ensures waited { result ≡ Err Refusal.NotReady → ⊥ }
+    {
+        let mut locked = self.room.locked.lock(rt);
+        for _ in rt.forever() {
+            match locked.core.join(token, scope) {
+                Err(Refusal::NotReady) => locked = self.room.changed.wait(rt, locked),
+                answer => return answer,
+            }
+        }
+        unreachable!()
+    }
+}

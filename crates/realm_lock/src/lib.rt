@@ -1,0 +1,17 @@
+//! A realm that threads share: one book under one lock. Each call takes the lock, acts, and lets go; what
+//! it did is told by what the caller's token or ticket has seen then.
+#![tactic(auto)]
+
+mod commands;
+mod joins;
+mod locked;
+mod opening;
+mod queries;
+mod realm;
+mod task_calls;
+mod views;
+
+pub use cancel_marks::{Mark, MarkCell, Seat};
+pub use realm::Realm;
+pub use realm_core::{Forked, Joined, RealmName, View};
+pub use share_ledger::{OwnerShare as ActorToken, Seed, Ticket};

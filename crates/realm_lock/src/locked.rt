@@ -1,0 +1,170 @@
+ghost use Rattle.std.specs.Prelude.{◌≡◌, Err, IfErr};
+ghost use Rattle.scope_rules.specs.declared.types.events.Options.{Options};
+ghost use Rattle.scope_rules.specs.declared.types.joiners.Policy.{Policy};
+ghost use Rattle.scope_rules.specs.Replies.{next_scope};
+ghost use Rattle.join_rules.specs.Joiners.{policy_of};
+ghost use Rattle.realm_core.specs.Calls.{DoesOrMemory};
+ghost use Rattle.realm_core.specs.Tasks.{IsRunning, Finishes};
+ghost use Rattle.realm_lock.specs.Openings.{scope_alone, refusal_of};
+
+use cancel_marks::{MarkCell, MarkSetter};
+use join_rules::{Joiner, StoredTest};
+use realm_core::{RealmCore, RealmName};
+use realm_steps::RealmStep;
+use scope_rules::{Catalog, End, Event, Options, Refusal, ScopeId};
+use share_ledger::{OwnerShare, Ticket};
+use std::alloc::Global;
+
+/// What lies under a realm's lock: the core, and beside it the callers' closures and the cells of
+/// marks, one place for each scope since the last retirement. No fact ties these two to the core: a
+/// closure that is asked is of the scope's own rule, or the totals answer in its place; and a mark is
+/// compared with the core before anything is said of it.
+#[derive(Drop)]
+pub(crate) struct Locked<C: Catalog, N: RealmName> {
+    pub(crate) alloc: Global,
+    pub(crate) core: RealmCore<C, N>,
+    pub(crate) tests: Vec<Option<StoredTest>>,
+    pub(crate) setters: Vec<MarkSetter>,
+    /// How many scopes were cancelled since the last retirement whose cells are set.
+    pub(crate) marked: usize,
+}
+
+impl<C: Catalog, N: RealmName> Locked<C, N> {
+    /// Opens a scope for the token's actor, and gives its cell too. All room is made before.
+    pub(crate) fn open(
+        &mut self,
+        token: &mut OwnerShare,
+        joiner: Joiner,
+        options: Options,
+    ) -> Result<(ScopeId, MarkCell), (Refusal, Joiner)>
+        requires named { token.old.table ≡ N.table }
+        ensures token { token.new ≡ record token.old { seen = token.new.seen } }
+        ensures answer { DoesOrMemory token.old token.new (RealmStep.Happened (Event.Open token.old.actor (policy_of joiner) options)) next_scope (scope_alone result) }
+        ensures handed_back { IfErr result (λ e. e.1 ≡ joiner) }
+    {
+        let Some((setter, cell)) = self.room_for_a_scope() else {
+            return Err((self.refusal_without_room(token), joiner));
+        };
+        let listed = joiner.asks_closure();
+        match self.core.open(token, joiner.policy(), options, listed) {
+            Ok(scope) => {
+                self.add(
+                    setter,
+                    if listed {
+                        Some(joiner.into_test())
+                    } else {
+                        None
+                    },
+                );
+                Ok((scope, cell))
+            }
+            Err(refusal) => Err((refusal, joiner)),
+        }
+    }
+
+    /// What an open is refused for where there is no room for it: what the rules refuse it for, or else
+    /// want of memory.
+    #[tactic(auto, using(crate::proofs::NoRoom::no_room))]
+    fn refusal_without_room(&mut self, token: &mut OwnerShare) -> Refusal
+        requires named { token.old.table ≡ N.table }
+        ensures token { token.new ≡ record token.old { seen = token.new.seen } }
+        ensures answer { (policy : Policy) (options : Options) → DoesOrMemory token.old token.new (RealmStep.Happened (Event.Open token.old.actor policy options)) next_scope (Err result) }
+    {
+        let answer = self.core.may_open(token);
+        refusal_or_memory(answer)
+    }
+
+    /// Room for what is kept of one scope more, and its cell, with one share of it.
+    fn room_for_a_scope(&mut self) -> Option<(MarkSetter, MarkCell)> {
+        let setter = MarkSetter::new(self.alloc).ok()?;
+        let cell = setter.cell().ok()?;
+        self.setters.reserve(1).ok()?;
+        self.tests.reserve(1).ok()?;
+        Some((setter, cell))
+    }
+
+    /// Keeps what belongs to a scope that was opened, for which there is room.
+    fn add(&mut self, setter: MarkSetter, test: Option<StoredTest>) {
+        if self.setters.len() < self.setters.capacity() {
+            self.setters.push_reserved(setter);
+        }
+        if self.tests.len() < self.tests.capacity() {
+            self.tests.push_reserved(test);
+        }
+        self.set_marks();
+    }
+
+    /// Records the end of the ticket's task, and asks the scope's closure, if it has one.
+    pub(crate) fn finish(
+        &mut self,
+        ticket: &mut Ticket,
+        token: OwnerShare,
+        end: End,
+    ) -> Result<(), (Refusal, OwnerShare)>
+        requires named { (ticket.old.table ≡ N.table) × (token.table ≡ N.table) }
+        requires actor { token.actor ≡ ticket.old.task }
+        requires running { IsRunning ticket.old }
+        requires fits { C.fitting ticket.old.label end }
+        ensures ticket { ticket.new ≡ record ticket.old { seen = ticket.new.seen } }
+        ensures answer { Finishes ticket.old ticket.new token end result }
+    {
+        let place = self.place_of(ticket.scope());
+        let Locked { core, tests, .. } = &mut *self;
+        let result = core.finish(ticket, token, end, test_at(tests, place));
+        self.set_marks();
+        result
+    }
+
+    /// The place of what is kept of the scope.
+    pub(crate) fn place_of(&self, scope: ScopeId) -> Option<usize> {
+        let place = scope
+            .checked_sub(self.core.scopes_before())?
+            .checked_sub(1)?;
+        Some(place as usize)
+    }
+
+    /// A share of the cell of the scope.
+    pub(crate) fn cell_of(&self, scope: ScopeId) -> Option<MarkCell> {
+        let setter = self.setters.get(self.place_of(scope)?)?;
+        setter.cell().ok()
+    }
+
+    /// Sets the cells of the scopes that were cancelled since this was last called. It takes no memory,
+    /// and time by how many they are.
+    pub(crate) fn set_marks(&mut self) {
+        for _ in 0..self.setters.len() {
+            let Some(scope) = self.core.nth_cancelled(self.marked) else {
+                return;
+            };
+            self.marked = self.marked.wrapping_add(1);
+            if let Some((cause, number)) = self.core.cancellation(scope)
+                && let Some(place) = self.place_of(scope)
+                && let Some(setter) = self.setters.get_mut(place)
+            {
+                setter.set(scope, cause, number);
+            }
+        }
+    }
+
+    /// Lets go of what belongs to the scopes before a retirement.
+    pub(crate) fn clear(&mut self) {
+        self.tests.clear();
+        self.setters.clear();
+        self.marked = 0;
+    }
+}
+
+/// The refusal, or want of memory where there is none.
+fn refusal_or_memory(answer: Result<(), Refusal>) -> Refusal
+    ensures { result ≡ refusal_of answer }
+{
+    match answer {
+        Ok(()) => Refusal::Memory,
+        Err(refusal) => refusal,
+    }
+}
+
+/// The closure at the place, if there is one.
+fn test_at(tests: &[Option<StoredTest>], place: Option<usize>) -> Option<&StoredTest> {
+    tests.get(place?)?.as_ref()
+}

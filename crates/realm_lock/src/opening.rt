@@ -1,0 +1,91 @@
+ghost use Rattle.std.specs.Prelude.{◌≡◌, IfOk, IfErr};
+ghost use Rattle.scope_rules.specs.Replies.{next_scope};
+ghost use Rattle.scope_book.specs.Books.{refusal_alone};
+ghost use Rattle.join_rules.specs.Joiners.{policy_of};
+ghost use Rattle.realm_core.specs.Calls.{DoesOrMemory, Looked, history_seen};
+ghost use Rattle.realm_lock.specs.Openings.{scope_marked};
+ghost use Rattle.realm_lock.specs.Cells.{CellAnswers, IsFresh};
+
+use crate::realm::Realm;
+use cancel_marks::{MarkCell, Seat};
+use join_rules::Joiner;
+use realm_core::RealmName;
+use realm_steps::RealmStep;
+use scope_rules::{Catalog, Event, Options, Refusal, ScopeId};
+use share_ledger::OwnerShare;
+use std::sync::Wait;
+
+/// Scopes and their cells. The room for a scope's cell is made before the scope is opened; the cell is
+/// set in the hold of the event by which the scope becomes cancelled.
+impl<C: Catalog, N: RealmName> Realm<C, N> {
+    /// Opens a scope for the token's actor, inside what lies around it (JEP 505, `open`). Refused where
+    /// the actor is no running task or main, where its innermost scope is closing (`Closed`), past level
+    /// 16 (`TooDeep`), and where a limit is met (`TooMany`); the joiner is then handed back.
+    pub fn open<R: Wait>(
+        &self,
+        rt: &R,
+        token: &mut OwnerShare,
+        joiner: Joiner,
+        options: Options,
+    ) -> Result<ScopeId, (Refusal, Joiner)>
+        requires named { token.old.table ≡ N.table }
+        ensures token { token.new ≡ record token.old { seen = token.new.seen } }
+        ensures answer { DoesOrMemory token.old token.new (RealmStep.Happened (Event.Open token.old.actor (policy_of joiner) options)) next_scope (refusal_alone result) }
+        ensures handed_back { IfErr result (λ e. e.1 ≡ joiner) }
+    {
+        let mut locked = self.room.locked.lock(rt);
+        match locked.open(token, joiner, options) {
+            Ok((scope, _)) => Ok(scope),
+            Err(back) => Err(back),
+        }
+    }
+
+    /// The same, with the scope's cell and a seat at it, which was shown nothing yet.
+    pub fn open_marked<R: Wait>(
+        &self,
+        rt: &R,
+        token: &mut OwnerShare,
+        joiner: Joiner,
+        options: Options,
+    ) -> Result<(ScopeId, MarkCell, Seat), (Refusal, Joiner)>
+        requires named { token.old.table ≡ N.table }
+        ensures token { token.new ≡ record token.old { seen = token.new.seen } }
+        ensures answer { DoesOrMemory token.old token.new (RealmStep.Happened (Event.Open token.old.actor (policy_of joiner) options)) next_scope (scope_marked result) }
+        ensures seat { IfOk result (λ opened. IsFresh opened.1 opened.2) }
+        ensures handed_back { IfErr result (λ e. e.1 ≡ joiner) }
+    {
+        let mut locked = self.room.locked.lock(rt);
+        match locked.open(token, joiner, options) {
+            Ok((scope, cell)) => {
+                let seat = cell.seat();
+                Ok((scope, cell, seat))
+            }
+            Err(back) => Err(back),
+        }
+    }
+
+    /// The cell of the scope and a seat at it, which was shown nothing yet, with any actor's token.
+    /// Refused for an unknown scope (`NoScope`, `Retired`), and where std's count of holders of the cell
+    /// is full (`Memory`).
+    pub fn cell<R: Wait>(
+        &self,
+        rt: &R,
+        token: &mut OwnerShare,
+        scope: ScopeId,
+    ) -> Result<(MarkCell, Seat), Refusal>
+        requires named { token.old.table ≡ N.table }
+        ensures token { token.new ≡ record token.old { seen = token.new.seen } }
+        ensures looks { Looked token.old token.new }
+        ensures answer { CellAnswers (history_seen token.new) scope result }
+    {
+        let mut locked = self.room.locked.lock(rt);
+        locked.core.has_scope(token, scope)?;
+        match locked.cell_of(scope) {
+            Some(cell) => {
+                let seat = cell.seat();
+                Ok((cell, seat))
+            }
+            None => Err(Refusal::Memory),
+        }
+    }
+}

@@ -1,0 +1,100 @@
+ghost use Rattle.std.specs.Prelude.{◌≡◌};
+ghost use Rattle.scope_rules.specs.Cancels.{effective};
+ghost use Rattle.scope_rules.specs.Tasks.{state};
+ghost use Rattle.scope_rules.specs.Checks.{task_check};
+ghost use Rattle.scope_rules.specs.Table.{answering, until_check};
+ghost use Rattle.scope_rules.specs.Replies.{result_reply, fault_reply, binding_reply};
+ghost use Rattle.realm_core.specs.Calls.{Looked, history_seen};
+
+use crate::realm::Realm;
+use realm_core::RealmName;
+use scope_rules::{Catalog, Effective, Fault, Name, Refusal, ScopeId, State, TaskId, Value};
+use share_ledger::OwnerShare;
+use std::sync::Wait;
+
+/// The queries with a token, each one hold of the lock. Each adds nothing, and answers its definition of
+/// what the token has seen then. None takes memory.
+impl<C: Catalog, N: RealmName> Realm<C, N> {
+    /// What the token's actor sees the key bound to (JEP 506, `ScopedValue.get`). Refused where the actor
+    /// is no running task or main, and where nothing is bound to the key (`NotBound`).
+    pub fn get<R: Wait>(&self, rt: &R, token: &mut OwnerShare, key: &Name) -> Result<Value, Refusal>
+        requires named { token.old.table ≡ N.table }
+        ensures token { token.new ≡ record token.old { seen = token.new.seen } }
+        ensures looks { Looked token.old token.new }
+        ensures answer { result ≡ binding_reply (history_seen token.new) token.new.actor key.now }
+    {
+        let mut locked = self.room.locked.lock(rt);
+        locked.core.get(token, key)
+    }
+
+    /// The value of the task, read by the owner of its scope after the join (JEP 505, `Subtask.get`).
+    /// Refused where the actor is no running task or main, for a task that is unknown (`NoTask`,
+    /// `Retired`) or of another's scope (`NotOwner`), before the join (`NotJoined`), and for one that
+    /// can't be read (`Unavailable`) or failed (`NotSuccess`).
+    pub fn result<R: Wait>(
+        &self,
+        rt: &R,
+        token: &mut OwnerShare,
+        task: TaskId,
+    ) -> Result<Value, Refusal>
+        requires named { token.old.table ≡ N.table }
+        ensures token { token.new ≡ record token.old { seen = token.new.seen } }
+        ensures looks { Looked token.old token.new }
+        ensures answer { result ≡ result_reply (history_seen token.new) token.new.actor task }
+    {
+        let mut locked = self.room.locked.lock(rt);
+        locked.core.result(token, task)
+    }
+
+    /// The fault of the task, read by the owner of its scope after the join (JEP 505,
+    /// `Subtask.exception`). Refused as `result` is, and for a task that succeeded (`NotFailed`).
+    pub fn fault<R: Wait>(
+        &self,
+        rt: &R,
+        token: &mut OwnerShare,
+        task: TaskId,
+    ) -> Result<Fault, Refusal>
+        requires named { token.old.table ≡ N.table }
+        ensures token { token.new ≡ record token.old { seen = token.new.seen } }
+        ensures looks { Looked token.old token.new }
+        ensures answer { result ≡ fault_reply (history_seen token.new) token.new.actor task }
+    {
+        let mut locked = self.room.locked.lock(rt);
+        locked.core.fault(token, task)
+    }
+
+    /// What can be read of the task, with any actor's token (JEP 505, `Subtask.state`). Refused for an
+    /// unknown task (`NoTask`, `Retired`).
+    pub fn state<R: Wait>(
+        &self,
+        rt: &R,
+        token: &mut OwnerShare,
+        task: TaskId,
+    ) -> Result<State, Refusal>
+        requires named { token.old.table ≡ N.table }
+        ensures token { token.new ≡ record token.old { seen = token.new.seen } }
+        ensures looks { Looked token.old token.new }
+        ensures answer { result ≡ answering (task_check (history_seen token.new) task) (state (history_seen token.new) task) }
+    {
+        let mut locked = self.room.locked.lock(rt);
+        locked.core.state(token, task)
+    }
+
+    /// The earliest deadline in effect for the scope, in milliseconds, with any actor's token (Trio,
+    /// `current_effective_deadline`). Refused for a scope that is unknown (`NoScope`, `Retired`) or
+    /// closed (`Closed`).
+    pub fn effective_deadline<R: Wait>(
+        &self,
+        rt: &R,
+        token: &mut OwnerShare,
+        scope: ScopeId,
+    ) -> Result<Effective, Refusal>
+        requires named { token.old.table ≡ N.table }
+        ensures token { token.new ≡ record token.old { seen = token.new.seen } }
+        ensures looks { Looked token.old token.new }
+        ensures answer { result ≡ answering (until_check (history_seen token.new) scope) (effective (history_seen token.new) scope) }
+    {
+        let mut locked = self.room.locked.lock(rt);
+        locked.core.effective_deadline(token, scope)
+    }
+}

@@ -1,0 +1,83 @@
+ghost use Rattle.std.specs.Prelude.{◌≡◌, [], vec_len, MatchResult};
+ghost use Rattle.scope_rules.specs.declared.types.refusals.Refusal.TheVariants.{Memory};
+
+use crate::locked::Locked;
+use join_rules::StoredTest;
+use realm_core::{RealmCore, RealmName};
+use scope_rules::types::values::MAIN;
+use scope_rules::{Catalog, Limits, Refusal};
+use share_ledger::{OwnerShare, Seed};
+use std::alloc::Global;
+use std::sync::{Arc, Condvar, Mutex};
+
+/// The lock of a realm, and what those sleep on who wait for a join or a close.
+#[derive(Drop)]
+pub(crate) struct Room<C: Catalog, N: RealmName> {
+    pub(crate) locked: Mutex<Locked<C, N>>,
+    pub(crate) changed: Condvar,
+}
+
+/// A realm, which threads share: each has a share of it. Whenever its lock is free, its book is the
+/// replay of its list of steps, which is legal, and each end in it fits its task's label by the catalog
+/// `C`. `N` is the realm's name.
+#[derive(Drop)]
+pub struct Realm<C: Catalog, N: RealmName> {
+    pub(crate) room: Arc<Room<C, N>, Global>,
+}
+
+impl<C: Catalog, N: RealmName> Realm<C, N> {
+    /// A realm that begins, and main's token, which has seen nothing yet. Refused where memory is
+    /// (`Memory`).
+    pub fn new(
+        alloc: Global,
+        seed: Seed,
+        limits: Limits,
+    ) -> Result<(Realm<C, N>, OwnerShare), Refusal>
+        requires named { seed ≡ N.table }
+        ensures { MatchResult result (λ made. made.1 ≡ record { table = N.table; limits = limits; actor = MAIN; seen = [] }) (λ refusal. refusal ≡ Memory) }
+    {
+        Realm::over(alloc, seed, limits, Vec::new(alloc))
+    }
+
+    /// The same, with the list that the callers' closures come to lie in, which is empty. A crate above
+    /// that makes realms makes them by this call, as the check on calls that may give out a stored
+    /// closure wants.
+    pub fn over(
+        alloc: Global,
+        seed: Seed,
+        limits: Limits,
+        tests: Vec<Option<StoredTest>>,
+    ) -> Result<(Realm<C, N>, OwnerShare), Refusal>
+        requires named { seed ≡ N.table }
+        requires empty { vec_len tests ≡ 0 }
+        ensures { MatchResult result (λ made. made.1 ≡ record { table = N.table; limits = limits; actor = MAIN; seen = [] }) (λ refusal. refusal ≡ Memory) }
+    {
+        let (core, token) = RealmCore::new(alloc, seed, limits);
+        let locked = Locked {
+            alloc,
+            core,
+            tests,
+            setters: Vec::new(alloc),
+            marked: 0,
+        };
+        let room = Room {
+            locked: Mutex::new(locked),
+            changed: Condvar::new(),
+        };
+        match Arc::new(alloc, room) {
+            Ok(room) => Ok((Realm { room }, token)),
+            Err(_) => Err(Refusal::Memory),
+        }
+    }
+
+    /// A share for one holder more, as for another thread. Nothing is copied; it is refused only where
+    /// std's count of holders is full (`Memory`).
+    pub fn share(&self) -> Result<Realm<C, N>, Refusal>
+        ensures { MatchResult result (λ _. Unit {0}) (λ refusal. refusal ≡ Memory) }
+    {
+        match Arc::try_clone(&self.room) {
+            Ok(room) => Ok(Realm { room }),
+            Err(_) => Err(Refusal::Memory),
+        }
+    }
+}

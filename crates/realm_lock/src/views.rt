@@ -1,0 +1,49 @@
+ghost use Rattle.std.specs.Prelude.{◌≡◌};
+ghost use Rattle.realm_core.specs.Calls.{Looked, history_seen};
+ghost use Rattle.realm_core.specs.Views.{ViewAnswers, MarkedViewAnswers};
+
+use crate::realm::Realm;
+use cancel_marks::Mark;
+use realm_core::{RealmName, View};
+use scope_rules::{Catalog, Refusal, ScopeId};
+use share_ledger::OwnerShare;
+use std::sync::Wait;
+
+impl<C: Catalog, N: RealmName> Realm<C, N> {
+    /// What there is to see of the scope, with any actor's token. It holds all that the token had seen
+    /// before. Refused for an unknown scope (`NoScope`, `Retired`), and where memory is refused
+    /// (`Memory`).
+    pub fn view<R: Wait>(
+        &self,
+        rt: &R,
+        token: &mut OwnerShare,
+        scope: ScopeId,
+    ) -> Result<View, Refusal>
+        requires named { token.old.table ≡ N.table }
+        ensures token { token.new ≡ record token.old { seen = token.new.seen } }
+        ensures looks { Looked token.old token.new }
+        ensures answer { ViewAnswers (history_seen token.new) scope result }
+    {
+        let mut locked = self.room.locked.lock(rt);
+        locked.core.view(token, scope)
+    }
+
+    /// The same, where the scope is cancelled as the mark says: for its cause, by the event at its place
+    /// since the last retirement. The two are compared under the lock. Refused also where they differ
+    /// (`Unavailable`), which no mark of the scope's own cell is met with.
+    pub fn view_with<R: Wait>(
+        &self,
+        rt: &R,
+        token: &mut OwnerShare,
+        scope: ScopeId,
+        mark: &Mark,
+    ) -> Result<View, Refusal>
+        requires named { token.old.table ≡ N.table }
+        ensures token { token.new ≡ record token.old { seen = token.new.seen } }
+        ensures looks { Looked token.old token.new }
+        ensures answer { MarkedViewAnswers (history_seen token.new) scope mark.now.cause mark.now.number result }
+    {
+        let mut locked = self.room.locked.lock(rt);
+        locked.core.view_with(token, scope, mark.cause, mark.number)
+    }
+}
