@@ -4,8 +4,6 @@
 #[cfg(test)]
 mod beside;
 #[cfg(test)]
-mod dice;
-#[cfg(test)]
 mod driven;
 #[cfg(test)]
 mod hands;

@@ -2,7 +2,6 @@
 ghost use Rattle.std.specs.Prelude.{◌≡◌};
 ghost use Rattle.share_ledger.specs.Values.{IsWaiting};
 
-use crate::dice::Dice;
 use crate::threads::{PLAIN, finish, fork, label, open};
 use join_rules::Joiner;
 use realm_lock::{ActorToken, Forked, Realm, RealmName, Seed, Ticket};
@@ -17,6 +16,23 @@ use std::thread::Threads;
 
 /// How many rounds each thread makes.
 const ROUNDS: u32 = 2_500;
+
+/// Throws that look random, and are the same for the same seed (a linear congruence).
+#[derive(Drop)]
+struct Throws {
+    state: u64,
+}
+
+impl Throws {
+    /// Whether something happens that does once in so many times.
+    fn one_in(&mut self, times: u64) -> bool {
+        self.state = self
+            .state
+            .wrapping_mul(0x5851_F42D_4C95_7F2D)
+            .wrapping_add(0x1405_7B7E_F767_814F);
+        (self.state >> 33).is_multiple_of(times)
+    }
+}
 
 /// What was done in a scope.
 #[derive(Clone, Copy)]
@@ -65,7 +81,7 @@ fn one_task<N: RealmName, R: Wait>(
     realm: &Realm<AnyEnd, N>,
     token: &mut ActorToken,
     label: Label,
-    dice: &mut Dice,
+    throws: &mut Throws,
     played: &mut Played,
 ) -> bool
     requires { token.old.table ≡ N.table }
@@ -79,12 +95,12 @@ fn one_task<N: RealmName, R: Wait>(
         }
         Err(_) => return false,
     };
-    if dice.one_in(8) {
+    if throws.one_in(8) {
         played.never(2);
         return realm.reject(rt, ticket).given() == 0;
     }
     let (ticket, its) = realm.start(rt, ticket);
-    if dice.one_in(8) {
+    if throws.one_in(8) {
         played.running();
         return ticket.started() == 1 && its.actor() == ticket.task();
     }
@@ -118,13 +134,15 @@ fn play<N: RealmName, R: Wait>(
 ) -> Option<Played>
     requires { (ticket.table ≡ N.table) × IsWaiting ticket }
 {
-    let mut dice = Dice::new(u64::from(ticket.task()));
+    let cancelled_at = (ROUNDS / 5).wrapping_mul(ticket.task());
+    let mut throws = Throws {
+        state: u64::from(ticket.task()),
+    };
     let (_ticket, mut token) = realm.start(rt, ticket);
     let Ok(scope) = realm.open(rt, &mut token, Joiner::AwaitAll, PLAIN) else {
         return None;
     };
     let mut played = Played::new(scope);
-    let cancelled_at = dice.below(ROUNDS);
     for round in 0..ROUNDS {
         if round == cancelled_at {
             if realm.cancel(rt, &mut token, scope).is_err() {
@@ -133,10 +151,10 @@ fn play<N: RealmName, R: Wait>(
             // the call, and the mark
             played.entries = played.entries.wrapping_add(2);
         }
-        if !one_task(rt, realm, &mut token, label, &mut dice, &mut played) {
+        if !one_task(rt, realm, &mut token, label, &mut throws, &mut played) {
             return None;
         }
-        if dice.one_in(100) && !looks(rt, realm, &mut token, played) {
+        if throws.one_in(100) && !looks(rt, realm, &mut token, played) {
             return None;
         }
     }

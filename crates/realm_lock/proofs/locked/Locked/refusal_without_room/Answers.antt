@@ -11,6 +11,6 @@ pub returns-clause-answer : goal.returns-clause-answer
 returns-clause-answer g c = λ policy options.
     let looked = c.may_open-answer in
     subst
-      (λ (r : Refusal). DoesOrMemory c.args.token.now looked.new.share (Happened (Open c.args.token.now.actor policy options)) next_scope (Err r))
-      (sym c.refusal_or_memory.ensures)
-      (no_room c.args.token.now looked.new.share looked.ensures.token looked.ensures.looks looked.result looked.ensures.answer policy options)
+    (λ (r : Refusal). DoesOrMemory c.args.token.now looked.new.share (Happened (Open c.args.token.now.actor policy options)) next_scope (Err r))
+    (sym c.refusal_or_memory.ensures)
+    (no_room c.args.token.now looked.new.share looked.ensures.token looked.ensures.looks looked.result looked.ensures.answer policy options)
