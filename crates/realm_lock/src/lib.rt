@@ -1,4 +1,4 @@
-//! A realm that threads share: one book under one lock. Each call takes the lock, acts, and lets go; what
+//! A realm for threads to share: one book under one lock. Each call takes the lock, acts, and lets go; what
 //! it did is told by what the caller's token or ticket has seen then.
 #![tactic(auto)]
 

@@ -17,7 +17,7 @@ pub(crate) struct Room<C: Catalog, N: RealmName> {
     pub(crate) changed: Condvar,
 }
 
-/// A realm, which threads share: each has a share of it. Whenever its lock is free, its book is the
+/// A realm for threads to share: each has a share of it. Whenever its lock is free, its book is the
 /// replay of its list of steps, which is legal, and each end in it fits its task's label by the catalog
 /// `C`. `N` is the realm's name.
 #[derive(Drop)]
