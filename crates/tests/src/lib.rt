@@ -18,6 +18,8 @@ mod long_run;
 #[cfg(test)]
 mod plain;
 #[cfg(test)]
+mod readers;
+#[cfg(test)]
 mod refusals;
 #[cfg(test)]
 mod rows;
