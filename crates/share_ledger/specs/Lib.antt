@@ -2,4 +2,3 @@ pub mod Views
 pub mod Rule
 pub mod Desks
 pub mod Values
-pub mod Names

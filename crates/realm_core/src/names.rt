@@ -9,7 +9,7 @@ pub trait RealmName {
 }
 
 impl RealmName for Brand {
-    ghost use Rattle.share_ledger.specs.Names.{no_table};
+    ghost use Rattle.realm_core.specs.Cores.{no_table};
 
     ghost table = { no_table };
 }
