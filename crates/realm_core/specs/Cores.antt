@@ -1,5 +1,5 @@
 -- What lies under a realm's lock, and what always holds of it.
-use Rattle.std.specs.Prelude.{◌≡◌, List, []}
+use Rattle.std.specs.Prelude.{◌≡◌, List}
 use Rattle.scope_rules.specs.declared.types.capacity.Limits.{Limits}
 use Rattle.scope_rules.specs.Ends.{LabelValue, EndValue}
 use Rattle.scope_rules.specs.Replies.{Realm}
@@ -13,10 +13,6 @@ use Rattle.scope_book.specs.Fits.{Fitting}
 pub record CoreValue : Type 0 where
   pub limits : Limits
   pub steps : List RealmStep
-
--- a table that is no realm's
-abbrev pub no_table : TableId
-no_table = record { words = 1; slots = 0; views_name = 0; atom = 0; block = 0; offset = 0; slot_names = [] }
 
 -- the keeper is at the table of this name, and what is kept is the replay of its list: the limits are the
 -- same, and the history is that of the list, which is legal and fitting

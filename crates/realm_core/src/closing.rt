@@ -9,7 +9,7 @@ ghost use Rattle.realm_steps.specs.Steps.{history_of};
 ghost use Rattle.realm_core.specs.Calls.{Does};
 ghost use Rattle.realm_core.specs.Endings.{CanEnd};
 
-use crate::names::RealmName;
+use crate::RealmName;
 use crate::state::RealmCore;
 use crate::telling::tell;
 use realm_steps::RealmStep;

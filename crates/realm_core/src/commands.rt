@@ -2,7 +2,7 @@ ghost use Rattle.std.specs.Prelude.{◌≡◌, [], IfOk};
 ghost use Rattle.scope_rules.specs.Replies.{next_scope, base_of, recorded};
 ghost use Rattle.realm_core.specs.Calls.{DoesOrMemory, Records, RecordsOrMemory, history_seen};
 
-use crate::names::RealmName;
+use crate::RealmName;
 use crate::state::RealmCore;
 use crate::telling::{tell, tell_retired};
 use realm_steps::RealmStep;

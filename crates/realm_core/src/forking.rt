@@ -3,7 +3,7 @@ ghost use Rattle.scope_rules.specs.Replies.{fork_reply};
 ghost use Rattle.realm_core.specs.Calls.{DoesOrMemory};
 ghost use Rattle.realm_core.specs.Tasks.{ticket_aside, GivesTicket};
 
-use crate::names::RealmName;
+use crate::RealmName;
 use crate::state::RealmCore;
 use realm_steps::RealmStep;
 use scope_rules::{Catalog, Event, ForkReply, Label, Refusal, ScopeId, TaskId};

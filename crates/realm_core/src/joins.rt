@@ -1,7 +1,7 @@
 ghost use Rattle.std.specs.Prelude.{◌≡◌};
 ghost use Rattle.realm_core.specs.Views.{Joins};
 
-use crate::names::RealmName;
+use crate::RealmName;
 use crate::state::RealmCore;
 use crate::telling::tell;
 use scope_log::ScopeLog;

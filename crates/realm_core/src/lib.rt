@@ -9,7 +9,6 @@ mod commands;
 mod forking;
 mod joins;
 pub mod laws;
-mod names;
 mod queries;
 mod state;
 mod task_calls;
@@ -18,6 +17,6 @@ mod views;
 
 pub use forking::Forked;
 pub use joins::Joined;
-pub use names::RealmName;
+pub use share_ledger::RealmName;
 pub use state::RealmCore;
 pub use views::View;

@@ -8,7 +8,7 @@ ghost use Rattle.scope_rules.specs.Table.{answering, check_of, until_check};
 ghost use Rattle.scope_rules.specs.Replies.{result_reply, fault_reply, binding_reply};
 ghost use Rattle.realm_core.specs.Calls.{Looked, history_seen};
 
-use crate::names::RealmName;
+use crate::RealmName;
 use crate::state::RealmCore;
 use scope_checks::checks::scope_check;
 use scope_rules::{Catalog, Effective, Event, Fault, Name, Refusal, ScopeId, State, TaskId, Value};

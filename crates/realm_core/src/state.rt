@@ -5,7 +5,7 @@ ghost use Rattle.realm_steps.specs.Steps.{history_of, IsLegal};
 ghost use Rattle.scope_book.specs.Fits.{Fitting};
 ghost use Rattle.realm_core.specs.Views.{cancellation_of};
 
-use crate::names::RealmName;
+use crate::RealmName;
 use kept_realm::KeptRealm;
 use scope_checks::checks::scope_check;
 use scope_rules::types::values::MAIN;

@@ -4,7 +4,7 @@ ghost use Rattle.share_ledger.specs.Values.{IsWaiting};
 ghost use Rattle.realm_core.specs.Calls.{TicketAdded};
 ghost use Rattle.realm_core.specs.Tasks.{IsRunning, Finishes};
 
-use crate::names::RealmName;
+use crate::RealmName;
 use crate::state::RealmCore;
 use join_rules::StoredTest;
 use realm_steps::RealmStep;

@@ -3,7 +3,7 @@ ghost use Rattle.scope_rules.specs.Checks.{scope_check};
 ghost use Rattle.realm_core.specs.Calls.{Looked, history_seen};
 ghost use Rattle.realm_core.specs.Views.{ViewAnswers, MarkedViewAnswers, IsMarkOf};
 
-use crate::names::RealmName;
+use crate::RealmName;
 use crate::state::RealmCore;
 use kept_realm::KeptRealm;
 use scope_log::ScopeLog;

@@ -6,6 +6,7 @@
 mod desk;
 mod keeper;
 mod moves;
+mod names;
 mod rule;
 mod seed;
 mod shares;
@@ -13,6 +14,7 @@ mod tickets;
 mod views;
 
 pub use keeper::Keeper;
+pub use names::RealmName;
 pub use seed::Seed;
 pub use shares::OwnerShare;
 pub use tickets::{Ticket, Totals, gather};

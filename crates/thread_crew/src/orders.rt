@@ -1,0 +1,73 @@
+ghost use Rattle.std.specs.Prelude.{◌≡◌, true};
+ghost use Rattle.realm_steps.specs.Tickets.{finished_in};
+ghost use Rattle.thread_crew.specs.Returns.{Returns};
+
+use crate::spawning::{Ready, Work};
+use crate::trays::Tray;
+use share_ledger::{RealmName, Ticket};
+use std::alloc::Global;
+use std::marker::PhantomData;
+use std::sync::{Arc, Wait};
+
+/// The ticket of a task that has ended, in the realm that is named `N`.
+#[derive(Drop)]
+pub(crate) struct Finished<N: RealmName> {
+    pub(crate) ticket: Ticket,
+    of: PhantomData<N>,
+    ghost ended: { finished_in ticket.task ticket.seen ≡ true },
+    ghost named: { ticket.table ≡ N.table },
+}
+
+impl<N: RealmName> Finished<N> {
+    /// The ticket, which has ended.
+    pub(crate) fn new(ticket: Ticket) -> Finished<N>
+        requires ended { finished_in ticket.task ticket.seen ≡ true }
+        requires named { ticket.table ≡ N.table }
+        ensures { result.ticket ≡ ticket }
+    {
+        Finished {
+            ticket,
+            of: PhantomData,
+        }
+    }
+}
+
+/// The tray by which a ticket comes back.
+pub(crate) type WayBack<N> = Arc<Tray<Finished<N>>, Global>;
+
+/// What a thread of a crew is given: a work, its ticket, and where the ticket is put once the work has
+/// ended.
+#[derive(Drop)]
+pub(crate) struct Order<N: RealmName, W: Ready> {
+    work: W,
+    ticket: Ticket,
+    way_back: WayBack<N>,
+    ghost ready: { W.ready_for work ticket } by { W.is_fact work ticket },
+}
+
+impl<N: RealmName, W: Ready> Order<N, W> {
+    /// The order for a work that may be given the ticket.
+    pub(crate) fn new(work: W, ticket: Ticket, way_back: WayBack<N>) -> Order<N, W>
+        requires { W.ready_for work ticket }
+    {
+        Order {
+            work,
+            ticket,
+            way_back,
+        }
+    }
+
+    /// Runs the work, which is lent the spawner, and gives the ticket, the way back, and the spawner.
+    pub(crate) fn run<S, R: Wait>(self, rt: &R, spawner: S) -> (Finished<N>, WayBack<N>, S)
+    where
+        W: Work<N, S>,
+    {
+        let Order {
+            work,
+            ticket,
+            way_back,
+        } = self;
+        let (ticket, spawner) = work.run(rt, spawner, ticket);
+        (Finished::new(ticket), way_back, spawner)
+    }
+}

@@ -1,0 +1,63 @@
+use crate::crews::OsThreads;
+use crate::desks::Desk;
+use crate::makers::{CrewRuntime, make_threads};
+use crate::orders::Order;
+use crate::spawning::{Ready, Work};
+use share_ledger::RealmName;
+use std::alloc::{AllocError, Global};
+use std::sync::{Arc, Wait};
+use std::thread;
+use std::thread::{JoinHandle, Threads};
+
+/// A crew of threads that are used again, for works of type `W` in the realm that is named `N`. It
+/// grows to as many threads as there were works at once, and `keep` of them rest where there is no work.
+/// A crew can't be let go: its owner closes it, else the program is refused.
+pub struct Crew<N: RealmName, W: Ready + Work<N, OsThreads<N, W>>> {
+    alloc: Global,
+    desk: Arc<Desk<Order<N, W>>, Global>,
+    maker: JoinHandle<()>,
+}
+
+impl<N: RealmName, W: Ready + Work<N, OsThreads<N, W>>> Crew<N, W> {
+    /// A crew with no thread yet but the one that makes the others. So many of its threads may rest;
+    /// where none may, each work has a thread of its own. Refused where memory or that thread is.
+    pub fn open<R: CrewRuntime>(
+        rt: &R,
+        alloc: Global,
+        keep: usize,
+    ) -> Result<Crew<N, W>, AllocError>
+    where
+        N: Send + Sync + 'static,
+        W: Send + Drop + 'static,
+    {
+        let desk = Arc::new(alloc, Desk::new(alloc, keep))?;
+        let theirs = Arc::try_clone(&desk)?;
+        let runtime = *rt;
+        let maker = thread::spawn(rt, move || make_threads(&runtime, alloc, theirs))?;
+        Ok(Crew { alloc, desk, maker })
+    }
+
+    /// The crew's threads, as a spawner. Refused only where std's count of holders is full.
+    pub fn threads(&self) -> Result<OsThreads<N, W>, AllocError> {
+        let desk = Arc::try_clone(&self.desk)?;
+        Ok(OsThreads {
+            alloc: self.alloc,
+            desk,
+        })
+    }
+
+    /// Closes the crew: from now on each fork is refused. Waits until the works that run have ended, and
+    /// joins all threads.
+    pub fn close<R: Threads + Wait>(self, rt: &R)
+    where
+        W: Drop,
+    {
+        let Crew {
+            alloc: _,
+            desk,
+            maker,
+        } = self;
+        desk.close(rt);
+        maker.join(rt);
+    }
+}
