@@ -1,0 +1,10 @@
+//! Works, and the crews that run them.
+
+mod boards;
+mod closing;
+mod ledgers;
+mod meeting;
+mod refusing;
+mod rounds;
+mod trees;
+mod works;
