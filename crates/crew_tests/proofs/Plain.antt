@@ -1,11 +1,7 @@
 -- A realm in which no scope was opened stays so, and none of its scopes is cancelled.
-use Rattle.std.proofs.Common.{◌≡◌, ℕ, ◌+◌, ◌≤◌, Bool, true, false, cond, Option, None, Some, is_some, List, [], ◌∷◌, ◌++◌, take, length, count_by, refl, ap, sym, ◌∙◌, subst, arith}
+use Rattle.std.proofs.Common.{◌≡◌, ℕ, ◌+◌, false, cond, None, Some, is_some, List, [], ◌∷◌, ◌++◌, length, refl, ap, ◌∙◌, arith}
 use Rattle.std.specs.Option.{option_or}
 use Rattle.scope_rules.specs.declared.types.events.Event.{Event}
-use Rattle.scope_rules.specs.declared.types.events.Event.TheVariants.{Fork, Start, Finish}
-use Rattle.scope_rules.specs.declared.types.records.Cut.{Cut}
-use Rattle.scope_rules.specs.declared.types.values.Label.{Label}
-use Rattle.scope_rules.specs.Ends.{EndValue}
 use Rattle.scope_rules.specs.History.{History, before, opening, opening_of, opened_count, tasks, is_open, is_fork}
 use Rattle.scope_rules.specs.Scopes.{outer}
 use Rattle.scope_rules.specs.Chains.{cut_by, chain_by, earliest_on}
@@ -19,7 +15,7 @@ use Rattle.realm_steps.specs.declared.steps.RealmStep.{RealmStep}
 use Rattle.realm_steps.specs.declared.steps.RealmStep.TheVariants.{Happened}
 use Rattle.realm_steps.specs.Steps.{history_of}
 use Rattle.realm_steps.specs.Tickets.{end_in, finished_in}
-use Rattle.realm_steps.proofs.Histories.{history-push, tasks_advance}
+use Rattle.realm_steps.proofs.Histories.{history-push}
 use Rattle.realm_steps.proofs.Told.{seen_tells, end_in-append}
 use Rattle.share_ledger.specs.Values.{KeeperValue, OwnerValue, TicketValue, TicketAgrees}
 use Rattle.crew_tests.specs.Ledgers.{IsPlain}

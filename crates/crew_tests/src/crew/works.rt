@@ -13,7 +13,7 @@ use std::thread;
 use thread_crew::{Ready, Spawns, Work};
 
 /// What a work does once it was counted at its place. Each ends with a number.
-#[derive(Clone, Copy, Debug)]
+#[derive(Clone, Copy)]
 pub enum Kind {
     /// It ends with its place.
     Plain,

@@ -2,4 +2,4 @@
 use Rattle.crew_tests.proofs.crew.rounds.threads_are_used_again_and_joined.Given as goal
 
 abbrev pub ghosts-run_rounds : goal.ghosts-run_rounds
-ghosts-run_rounds a = record { table = a.seed }
+ghosts-run_rounds g a = record { table = a.seed }

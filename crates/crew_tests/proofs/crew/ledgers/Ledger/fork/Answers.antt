@@ -1,4 +1,4 @@
-use Rattle.std.proofs.Common.{◌≡◌, refl, ap, arith}
+use Rattle.std.proofs.Common.{refl, ap, arith}
 use Rattle.scope_rules.specs.declared.types.events.Event.TheVariants.{Fork}
 use Rattle.realm_steps.specs.Steps.{history_of}
 use Rattle.share_ledger.specs.Values.{OwnerValue}

@@ -1,4 +1,4 @@
-use Rattle.std.proofs.Common.{◌≡◌, refl, ap, ◌∙◌}
+use Rattle.std.proofs.Common.{ap, ◌∙◌}
 use Rattle.realm_steps.specs.Steps.{history_of}
 use Rattle.share_ledger.specs.Values.{KeeperValue, OwnerValue}
 use Rattle.scope_rules.specs.History.{tasks, opened_count}
