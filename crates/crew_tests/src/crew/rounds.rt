@@ -30,10 +30,11 @@ fn threads_now<R: Files + Alloc>(rt: &R) -> u64 {
     0
 }
 
-/// Whether the process comes to have so many threads. One that was joined can be counted for a moment.
+/// Whether the process comes to have so many threads, where that was told. One that was joined can be
+/// counted for a moment.
 fn comes_to<R: Files + Alloc + Clock>(rt: &R, threads: u64) -> bool {
     for _ in 0..1_000u32 {
-        if threads_now(rt) == threads {
+        if threads == 0 || threads_now(rt) == threads {
             return true;
         }
         thread::sleep(rt, Duration::from_millis(1));
