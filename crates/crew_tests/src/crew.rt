@@ -2,7 +2,6 @@
 
 mod boards;
 mod closing;
-mod ledgers;
 mod meeting;
 mod refusing;
 mod rounds;

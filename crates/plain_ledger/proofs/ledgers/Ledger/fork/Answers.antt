@@ -2,8 +2,8 @@ use Rattle.std.proofs.Common.{refl, ap, arith}
 use Rattle.scope_rules.specs.declared.types.events.Event.TheVariants.{Fork}
 use Rattle.realm_steps.specs.Steps.{history_of}
 use Rattle.share_ledger.specs.Values.{OwnerValue}
-use Rattle.crew_tests.proofs.Plain.{plain_next, uncancelled}
-use Rattle.crew_tests.proofs.crew.ledgers.Ledger.fork.Goals as goal
+use Rattle.plain_ledger.proofs.Plain.{plain_next, uncancelled}
+use Rattle.plain_ledger.proofs.ledgers.Ledger.fork.Goals as goal
 
 pub fork-ticket-requires-clause-live : goal.fork-ticket-requires-clause-live
 fork-ticket-requires-clause-live g c = uncancelled (history_of c.args.self.now.keeper.steps) 1 c.args.self.now.plain.unopened

@@ -2,7 +2,7 @@ use Rattle.std.proofs.Common.{ap, ◌∙◌}
 use Rattle.realm_steps.specs.Steps.{history_of}
 use Rattle.share_ledger.specs.Values.{KeeperValue, OwnerValue}
 use Rattle.scope_rules.specs.History.{tasks, opened_count}
-use Rattle.crew_tests.proofs.crew.ledgers.Ledger.new.Goals as goal
+use Rattle.plain_ledger.proofs.ledgers.Ledger.new.Goals as goal
 
 pub invariant_of-result : goal.invariant_of-result
 unfolding history_of

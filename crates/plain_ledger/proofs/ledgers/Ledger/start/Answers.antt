@@ -3,8 +3,8 @@ use Rattle.scope_rules.specs.declared.types.events.Event.TheVariants.{Start}
 use Rattle.realm_steps.specs.declared.steps.RealmStep.TheVariants.{Happened}
 use Rattle.realm_steps.specs.Tickets.{end_in}
 use Rattle.share_ledger.specs.Values.{TicketValue}
-use Rattle.crew_tests.proofs.Plain.{plain_next, unended_next}
-use Rattle.crew_tests.proofs.crew.ledgers.Ledger.start.Goals as goal
+use Rattle.plain_ledger.proofs.Plain.{plain_next, unended_next}
+use Rattle.plain_ledger.proofs.ledgers.Ledger.start.Goals as goal
 
 pub invariant_of-self : goal.invariant_of-self
 invariant_of-self g c = record { plain = plain_next _ _ _ _ _ _ _ (Start c.args.ticket.now.task) c.args.self.now.plain c.start.ensures.keeper refl refl (omega arith) }

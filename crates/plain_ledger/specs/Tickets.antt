@@ -1,9 +1,11 @@
--- The realm of a test: no scope was opened in it, so each fork gives a thread.
-use Rattle.std.specs.Prelude.{◌≡◌, ℕ, true, false}
+-- A realm in which no scope was opened, and what its tickets say.
+use Rattle.std.specs.Prelude.{◌≡◌, ℕ, true, false, Some}
+use Rattle.scope_rules.specs.declared.types.values.Label.{Label}
+use Rattle.scope_rules.specs.Ends.{EndValue}
 use Rattle.scope_rules.specs.History.{tasks, opened_count}
 use Rattle.atomic_table.specs.Seated.{TableId}
 use Rattle.realm_steps.specs.Steps.{history_of}
-use Rattle.realm_steps.specs.Tickets.{given_in, started_in, finished_in}
+use Rattle.realm_steps.specs.Tickets.{given_in, started_in, finished_in, end_in}
 use Rattle.share_ledger.specs.Values.{KeeperValue, OwnerValue, TicketValue}
 
 -- the ticket is of the realm of this name, and its task waits for a thread
@@ -12,6 +14,20 @@ pub record IsNew (name : TableId) (ticket : TicketValue) : Type 0 where
   pub given : given_in ticket.task ticket.seen ≡ true
   pub unstarted : started_in ticket.task ticket.seen ≡ false
   pub unended : finished_in ticket.task ticket.seen ≡ false
+
+-- it is the task of this number, which was forked in scope 1
+pub record IsForked (task : ℕ) (label : Label) (ticket : TicketValue) : Type 0 where
+  pub number : ticket.task ≡ task
+  pub inside : ticket.scope ≡ 1
+  pub labelled : ticket.label ≡ label
+
+-- the ticket is that of before, whose task has ended so
+pub record IsEnded (name : TableId) (first : TicketValue) (end : EndValue) (last : TicketValue) : Type 0 where
+  pub named : last.table ≡ name
+  pub task : last.task ≡ first.task
+  pub scope : last.scope ≡ first.scope
+  pub label : last.label ≡ first.label
+  pub ended : end_in last.task last.seen ≡ Some end
 
 -- the ticket is that of before, whose task runs now
 pub record Runs (name : TableId) (first now : TicketValue) : Type 0 where

@@ -18,7 +18,7 @@ use Rattle.realm_steps.specs.Tickets.{end_in, finished_in}
 use Rattle.realm_steps.proofs.Histories.{history-push}
 use Rattle.realm_steps.proofs.Told.{seen_tells, end_in-append}
 use Rattle.share_ledger.specs.Values.{KeeperValue, OwnerValue, TicketValue, TicketAgrees}
-use Rattle.crew_tests.specs.Ledgers.{IsPlain}
+use Rattle.plain_ledger.specs.Tickets.{IsPlain}
 
 unopened : (h : History) (s : ℕ) → opened_count h ≡ 0 → opening h s ≡ None
 unfolding opening

@@ -1,18 +1,17 @@
-//! The ledger of a test's realm: it forks tasks, and takes their tickets through start and end.
-ghost use Rattle.std.specs.Prelude.{◌≡◌, IfSome};
-ghost use Rattle.thread_crew.specs.Returns.{Returns};
-ghost use Rattle.crew_tests.specs.Ledgers.{IsNew, IsPlain, Runs};
+ghost use Rattle.std.specs.Prelude.{◌≡◌, ◌+◌, ◌-◌, ◌^◌, ◌↔◌, IfSome, IsNone, OnSome};
+ghost use Rattle.plain_ledger.specs.Tickets.{IsEnded, IsForked, IsNew, IsPlain, Runs};
 
 use scope_rules::{End, Label, Limits, TaskId};
 use share_ledger::{Keeper, OwnerShare, RealmName, Seed, Ticket};
 use std::marker::PhantomData;
 
-/// The keeper of the realm that is named `N`, and main's share.
+/// The keeper of the realm that is named `N`, with main's share.
 #[derive(Drop)]
 pub struct Ledger<N: RealmName> {
     keeper: Keeper,
     main: OwnerShare,
-    forked: TaskId,
+    /// How many tasks were forked.
+    pub forked: TaskId,
     of: PhantomData<N>,
     ghost plain: { IsPlain N.table keeper main forked },
 }
@@ -21,6 +20,7 @@ impl<N: RealmName> Ledger<N> {
     /// The ledger of a realm with no task.
     pub fn new(seed: Seed) -> Ledger<N>
         requires { seed ≡ N.table }
+        ensures { result.forked ≡ 0 }
     {
         let (keeper, main) = seed.begin(Limits::GREATEST);
         Ledger {
@@ -31,9 +31,12 @@ impl<N: RealmName> Ledger<N> {
         }
     }
 
-    /// Main forks a task in scope 1. None once all numbers were given.
+    /// Main forks the next task, in scope 1. None once all numbers were given; nothing is forked then.
     pub fn fork(&mut self, label: &Label) -> Option<Ticket>
-        ensures { IfSome result (IsNew N.table) }
+        ensures ticket { IfSome result (λ ticket. IsNew N.table ticket × IsForked self.new.forked label.now ticket) }
+        ensures next { IfSome result (λ ticket. self.new.forked ≡ self.old.forked + 1) }
+        ensures none { IsNone result ↔ (self.old.forked ≡ 2 ^ 32 - 1) }
+        ensures kept { IsNone result → self.new ≡ self.old }
     {
         let task = self.forked.checked_add(1)?;
         let ticket = self.keeper.fork(&mut self.main, task, 1, label);
@@ -45,7 +48,8 @@ impl<N: RealmName> Ledger<N> {
     pub fn start(&mut self, ticket: &mut Ticket) -> OwnerShare
         requires { IsNew N.table ticket.old }
         ensures ticket { Runs N.table ticket.old ticket.new }
-        ensures share { (result.table ≡ N.table) × (result.actor ≡ ticket.old.task) }
+        ensures token { (result.table ≡ N.table) × (result.actor ≡ ticket.old.task) }
+        ensures forked { self.new.forked ≡ self.old.forked }
     {
         self.keeper.start(ticket)
     }
@@ -54,7 +58,8 @@ impl<N: RealmName> Ledger<N> {
     pub fn finish(&mut self, ticket: &mut Ticket, token: OwnerShare, end: End)
         requires ticket { Runs N.table ticket.old ticket.old }
         requires token { (token.table ≡ N.table) × (token.actor ≡ ticket.old.task) }
-        ensures { Returns N.table ticket.old ticket.new }
+        ensures ticket { IsEnded N.table ticket.old end ticket.new }
+        ensures forked { self.new.forked ≡ self.old.forked }
     {
         self.keeper.finish(ticket, token, end);
     }
