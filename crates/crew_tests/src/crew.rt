@@ -1,8 +1,9 @@
-//! Works, and the crews that run them.
+//! Works and the crews that run them; named jobs.
 
 mod boards;
 mod closing;
 mod meeting;
+mod naming;
 mod refusing;
 mod rounds;
 mod trees;
