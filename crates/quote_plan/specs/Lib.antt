@@ -1,0 +1,6 @@
+pub mod Cutting
+pub mod Plans
+pub mod PlanLines
+pub mod PlanReading
+pub mod PlanFaults
+pub mod ReadSoFar
