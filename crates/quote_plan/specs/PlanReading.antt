@@ -1,5 +1,5 @@
 -- What plan the bytes are, or which line of them is the first bad one.
-use Rattle.std.specs.Prelude.{◌≡◌, ℕ, ◌+◌, ◌<◌, Bool, true, false, not, ◌&&◌, IsTrue, ◌⊎◌, nat_lt, List, [], ◌∷◌, length, take, get_or, Option, Some, None}
+use Rattle.std.specs.Prelude.{◌≡◌, ℕ, ◌+◌, ◌<◌, Bool, true, false, not, ◌&&◌, IsTrue, ◌⊎◌, nat_lt, List, [], ◌∷◌, length, take, get_or, Option, Some, None, IsSome}
 use Rattle.std.specs.List.{slice_split, filter_map, list_any}
 use Rattle.scope_rules.specs.Names.{same_name}
 use Rattle.scope_rules.specs.declared.types.names.Name.{Name}
@@ -11,12 +11,15 @@ use Rattle.quote_plan.specs.declared.lines.PlanLine.{PlanLine}
 use Rattle.quote_plan.specs.declared.lines.PlanLine.TheVariants as line
 use Rattle.quote_plan.specs.declared.lines.TheConstants.{OFFER_LIMIT}
 
--- what the pieces between line feeds say: the last one is no line where it is empty, and else a line
--- that was cut, which is a bad word
+-- what stands after the last line feed: no line where it is empty, and else a cut one, a bad word
+abbrev pub cut_said : List ℕ → List PlanLine
+cut_said [] = []
+cut_said (b ∷ bs) = line.BadWord ∷ []
+
+-- what the pieces between line feeds say
 unfoldable pub pieces_said : List (List ℕ) → List PlanLine
 pieces_said [] = []
-pieces_said ([] ∷ []) = []
-pieces_said ((b ∷ bs) ∷ []) = line.BadWord ∷ []
+pieces_said (last ∷ []) = cut_said last
 pieces_said (piece ∷ next ∷ others) = line_said piece ∷ pieces_said (next ∷ others)
 
 -- what the lines of the bytes say, each by itself
@@ -77,3 +80,10 @@ pub record FirstBad (lines : List PlanLine) (number : ℕ) : Type 0 where
   pub counted : number ≡ before + 1
   pub good : AreGood lines before
   pub bad : ((before < length lines) × (is_good lines before ≡ false)) ⊎ ((before ≡ length lines) × (modes_in lines ≡ []))
+
+-- memory was refused for an offer: its line and those before it are good
+pub record RefusedAt (lines : List PlanLine) : Type 0 where
+  pub before : ℕ
+  pub within : before < length lines
+  pub good : AreGood lines (before + 1)
+  pub offer : IsSome (offer_in (get_or lines before line.BadWord))

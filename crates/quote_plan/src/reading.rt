@@ -1,7 +1,7 @@
 //! How a plan is read.
 
-ghost use Rattle.std.specs.Prelude.{◌≡◌, [], ◌∷◌, true, Ok, IsTrue, IfOk, MatchOption, MatchResult};
-ghost use Rattle.quote_plan.specs.PlanReading.{lines_of, SayPlan};
+ghost use Rattle.std.specs.Prelude.{◌≡◌, [], ◌∷◌, ◌++◌, true, false, Ok, IsTrue, IfOk, IsSome, OnErr, OnOk, MatchOption, MatchResult};
+ghost use Rattle.quote_plan.specs.PlanReading.{is_named, lines_of, offer_in, SayPlan};
 ghost use Rattle.quote_plan.specs.PlanFaults.{FaultIn};
 ghost use Rattle.quote_plan.specs.ReadSoFar.{may_come, with_line};
 ghost use Rattle.quote_plan.specs.declared.lines.PlanLine.TheVariants as said;
@@ -48,6 +48,22 @@ pub fn read_plan(alloc: Global, bytes: &[u8]) -> Result<Plan, PlanFault>
     }
 }
 
+/// Whether one of the offers has the name.
+fn is_named(offers: &IndexMap<Name, Offer>, name: &Name) -> bool
+    ensures { result ≡ is_named name.now offers.now.entries }
+{
+    offers.contains_key(name)
+}
+
+/// Puts an offer of a new name behind the others. Refused for want of memory alone.
+fn put(offers: &mut IndexMap<Name, Offer>, name: Name, offer: Offer) -> Result<(), AllocError>
+    requires { is_named name offers.old.entries ≡ false }
+    ensures { OnOk result (offers.new.entries ≡ offers.old.entries ++ (name, offer) ∷ []) }
+{
+    offers.insert(name, offer)?;
+    Ok(())
+}
+
 /// What was read so far of a plan.
 #[derive(Drop)]
 struct Reading {
@@ -80,6 +96,7 @@ impl Reading {
     fn take(&mut self, line: PlanLine) -> Result<bool, AllocError>
         ensures tested { IfOk result (λ good. good ≡ may_come self.old line) }
         ensures taken { result ≡ Ok true → self.new ≡ with_line self.old line }
+        ensures refused { OnErr result (IsTrue (may_come self.old line) × IsSome (offer_in line)) }
     {
         match line {
             PlanLine::Silent => Ok(true),
@@ -105,14 +122,12 @@ impl Reading {
     fn take_offer(&mut self, name: Name, offer: Offer) -> Result<bool, AllocError>
         ensures tested { IfOk result (λ good. good ≡ may_come self.old (said.Offer name offer)) }
         ensures taken { result ≡ Ok true → self.new ≡ with_line self.old (said.Offer name offer) }
+        ensures refused { OnErr result (IsTrue (may_come self.old (said.Offer name offer))) }
     {
-        if self.mode.is_none() || self.offers.len() >= OFFER_LIMIT {
+        if self.mode.is_none() || self.offers.len() >= OFFER_LIMIT || is_named(&self.offers, &name) {
             return Ok(false);
         }
-        if self.offers.contains_key(&name) {
-            return Ok(false);
-        }
-        self.offers.insert(name, offer)?;
+        put(&mut self.offers, name, offer)?;
         Ok(true)
     }
 
