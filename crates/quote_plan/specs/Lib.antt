@@ -4,3 +4,5 @@ pub mod PlanLines
 pub mod PlanReading
 pub mod PlanFaults
 pub mod ReadSoFar
+pub mod AnswerText
+pub mod Allowed

@@ -16,11 +16,13 @@
 //! name other than those of the faults that the runtime itself makes.
 #![tactic(auto)]
 
+pub mod answers;
 mod cutting;
 pub mod lines;
 pub mod plans;
 pub mod reading;
 
+pub use answers::{Answer, Quote, Quotes};
 pub use lines::{OFFER_LIMIT, PRICE_LIMIT};
 pub use plans::{Mode, Offer, Plan};
 pub use reading::{PlanFault, read_plan};

@@ -95,4 +95,34 @@ impl Plan {
     {
         self.offers.is_empty()
     }
+
+    /// The offer at this place, with its name; places are counted from 0.
+    pub fn named_at(&self, index: usize) -> Option<(Name, Offer)>
+        ensures { result ≡ slice_get self.now.offers index }
+    {
+        let (name, offer) = self.offers.get_index(index)?;
+        Some((*name, *offer))
+    }
+
+    /// The label of the job of the offer at this place: the offer's name, and its end as the one that is
+    /// expected.
+    pub fn label_at(&self, index: usize) -> Option<Label>
+        ensures { result ≡ slice_get (labels_of self.now) index }
+    {
+        let (name, offer) = self.named_at(index)?;
+        Some(Label {
+            name,
+            due: Some(offer.end()),
+        })
+    }
+
+    /// Whether this is the label of the job of the offer at this place.
+    pub fn is_label_at(&self, index: usize, label: &Label) -> bool
+        ensures { IsTrue result ↔ (slice_get (labels_of self.now) index ≡ Some label.now) }
+    {
+        match self.named_at(index) {
+            Some((name, offer)) => name.is_same(&label.name) && label.expects(&offer.end()),
+            None => false,
+        }
+    }
 }
