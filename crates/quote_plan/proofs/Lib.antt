@@ -1,3 +1,6 @@
+pub mod Best
 pub mod Cuts
+pub mod Dues
 pub mod Names
+pub mod Prices
 pub mod Progress

@@ -44,6 +44,11 @@ pub record IsBest (quotes : List Quote) (best : Quote) : Type 0 where
   pub least : (k : ℕ) (quote : Quote) → slice_get quotes k ≡ Some quote → best.price ≤ℤ quote.price
   pub first : (k : ℕ) (quote : Quote) → k < place → slice_get quotes k ≡ Some quote → best.price <ℤ quote.price
 
+-- the best quote, where there is one
+abbrev pub IsBestOf : List Quote → Option Quote → Type 0
+IsBestOf quotes None = quotes ≡ []
+IsBestOf quotes (Some best) = IsBest quotes best
+
 -- in mode `best`: the least price, or that there is none
 abbrev pub AllowedBest : List Named → Answer → Type 0
 AllowedBest offers (answer.Best quote) = IsBest (quotes_in offers) quote

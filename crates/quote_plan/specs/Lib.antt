@@ -6,3 +6,4 @@ pub mod PlanFaults
 pub mod ReadSoFar
 pub mod AnswerText
 pub mod Allowed
+pub mod Answering

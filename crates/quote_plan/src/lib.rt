@@ -16,12 +16,16 @@
 //! name other than those of the faults that the runtime itself makes.
 #![tactic(auto)]
 
+pub mod answering;
 pub mod answers;
+mod choosing;
 mod cutting;
+mod ends;
 pub mod lines;
 pub mod plans;
 pub mod reading;
 
+pub use answering::{NoAnswer, answer};
 pub use answers::{Answer, Quote, Quotes};
 pub use lines::{OFFER_LIMIT, PRICE_LIMIT};
 pub use plans::{Mode, Offer, Plan};
