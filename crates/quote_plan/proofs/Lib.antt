@@ -1,3 +1,4 @@
+pub mod Allowing
 pub mod Best
 pub mod Cuts
 pub mod Dues

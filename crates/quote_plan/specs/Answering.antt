@@ -54,6 +54,10 @@ abbrev pub AreDueSoFar : List Named → List TaskState → Type 0
 AreDueSoFar offers tasks =
     (length tasks ≡ length offers) × ((k : ℕ) → k < length tasks → (slice_get (states_of tasks) k ≡ Some state.Unavailable) ⊎ (slice_get (states_of tasks) k ≡ slice_get (dues_of offers) k))
 
+-- each task failed as its offer says
+abbrev pub NoneSucceeds : List Named → List TaskState → Type 0
+NoneSucceeds offers tasks = AreDue offers tasks × (quotes_in offers ≡ [])
+
 -- the offer whose task has the number
 unfoldable pub offer_of : List Named → List TaskState → ℕ → Option Named
 offer_of offers tasks task = option_and_then (λ k. slice_get offers k) (position (λ (t : TaskState). t.task == task) tasks)
@@ -98,7 +102,7 @@ Answers mode.Best offers tasks outcome.Done a = AreDue offers tasks × AllowedBe
 Answers mode.All offers tasks (outcome.All values) a = AreDueValues offers values × (a ≡ answer.All (quotes_in offers))
 Answers mode.All offers tasks (outcome.Failed task fault) a = failed_answer (offer_of offers tasks task) fault ≡ Some a
 Answers mode.First offers tasks (outcome.Any task value) a = first_answer (offer_of offers tasks task) value ≡ Some a
-Answers mode.First offers tasks (outcome.Failed task fault) a = AreDue offers tasks × (failed_answer (offer_of offers tasks task) fault ≡ Some a)
+Answers mode.First offers tasks (outcome.Failed task fault) a = NoneSucceeds offers tasks × (failed_answer (offer_of offers tasks task) fault ≡ Some a)
 Answers mode.First offers tasks outcome.Empty a = (offers ≡ []) × (a ≡ answer.Empty)
 Answers _ offers tasks _ a = ⊥
 

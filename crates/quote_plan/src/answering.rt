@@ -2,7 +2,7 @@
 
 ghost use Rattle.std.specs.Prelude.{◌≡◌, [], Some, IsSome, Err, IfOk, MatchResult};
 ghost use Rattle.quote_plan.specs.Allowed.{AllowedBest, quotes_in};
-ghost use Rattle.quote_plan.specs.Answering.{AllowedFor, Answers, AreDue, AreDueSoFar, AreDueValues, IsCancelled, IsLost, IsNoAnswer, available, failed_answer, first_answer, offer_of};
+ghost use Rattle.quote_plan.specs.Answering.{AllowedFor, Answers, AreDue, AreDueSoFar, AreDueValues, IsCancelled, IsLost, IsNoAnswer, NoneSucceeds, available, failed_answer, first_answer, offer_of};
 ghost use Rattle.quote_plan.specs.declared.answers.Answer.TheVariants as made;
 ghost use Rattle.quote_plan.specs.declared.answering.NoAnswer.TheVariants.{Cancelled};
 
@@ -97,9 +97,9 @@ fn partial_answer(alloc: Global, plan: &Plan, states: &[TaskState]) -> Result<An
 
 /// In mode `first`, where no task succeeded and this one was the first to fail.
 fn none_succeeded(plan: &Plan, tasks: &[TaskState], task: TaskId, fault: &Fault) -> Result<Answer, NoAnswer>
-    ensures { MatchResult result (λ a. AreDue plan.now.offers tasks.now × (failed_answer (offer_of plan.now.offers tasks.now task) fault.now ≡ Some a)) (λ e. IsLost (AreDue plan.now.offers tasks.now × IsSome (failed_answer (offer_of plan.now.offers tasks.now task) fault.now)) e) }
+    ensures { MatchResult result (λ a. NoneSucceeds plan.now.offers tasks.now × (failed_answer (offer_of plan.now.offers tasks.now task) fault.now ≡ Some a)) (λ e. IsLost (NoneSucceeds plan.now.offers tasks.now × IsSome (failed_answer (offer_of plan.now.offers tasks.now task) fault.now)) e) }
 {
-    if !are_due(plan, tasks) {
+    if !are_due(plan, tasks) || best_quote(plan).is_some() {
         return Err(NoAnswer::Lost);
     }
     found(failed_answer(plan, tasks, task, fault))
