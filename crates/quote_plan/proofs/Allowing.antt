@@ -17,7 +17,8 @@ use Rattle.scope_rules.specs.declared.types.outcomes.TaskValue.{TaskValue}
 use Rattle.scope_rules.specs.declared.types.values.Value.{Value}
 use Rattle.scope_rules.specs.declared.types.values.Value.TheVariants.{Num, Text}
 use Rattle.quote_plan.specs.Plans.{Named, PlanValue}
-use Rattle.quote_plan.specs.Allowed.{quote_in, quotes_in, HasPrice, AllHavePrices, AllowedAll, AllowedFirst, AllowedAnswer, IsPart}
+use Rattle.quote_plan.specs.AnswerText.{answer_text}
+use Rattle.quote_plan.specs.Allowed.{quote_in, quotes_in, HasPrice, AllHavePrices, AllowedAll, AllowedFirst, AllowedAnswer, AllowedText, IsPart}
 use Rattle.quote_plan.specs.Answering.{state_due, dues_of, states_of_values, AreDueValues, NoneSucceeds, offer_of, failed_by, failed_answer, first_by, first_answer, quote_there, available, Answers, AllowedFor, IsNoAnswer}
 use Rattle.quote_plan.specs.declared.plans.Mode.{Mode}
 use Rattle.quote_plan.specs.declared.plans.Mode.TheVariants as mode
@@ -142,15 +143,19 @@ first_found offers tasks task value a is =
     let there = one_of_plan offers tasks task (named.quote.name, Price named.quote.price) named.from_plan in
     subst (λ (x : Answer). AllowedFirst offers x) (sym named.said) (among offers there.0 named.quote there.1)
 
+-- the line of an answer that the plan allows
+line_of : {plan : PlanValue} (a : Answer) → AllowedAnswer plan a → AllowedText plan (answer_text a)
+line_of a from_plan = record { answer = a; from_plan = from_plan; said = refl }
+
 allowed_in : (m : Mode) (offers : List Named) (tasks : List TaskState) (o : Outcome) (a : Answer) → Answers m offers tasks o a → AllowedFor (record { mode = m; offers = offers }) o a
-allowed_in m offers tasks (outcome.Partial states) a rests = (available offers states, rests.1, available_part offers states)
-allowed_in mode.Best offers tasks outcome.Done a rests = rests.1
+allowed_in m offers tasks (outcome.Partial states) a rests = record { quotes = available offers states; part = available_part offers states; said = ap answer_text rests.1 }
+allowed_in mode.Best offers tasks outcome.Done a rests = line_of a rests.1
 allowed_in mode.All offers tasks (outcome.All values) a rests =
-    subst (λ (x : Answer). AllowedAll offers x) (sym rests.1) (all_priced offers values rests.0, refl)
-allowed_in mode.All offers tasks (outcome.Failed task fault) a rests = all_failed offers tasks task fault a rests
-allowed_in mode.First offers tasks (outcome.Any task value) a rests = first_found offers tasks task value a rests
-allowed_in mode.First offers tasks (outcome.Failed task fault) a rests = first_failed offers tasks task fault a rests.0.1 rests.1
-allowed_in mode.First offers tasks outcome.Empty a rests = subst (λ (x : Answer). AllowedFirst offers x) (sym rests.1) rests.0
+    line_of a (subst (λ (x : Answer). AllowedAll offers x) (sym rests.1) (all_priced offers values rests.0, refl))
+allowed_in mode.All offers tasks (outcome.Failed task fault) a rests = line_of a (all_failed offers tasks task fault a rests)
+allowed_in mode.First offers tasks (outcome.Any task value) a rests = line_of a (first_found offers tasks task value a rests)
+allowed_in mode.First offers tasks (outcome.Failed task fault) a rests = line_of a (first_failed offers tasks task fault a rests.0.1 rests.1)
+allowed_in mode.First offers tasks outcome.Empty a rests = line_of a (subst (λ (x : Answer). AllowedFirst offers x) (sym rests.1) rests.0)
 allowed_in m offers tasks o a rests = absurd rests
 
 -- so is what is answered

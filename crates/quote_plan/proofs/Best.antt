@@ -29,10 +29,10 @@ module _ (last : Quote) where
     place = is.place;
     there = still_there quotes is.place best is.there;
     least =
-    λ k quote at. elim (at_place quotes k quote at) [ inl h ↦ is.least k quote h | inr h ↦ subst (λ (q : Quote). best.price ≤ℤ q.price) h.1 less ];
+        λ k quote at. elim (at_place quotes k quote at) [ inl h ↦ is.least k quote h | inr h ↦ subst (λ (q : Quote). best.price ≤ℤ q.price) h.1 less ];
     first =
-    λ k quote before at.
-    elim (at_place quotes k quote at) [ inl h ↦ is.first k quote before h | inr h ↦ absurd (omega (arith, slice_get_within quotes is.place best is.there, h.0)) ];
+        λ k quote before at.
+        elim (at_place quotes k quote at) [ inl h ↦ is.first k quote before h | inr h ↦ absurd (omega (arith, slice_get_within quotes is.place best is.there, h.0)) ];
   }
 
   -- a lesser price is the best from then on
@@ -41,11 +41,11 @@ module _ (last : Quote) where
     place = length quotes;
     there = last_there quotes;
     least =
-    λ k quote at.
-    elim (at_place quotes k quote at) [ inl h ↦ let b : best.price ≤ℤ quote.price = is.least k quote h in omega (arith, ints) | inr h ↦ subst (λ (q : Quote). last.price ≤ℤ q.price) h.1 (omega (arith, ints)) ];
+        λ k quote at.
+        elim (at_place quotes k quote at) [ inl h ↦ let b : best.price ≤ℤ quote.price = is.least k quote h in omega (arith, ints) | inr h ↦ subst (λ (q : Quote). last.price ≤ℤ q.price) h.1 (omega (arith, ints)) ];
     first =
-    λ k quote before at.
-    elim (at_place quotes k quote at) [ inl h ↦ let b : best.price ≤ℤ quote.price = is.least k quote h in omega (arith, ints) | inr h ↦ absurd (omega (arith, h.0)) ];
+        λ k quote before at.
+        elim (at_place quotes k quote at) [ inl h ↦ let b : best.price ≤ℤ quote.price = is.least k quote h in omega (arith, ints) | inr h ↦ absurd (omega (arith, h.0)) ];
   }
 
   -- the only one is the best

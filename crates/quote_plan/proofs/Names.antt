@@ -43,13 +43,13 @@ pub fields_tell : (a b : Name) → same_fields a b ≡ same_name a b
 fields_tell a b =
     same_answer (same_fields a b) (same_name a b)
     (λ yes.
-     let parts = fields_of (a.len == b.len) (pointwise nat_eq a.bytes b.bytes) yes in
-     let len : a.len ≡ b.len = eqb-true a.len b.len parts.0 in
-     let bytes : a.bytes ≡ b.bytes = (bytes_decides a.bytes b.bytes).0 parts.1 in
-     (bytes_decides (text_of a) (text_of b)).1 (ap (λ n. take n a.bytes) len ∙ ap (take b.len) bytes))
+    let parts = fields_of (a.len == b.len) (pointwise nat_eq a.bytes b.bytes) yes in
+    let len : a.len ≡ b.len = eqb-true a.len b.len parts.0 in
+    let bytes : a.bytes ≡ b.bytes = (bytes_decides a.bytes b.bytes).0 parts.1 in
+    (bytes_decides (text_of a) (text_of b)).1 (ap (λ n. take n a.bytes) len ∙ ap (take b.len) bytes))
     (λ yes.
-     let same : a ≡ b = same_text a b ((bytes_decides (text_of a) (text_of b)).0 yes) in
-     both_true (eq-eqb a.len b.len (ap (λ (n : Name). n.len) same)) ((bytes_decides a.bytes b.bytes).1 (ap (λ (n : Name). n.bytes) same)))
+    let same : a ≡ b = same_text a b ((bytes_decides (text_of a) (text_of b)).0 yes) in
+    both_true (eq-eqb a.len b.len (ap (λ (n : Name). n.len) same)) ((bytes_decides a.bytes b.bytes).1 (ap (λ (n : Name). n.bytes) same)))
 
 unnamed_rest : (name : Name) (e : Named) (es : List Named) (found : Bool) → same_name name e.0 ≡ found → is_named name (e ∷ es) ≡ false → (found ≡ false) × (is_named name es ≡ false)
 unfolding is_named

@@ -107,7 +107,7 @@ module _ (bytes rest : List ℕ) (number : ℕ) (reading : ReadingValue) (so_far
           whole = all_lines ∙ (sym (append_assoc so_far.done (said ∷ []) more) ∙ ap (λ l. done ++ l) (sym left));
           counted = counted ∙ ap (λ n. n + 1) so_far.counted;
           good =
-          rw counted (below_more _ _ (still_good so_far.done (said ∷ []) (length so_far.done) (omega arith) so_far.good) (seam so_far.done [] said ∙ comes said ∙ good));
+              rw counted (below_more _ _ (still_good so_far.done (said ∷ []) (length so_far.done) (omega arith) so_far.good) (seam so_far.done [] said ∙ comes said ∙ good));
           modes = one_more mode_in so_far.done said reading.modes so_far.modes ∙ sym (ap (λ (r : ReadingValue). r.modes) is);
           offers = one_more offer_in so_far.done said reading.offers so_far.offers ∙ sym (ap (λ (r : ReadingValue). r.offers) is);
         }

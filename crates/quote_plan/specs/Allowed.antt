@@ -79,7 +79,7 @@ abbrev pub AllowedAnswer : PlanValue → Answer → Type 0
 AllowedAnswer plan a = AllowedIn plan.mode plan.offers a
 
 -- the plan allows the text
-pub record allowed (plan : PlanValue) (text : List ℕ) : Type 0 where
+pub record AllowedText (plan : PlanValue) (text : List ℕ) : Type 0 where
   pub answer : Answer
   pub from_plan : AllowedAnswer plan answer
   pub said : text ≡ answer_text answer
@@ -95,13 +95,13 @@ abbrev pub HasExpired : ℕ → Option ℕ → Type 0
 HasExpired deadline None = ⊥
 HasExpired deadline (Some reading) = deadline ≤ reading
 
--- some of the prices, once the deadline has passed
-pub record PartBy (plan : PlanValue) (deadline : ℕ) (reading : Option ℕ) (text : List ℕ) : Type 0 where
-  pub expired : HasExpired deadline reading
+-- the text says some of the prices, in the plan's order
+pub record PartText (plan : PlanValue) (text : List ℕ) : Type 0 where
   pub quotes : List Quote
   pub part : IsPart quotes (quotes_in plan.offers)
   pub said : text ≡ answer_text (answer.Partial quotes)
 
--- the plan with this deadline allows the text, the clock's last reading being this one
-abbrev pub allowed_by : PlanValue → ℕ → Option ℕ → List ℕ → Type 0
-allowed_by plan deadline reading text = allowed plan text ⊎ PartBy plan deadline reading text
+-- the plan with this deadline allows the text, the clock's last reading being this one: what the plan
+-- allows, or some of the prices, once the deadline has passed
+abbrev pub AllowedTextBy : PlanValue → ℕ → Option ℕ → List ℕ → Type 0
+AllowedTextBy plan deadline reading text = AllowedText plan text ⊎ (HasExpired deadline reading × PartText plan text)

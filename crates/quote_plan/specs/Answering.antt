@@ -15,7 +15,8 @@ use Rattle.scope_rules.specs.declared.types.outcomes.TaskValue.{TaskValue}
 use Rattle.scope_rules.specs.declared.types.values.Value.{Value}
 use Rattle.scope_rules.specs.declared.types.values.Value.TheVariants.{Num, Text}
 use Rattle.quote_plan.specs.Plans.{Named, PlanValue}
-use Rattle.quote_plan.specs.Allowed.{quote_in, quotes_in, AllowedBest, AllowedAnswer, IsPart}
+use Rattle.quote_plan.specs.AnswerText.{answer_text}
+use Rattle.quote_plan.specs.Allowed.{quote_in, quotes_in, AllowedBest, AllowedText, PartText}
 use Rattle.quote_plan.specs.declared.plans.Mode.{Mode}
 use Rattle.quote_plan.specs.declared.plans.Mode.TheVariants as mode
 use Rattle.quote_plan.specs.declared.plans.Offer.{Offer}
@@ -106,10 +107,10 @@ Answers mode.First offers tasks (outcome.Failed task fault) a = NoneSucceeds off
 Answers mode.First offers tasks outcome.Empty a = (offers ≡ []) × (a ≡ answer.Empty)
 Answers _ offers tasks _ a = ⊥
 
--- the plan allows the answer; or, where the outcome is partial, it is some of the prices
+-- the plan allows the answer's line; or, where the outcome is partial, it says some of the prices
 abbrev pub AllowedFor : PlanValue → Outcome → Answer → Type 0
-AllowedFor plan (outcome.Partial states) a = (quotes : List Quote) × (a ≡ answer.Partial quotes) × IsPart quotes (quotes_in plan.offers)
-AllowedFor plan _ a = AllowedAnswer plan a
+AllowedFor plan (outcome.Partial states) a = PartText plan (answer_text a)
+AllowedFor plan _ a = AllowedText plan (answer_text a)
 
 -- the scope was cancelled, or its time ran out
 abbrev pub IsCancelled : Outcome → Type 0

@@ -96,7 +96,12 @@ fn partial_answer(alloc: Global, plan: &Plan, states: &[TaskState]) -> Result<An
 }
 
 /// In mode `first`, where no task succeeded and this one was the first to fail.
-fn none_succeeded(plan: &Plan, tasks: &[TaskState], task: TaskId, fault: &Fault) -> Result<Answer, NoAnswer>
+fn none_succeeded(
+    plan: &Plan,
+    tasks: &[TaskState],
+    task: TaskId,
+    fault: &Fault,
+) -> Result<Answer, NoAnswer>
     ensures { MatchResult result (λ a. NoneSucceeds plan.now.offers tasks.now × (failed_answer (offer_of plan.now.offers tasks.now task) fault.now ≡ Some a)) (λ e. IsLost (NoneSucceeds plan.now.offers tasks.now × IsSome (failed_answer (offer_of plan.now.offers tasks.now task) fault.now)) e) }
 {
     if !are_due(plan, tasks) || best_quote(plan).is_some() {

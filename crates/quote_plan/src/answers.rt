@@ -81,9 +81,7 @@ impl fmt::Display for Answer {
     #[tactic(auto, unfolding(crate::specs::AnswerText::answer_text))]
     fn fmt<W: fmt::Write>(&self, f: &mut fmt::Formatter<W>) -> fmt::Result {
         match self {
-            Answer::Best(quote) => {
-                write!(f, "best {} {}", name_text(&quote.name), quote.price)
-            }
+            Answer::Best(quote) => { write!(f, "best {} {}", name_text(&quote.name), quote.price) }
             Answer::NoPrice => f.write_str("none"),
             Answer::All(quotes) => write!(f, "all{}", ShownQuotes(quotes.as_slice())),
             Answer::First(quote) => {

@@ -54,7 +54,11 @@ pub(crate) fn quotes(alloc: Global, plan: &Plan) -> Result<Quotes, AllocError>
 }
 
 /// The prices of the offers whose tasks have ended, in order.
-pub(crate) fn quotes_so_far(alloc: Global, plan: &Plan, tasks: &[TaskState]) -> Result<Quotes, AllocError>
+pub(crate) fn quotes_so_far(
+    alloc: Global,
+    plan: &Plan,
+    tasks: &[TaskState],
+) -> Result<Quotes, AllocError>
     ensures { IfOk result (λ quotes. quotes ≡ available plan.now.offers tasks.now) }
 {
     let mut quotes = Vec::new(alloc);

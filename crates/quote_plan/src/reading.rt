@@ -124,7 +124,10 @@ impl Reading {
         ensures taken { result ≡ Ok true → self.new ≡ with_line self.old (said.Offer name offer) }
         ensures refused { OnErr result (IsTrue (may_come self.old (said.Offer name offer))) }
     {
-        if self.mode.is_none() || self.offers.len() >= OFFER_LIMIT || is_named(&self.offers, &name) {
+        if self.mode.is_none()
+            || self.offers.len() >= OFFER_LIMIT
+            || is_named(&self.offers, &name)
+        {
             return Ok(false);
         }
         put(&mut self.offers, name, offer)?;

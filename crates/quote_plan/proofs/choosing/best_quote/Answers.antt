@@ -10,8 +10,8 @@ loop-index-preserved c =
     let offers = c.args.plan.now.offers in
     let index = c.loop-index.index in
     elim c.match-quote_at.branch [
-      in-Some w ↦ rw (w.best-is, one_quote offers index w.in-Some.quote (sym w.in-Some.ensures)) (w.better.ensures (quotes_in (take index offers)) c.loop-index.invariant)
-    | in_default w ↦ rw (w.best-is, no_quote offers index (sym w.in_default.ensures)) c.loop-index.invariant
+      | in-Some w ↦ rw (w.best-is, one_quote offers index w.in-Some.quote (sym w.in-Some.ensures)) (w.better.ensures (quotes_in (take index offers)) c.loop-index.invariant)
+      | in_default w ↦ rw (w.best-is, no_quote offers index (sym w.in_default.ensures)) c.loop-index.invariant
     ]
 
 pub returns : goal.returns

@@ -8,8 +8,8 @@ loop-index-preserved c =
     let offers = c.args.plan.now.offers in
     let index = c.loop-index.index in
     elim c.match-quote_at.branch [
-      in-Some+in_ok-push w ↦ rw (w.quotes-is, one_quote offers index w.in-Some.quote (sym w.in-Some.ensures)) (w.in_ok-push.ensures.items ∙ ap (λ l. l ++ w.in-Some.quote ∷ []) c.loop-index.invariant)
-    | in_default w ↦ rw (w.quotes-is, no_quote offers index (sym w.in_default.ensures)) c.loop-index.invariant
+      | in-Some+in_ok-push w ↦ rw (w.quotes-is, one_quote offers index w.in-Some.quote (sym w.in-Some.ensures)) (w.in_ok-push.ensures.items ∙ ap (λ l. l ++ w.in-Some.quote ∷ []) c.loop-index.invariant)
+      | in_default w ↦ rw (w.quotes-is, no_quote offers index (sym w.in_default.ensures)) c.loop-index.invariant
     ]
 
 pub returns : goal.returns

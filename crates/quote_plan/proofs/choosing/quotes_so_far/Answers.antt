@@ -15,8 +15,8 @@ loop-index-preserved c =
     let task = c.index-tasks-index.result in
     let here : slice_get tasks index ≡ Some task = slice_get_read tasks (length tasks) index task refl c.loop-index-test.true c.index-tasks-index.is in
     elim c.match-quote_there.branch [
-      in-Some+in_ok-push w ↦ rw (w.quotes-is, one_there offers tasks index task w.in-Some.quote here (sym w.in-Some.ensures)) (w.in_ok-push.ensures.items ∙ ap (λ l. l ++ w.in-Some.quote ∷ []) c.loop-index.invariant)
-    | in_default w ↦ rw (w.quotes-is, none_there offers tasks index task here (sym w.in_default.ensures)) c.loop-index.invariant
+      | in-Some+in_ok-push w ↦ rw (w.quotes-is, one_there offers tasks index task w.in-Some.quote here (sym w.in-Some.ensures)) (w.in_ok-push.ensures.items ∙ ap (λ l. l ++ w.in-Some.quote ∷ []) c.loop-index.invariant)
+      | in_default w ↦ rw (w.quotes-is, none_there offers tasks index task here (sym w.in_default.ensures)) c.loop-index.invariant
     ]
 
 pub returns : goal.returns

@@ -13,9 +13,11 @@ loop-index-preserved c =
 pub returns-then-not-is_due_so_far_at : goal.returns-then-not-is_due_so_far_at
 returns-then-not-is_due_so_far_at c =
     let task = c.index-tasks-index.result in
-    let here = state_at (λ (t : TaskState). t.state) c.args.tasks.now c.loop-index.index task c.loop-index-test.true c.index-tasks-index.is in
-    (λ no. absurd cc, λ due.
-     absurd (let yes : c.is_due_so_far_at.result ≡ true = c.is_due_so_far_at.ensures.1 (elim (due.1 c.loop-index.index c.loop-index-test.true) [ inl h ↦ inl (sym here ∙ h) | inr h ↦ inr (sym here ∙ h) ]) in cc))
+    let here = state_at (λ (t : TaskState). t.state) c.args.tasks.now c.loop-index.index task c.loop-index-test.true c.index-tasks-index.is in (
+      λ no. absurd cc,
+      λ due.
+          absurd (let yes : c.is_due_so_far_at.result ≡ true = c.is_due_so_far_at.ensures.1 (elim (due.1 c.loop-index.index c.loop-index-test.true) [ inl h ↦ inl (sym here ∙ h) | inr h ↦ inr (sym here ∙ h) ]) in cc),
+    )
 
 pub returns : goal.returns
 returns c =

@@ -19,7 +19,7 @@ loop-text-preserved c =
     let good = c.in-Ok-true.field-0-test in
     record {
       read =
-      goes_on c.args.bytes.now c.loop-text.rest.now c.loop-text.line c.loop-text.reading c.loop-text.invariant.read c.plan_line.result (lines_of others) split others _ refl (sym took.tested ∙ good) (took.taken (ap Ok good));
+          goes_on c.args.bytes.now c.loop-text.rest.now c.loop-text.line c.loop-text.reading c.loop-text.invariant.read c.plan_line.result (lines_of others) split others _ refl (sym took.tested ∙ good) (took.taken (ap Ok good));
       within = omega (arith, c.loop-text.invariant.within, c.in-Some.ensures.shorter);
     }
 
