@@ -118,14 +118,27 @@ IsCancelled outcome.Timeout = Unit {0}
 IsCancelled (outcome.Cancelled scope) = Unit {0}
 IsCancelled _ = ⊥
 
--- why there is no answer: `Lost` where none can rest on ends that are the offers'
+-- the answer lists prices
+abbrev pub ListsPrices : Outcome → Type 0
+ListsPrices (outcome.All values) = Unit {0}
+ListsPrices (outcome.Partial states) = Unit {0}
+ListsPrices _ = ⊥
+
+-- why there is no answer: `Lost` where none can rest on ends that are the offers', `Memory` only where
+-- prices are to be listed
 abbrev pub IsNoAnswer : (Answer → Type 0) → Outcome → NoAnswer → Type 0
 IsNoAnswer Rests o none.Lost = (a : Answer) → Rests a → ⊥
 IsNoAnswer Rests o none.Cancelled = IsCancelled o
-IsNoAnswer Rests o none.Memory = Unit {0}
+IsNoAnswer Rests o none.Memory = ListsPrices o
 
--- the same of a part: lost, or memory was refused
+-- the same of an answer that lists no prices
 abbrev pub IsLost : Type 0 → NoAnswer → Type 0
 IsLost Rests none.Lost = Rests → ⊥
 IsLost Rests none.Cancelled = ⊥
-IsLost Rests none.Memory = Unit {0}
+IsLost Rests none.Memory = ⊥
+
+-- the same of one that does: where memory is refused, the ends are the offers'
+abbrev pub IsLostOrMemory : Type 0 → NoAnswer → Type 0
+IsLostOrMemory Rests none.Lost = Rests → ⊥
+IsLostOrMemory Rests none.Cancelled = ⊥
+IsLostOrMemory Rests none.Memory = Rests

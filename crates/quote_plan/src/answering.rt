@@ -2,7 +2,7 @@
 
 ghost use Rattle.std.specs.Prelude.{◌≡◌, [], Some, IsSome, Err, IfOk, MatchResult};
 ghost use Rattle.quote_plan.specs.Allowed.{AllowedBest, quotes_in};
-ghost use Rattle.quote_plan.specs.Answering.{AllowedFor, Answers, AreDue, AreDueSoFar, AreDueValues, IsCancelled, IsLost, IsNoAnswer, NoneSucceeds, available, failed_answer, first_answer, offer_of};
+ghost use Rattle.quote_plan.specs.Answering.{AllowedFor, Answers, AreDue, AreDueSoFar, AreDueValues, IsCancelled, IsLost, IsLostOrMemory, IsNoAnswer, NoneSucceeds, available, failed_answer, first_answer, offer_of};
 ghost use Rattle.quote_plan.specs.declared.answers.Answer.TheVariants as made;
 ghost use Rattle.quote_plan.specs.declared.answering.NoAnswer.TheVariants.{Cancelled};
 
@@ -71,7 +71,7 @@ fn best_answer(plan: &Plan, tasks: &[TaskState]) -> Result<Answer, NoAnswer>
 
 /// In mode `all`, where all tasks succeeded.
 fn all_answer(alloc: Global, plan: &Plan, values: &[TaskValue]) -> Result<Answer, NoAnswer>
-    ensures { MatchResult result (λ a. AreDueValues plan.now.offers values.now × (a ≡ made.All (quotes_in plan.now.offers))) (λ e. IsLost (AreDueValues plan.now.offers values.now) e) }
+    ensures { MatchResult result (λ a. AreDueValues plan.now.offers values.now × (a ≡ made.All (quotes_in plan.now.offers))) (λ e. IsLostOrMemory (AreDueValues plan.now.offers values.now) e) }
 {
     if !are_due_values(plan, values) {
         return Err(NoAnswer::Lost);
@@ -84,7 +84,7 @@ fn all_answer(alloc: Global, plan: &Plan, values: &[TaskValue]) -> Result<Answer
 
 /// After the deadline.
 fn partial_answer(alloc: Global, plan: &Plan, states: &[TaskState]) -> Result<Answer, NoAnswer>
-    ensures { MatchResult result (λ a. AreDueSoFar plan.now.offers states.now × (a ≡ made.Partial (available plan.now.offers states.now))) (λ e. IsLost (AreDueSoFar plan.now.offers states.now) e) }
+    ensures { MatchResult result (λ a. AreDueSoFar plan.now.offers states.now × (a ≡ made.Partial (available plan.now.offers states.now))) (λ e. IsLostOrMemory (AreDueSoFar plan.now.offers states.now) e) }
 {
     if !are_due_so_far(plan, states) {
         return Err(NoAnswer::Lost);
