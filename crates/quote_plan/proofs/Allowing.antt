@@ -1,9 +1,9 @@
 -- An answer that rests on ends that are the offers' is one that the plan allows.
-use Rattle.std.proofs.Common.{◌≡◌, ℕ, zero, suc, ◌<◌, ◌≤◌, Bool, true, false, ◌⊎◌, inl, inr, List, [], ◌∷◌, length, slice_get, map, option_map, if◌then◌else◌, Option, None, Some, refl, sym, ◌∙◌, ap, subst, arith}
-use Rattle.std.specs.List.{cons_option, filter_map}
+use Rattle.std.proofs.Common.{◌≡◌, ℕ, zero, suc, Bool, true, false, inl, inr, List, [], ◌∷◌, slice_get, option_map, if◌then◌else◌, Option, None, Some, refl, sym, ◌∙◌, ap, subst}
+use Rattle.std.specs.List.{cons_option}
 use Rattle.std.specs.Option.{option_and_then}
 use Rattle.std.specs.Ordering.{int_eq}
-use Rattle.std.specs.Prelude.{position, MatchResult, Result, Ok, Err, IfOk}
+use Rattle.std.specs.Prelude.{MatchResult, Result, Ok, Err, IfOk}
 use Rattle.std.proofs.lemmas.Option.{slice_get-map}
 use Rattle.scope_rules.specs.Ends.{FaultValue}
 use Rattle.scope_rules.specs.Names.{same_name}
@@ -19,7 +19,7 @@ use Rattle.scope_rules.specs.declared.types.values.Value.TheVariants.{Num, Text}
 use Rattle.quote_plan.specs.Plans.{Named, PlanValue}
 use Rattle.quote_plan.specs.AnswerText.{answer_text}
 use Rattle.quote_plan.specs.Allowed.{quote_in, quotes_in, HasPrice, AllHavePrices, AllowedAll, AllowedFirst, AllowedAnswer, AllowedText, IsPart}
-use Rattle.quote_plan.specs.Answering.{state_due, dues_of, states_of_values, AreDueValues, NoneSucceeds, offer_of, failed_by, failed_answer, first_by, first_answer, quote_there, available, Answers, AllowedFor, IsNoAnswer}
+use Rattle.quote_plan.specs.Answering.{state_due, dues_of, AreDueValues, offer_of, failed_by, failed_answer, first_by, first_answer, quote_there, available, Answers, AllowedFor, IsNoAnswer}
 use Rattle.quote_plan.specs.declared.plans.Mode.{Mode}
 use Rattle.quote_plan.specs.declared.plans.Mode.TheVariants as mode
 use Rattle.quote_plan.specs.declared.plans.Offer.{Offer}

@@ -1,11 +1,10 @@
 -- A name among the names of offers.
-use Rattle.std.proofs.Common.{◌≡◌, ℕ, ◌==◌, ◌&&◌, Bool, true, false, List, [], ◌∷◌, ◌++◌, take, Option, None, Some, refl, sym, ◌∙◌, ap, subst, arith}
+use Rattle.std.proofs.Common.{◌≡◌, ◌==◌, ◌&&◌, Bool, true, false, List, [], ◌∷◌, ◌++◌, take, refl, sym, ◌∙◌, ap}
 use Rattle.std.specs.Prelude.{is_some, nat_eq}
 use Rattle.std.specs.Map.{lookup}
 use Rattle.std.specs.Cmp.Derive.{both_true}
 use Rattle.std.specs.Cmp.Lexicographic.{pointwise, bytes_decides}
 use Rattle.std.proofs.lemmas.Bool.{eqb-true, eq-eqb}
-use Rattle.std.proofs.lemmas.Grind.{common_steps}
 use Rattle.scope_rules.specs.Names.{same_name, text_of}
 use Rattle.scope_rules.specs.declared.types.names.Name.{Name}
 use Rattle.scope_rules.proofs.NameLemmas.{same_text}

@@ -1,7 +1,7 @@
 -- How far the reading of a plan has come.
-use Rattle.std.proofs.Common.{◌≡◌, ℕ, zero, suc, ◌+◌, ◌<◌, ◌≤◌, ◌==◌, Bool, true, false, IsTrue, inl, inr, Option, None, Some, List, [], ◌∷◌, ◌++◌, length, take, get_or, refl, sym, ◌∙◌, ap, subst, arith, below_more}
+use Rattle.std.proofs.Common.{◌≡◌, ℕ, suc, ◌+◌, ◌<◌, ◌≤◌, ◌==◌, true, false, IsTrue, inl, inr, Option, None, Some, List, [], ◌∷◌, ◌++◌, length, take, get_or, refl, sym, ◌∙◌, ap, arith, below_more}
 use Rattle.std.specs.Prelude.{IsSome}
-use Rattle.std.specs.List.{slice_split, filter_map, cons_option, count_by}
+use Rattle.std.specs.List.{slice_split, filter_map, cons_option}
 use Rattle.std.specs.Option.{option_to_list}
 use Rattle.std.proofs.lemmas.Bool.{eqb-true}
 use Rattle.std.proofs.Math.ListN.{get_or-append}
@@ -10,7 +10,7 @@ use Rattle.std.proofs.lemmas.List.{take-append-le, length-append, append-nil, ap
 use Rattle.std.proofs.lemmas.List.Elements.{filter_map-append}
 use Rattle.std.proofs.lemmas.List.Splits.{length-slice_split}
 use Rattle.quote_plan.specs.Cutting.{is_feed}
-use Rattle.quote_plan.specs.Plans.{Named, PlanValue}
+use Rattle.quote_plan.specs.Plans.{PlanValue}
 use Rattle.quote_plan.specs.PlanLines.{line_said}
 use Rattle.quote_plan.specs.PlanReading.{cut_said, pieces_said, lines_of, mode_in, offer_in, modes_in, offers_in, may_follow, is_good, AreGood, SayPlan, FirstBad, RefusedAt}
 use Rattle.quote_plan.specs.ReadSoFar.{ReadingValue, may_come, with_line}

@@ -1,5 +1,5 @@
 -- Which answers a plan allows.
-use Rattle.std.specs.Prelude.{◌≡◌, ℕ, ◌<◌, ◌≤◌, ◌≤ℤ◌, ◌<ℤ◌, ◌⊎◌, List, [], ◌∷◌, Option, Some, None, slice_get, Contains}
+use Rattle.std.specs.Prelude.{◌≡◌, ℕ, ◌<◌, ◌≤◌, ◌≤ℤ◌, ◌<ℤ◌, ◌⊎◌, List, [], ◌∷◌, Option, Some, None, slice_get}
 use Rattle.std.specs.List.{filter_map}
 use Rattle.scope_rules.specs.Ends.{FaultValue}
 use Rattle.scope_rules.specs.declared.types.names.Name.{Name}

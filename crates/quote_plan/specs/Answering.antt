@@ -13,7 +13,7 @@ use Rattle.scope_rules.specs.declared.types.outcomes.Outcome.TheVariants as outc
 use Rattle.scope_rules.specs.declared.types.outcomes.TaskState.{TaskState}
 use Rattle.scope_rules.specs.declared.types.outcomes.TaskValue.{TaskValue}
 use Rattle.scope_rules.specs.declared.types.values.Value.{Value}
-use Rattle.scope_rules.specs.declared.types.values.Value.TheVariants.{Num, Text}
+use Rattle.scope_rules.specs.declared.types.values.Value.TheVariants.{Num}
 use Rattle.quote_plan.specs.Plans.{Named, PlanValue}
 use Rattle.quote_plan.specs.AnswerText.{answer_text}
 use Rattle.quote_plan.specs.Allowed.{quote_in, quotes_in, AllowedBest, AllowedText, PartText}

@@ -1,4 +1,4 @@
-use Rattle.std.proofs.Common.{◌∷◌, [], ◌++◌, take, sym, ◌∙◌, ap, arith}
+use Rattle.std.proofs.Common.{◌∷◌, [], ◌++◌, sym, ◌∙◌, ap, arith}
 use Rattle.quote_plan.proofs.Prices.{no_quote, one_quote, all_quotes, start}
 use Rattle.quote_plan.proofs.choosing.quotes.Goals as goal
 use Rattle.quote_plan.proofs.choosing.quotes.Goals.{in-Some+in_ok-push, in_default}

@@ -1,4 +1,4 @@
-use Rattle.std.proofs.Common.{◌≡◌, Some, ◌∷◌, [], ◌++◌, length, slice_get, take, refl, sym, ◌∙◌, ap, arith}
+use Rattle.std.proofs.Common.{◌≡◌, Some, ◌∷◌, [], ◌++◌, length, slice_get, refl, sym, ◌∙◌, ap, arith}
 use Rattle.std.proofs.lemmas.Option.{slice_get_read}
 use Rattle.quote_plan.proofs.Prices.{none_there, one_there, whole_there, start_there}
 use Rattle.quote_plan.proofs.choosing.quotes_so_far.Goals as goal

@@ -1,4 +1,4 @@
-use Rattle.std.proofs.Common.{◌≡◌, length, Some, slice_get, sym, ◌∙◌, below_more, arith}
+use Rattle.std.proofs.Common.{length, sym, ◌∙◌, below_more, arith}
 use Rattle.std.proofs.lemmas.List.{length-map}
 use Rattle.quote_plan.specs.Plans.{Named}
 use Rattle.scope_rules.specs.declared.types.outcomes.TaskState.{TaskState}

@@ -1,4 +1,4 @@
-use Rattle.std.proofs.Common.{◌≡◌, [], ◌∷◌, true, false, Ok, refl, sym, ◌∙◌, ap, arith}
+use Rattle.std.proofs.Common.{◌≡◌, [], ◌∷◌, Ok, refl, sym, ◌∙◌, ap, arith}
 use Rattle.quote_plan.specs.PlanReading.{lines_of}
 use Rattle.quote_plan.proofs.Progress.{nothing_read, next_line, goes_on, first_bad, refused, cut_line, no_line, no_mode, all_said}
 use Rattle.quote_plan.proofs.reading.read_plan.Goals as goal

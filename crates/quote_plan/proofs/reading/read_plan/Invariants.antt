@@ -1,5 +1,5 @@
 -- The lines before the rest were read.
-use Rattle.std.proofs.Common.{ℕ, ◌+◌, ◌≤◌, length}
+use Rattle.std.proofs.Common.{◌+◌, ◌≤◌, length}
 use Rattle.quote_plan.proofs.Progress.{HasRead}
 use Rattle.quote_plan.proofs.reading.read_plan.Given as goal
 
