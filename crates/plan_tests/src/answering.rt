@@ -2,12 +2,11 @@
 
 use crate::joins::{Step, answered};
 use crate::plans::plan;
+use Step::{Cancel, Ends, Fails, Tick};
 use quote_plan::{Answer, NoAnswer, Plan, Quote, Quotes, answer};
 use scope_rules::{Expiry, Outcome, State, TaskState, Value};
 use std::process::Abort;
 use std::test::Fail;
-
-use Step::{Cancel, Ends, Fails, Tick};
 
 /// What is answered after the steps: a line, or the reason why there is none.
 struct Row {
@@ -305,8 +304,14 @@ fn outcomes_that_the_joiner_never_gives(rt: HostRuntime) -> Result<(), Fail> {
         task: 1,
         value: Value::Num(5),
     };
-    assert_eq!(rt; unanswered(&rt, &plan, &tasks, Outcome::Done)?, NoAnswer::Lost);
-    assert_eq!(rt; unanswered(&rt, &plan, &tasks, Outcome::Empty)?, NoAnswer::Lost);
+    assert_eq!(rt;
+        unanswered(&rt, &plan, &tasks, Outcome::Done)?,
+        NoAnswer::Lost
+    );
+    assert_eq!(rt;
+        unanswered(&rt, &plan, &tasks, Outcome::Empty)?,
+        NoAnswer::Lost
+    );
     assert_eq!(rt; unanswered(&rt, &plan, &tasks, any)?, NoAnswer::Lost);
     Ok(())
 }

@@ -2,7 +2,9 @@
 
 use quote_plan::{NoAnswer, Plan, answer};
 use scope_model::Plain;
-use scope_rules::{End, Expiry, Fault, Limits, Name, Options, Outcome, ScopeId, TaskId, TaskState};
+use scope_rules::{
+    End, Expiry, Fault, ForkReply, Limits, Name, Options, Outcome, ScopeId, TaskId, TaskState,
+};
 use std::alloc::Global;
 use std::test::Fail;
 
@@ -38,8 +40,9 @@ impl Running<'_> {
     fn fork(&mut self) -> Result<(), Fail> {
         for place in 0..self.plan.len() {
             let label = self.plan.label_at(place).ok_or("a label")?;
-            self.realm.fork(0, self.scope, label)?;
-            let task = place as TaskId + 1;
+            let (ForkReply::Thread(task) | ForkReply::Never(task)) = self
+                .realm
+                .fork(0, self.scope, label)?;
             self.realm.start(task)?;
             self.tasks.push(task)?;
         }
@@ -50,12 +53,14 @@ impl Running<'_> {
         match step {
             Step::Ends(place) => {
                 let (_, offer) = self.plan.named_at(place).ok_or("an offer")?;
-                self.realm.finish(self.task(place)?, offer.end())?;
+                let task = self.task(place)?;
+                self.realm.finish(task, offer.end())?;
             }
             Step::Fails(place, fault) => {
                 let name = Name::new(fault.as_bytes()).ok_or("a name")?;
                 let end: End = Err(Fault(name));
-                self.realm.finish(self.task(place)?, end)?;
+                let task = self.task(place)?;
+                self.realm.finish(task, end)?;
             }
             Step::Tick(now) => self.realm.tick(now)?,
             Step::Cancel => {

@@ -39,7 +39,10 @@ const LINES: [(&str, usize); 43] = [
     ("mode best best", 1),
     ("Mode best", 1),
     ("  mode   best   /   offer   a   5  ", 0),
-    ("# a /  / mode best / #b / offer a 5 /    / # / offer A 6", 8),
+    (
+        "# a /  / mode best / #b / offer a 5 /    / # / offer A 6",
+        8,
+    ),
     (" # note / mode best", 0),
     ("mode best # note", 1),
     ("mode best / offer a 5 # note", 2),
@@ -149,7 +152,10 @@ fn name(text: &[u8]) -> Result<Name, Fail> {
 
 #[test]
 fn what_a_plan_holds(rt: HostRuntime) -> Result<(), Fail> {
-    let read = plan(&rt, "mode first / offer z 7 / # note / offer a fail x / offer m 999999999999")?;
+    let read = plan(
+        &rt,
+        "mode first / offer z 7 / # note / offer a fail x / offer m 999999999999",
+    )?;
     assert_eq!(rt; read.mode(), Mode::First);
     assert_eq!(rt; read.len(), 3);
     assert!(rt; !read.is_empty());
@@ -161,7 +167,10 @@ fn what_a_plan_holds(rt: HostRuntime) -> Result<(), Fail> {
     for (index, (name, offer)) in wanted.iter().enumerate() {
         assert!(rt; read.named_at(index) == Some((*name, *offer)), "at {index}");
         let label = read.label_at(index).ok_or("a label")?;
-        assert!(rt; label.name == *name && label.due == Some(offer.end()), "at {index}");
+        assert!(rt;
+            label.name == *name && label.due == Some(offer.end()),
+            "at {index}"
+        );
         assert!(rt; read.is_label_at(index, &label) && !read.is_label_at(index + 1, &label));
     }
     assert!(rt; read.named_at(3).is_none() && read.label_at(3).is_none());
