@@ -32,4 +32,7 @@ mod openings;
 mod words;
 
 pub use commands::{Command, Line, Question};
+pub use fields::{just_one, just_three, just_two, next_field};
 pub use lines::{LINE_LIMIT, read_line};
+pub use numbers::moment;
+pub use words::name;

@@ -1,0 +1,39 @@
+-- Where a text is cut first.
+use Rattle.std.proofs.Common.{◌≡◌, ℕ, ◌+◌, ◌<◌, ◌≤◌, Bool, true, false, cond, Some, None, List, [], ◌∷◌, length, take, drop, refl, ◌∙◌, subst, arith, nat_lt}
+use Rattle.std.specs.List.{position, position_or_len, slice_split}
+use Rattle.std.proofs.lemmas.Bool.{ltb-false}
+use Rattle.std.proofs.lemmas.List.Quantifiers.{position-Some}
+use Rattle.std.proofs.lemmas.List.Sums.{position_or_len_is}
+use Rattle.std.proofs.lemmas.List.Splits.{slice_split_first, slice_split-cons_no}
+
+module _ (p : ℕ → Bool) where
+  -- the place is within, or the length
+  none_within : (n m : ℕ) (within : Bool) → nat_lt n m ≡ within → cond within (Some n) None ≡ None → m ≤ n
+  none_within n m true is none = absurd cc
+  none_within n m false is none = ltb-false n m is
+
+  uncut_at : (b : ℕ) (bs : List ℕ) (here : Bool) → p b ≡ here → length (b ∷ bs) ≤ position_or_len p (b ∷ bs) → (here ≡ false) × (length bs ≤ position_or_len p bs)
+  uncut_at b bs true at past = absurd (let first : position_or_len p (b ∷ bs) ≡ 0 = rw at refl in omega (arith, first))
+  uncut_at b bs false at past = (refl, let later : position_or_len p (b ∷ bs) ≡ position_or_len p bs + 1 = rw at (omega arith) in omega (arith, later))
+
+  uncut_past : (bs : List ℕ) → length bs ≤ position_or_len p bs → slice_split p bs ≡ bs ∷ []
+  uncut_past [] past = refl
+  uncut_past (b ∷ bs) past =
+      let rest = uncut_at b bs (p b) refl past in
+      slice_split-cons_no p b bs rest.0 ∙ rw (uncut_past bs rest.1) refl
+
+  -- no byte passes: the text is one piece
+  pub uncut : (bs : List ℕ) → position p bs ≡ None → slice_split p bs ≡ bs ∷ []
+  uncut bs none =
+      uncut_past bs (none_within (position_or_len p bs) (length bs) (nat_lt (position_or_len p bs) (length bs)) refl none)
+
+  pub cut_within : (bs : List ℕ) (n : ℕ) → position p bs ≡ Some n → n < length bs
+  cut_within bs n is = (position-Some p bs n 0 is).0
+
+  -- the first piece ends at the first byte that passes
+  pub cut_first : (bs : List ℕ) (n : ℕ) → position p bs ≡ Some n → slice_split p bs ≡ take n bs ∷ slice_split p (drop (n + 1) bs)
+  cut_first bs n is =
+      let found = position-Some p bs n 0 is in
+      let place : position_or_len p bs ≡ n = position_or_len_is p bs n 0 (omega (arith, found.0)) found.2 (λ _. found.1) in
+      let within : position_or_len p bs < length bs = rw place found.0 in
+      subst (λ (k : ℕ). slice_split p bs ≡ take k bs ∷ slice_split p (drop (k + 1) bs)) place (slice_split_first p bs 0 within)

@@ -1,0 +1,7 @@
+-- The best of the offers before the index.
+use Rattle.std.proofs.Common.{take}
+use Rattle.quote_plan.specs.Allowed.{IsBestOf, quotes_in}
+use Rattle.quote_plan.proofs.choosing.best_quote.Given as goal
+
+abbrev pub invariant-loop-index : goal.invariant-loop-index
+invariant-loop-index l = IsBestOf (quotes_in (take l.index l.plan.offers)) l.best

@@ -1,0 +1,9 @@
+-- The tasks before the index ended as their offers say, where they have ended.
+use Rattle.std.proofs.Common.{◌≡◌, ◌⊎◌, ℕ, ◌<◌, slice_get, Some}
+use Rattle.scope_rules.specs.declared.types.answers.State.TheVariants.{Unavailable}
+use Rattle.quote_plan.specs.Answering.{states_of, dues_of}
+use Rattle.quote_plan.proofs.ends.are_due_so_far.Given as goal
+
+abbrev pub invariant-loop-index : goal.invariant-loop-index
+invariant-loop-index l =
+    (k : ℕ) → k < l.index → (slice_get (states_of l.tasks) k ≡ Some Unavailable) ⊎ (slice_get (states_of l.tasks) k ≡ slice_get (dues_of l.plan.offers) k)

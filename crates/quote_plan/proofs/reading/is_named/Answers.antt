@@ -1,0 +1,8 @@
+-- The map tells names apart by all that they are made of.
+use Rattle.std.proofs.Common.{◌∙◌}
+use Rattle.quote_plan.proofs.Names.{found_is_named, fields_tell}
+use Rattle.quote_plan.proofs.reading.is_named.Goals as goal
+
+pub returns : goal.returns
+returns c =
+    c.contains_key.ensures ∙ found_is_named c.args.name.now _ (fields_tell c.args.name.now) c.args.offers.now.entries

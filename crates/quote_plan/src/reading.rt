@@ -1,0 +1,144 @@
+//! How a plan is read.
+
+ghost use Rattle.std.specs.Prelude.{◌≡◌, [], ◌∷◌, ◌++◌, true, false, Ok, IsTrue, IfOk, IsSome, OnErr, OnOk, MatchOption, MatchResult};
+ghost use Rattle.quote_plan.specs.PlanReading.{is_named, lines_of, offer_in, SayPlan};
+ghost use Rattle.quote_plan.specs.PlanFaults.{FaultIn};
+ghost use Rattle.quote_plan.specs.ReadSoFar.{may_come, with_line};
+ghost use Rattle.quote_plan.specs.declared.lines.PlanLine.TheVariants as said;
+
+use crate::cutting::first_line;
+use crate::lines::{OFFER_LIMIT, PlanLine, plan_line};
+use crate::plans::{Mode, Offer, Plan};
+use indexmap::IndexMap;
+use scope_rules::Name;
+use std::alloc::{AllocError, Global};
+use std::marker::Model;
+
+/// Why a plan was not read.
+#[derive(Clone, Copy, Debug, PartialEq, Eq)]
+pub enum PlanFault {
+    /// This line is the first bad one, counted from 1; where no line says a mode and none is bad, it is
+    /// the line after the last.
+    Word { line: usize },
+    /// Memory was refused.
+    Memory,
+}
+
+/// The plan that the bytes are.
+pub fn read_plan(alloc: Global, bytes: &[u8]) -> Result<Plan, PlanFault>
+    ensures { MatchResult result (λ plan. SayPlan (lines_of bytes.now) plan) (λ fault. FaultIn (lines_of bytes.now) fault) }
+{
+    let mut reading = Reading::new(alloc);
+    let mut line = 0;
+    let mut rest = bytes;
+    while let Some((text, others)) = first_line(rest) {
+        line += 1;
+        match reading.take(plan_line(text)) {
+            Ok(true) => rest = others,
+            Ok(false) => return Err(PlanFault::Word { line }),
+            Err(_) => return Err(PlanFault::Memory),
+        }
+    }
+    if !rest.is_empty() {
+        return Err(PlanFault::Word { line: line + 1 });
+    }
+    match reading.plan() {
+        Some(plan) => Ok(plan),
+        None => Err(PlanFault::Word { line: line + 1 }),
+    }
+}
+
+/// Whether one of the offers has the name.
+fn is_named(offers: &IndexMap<Name, Offer>, name: &Name) -> bool
+    ensures { result ≡ is_named name.now offers.now.entries }
+{
+    offers.contains_key(name)
+}
+
+/// Puts an offer of a new name behind the others. Refused for want of memory alone.
+fn put(offers: &mut IndexMap<Name, Offer>, name: Name, offer: Offer) -> Result<(), AllocError>
+    requires { is_named name offers.old.entries ≡ false }
+    ensures { OnOk result (offers.new.entries ≡ offers.old.entries ++ (name, offer) ∷ []) }
+{
+    offers.insert(name, offer)?;
+    Ok(())
+}
+
+/// What was read so far of a plan.
+#[derive(Drop)]
+struct Reading {
+    mode: Option<Mode>,
+    offers: IndexMap<Name, Offer>,
+}
+
+impl Model for Reading {
+    ghost use Rattle.std.specs.Option.{option_to_list};
+    ghost use Rattle.quote_plan.specs.ReadSoFar.{ReadingValue};
+
+    ghost Value = { ReadingValue };
+
+    ghost view = { λ r. record { modes = option_to_list r.mode; offers = r.offers.entries } };
+}
+
+impl Reading {
+    /// Nothing read yet.
+    fn new(alloc: Global) -> Reading
+        ensures modes { result.modes ≡ [] }
+        ensures offers { result.offers ≡ [] }
+    {
+        Reading {
+            mode: None,
+            offers: IndexMap::new(alloc),
+        }
+    }
+
+    /// Whether the line may come next; if so, it is taken. Refused for want of memory alone.
+    fn take(&mut self, line: PlanLine) -> Result<bool, AllocError>
+        ensures tested { IfOk result (λ good. good ≡ may_come self.old line) }
+        ensures taken { result ≡ Ok true → self.new ≡ with_line self.old line }
+        ensures refused { OnErr result (IsTrue (may_come self.old line) × IsSome (offer_in line)) }
+    {
+        match line {
+            PlanLine::Silent => Ok(true),
+            PlanLine::Mode(mode) => Ok(self.take_mode(mode)),
+            PlanLine::Offer { name, offer } => self.take_offer(name, offer),
+            PlanLine::BadWord => Ok(false),
+        }
+    }
+
+    /// Whether no mode was said yet; if so, it is this one.
+    fn take_mode(&mut self, mode: Mode) -> bool
+        ensures tested { result ≡ may_come self.old (said.Mode mode) }
+        ensures taken { IsTrue result → self.new ≡ with_line self.old (said.Mode mode) }
+    {
+        if self.mode.is_some() {
+            return false;
+        }
+        self.mode = Some(mode);
+        true
+    }
+
+    /// Whether this offer may come next; if so, it is taken.
+    fn take_offer(&mut self, name: Name, offer: Offer) -> Result<bool, AllocError>
+        ensures tested { IfOk result (λ good. good ≡ may_come self.old (said.Offer name offer)) }
+        ensures taken { result ≡ Ok true → self.new ≡ with_line self.old (said.Offer name offer) }
+        ensures refused { OnErr result (IsTrue (may_come self.old (said.Offer name offer))) }
+    {
+        if self.mode.is_none()
+            || self.offers.len() >= OFFER_LIMIT
+            || is_named(&self.offers, &name)
+        {
+            return Ok(false);
+        }
+        put(&mut self.offers, name, offer)?;
+        Ok(true)
+    }
+
+    /// The plan that was read; `None` where no line said a mode.
+    fn plan(self) -> Option<Plan>
+        ensures { MatchOption result (self.modes ≡ []) (λ plan. (self.modes ≡ plan.mode ∷ []) × (self.offers ≡ plan.offers)) }
+    {
+        let mode = self.mode?;
+        Some(Plan::new(mode, self.offers))
+    }
+}
