@@ -26,7 +26,7 @@ either_way : (b : Bool) (c : Checked) → c ≡ Ok tt → cond b (Ok tt) c ≡ O
 either_way true c so = refl
 either_way false c so = so
 
-actor_passes : (h : History) (a : ℕ) → IsActor h a → actor_check h a ≡ Ok tt
+pub actor_passes : (h : History) (a : ℕ) → IsActor h a → actor_check h a ≡ Ok tt
 unfolding actor_check
 actor_passes h a acts =
     elim acts [

@@ -8,3 +8,4 @@ pub mod Marks
 pub mod LaterClosing
 pub mod Ended
 pub mod Closes
+pub mod Readers

@@ -1,6 +1,8 @@
-ghost use Rattle.std.specs.Prelude.{◌≡◌, IsOk};
+ghost use Rattle.std.specs.Prelude.{◌≡◌, ◌+◌, ◌<◌, ◌^◌, ◌++◌, ◌∷◌, [], IsOk, IsSome, IfOk, length};
+ghost use Rattle.scope_rules.specs.History.{opening};
+ghost use Rattle.scope_rules.specs.Nests.{inner, tasks_of};
 ghost use Rattle.scope_rules.specs.Scopes.{innermost, closed};
-ghost use Rattle.scope_rules.specs.Tasks.{settled};
+ghost use Rattle.scope_rules.specs.Tasks.{settled, stage};
 ghost use Rattle.scope_rules.specs.Verdicts.{verdict};
 ghost use Rattle.scope_rules.specs.Checks.{scope_check};
 ghost use Rattle.scope_rules.specs.Replies.{AnswersValue};
@@ -15,7 +17,7 @@ use crate::telling::tell;
 use realm_steps::RealmStep;
 use scope_checks::Readings;
 use scope_log::ScopeLog;
-use scope_rules::{Actor, Catalog, Event, Refusal, ScopeId, Verdict};
+use scope_rules::{Actor, Catalog, Event, Refusal, ScopeId, Stage, TaskId, Verdict};
 use share_ledger::OwnerShare;
 
 /// What the end of a close is made of. The hold that ends one records the ends of several scopes, the
@@ -33,6 +35,7 @@ impl<C: Catalog, N: RealmName> RealmCore<C, N> {
         ensures core { self.new ≡ record self.old { steps = share.new.seen } }
         ensures answer { Does share.old share.new (RealmStep.Happened (Event.EndClose share.old.actor scope)) (λ h. verdict h scope) result }
         ensures sure { CanEnd (history_of self.old.steps) share.old.actor scope → IsOk result }
+        ensures next { IsOk result → share.new.seen ≡ self.old.steps ++ RealmStep.Happened (Event.EndClose share.old.actor scope) ∷ [] }
     {
         let actor = share.actor();
         let event = Event::EndClose { actor, scope };
@@ -48,6 +51,44 @@ impl<C: Catalog, N: RealmName> RealmCore<C, N> {
     {
         let _limits = self.realm.limits();
         self.realm.innermost(actor)
+    }
+
+    /// The scope inside the scope: the next that its owner opened and has not closed.
+    pub fn inner(&self, scope: ScopeId) -> Option<ScopeId>
+        ensures { result ≡ inner (history_of self.now.steps) scope }
+    {
+        let _limits = self.realm.limits();
+        match self.realm.kept().inner(scope) {
+            Ok(found) => found,
+            Err(_) => None,
+        }
+    }
+
+    /// How the scope was closed, or would be if its close ended now, where it was opened since the last
+    /// retirement.
+    pub fn verdict(&self, scope: ScopeId) -> Verdict
+        requires opened { IsSome (opening (history_of self.now.steps) scope) }
+        ensures { result ≡ verdict (history_of self.now.steps) scope }
+    {
+        let _limits = self.realm.limits();
+        self.realm.kept().verdict(scope)
+    }
+
+    /// The tasks of the scope, in fork order, where it was opened since the last retirement.
+    pub fn tasks_of(&self, scope: ScopeId) -> &[TaskId]
+        requires opened { IsSome (opening (history_of self.now.steps) scope) }
+        ensures { result.now ≡ tasks_of (history_of self.now.steps) scope }
+    {
+        let _limits = self.realm.limits();
+        self.realm.kept().tasks_of(scope)
+    }
+
+    /// How far the task has come.
+    pub fn stage_of(&self, task: TaskId) -> Stage
+        ensures { result ≡ stage (history_of self.now.steps) task }
+    {
+        let _limits = self.realm.limits();
+        self.realm.kept().stage_of(task)
     }
 
     /// Whether no task of the scope waits or runs.
@@ -66,11 +107,13 @@ impl<C: Catalog, N: RealmName> RealmCore<C, N> {
         self.realm.closed(scope)
     }
 
-    /// The log of the scope as it is. Refused for an unknown scope (`NoScope`, `Retired`), and where
+    /// The log of the scope as it is, which has room for an entry more. Refused for an unknown scope (`NoScope`, `Retired`), and where
     /// memory is refused (`Memory`).
     pub fn log(&self, scope: ScopeId) -> Result<ScopeLog, Refusal>
-        ensures { AnswersValue (scope_check (history_of self.now.steps) scope) (log (history_of self.now.steps) scope) result }
+        ensures answer { AnswersValue (scope_check (history_of self.now.steps) scope) (log (history_of self.now.steps) scope) result }
+        ensures small { IfOk result (λ l. length l.entries + 1 < 2 ^ 32) }
     {
+        let _limits = self.realm.limits();
         self.realm.project(scope)
     }
 }

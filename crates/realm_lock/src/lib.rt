@@ -2,6 +2,7 @@
 //! it did is told by what the caller's token or ticket has seen then.
 #![tactic(auto)]
 
+mod closing;
 mod commands;
 mod joins;
 mod locked;

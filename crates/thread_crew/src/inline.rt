@@ -64,12 +64,7 @@ impl<N: RealmName, L> Spawner<N> for Inline<L> {
 }
 
 impl<N: RealmName, L: Drop, W: Ready + Work<N, L>> Spawns<N, W> for Inline<L> {
-    fn spawn<R: Wait>(
-        &mut self,
-        rt: &R,
-        ticket: Ticket,
-        work: W,
-    ) -> Result<Ended<N>, (Ticket, W)> {
+    fn spawn<R: Wait>(&mut self, rt: &R, ticket: Ticket, work: W) -> Result<Ended<N>, (Ticket, W)> {
         let Some(lent) = self.lent.take() else {
             return Err((ticket, work));
         };

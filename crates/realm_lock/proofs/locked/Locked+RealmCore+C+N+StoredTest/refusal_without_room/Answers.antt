@@ -1,4 +1,4 @@
-use Rattle.std.proofs.Common.{◌≡◌, sym, subst, Err}
+use Rattle.std.proofs.Common.{sym, subst, Err}
 use Rattle.scope_rules.specs.declared.types.events.Event.TheVariants.{Open}
 use Rattle.scope_rules.specs.declared.types.refusals.Refusal.{Refusal}
 use Rattle.scope_rules.specs.Replies.{next_scope}

@@ -1,0 +1,214 @@
+-- An actor's scope that is not closed stays so, whatever others do.
+use Rattle.std.proofs.Common.{◌≡◌, ℕ, ◌==◌, ◌||◌, Bool, true, false, Some, None, Result, Ok, Err, List, [], ◌∷◌, ◌++◌, refl, sym, ap, ◌∙◌, subst}
+use Rattle.std.proofs.lemmas.Bool.{both_ways, eq-eqb, or_from, false_from_ne_true}
+use Rattle.std.specs.List.{list_any}
+use Rattle.scope_rules.specs.declared.types.answers.Cancelling.{Cancelling}
+use Rattle.scope_rules.specs.declared.types.answers.Cancelling.TheVariants.{Recorded, Already}
+use Rattle.scope_rules.specs.declared.types.capacity.Limits.{Limits}
+use Rattle.scope_rules.specs.declared.types.events.Event.{Event}
+use Rattle.scope_rules.specs.declared.types.events.Event.TheVariants.{BeginClose}
+use Rattle.scope_rules.specs.declared.types.records.Opening.{Opening}
+use Rattle.scope_rules.specs.declared.types.refusals.Refusal.{Refusal}
+use Rattle.scope_rules.specs.History.{History, followed}
+use Rattle.scope_rules.specs.Scopes.{closed, closing, covers, ends}
+use Rattle.scope_rules.specs.Checks.{checks, then_check, owns}
+use Rattle.scope_rules.specs.Table.{check_of}
+use Rattle.scope_rules.specs.Legal.{Accepts, Legal}
+use Rattle.scope_rules.proofs.Accepted.{checks_at}
+use Rattle.scope_rules.proofs.ClosingOwners.{owners_act, live_is_unclosed}
+use Rattle.scope_rules.proofs.ClosingScopes.{nothing_open}
+use Rattle.scope_rules.proofs.Growing.{opening_stays}
+use Rattle.scope_rules.proofs.OneEventMore.{closed_grows, closing_grows, closing_stays}
+use Rattle.scope_rules.proofs.PassedRows.{IsActor, ender_passed, owner_passed}
+use Rattle.scope_kept.proofs.Checked.{scope_passes}
+use Rattle.realm_steps.specs.declared.steps.RealmStep.{RealmStep}
+use Rattle.realm_steps.specs.declared.steps.RealmStep.TheVariants.{Happened, Retirement}
+use Rattle.realm_steps.specs.declared.steps.Holder.TheVariants.{TokenOf}
+use Rattle.realm_steps.specs.Holders.{is_own, Agrees, Looks}
+use Rattle.realm_steps.specs.Steps.{advance, advanced, history_of, Passes, LegalFrom, IsLegal}
+use Rattle.realm_steps.proofs.Histories.{advanced-append, history-push, legal_advance, legal_beginning, beginning_legal, legal_history, retired_without_scopes}
+use Rattle.share_ledger.specs.Values.{OwnerValue}
+use Rattle.realm_core.specs.Calls.{history_seen, Added, Refused, FoundSo, Records}
+use Rattle.realm_core.specs.Endings.{CanClose}
+use Rattle.realm_core.proofs.Ended.{actor_passes}
+use Rattle.realm_core.proofs.Joining.{agrees_on}
+use Rattle.realm_close.specs.Closes.{IsOpenOf, IsBegun, EndsLater}
+use Rattle.realm_close.specs.Ends.{Ends}
+use Rattle.realm_close.specs.Waiting.{FoundUnsettled}
+
+-- ---- one step of another's
+
+not_or : (b c : Bool) → (b || c) ≡ false → (b ≡ false) × (c ≡ false)
+not_or false false so = (refl, refl)
+not_or _ _ so = absurd cc
+
+-- no event of another closes it
+not_ended : (L : Limits) (h : History) (a s : ℕ) (e : Event) → IsOpenOf h a s → Accepts L h e → is_own (TokenOf a) (Happened e) ≡ false → ends s e ≡ false
+not_ended L h a s e it ok other =
+    false_from_ne_true (ends s e) (λ ended.
+    let row = ender_passed L h e s ended ok in
+    let owner = row.2.owner in
+    let both : Some it.opened ≡ Some owner.opened = sym it.is ∙ owner.is in
+    let same : it.opened ≡ owner.opened = cc in
+    let actor : row.0 ≡ a = sym owner.by ∙ (ap (λ (o : Opening). o.actor) (sym same) ∙ it.by) in
+    let told = ap (λ (x : Event). is_own (TokenOf a) (Happened x)) row.1 in
+    both_ways (is_own (TokenOf a) (Happened e)) other (told ∙ eq-eqb row.0 a actor))
+
+open_event : (L : Limits) (h : History) (a s : ℕ) (e : Event) → IsOpenOf h a s → Accepts L h e → is_own (TokenOf a) (Happened e) ≡ false → IsOpenOf (followed h e) a s
+open_event L h a s e it ok other = record {
+  opened = it.opened;
+  is = opening_stays h e s it.opened it.is;
+  by = it.by;
+  unclosed = closed_grows h e s ∙ or_from (closed h s) (ends s e) it.unclosed (not_ended L h a s e it ok other);
+}
+
+open_step : (L : Limits) (h : History) (a s : ℕ) (x : RealmStep) → Legal L h → IsOpenOf h a s → Passes L h x → is_own (TokenOf a) x ≡ false → IsOpenOf (advance h x) a s
+open_step L h a s (Happened e) legal it ok other = open_event L h a s e it ok other
+open_step L h a s Retirement legal it ok other = absurd (both_ways (closed h s) it.unclosed (nothing_open L h s it.opened legal (retired_without_scopes h ok) it.is))
+
+begun_step : (L : Limits) (h : History) (a s : ℕ) (x : RealmStep) → Legal L h → IsBegun h a s → Passes L h x → is_own (TokenOf a) x ≡ false → IsBegun (advance h x) a s
+begun_step L h a s (Happened e) legal it ok other = record { of = open_event L h a s e it.of ok other; begun = closing_stays h e s it.begun }
+begun_step L h a s Retirement legal it ok other = absurd (both_ways (closed h s) it.of.unclosed (nothing_open L h s it.of.opened legal (retired_without_scopes h ok) it.of.is))
+
+-- ---- and any number of them
+
+open_past : (L : Limits) (h : History) (a s : ℕ) (later : List RealmStep) → Legal L h → IsOpenOf h a s → LegalFrom L h later → list_any (is_own (TokenOf a)) later ≡ false → IsOpenOf (advanced h later) a s
+open_past L h a s [] legal it lawful others = it
+open_past L h a s (x ∷ later) legal it lawful others =
+    let both = not_or (is_own (TokenOf a) x) (list_any (is_own (TokenOf a)) later) others in
+    open_past L (advance h x) a s later (legal_advance L h x legal lawful.0) (open_step L h a s x legal it lawful.0 both.0) lawful.1 both.1
+
+begun_past : (L : Limits) (h : History) (a s : ℕ) (later : List RealmStep) → Legal L h → IsBegun h a s → LegalFrom L h later → list_any (is_own (TokenOf a)) later ≡ false → IsBegun (advanced h later) a s
+begun_past L h a s [] legal it lawful others = it
+begun_past L h a s (x ∷ later) legal it lawful others =
+    let both = not_or (is_own (TokenOf a) x) (list_any (is_own (TokenOf a)) later) others in
+    begun_past L (advance h x) a s later (legal_advance L h x legal lawful.0) (begun_step L h a s x legal it lawful.0 both.0) lawful.1 both.1
+
+legal_rest : (L : Limits) (h : History) (xs ys : List RealmStep) → LegalFrom L h (xs ++ ys) → LegalFrom L (advanced h xs) ys
+legal_rest L h [] ys lawful = lawful
+legal_rest L h (x ∷ xs) ys lawful = legal_rest L (advance h x) xs ys lawful.1
+
+lawful_later : (L : Limits) (a : ℕ) (old new : List RealmStep) (agrees : Agrees (TokenOf a) old new) → IsLegal L new → LegalFrom L (history_of old) agrees.later
+unfolding history_of IsLegal
+lawful_later L a old new agrees lawful = legal_rest L _ old agrees.later (subst (λ (xs : List RealmStep). IsLegal L xs) agrees.is lawful)
+
+legal_old : (L : Limits) (a : ℕ) (old new : List RealmStep) (agrees : Agrees (TokenOf a) old new) → IsLegal L new → Legal L (history_of old)
+unfolding IsLegal
+legal_old L a old new agrees lawful = legal_history L old (legal_beginning L _ old agrees.later (subst (λ (xs : List RealmStep). IsLegal L xs) agrees.is lawful))
+
+history_later : (a : ℕ) (old new : List RealmStep) (agrees : Agrees (TokenOf a) old new) → advanced (history_of old) agrees.later ≡ history_of new
+unfolding history_of
+history_later a old new agrees = sym (ap history_of agrees.is ∙ advanced-append _ old agrees.later)
+
+pub open_still : (L : Limits) (a s : ℕ) (old new : List RealmStep) → Agrees (TokenOf a) old new → IsLegal L new → IsOpenOf (history_of old) a s → IsOpenOf (history_of new) a s
+open_still L a s old new agrees lawful it =
+    subst (λ (h : History). IsOpenOf h a s) (history_later a old new agrees)
+    (open_past L (history_of old) a s agrees.later (legal_old L a old new agrees lawful) it (lawful_later L a old new agrees lawful) agrees.others)
+
+pub begun_still : (L : Limits) (a s : ℕ) (old new : List RealmStep) → Agrees (TokenOf a) old new → IsLegal L new → IsBegun (history_of old) a s → IsBegun (history_of new) a s
+begun_still L a s old new agrees lawful it =
+    subst (λ (h : History). IsBegun h a s) (history_later a old new agrees)
+    (begun_past L (history_of old) a s agrees.later (legal_old L a old new agrees lawful) it (lawful_later L a old new agrees lawful) agrees.others)
+
+-- ---- the beginning of a close
+
+-- an own scope that is not closed can be begun to be closed
+pub begin_passes : (L : Limits) (h : History) (a s : ℕ) → Legal L h → IsOpenOf h a s → check_of L h (BeginClose a s) ≡ Ok tt
+unfolding check_of checks then_check owns
+begin_passes L h a s legal it =
+    let acts = subst (IsActor h) it.by (owners_act L h s it.opened legal it.is it.unclosed) in
+    let owner : (it.opened.actor == a) ≡ true = eq-eqb it.opened.actor a it.by in
+    rw (actor_passes h a acts, scope_passes h s it.opened it.is, it.is, owner) refl
+
+or_right_true : (b c : Bool) → c ≡ true → (b || c) ≡ true
+or_right_true true c so = refl
+or_right_true false c so = so
+
+covers_itself : (h : History) (s : ℕ) → covers h s s ≡ true
+unfolding covers
+covers_itself h s = rw (eq-eqb s s refl) refl
+
+-- once it is recorded, the close has begun
+begun_by : (L : Limits) (h : History) (a s : ℕ) → Legal L h → Accepts L h (BeginClose a s) → IsBegun (followed h (BeginClose a s)) a s
+unfolding check_of
+begun_by L h a s legal ok =
+    let owner = owner_passed h a s (checks_at _ 2 _ ok.passed refl) in
+    let e = BeginClose a s in
+    record {
+      of = record {
+        opened = owner.opened;
+        is = opening_stays h e s owner.opened owner.is;
+        by = owner.by;
+        unclosed = closed_grows h e s ∙ or_from (closed h s) (ends s e) (live_is_unclosed L h s legal ok.recorded) refl;
+      };
+      begun = closing_grows h e s ∙ or_right_true (closing h s) _ (covers_itself h s);
+    }
+
+pub begun_recorded : (old new : OwnerValue) (s : ℕ) → Added old new (Happened (BeginClose old.actor s)) → IsBegun (history_seen new) old.actor s
+begun_recorded old new s it =
+    let x = Happened (BeginClose old.actor s) in
+    let lawful = beginning_legal old.limits it.there (x ∷ []) (subst (λ (xs : List RealmStep). IsLegal old.limits xs) it.is it.legal) in
+    let here = begun_by old.limits (history_of it.there) old.actor s (legal_history old.limits it.there lawful) it.accepted in
+    subst (λ (h : History). IsBegun h old.actor s) (sym (ap history_of it.is ∙ history-push it.there x)) here
+
+-- which of the two a call did
+pub did_record : (old new : OwnerValue) (e : Event) (result : Result Cancelling Refusal) (how : Cancelling) → result ≡ Ok how → how ≡ Recorded → Records old new e result → Added old new (Happened e)
+did_record old new e (Ok Recorded) how is same said = said
+did_record old new e (Ok Already) how is same said = absurd (cc (is, same))
+did_record old new e (Err r) how is same said = absurd (cc is)
+
+pub did_find : (old new : OwnerValue) (e : Event) (result : Result Cancelling Refusal) (how : Cancelling) → result ≡ Ok how → how ≡ Already → Records old new e result → FoundSo old new e
+did_find old new e (Ok Already) how is same said = said
+did_find old new e (Ok Recorded) how is same said = absurd (cc (is, same))
+did_find old new e (Err r) how is same said = absurd (cc is)
+
+pub did_refuse : (old new : OwnerValue) (e : Event) (result : Result Cancelling Refusal) (r : Refusal) → result ≡ Err r → Records old new e result → Refused old new (Happened e) r
+did_refuse old new e (Ok Recorded) r is said = absurd (cc is)
+did_refuse old new e (Ok Already) r is said = absurd (cc is)
+did_refuse old new e (Err q) r is said = let same : q ≡ r = cc in subst (λ (x : Refusal). Refused old new (Happened e) x) same said
+
+-- where it was begun before, and isn't over, it is so too
+pub begun_already : (old new : OwnerValue) (s : ℕ) → FoundSo old new (BeginClose old.actor s) → closed (history_seen new) s ≡ false → IsBegun (history_seen new) old.actor s
+unfolding check_of
+begun_already old new s it unclosed =
+    let owner = owner_passed (history_seen new) old.actor s (checks_at _ 2 _ it.passed refl) in
+    record { of = record { opened = owner.opened; is = owner.is; by = owner.by; unclosed = unclosed }; begun = it.already }
+
+-- what has begun can end once nothing of it waits or runs
+pub can_close : (h : History) (a s : ℕ) → IsBegun h a s → FoundUnsettled h s None → CanClose h a s
+can_close h a s it found = record {
+  opened = it.of.opened;
+  is = it.of.is;
+  by = it.of.by;
+  begun = it.begun;
+  unclosed = it.of.unclosed;
+  done = λ t x at by more still. found it.of.opened it.of.is it.of.unclosed t x at (by ∙ sym it.of.by) more still;
+}
+
+-- a call that only looked leaves it so
+pub begun_looked : (L : Limits) (a s : ℕ) (old new : List RealmStep) → Looks (TokenOf a) L old new → IsBegun (history_of old) a s → IsBegun (history_of new) a s
+begun_looked L a s old new looks it = begun_still L a s old new looks.agrees looks.legal it
+
+-- the close of an own scope that is not closed is not refused
+pub refused_sure : (old new : OwnerValue) (s : ℕ) (r : Refusal) → Refused old new (Happened (BeginClose old.actor s)) r → IsOpenOf (history_seen old) old.actor s → ⊥
+refused_sure old new s r it mine =
+    let still = open_still old.limits old.actor s old.seen new.seen it.looks.agrees it.looks.legal mine in
+    let passes = begin_passes old.limits (history_seen new) old.actor s (legal_history old.limits new.seen it.looks.legal) still in
+    absurd (cc (passes, it.by))
+
+-- nor found to be over
+pub closed_sure : (old new : OwnerValue) (s : ℕ) → FoundSo old new (BeginClose old.actor s) → closed (history_seen new) s ≡ true → IsOpenOf (history_seen old) old.actor s → ⊥
+closed_sure old new s it over mine =
+    let still = open_still old.limits old.actor s old.seen new.seen it.looks.agrees it.looks.legal mine in
+    both_ways (closed (history_seen new) s) still.unclosed over
+
+-- what ended later, after what had been seen
+pub ends_after : (old now new : OwnerValue) (s : ℕ) (nested : List ℕ) → now ≡ record old { seen = now.seen } → Agrees (TokenOf old.actor) old.seen now.seen → EndsLater now new s nested → EndsLater old new s nested
+ends_after old now new s nested same agrees it =
+    let actor = ap (λ (t : OwnerValue). t.actor) same in
+    let limits = ap (λ (t : OwnerValue). t.limits) same in
+    record {
+      before = it.before;
+      waited = agrees_on (TokenOf old.actor) old.seen now.seen it.before agrees (subst (λ (a : ℕ). Agrees (TokenOf a) now.seen it.before) actor it.waited);
+      ends = subst (λ (L : Limits). Ends L old.actor s nested it.before new.seen) limits (subst (λ (a : ℕ). Ends now.limits a s nested it.before new.seen) actor it.ends);
+    }

@@ -1,0 +1,4 @@
+pub mod Ends
+pub mod Waiting
+pub mod Reports
+pub mod Closes

@@ -1,0 +1,18 @@
+use Rattle.std.proofs.Common.{subst}
+use Rattle.realm_close.specs.Closes.{Begins}
+use Rattle.realm_lock.proofs.realm.Realm.close_bare.Goals as goal
+
+pub returns-in-Ok-clause-answer : goal.returns-in-Ok-clause-answer
+returns-in-Ok-clause-answer g c = (
+  (
+    c.end_closing.ensures.ends.0,
+    record {
+      begun = c.begin_closing.new.token;
+      how = c.in-Ok.field-0;
+      same = c.begin_closing.ensures.token;
+      begins = subst (λ result. Begins c.args.token.now c.begin_closing.new.token c.args.scope result) c.in-Ok.is c.begin_closing.ensures.answer;
+      ends = c.end_closing.ensures.ends.1;
+    },
+  ),
+  c.end_closing.ensures.verdict,
+)
