@@ -1,0 +1,79 @@
+//! Calls of a realm that each row makes.
+ghost use Rattle.std.specs.Prelude.{◌≡◌, IfOk};
+ghost use Rattle.share_ledger.specs.Values.{IsWaiting};
+
+use join_rules::Joiner;
+use realm_lock::{ActorToken, Forked, Realm, RealmName, Ticket};
+use scope_rules::{AnyEnd, End, Expiry, Label, Name, Options, ScopeId};
+use std::sync::Wait;
+use std::test::Fail;
+
+/// No deadline and no shield.
+pub const PLAIN: Options = Options {
+    deadline: None,
+    expiry: Expiry::Fail,
+    shield: false,
+};
+
+pub fn name(text: &[u8]) -> Result<Name, Fail> {
+    Ok(Name::new(text).ok_or("a name")?)
+}
+
+pub fn label(text: &[u8]) -> Result<Label, Fail> {
+    Ok(Label {
+        name: name(text)?,
+        due: None,
+    })
+}
+
+/// Opens a scope that awaits all its tasks.
+pub fn open<N: RealmName, R: Wait>(
+    rt: &R,
+    realm: &Realm<AnyEnd, N>,
+    token: &mut ActorToken,
+    options: Options,
+) -> Result<ScopeId, Fail>
+    requires { token.old.table ≡ N.table }
+    ensures { token.new ≡ record token.old { seen = token.new.seen } }
+{
+    match realm.open(rt, token, Joiner::AwaitAll, options) {
+        Ok(scope) => Ok(scope),
+        Err((refusal, _)) => Err(refusal)?,
+    }
+}
+
+/// Forks a task that gets a thread.
+pub fn fork<N: RealmName, R: Wait>(
+    rt: &R,
+    realm: &Realm<AnyEnd, N>,
+    token: &mut ActorToken,
+    scope: ScopeId,
+) -> Result<Ticket, Fail>
+    requires { token.old.table ≡ N.table }
+    ensures token { token.new ≡ record token.old { seen = token.new.seen } }
+    ensures ticket { IfOk result (λ ticket. (ticket.table ≡ N.table) × IsWaiting ticket) }
+{
+    match realm.fork(rt, token, scope, label(b"work")?)? {
+        Forked::Thread(ticket) => Ok(ticket),
+        Forked::Never(_) => Err("no thread")?,
+    }
+}
+
+/// Ends the ticket's task, if it runs.
+pub fn finish<N: RealmName, R: Wait>(
+    rt: &R,
+    realm: &Realm<AnyEnd, N>,
+    ticket: Ticket,
+    token: ActorToken,
+    end: End,
+) -> Option<Ticket>
+    requires { (ticket.table ≡ N.table) × (token.table ≡ N.table) × (token.actor ≡ ticket.task) }
+{
+    if ticket.given() == 0 || ticket.started() == 0 || ticket.finished() != 0 {
+        return None;
+    }
+    match realm.finish(rt, ticket, token, end) {
+        Ok(ticket) => Some(ticket),
+        Err(_) => None,
+    }
+}
