@@ -19,17 +19,20 @@ use std::alloc::Global;
 /// marks, one place for each scope since the last retirement. No fact ties these two to the core: a
 /// closure that is asked is of the scope's own rule, or the totals answer in its place; and a mark is
 /// compared with the core before anything is said of it.
+///
+/// `K` is the core, and `T` a closure. The struct is generic in both, so that the check shows of any
+/// that may go to another thread that this may too; a realm's own are named where it has methods.
 #[derive(Drop)]
-pub(crate) struct Locked<C: Catalog, N: RealmName> {
+pub(crate) struct Locked<K: Drop, T: Drop> {
     pub(crate) alloc: Global,
-    pub(crate) core: RealmCore<C, N>,
-    pub(crate) tests: Vec<Option<StoredTest>>,
+    pub(crate) core: K,
+    pub(crate) tests: Vec<Option<T>>,
     pub(crate) setters: Vec<MarkSetter>,
     /// How many scopes were cancelled since the last retirement whose cells are set.
     pub(crate) marked: usize,
 }
 
-impl<C: Catalog, N: RealmName> Locked<C, N> {
+impl<C: Catalog, N: RealmName> Locked<RealmCore<C, N>, StoredTest> {
     /// Opens a scope for the token's actor, and gives its cell too. All room is made before.
     pub(crate) fn open(
         &mut self,

@@ -10,10 +10,11 @@ use share_ledger::{OwnerShare, Seed};
 use std::alloc::Global;
 use std::sync::{Arc, Condvar, Mutex};
 
-/// The lock of a realm, and what those sleep on who wait for a join or a close.
+/// The lock of a realm, and what those sleep on who wait for a join or a close. It is generic as
+/// `Locked` is.
 #[derive(Drop)]
-pub(crate) struct Room<C: Catalog, N: RealmName> {
-    pub(crate) locked: Mutex<Locked<C, N>>,
+pub(crate) struct Room<K: Drop, T: Drop> {
+    pub(crate) locked: Mutex<Locked<K, T>>,
     pub(crate) changed: Condvar,
 }
 
@@ -22,7 +23,7 @@ pub(crate) struct Room<C: Catalog, N: RealmName> {
 /// `C`. `N` is the realm's name.
 #[derive(Drop)]
 pub struct Realm<C: Catalog, N: RealmName> {
-    pub(crate) room: Arc<Room<C, N>, Global>,
+    pub(crate) room: Arc<Room<RealmCore<C, N>, StoredTest>, Global>,
 }
 
 impl<C: Catalog, N: RealmName> Realm<C, N> {
