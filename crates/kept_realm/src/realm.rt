@@ -86,6 +86,13 @@ impl KeptRealm {
         self.journal.limits()
     }
 
+    /// The events since the base, in order.
+    pub fn events(&self) -> &[Event]
+        ensures { result.now ≡ self.now.history.events }
+    {
+        self.journal.events()
+    }
+
     /// What is kept of the history.
     pub fn kept(&self) -> &Kept
         ensures { IsKeptOf self.now.history result.now }

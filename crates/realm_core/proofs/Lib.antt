@@ -2,6 +2,7 @@ pub mod Joining
 pub mod Steps
 pub mod Performed
 pub mod Taken
+pub mod Started
 pub mod ForkedTasks
 pub mod Previewed
 pub mod Marks

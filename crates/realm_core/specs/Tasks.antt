@@ -42,7 +42,7 @@ pub record IsRunning (t : TicketValue) : Type 0 where
   pub unfinished : finished_in t.task t.seen ≡ false
 
 -- what the end of a ticket's task did: it is there; or it was refused since the task has a scope that is
--- not closed, and then the token is handed back
+-- not closed, and then the token is handed back, and the ticket's task runs on
 abbrev pub Finishes : TicketValue → TicketValue → OwnerValue → EndValue → Result Unit (Refusal × OwnerValue) → Type 0
 Finishes old new token end (Ok done) = TicketAdded old new (Happened (Finish old.task end)) × (end_in old.task new.seen ≡ Some end)
-Finishes old new token end (Err back) = TicketLooked old new × (back.1 ≡ record token { seen = new.seen }) × Refused token back.1 (Happened (Finish old.task end)) back.0 × (back.0 ≡ Structure)
+Finishes old new token end (Err back) = TicketLooked old new × (back.1 ≡ record token { seen = new.seen }) × Refused token back.1 (Happened (Finish old.task end)) back.0 × (back.0 ≡ Structure) × IsRunning new

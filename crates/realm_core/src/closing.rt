@@ -8,7 +8,7 @@ ghost use Rattle.scope_rules.specs.Checks.{scope_check};
 ghost use Rattle.scope_rules.specs.Replies.{AnswersValue};
 ghost use Rattle.scope_log.specs.Log.{log};
 ghost use Rattle.realm_steps.specs.Steps.{history_of};
-ghost use Rattle.realm_core.specs.Calls.{Does};
+ghost use Rattle.realm_core.specs.Calls.{Does, TicketLooked};
 ghost use Rattle.realm_core.specs.Endings.{CanEnd};
 
 use crate::RealmName;
@@ -18,7 +18,7 @@ use realm_steps::RealmStep;
 use scope_checks::Readings;
 use scope_log::ScopeLog;
 use scope_rules::{Actor, Catalog, Event, Refusal, ScopeId, Stage, TaskId, Verdict};
-use share_ledger::OwnerShare;
+use share_ledger::{OwnerShare, Ticket};
 
 /// What the end of a close is made of. The hold that ends one records the ends of several scopes, the
 /// innermost first, each by one call; the readers say, without a token, which comes next and whether it
@@ -43,6 +43,17 @@ impl<C: Catalog, N: RealmName> RealmCore<C, N> {
         let result = self.realm.end_close(actor, scope);
         tell(&mut self.keeper, share, &event, result.is_ok());
         result
+    }
+
+    /// Lets the ticket see all that has happened: of its own task, that is nothing new.
+    pub fn look_with_ticket(&mut self, ticket: &mut Ticket)
+        requires named { ticket.old.table ≡ N.table }
+        ensures ticket { ticket.new ≡ record ticket.old { seen = self.old.steps } }
+        ensures core { self.new ≡ self.old }
+        ensures looks { TicketLooked ticket.old ticket.new }
+    {
+        let _limits = self.realm.limits();
+        self.keeper.follow_ticket(ticket);
     }
 
     /// The latest scope that the actor opened and has not closed.

@@ -37,6 +37,7 @@ impl<C: Catalog, N: RealmName> RealmCore<C, N> {
         ensures core { self.new ≡ record self.old { steps = ticket.new.seen } }
         ensures added { TicketAdded ticket.old ticket.new (RealmStep.Happened (Event.Start ticket.old.task)) }
         ensures started { started_in ticket.new.task ticket.new.seen ≡ true }
+        ensures running { IsRunning ticket.new }
         ensures token { result ≡ record { table = N.table; limits = ticket.old.limits; actor = ticket.old.task; seen = ticket.new.seen } }
     {
         let task = ticket.task();
@@ -48,7 +49,7 @@ impl<C: Catalog, N: RealmName> RealmCore<C, N> {
 
     /// Records the end of the ticket's task, which runs, and takes the task's token. `test` is the
     /// caller's closure, if the scope's joiner has one. Refused only while the task has a scope that is
-    /// not closed (`Structure`); then the token is handed back.
+    /// not closed (`Structure`); then the token is handed back, and the task runs on.
     pub fn finish(
         &mut self,
         ticket: &mut Ticket,

@@ -7,8 +7,9 @@ use crate::RealmName;
 use crate::state::RealmCore;
 use kept_realm::KeptRealm;
 use scope_log::ScopeLog;
-use scope_rules::{Catalog, Cause, Counts, Refusal, ScopeId};
+use scope_rules::{Catalog, Cause, Counts, Event, Refusal, ScopeId};
 use share_ledger::OwnerShare;
+use std::alloc::Global;
 
 /// What a view shows of a scope, at the moment of the view.
 #[derive(Debug, Drop)]
@@ -57,6 +58,23 @@ impl<C: Catalog, N: RealmName> RealmCore<C, N> {
             return Err(Refusal::Unavailable);
         }
         view_of(&self.realm, scope)
+    }
+
+    /// All events since the last retirement, in order, with any actor's token. Refused where memory is
+    /// (`Memory`).
+    pub fn history(&mut self, alloc: Global, share: &mut OwnerShare) -> Result<Vec<Event>, Refusal>
+        requires named { share.old.table ≡ N.table }
+        ensures token { share.new ≡ record share.old { seen = share.new.seen } }
+        ensures core { self.new ≡ record self.old { steps = share.new.seen } }
+        ensures looks { Looked share.old share.new }
+        ensures answer { MatchResult result (λ events. events.items ≡ (history_seen share.new).events) (λ refusal. refusal ≡ Refusal.Memory) }
+    {
+        self.keeper.follow(share);
+        let _limits = self.realm.limits();
+        match Vec::from_slice(alloc, self.realm.events()) {
+            Ok(events) => Ok(events),
+            Err(_) => Err(Refusal::Memory),
+        }
     }
 }
 

@@ -36,6 +36,7 @@ impl<C: Catalog, N: RealmName> Realm<C, N> {
         ensures ticket { result.0 ≡ record ticket { seen = result.0.seen } }
         ensures added { TicketAdded ticket result.0 (RealmStep.Happened (Event.Start ticket.task)) }
         ensures started { started_in result.0.task result.0.seen ≡ true }
+        ensures running { IsRunning result.0 }
         ensures token { result.1 ≡ record { table = N.table; limits = ticket.limits; actor = ticket.task; seen = result.0.seen } }
     {
         let mut locked = self.room.locked.lock(rt);
@@ -44,7 +45,8 @@ impl<C: Catalog, N: RealmName> Realm<C, N> {
     }
 
     /// Records the end of the ticket's task, which runs, and takes the task's token. Refused only while
-    /// the task has a scope that is not closed (`Structure`); then ticket and token are handed back.
+    /// the task has a scope that is not closed (`Structure`); then ticket and token are handed back, and the
+    /// task runs on.
     pub fn finish<R: Wait>(
         &self,
         rt: &R,

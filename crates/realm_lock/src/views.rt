@@ -1,11 +1,11 @@
-ghost use Rattle.std.specs.Prelude.{◌≡◌};
+ghost use Rattle.std.specs.Prelude.{◌≡◌, MatchResult};
 ghost use Rattle.realm_core.specs.Calls.{Looked, history_seen};
 ghost use Rattle.realm_core.specs.Views.{ViewAnswers, MarkedViewAnswers};
 
 use crate::realm::Realm;
 use cancel_marks::Mark;
 use realm_core::{RealmName, View};
-use scope_rules::{Catalog, Refusal, ScopeId};
+use scope_rules::{Catalog, Event, Refusal, ScopeId};
 use share_ledger::OwnerShare;
 use std::sync::Wait;
 
@@ -45,5 +45,18 @@ impl<C: Catalog, N: RealmName> Realm<C, N> {
     {
         let mut locked = self.room.locked.lock(rt);
         locked.core.view_with(token, scope, mark.cause, mark.number)
+    }
+
+    /// All events since the last retirement, in order, with any actor's token: the history that the token
+    /// has seen then, read in one hold. Refused where memory is (`Memory`).
+    pub fn history<R: Wait>(&self, rt: &R, token: &mut OwnerShare) -> Result<Vec<Event>, Refusal>
+        requires named { token.old.table ≡ N.table }
+        ensures token { token.new ≡ record token.old { seen = token.new.seen } }
+        ensures looks { Looked token.old token.new }
+        ensures answer { MatchResult result (λ events. events.items ≡ (history_seen token.new).events) (λ refusal. refusal ≡ Refusal.Memory) }
+    {
+        let mut locked = self.room.locked.lock(rt);
+        let alloc = locked.alloc;
+        locked.core.history(alloc, token)
     }
 }

@@ -7,6 +7,7 @@ use Rattle.share_ledger.specs.Values.{TicketValue}
 use Rattle.realm_core.proofs.Steps.{looks_now}
 use Rattle.realm_core.proofs.Performed.{answered, answers_so, refused_by, refuses_now}
 use Rattle.realm_core.proofs.Taken.{fits_now, runs_now, only_structure, tied_taken, adds_taken}
+use Rattle.realm_core.proofs.Started.{runs_on}
 use Rattle.realm_core.proofs.state.RealmCore.finish.Goals as goal
 
 pub invariant_of-self : goal.invariant_of-self
@@ -35,4 +36,4 @@ returns-in-Err-clause-answer g c =
     let share_saw = rw c.follow_ticket.ensures.keeper at c.follow.ensures.share in
     let looked = looks_now g.C.Catalog.fitting g.N.RealmName.table c.self.inside.realm c.self.inside.keeper c.self.invariant (TicketOf c.args.ticket.now.task) c.args.ticket.now.limits c.args.ticket.now.seen c.follow_ticket.ensures.agreed in
     let refusal = refuses_now g.C.Catalog.fitting g.N.RealmName.table c.self.inside.realm c.self.inside.keeper c.self.invariant c.args.share agreed (Happened (Finish c.args.ticket.now.task c.args.end)) c.in-Err.refusal check in
-    (rw ticket_saw looked, rw (ticket_saw, share_saw) refl, rw share_saw refusal, only_structure c.self.inside.realm.limits c.self.inside.realm.history c.args.ticket.now.task c.args.end c.in-Err.refusal runs check)
+    (rw ticket_saw looked, rw (ticket_saw, share_saw) refl, rw share_saw refusal, only_structure c.self.inside.realm.limits c.self.inside.realm.history c.args.ticket.now.task c.args.end c.in-Err.refusal runs check, runs_on c.self.inside.keeper c.args.ticket.now _ c.follow_ticket.ensures.agreed c.requires.running ticket_saw)

@@ -2,6 +2,7 @@ use Rattle.std.proofs.Common.{◌≡◌, true, ap, ◌∙◌}
 use Rattle.std.specs.Prelude.{is_ok}
 use Rattle.scope_rules.specs.declared.types.events.Event.TheVariants.{Start}
 use Rattle.realm_core.proofs.Taken.{accepted_ok, start_accepted, tied_taken, adds_taken}
+use Rattle.realm_core.proofs.Started.{runs_from_start}
 use Rattle.realm_core.proofs.state.RealmCore.start.Goals as goal
 
 pub prove-unreachable-requires : goal.prove-unreachable-requires
@@ -22,3 +23,7 @@ pub returns-clause-added : goal.returns-clause-added
 returns-clause-added g c =
     let ok = start_accepted g.C.Catalog.fitting g.N.RealmName.table c.self.inside.realm c.self.inside.keeper c.self.invariant c.args.ticket.now c.start-token.ensures.agreed c.requires.waiting in
     adds_taken g.C.Catalog.fitting g.N.RealmName.table c.self.inside.realm c.self.inside.keeper c.self.invariant c.args.ticket.now c.start-token.ensures.agreed (Start c.args.ticket.now.task) c.start-token.new.ticket ok (rw c.start-token.ensures.keeper at c.start-token.ensures.ticket)
+
+pub returns-clause-running : goal.returns-clause-running
+returns-clause-running g c =
+    runs_from_start g.C.Catalog.fitting g.N.RealmName.table c.self.inside.realm c.self.inside.keeper c.self.invariant c.args.ticket.now c.start-token.ensures.agreed c.start-token.new.ticket c.requires.waiting (rw c.start-token.ensures.keeper at c.start-token.ensures.ticket) c.start-token.ensures.started
