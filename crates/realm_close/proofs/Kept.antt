@@ -1,5 +1,6 @@
 -- An actor's scope that is not closed stays so, whatever others do.
 use Rattle.std.proofs.Common.{◌≡◌, ℕ, ◌==◌, ◌||◌, Bool, true, false, Some, None, Result, Ok, Err, List, [], ◌∷◌, ◌++◌, refl, sym, ap, ◌∙◌, subst}
+use Rattle.std.specs.Prelude.{IfOk, MatchResult}
 use Rattle.std.proofs.lemmas.Bool.{both_ways, eq-eqb, or_from, false_from_ne_true}
 use Rattle.std.specs.List.{list_any}
 use Rattle.scope_rules.specs.declared.types.answers.Cancelling.{Cancelling}
@@ -27,14 +28,15 @@ use Rattle.realm_steps.specs.declared.steps.Holder.TheVariants.{TokenOf}
 use Rattle.realm_steps.specs.Holders.{is_own, Agrees, Looks}
 use Rattle.realm_steps.specs.Steps.{advance, advanced, history_of, Passes, LegalFrom, IsLegal}
 use Rattle.realm_steps.proofs.Histories.{advanced-append, history-push, legal_advance, legal_beginning, beginning_legal, legal_history, retired_without_scopes}
-use Rattle.share_ledger.specs.Values.{OwnerValue}
-use Rattle.realm_core.specs.Calls.{history_seen, Added, Refused, FoundSo, Records}
+use Rattle.share_ledger.specs.Values.{OwnerValue, TicketValue}
+use Rattle.realm_core.specs.Calls.{history_seen, Looked, Added, Refused, FoundSo, Records}
 use Rattle.realm_core.specs.Endings.{CanClose}
 use Rattle.realm_core.proofs.Ended.{actor_passes}
 use Rattle.realm_core.proofs.Joining.{agrees_on}
-use Rattle.realm_close.specs.Closes.{IsOpenOf, IsBegun, EndsLater}
+use Rattle.realm_close.specs.Closes.{IsBegun, EndsLater, WaitsOn, IsDone, IsLeft, MayReport}
 use Rattle.realm_close.specs.Ends.{Ends}
-use Rattle.realm_close.specs.Waiting.{FoundUnsettled}
+use Rattle.realm_close.specs.declared.reports.CloseReport.{CloseReport}
+use Rattle.realm_close.specs.Waiting.{IsOpenOf, HoldsUp, FoundUnsettled}
 
 -- ---- one step of another's
 
@@ -185,9 +187,43 @@ can_close h a s it found = record {
   done = λ t x at by more still. found it.of.opened it.of.is it.of.unclosed t x at (by ∙ sym it.of.by) more still;
 }
 
+-- until then a scope holds it up
+pub held_up : (h : History) (a s t : ℕ) → IsBegun h a s → FoundUnsettled h s (Some t) → HoldsUp h a s t
+held_up h a s t it found = subst (λ (n : ℕ). HoldsUp h n s t) it.of.by (found it.of.opened it.of.is it.of.unclosed)
+
 -- a call that only looked leaves it so
 pub begun_looked : (L : Limits) (a s : ℕ) (old new : List RealmStep) → Looks (TokenOf a) L old new → IsBegun (history_of old) a s → IsBegun (history_of new) a s
 begun_looked L a s old new looks it = begun_still L a s old new looks.agrees looks.legal it
+
+-- what was looked up holds of what the token has seen by then
+pub can_close_now : (old new : OwnerValue) (s : ℕ) (steps : List RealmStep) → new ≡ record old { seen = new.seen } → steps ≡ new.seen → Looked old new → IsBegun (history_seen old) old.actor s → FoundUnsettled (history_of steps) s None → CanClose (history_of steps) new.actor s
+can_close_now old new s steps same is looks it found =
+    let begun = begun_looked old.limits old.actor s old.seen new.seen looks it in
+    let here = subst (λ (xs : List RealmStep). IsBegun (history_of xs) old.actor s) (sym is) begun in
+    subst (λ (a : ℕ). CanClose (history_of steps) a s) (sym (ap (λ (t : OwnerValue). t.actor) same)) (can_close (history_of steps) old.actor s here found)
+
+pub waits_on : (old new : OwnerValue) (s busy : ℕ) (steps : List RealmStep) → steps ≡ new.seen → Looked old new → IsBegun (history_seen old) old.actor s → FoundUnsettled (history_of steps) s (Some busy) → WaitsOn old new s
+waits_on old new s busy steps is looks it found =
+    let begun = begun_looked old.limits old.actor s old.seen new.seen looks it in
+    record {
+      looks = looks;
+      begun = begun;
+      busy = busy;
+      holds_up = held_up (history_seen new) old.actor s busy begun (subst (λ (xs : List RealmStep). FoundUnsettled (history_of xs) s (Some busy)) is found);
+    }
+
+-- what a hold did that ended the close with a report, or left it
+pub reported_or_left : (old there new : OwnerValue) (s : ℕ) (tickets left : List TicketValue) (result : Result CloseReport Refusal) → there ≡ record old { seen = there.seen } → Looked old there → IsBegun (history_seen old) old.actor s
+    → IfOk result (λ report. IsDone there new s tickets report) → MatchResult result (λ _. Unit {0}) (λ refusal. IsLeft there new s tickets left refusal) → MayReport old new s tickets left (Some result)
+reported_or_left old there new s tickets left (Ok report) same looks it done unless = record { there = there; looks = looks; same = same; done = done }
+reported_or_left old there new s tickets left (Err refusal) same looks it done unless =
+    let here = unless.same in
+    let seen : Looked old new = subst (λ (t : OwnerValue). Looked old t) (sym here) looks in
+    record {
+      looks = seen;
+      begun = begun_looked old.limits old.actor s old.seen new.seen seen it;
+      still = subst (λ (t : OwnerValue). IsLeft t new s tickets left refusal) (sym here) unless;
+    }
 
 -- the close of an own scope that is not closed is not refused
 pub refused_sure : (old new : OwnerValue) (s : ℕ) (r : Refusal) → Refused old new (Happened (BeginClose old.actor s)) r → IsOpenOf (history_seen old) old.actor s → ⊥

@@ -6,3 +6,8 @@ pub mod EndSteps
 pub mod Preparing
 pub mod Reporting
 pub mod Kept
+pub mod LogRuns
+pub mod TicketCounts
+pub mod Placing
+pub mod Gathering
+pub mod Shown

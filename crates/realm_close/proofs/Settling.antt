@@ -49,6 +49,15 @@ met_on h s n (Some m) so done is o opened unclosed =
 pub met_end : (h : History) (s : ℕ) → AreMet h s None → FoundUnsettled h s None
 met_end h s so o is unclosed t x at by more still = so o is unclosed t (record { opened = x; is = at; by = by; unclosed = still }) more
 
+pub met_busy : (h : History) (s n : ℕ) → AreMet h s (Some n) → settled h n ≡ false → FoundUnsettled h s (Some n)
+met_busy h s n so busy o is unclosed =
+    let it = so o is unclosed in
+    record {
+      of = record { opened = it.0.opened; is = it.0.is; by = it.0.by; unclosed = it.0.unclosed };
+      from = it.1;
+      busy = busy;
+    }
+
 -- how many scopes are left, at the most
 abbrev pub left : History → Option ℕ → ℕ
 left h None = 0

@@ -1,28 +1,27 @@
 -- What the holds of a close did, by what the caller's token has seen then.
-use Rattle.std.specs.Prelude.{◌≡◌, ℕ, ◌⊎◌, true, false, Some, None, Option, Result, Ok, Err, List}
+use Rattle.std.specs.Prelude.{◌≡◌, ℕ, ◌⊎◌, true, Some, None, Option, Result, Ok, Err, List}
+use Rattle.std.specs.List.{All}
+use Rattle.std.specs.List.Sorted.{IsPermutation}
 use Rattle.scope_rules.specs.declared.types.answers.Cancelling.{Cancelling}
 use Rattle.scope_rules.specs.declared.types.answers.Verdict.{Verdict}
 use Rattle.scope_rules.specs.declared.types.events.Event.TheVariants.{BeginClose}
-use Rattle.scope_rules.specs.declared.types.records.Opening.{Opening}
 use Rattle.scope_rules.specs.declared.types.refusals.Refusal.{Refusal}
-use Rattle.scope_rules.specs.declared.types.refusals.Refusal.TheVariants.{Closed}
-use Rattle.scope_rules.specs.History.{History, opening}
+use Rattle.scope_rules.specs.declared.types.refusals.Refusal.TheVariants.{Closed, Memory, NotReady}
+use Rattle.scope_rules.specs.History.{History}
 use Rattle.scope_rules.specs.Scopes.{closed, closing}
 use Rattle.scope_rules.specs.Verdicts.{verdict}
 use Rattle.realm_steps.specs.declared.steps.RealmStep.{RealmStep}
 use Rattle.realm_steps.specs.declared.steps.RealmStep.TheVariants.{Happened}
 use Rattle.realm_steps.specs.declared.steps.Holder.TheVariants.{TokenOf}
 use Rattle.realm_steps.specs.Holders.{Agrees}
-use Rattle.share_ledger.specs.Values.{OwnerValue}
+use Rattle.share_ledger.specs.Values.{OwnerValue, TicketValue}
 use Rattle.realm_core.specs.Calls.{history_seen, Looked, Refused, FoundSo, Records}
 use Rattle.realm_close.specs.Ends.{Ends}
-
--- the actor opened scope s, and has not closed it
-pub record IsOpenOf (h : History) (a s : ℕ) : Type 0 where
-  pub opened : Opening
-  pub is : opening h s ≡ Some opened
-  pub by : opened.actor ≡ a
-  pub unclosed : closed h s ≡ false
+use Rattle.realm_close.specs.Reports.{numbers, IsReported, AreReported}
+use Rattle.realm_close.specs.Runs.{IsShown}
+use Rattle.realm_close.specs.Tickets.{AreTicketsOf}
+use Rattle.realm_close.specs.Waiting.{IsOpenOf, HoldsUp}
+use Rattle.realm_close.specs.declared.reports.CloseReport.{CloseReport}
 
 -- the actor opened scope s, and has begun to close it, and not closed it
 pub record IsBegun (h : History) (a s : ℕ) : Type 0 where
@@ -41,9 +40,17 @@ pub record EndsLater (old new : OwnerValue) (s : ℕ) (nested : List ℕ) : Type
   pub waited : Agrees (TokenOf old.actor) old.seen before
   pub ends : Ends old.limits old.actor s nested before new.seen
 
+-- what a hold did that found that the close can't end yet: nothing, since a task of a scope waits or runs
+-- that it covers
+pub record WaitsOn (old new : OwnerValue) (s : ℕ) : Type 0 where
+  pub looks : Looked old new
+  pub begun : IsBegun (history_seen new) old.actor s
+  pub busy : ℕ
+  pub holds_up : HoldsUp (history_seen new) old.actor s busy
+
 -- what a hold did that ends the close without a report, if it can end
 abbrev pub MayEnd : OwnerValue → OwnerValue → ℕ → Option Verdict → Type 0
-MayEnd old new s None = Looked old new × IsBegun (history_seen new) old.actor s
+MayEnd old new s None = WaitsOn old new s
 MayEnd old new s (Some how) = ((nested : List ℕ) × EndsLater old new s nested) × (how ≡ verdict (history_seen new) s)
 
 -- what a close did, hold by hold: it began, others took steps, and it ended
@@ -58,3 +65,59 @@ pub record ClosesDown (old new : OwnerValue) (s : ℕ) (nested : List ℕ) : Typ
 abbrev pub ClosesBare : OwnerValue → OwnerValue → ℕ → Result Verdict Refusal → Type 0
 ClosesBare old new s (Ok how) = ((nested : List ℕ) × ClosesDown old new s nested) × (how ≡ verdict (history_seen new) s)
 ClosesBare old new s (Err refusal) = Begins old new s (Err refusal)
+
+-- the report of the close that ended so is what is so after it, and the tickets are those of what it
+-- closed: of each task that got a thread there is one start and one finish in it, with its ticket's end
+pub record IsDone (old new : OwnerValue) (s : ℕ) (tickets : List TicketValue) (report : CloseReport) : Type 0 where
+  pub ends : Ends old.limits old.actor s (numbers report.nested.items) old.seen new.seen
+  pub given : AreTicketsOf (history_seen old) s tickets
+  pub own : IsReported (history_seen new) s report.verdict report.log
+  pub nested : AreReported (history_seen new) report.nested.items
+  pub shown : All (IsShown (history_seen new)) tickets
+
+-- the close was not ended: the tickets are not those of what it would close, or memory was refused for
+-- the report. They are there still, in any order.
+pub record IsLeft (old new : OwnerValue) (s : ℕ) (tickets left : List TicketValue) (refusal : Refusal) : Type 0 where
+  pub same : new ≡ old
+  pub back : IsPermutation tickets left
+  pub why : ((refusal ≡ NotReady) × (AreTicketsOf (history_seen old) s tickets → ⊥)) ⊎ ((refusal ≡ Memory) × AreTicketsOf (history_seen old) s tickets)
+
+-- what a hold did that ends a close with a report: it looked, and then come exactly the ends
+pub record EndsReported (old new : OwnerValue) (s : ℕ) (tickets : List TicketValue) (report : CloseReport) : Type 0 where
+  pub there : OwnerValue
+  pub looks : Looked old there
+  pub same : there ≡ record old { seen = there.seen }
+  pub done : IsDone there new s tickets report
+
+-- what one did that could not end it with a report: nothing
+pub record HoldsBack (old new : OwnerValue) (s : ℕ) (tickets left : List TicketValue) (refusal : Refusal) : Type 0 where
+  pub looks : Looked old new
+  pub begun : IsBegun (history_seen new) old.actor s
+  pub still : IsLeft new new s tickets left refusal
+
+-- what a hold did that ends the close with a report, if it can end
+abbrev pub MayReport : OwnerValue → OwnerValue → ℕ → List TicketValue → List TicketValue → Option (Result CloseReport Refusal) → Type 0
+MayReport old new s tickets left None = WaitsOn old new s × (left ≡ tickets)
+MayReport old new s tickets left (Some (Ok report)) = EndsReported old new s tickets report
+MayReport old new s tickets left (Some (Err refusal)) = HoldsBack old new s tickets left refusal
+
+-- what a close with a report did, hold by hold: it began, others took steps, and it ended
+pub record ClosesWith (old new : OwnerValue) (s : ℕ) (tickets : List TicketValue) (report : CloseReport) : Type 0 where
+  pub begun : OwnerValue
+  pub how : Cancelling
+  pub same : begun ≡ record old { seen = begun.seen }
+  pub begins : Begins old begun s (Ok how)
+  pub ends : EndsReported begun new s tickets report
+
+-- what one did that was refused once it had begun
+pub record StaysBegun (old new : OwnerValue) (s : ℕ) (tickets left : List TicketValue) (refusal : Refusal) : Type 0 where
+  pub begun : OwnerValue
+  pub how : Cancelling
+  pub same : begun ≡ record old { seen = begun.seen }
+  pub begins : Begins old begun s (Ok how)
+  pub held : HoldsBack begun new s tickets left refusal
+
+-- what one did that was refused: it could not begin, and hands back the tickets as they were; or it has
+-- begun
+abbrev pub StaysOpen : OwnerValue → OwnerValue → ℕ → List TicketValue → List TicketValue → Refusal → Type 0
+StaysOpen old new s tickets left refusal = (Begins old new s (Err refusal) × (left ≡ tickets)) ⊎ StaysBegun old new s tickets left refusal

@@ -1,12 +1,19 @@
-ghost use Rattle.std.specs.Prelude.{◌≡◌, IsOk};
+ghost use Rattle.std.specs.Prelude.{◌≡◌, IsOk, IfOk, MatchResult};
+ghost use Rattle.std.specs.List.{All};
 ghost use Rattle.realm_steps.specs.Steps.{history_of};
-ghost use Rattle.realm_close.specs.Closes.{IsOpenOf, IsBegun, Begins, MayEnd};
+ghost use Rattle.share_ledger.specs.Values.{TicketValue};
+ghost use Rattle.realm_core.specs.Endings.{CanClose};
+ghost use Rattle.realm_close.specs.Waiting.{IsOpenOf};
+ghost use Rattle.realm_close.specs.Closes.{IsBegun, Begins, MayEnd, IsDone, IsLeft, MayReport};
 
 use crate::ending::end_all;
+use crate::reports::{CloseReport, close_with_report};
+use crate::tickets::{are_tickets_of, take_back};
 use crate::waiting::unsettled;
 use realm_core::{RealmCore, RealmName};
 use scope_rules::{Cancelling, Catalog, Refusal, ScopeId, Verdict};
-use share_ledger::OwnerShare;
+use share_ledger::{OwnerShare, Ticket};
+use std::alloc::Global;
 
 /// The first hold of a close: begins the close of the actor's scope, if need be (JEP 505, `close` cancels
 /// first). Refused where the actor is no running task or main, and for a scope that is unknown (`NoScope`,
@@ -54,4 +61,54 @@ pub fn end_if_settled<C: Catalog, N: RealmName>(
         Some(_) => None,
         None => Some(end_all(core, token, scope)),
     }
+}
+
+/// The same with a report, for which the tickets are handed in of all tasks that got a thread, of the
+/// scopes that are closed. Where they are not just these, and each ended, it is refused (`NotReady`); and
+/// where memory is refused for the report (`Memory`). Then it records nothing, and the tickets are there
+/// still, in any order; where the close is ended they are gone.
+pub fn report_if_settled<C: Catalog, N: RealmName>(
+    core: &mut RealmCore<C, N>,
+    alloc: Global,
+    token: &mut OwnerShare,
+    scope: ScopeId,
+    tickets: &mut Vec<Ticket>,
+) -> Option<Result<CloseReport, Refusal>>
+    requires named { token.old.table ≡ N.table }
+    requires tickets { All (λ (t : TicketValue). t.table ≡ N.table) tickets.old.items }
+    requires begun { IsBegun (history_of token.old.seen) token.old.actor scope }
+    ensures token { token.new ≡ record token.old { seen = token.new.seen } }
+    ensures core { core.new ≡ record core.old { steps = token.new.seen } }
+    ensures answer { MayReport token.old token.new scope tickets.old.items tickets.new.items result }
+{
+    core.look(token);
+    match unsettled(core, scope) {
+        Some(_) => None,
+        None => Some(end_with_tickets(core, alloc, token, scope, tickets)),
+    }
+}
+
+/// Ends a close that can end, where the tickets are those of it.
+fn end_with_tickets<C: Catalog, N: RealmName>(
+    core: &mut RealmCore<C, N>,
+    alloc: Global,
+    token: &mut OwnerShare,
+    scope: ScopeId,
+    tickets: &mut Vec<Ticket>,
+) -> Result<CloseReport, Refusal>
+    requires named { token.old.table ≡ N.table }
+    requires tickets { All (λ (t : TicketValue). t.table ≡ N.table) tickets.old.items }
+    requires shown { token.old.seen ≡ core.old.steps }
+    requires can { CanClose (history_of core.old.steps) token.old.actor scope }
+    ensures token { token.new ≡ record token.old { seen = token.new.seen } }
+    ensures core { core.new ≡ record core.old { steps = token.new.seen } }
+    ensures done { IfOk result (λ report. IsDone token.old token.new scope tickets.old.items report) }
+    ensures not { MatchResult result (λ _. Unit {0}) (λ refusal. IsLeft token.old token.new scope tickets.old.items tickets.new.items refusal) }
+{
+    if !are_tickets_of(core, scope, tickets) {
+        return Err(Refusal::NotReady);
+    }
+    let report = close_with_report(core, alloc, token, scope)?;
+    take_back(core, tickets);
+    Ok(report)
 }

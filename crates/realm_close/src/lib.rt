@@ -5,10 +5,13 @@
 
 mod ending;
 mod holds;
+pub mod laws;
 mod reports;
+mod tickets;
 mod waiting;
 
 pub use ending::{Ended, end_all, end_innermost};
-pub use holds::{begin, end_if_settled};
+pub use holds::{begin, end_if_settled, report_if_settled};
 pub use reports::{CloseReport, close_with_report};
+pub use tickets::{are_tickets_of, take_back};
 pub use waiting::unsettled;

@@ -1,13 +1,17 @@
-ghost use Rattle.std.specs.Prelude.{◌≡◌, ℕ, List, IsOk};
+ghost use Rattle.std.specs.Prelude.{◌≡◌, ℕ, ◌⊎◌, List, IsOk, IfOk, IfErr};
+ghost use Rattle.std.specs.List.{All};
+ghost use Rattle.scope_rules.specs.declared.types.refusals.Refusal.TheVariants.{Memory, NotReady};
 ghost use Rattle.scope_rules.specs.Verdicts.{verdict};
+ghost use Rattle.share_ledger.specs.Values.{TicketValue};
 ghost use Rattle.realm_core.specs.Calls.{history_seen};
-ghost use Rattle.realm_close.specs.Closes.{IsOpenOf, IsBegun, Begins, EndsLater, ClosesBare};
+ghost use Rattle.realm_close.specs.Waiting.{IsOpenOf};
+ghost use Rattle.realm_close.specs.Closes.{IsBegun, Begins, EndsLater, ClosesBare, EndsReported, HoldsBack, ClosesWith, StaysOpen};
 
 use crate::realm::Realm;
-use realm_close::{begin, end_if_settled};
+use realm_close::{CloseReport, begin, end_if_settled, report_if_settled};
 use realm_core::RealmName;
 use scope_rules::{Cancelling, Catalog, Refusal, ScopeId, Verdict};
-use share_ledger::OwnerShare;
+use share_ledger::{OwnerShare, Ticket};
 use std::sync::Wait;
 
 impl<C: Catalog, N: RealmName> Realm<C, N> {
@@ -31,6 +35,35 @@ impl<C: Catalog, N: RealmName> Realm<C, N> {
         match self.begin_closing(rt, token, scope) {
             Ok(_) => Ok(self.end_closing(rt, token, scope)),
             Err(refusal) => Err(refusal),
+        }
+    }
+
+    /// The same with a report. The tickets are handed in of each task that got a thread, of the scopes
+    /// that are closed, and no other; each has ended. The report shows each of these scopes' logs, with
+    /// one start and one finish of each such task, and its ticket's end; all of it is made before the
+    /// first end, in the same hold. Refused as `close_bare` is; and once it has begun only where the
+    /// tickets are not these (`NotReady`), and where memory is refused for the report (`Memory`): then the
+    /// scope is closing and not closed. Each refusal hands the tickets back, in any order.
+    pub fn close<R: Wait>(
+        &self,
+        rt: &R,
+        token: &mut OwnerShare,
+        scope: ScopeId,
+        mut tickets: Vec<Ticket>,
+    ) -> Result<CloseReport, (Refusal, Vec<Ticket>)>
+        requires named { token.old.table ≡ N.table }
+        requires tickets { All (λ (t : TicketValue). t.table ≡ N.table) tickets.items }
+        ensures token { token.new ≡ record token.old { seen = token.new.seen } }
+        ensures closed { IfOk result (λ report. ClosesWith token.old token.new scope tickets.items report) }
+        ensures refused { IfErr result (λ back. StaysOpen token.old token.new scope tickets.items back.1.items back.0) }
+        ensures sure { IsOpenOf (history_seen token.old) token.old.actor scope → IfErr result (λ back. (back.0 ≡ NotReady) ⊎ (back.0 ≡ Memory)) }
+    {
+        match self.begin_closing(rt, token, scope) {
+            Ok(_) => match self.end_reporting(rt, token, scope, &mut tickets) {
+                Ok(report) => Ok(report),
+                Err(refusal) => Err((refusal, tickets)),
+            },
+            Err(refusal) => Err((refusal, tickets)),
         }
     }
 
@@ -67,6 +100,36 @@ impl<C: Catalog, N: RealmName> Realm<C, N> {
                 Some(verdict) => {
                     self.room.changed.notify_all();
                     return verdict;
+                }
+                None => locked = self.room.changed.wait(rt, locked),
+            }
+        }
+        unreachable!()
+    }
+
+    /// Waits until the close that has begun can end, and ends it with a report, where the tickets are
+    /// those of it.
+    fn end_reporting<R: Wait>(
+        &self,
+        rt: &R,
+        token: &mut OwnerShare,
+        scope: ScopeId,
+        tickets: &mut Vec<Ticket>,
+    ) -> Result<CloseReport, Refusal>
+        requires named { token.old.table ≡ N.table }
+        requires tickets { All (λ (t : TicketValue). t.table ≡ N.table) tickets.old.items }
+        requires begun { IsBegun (history_seen token.old) token.old.actor scope }
+        ensures token { token.new ≡ record token.old { seen = token.new.seen } }
+        ensures done { IfOk result (λ report. EndsReported token.old token.new scope tickets.old.items report) }
+        ensures not { IfErr result (λ refusal. HoldsBack token.old token.new scope tickets.old.items tickets.new.items refusal) }
+    {
+        let mut locked = self.room.locked.lock(rt);
+        let alloc = locked.alloc;
+        for _ in rt.forever() {
+            match report_if_settled(&mut locked.core, alloc, token, scope, tickets) {
+                Some(answer) => {
+                    self.room.changed.notify_all();
+                    return answer;
                 }
                 None => locked = self.room.changed.wait(rt, locked),
             }

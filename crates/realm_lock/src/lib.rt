@@ -14,5 +14,6 @@ mod views;
 
 pub use cancel_marks::{Mark, MarkCell, Seat};
 pub use realm::Realm;
+pub use realm_close::CloseReport;
 pub use realm_core::{Forked, Joined, RealmName, View};
 pub use share_ledger::{OwnerShare as ActorToken, Seed, Ticket};

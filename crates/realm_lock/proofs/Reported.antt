@@ -1,0 +1,27 @@
+-- What a later hold of a close did, told from where the close began.
+use Rattle.std.proofs.Common.{◌≡◌, ℕ, List, Option, Some, Result, Ok, Err, subst}
+use Rattle.std.specs.Prelude.{IfOk}
+use Rattle.scope_rules.specs.declared.types.refusals.Refusal.{Refusal}
+use Rattle.realm_steps.specs.declared.steps.RealmStep.{RealmStep}
+use Rattle.realm_steps.specs.declared.steps.Holder.TheVariants.{TokenOf}
+use Rattle.realm_steps.specs.Holders.{Agrees}
+use Rattle.realm_core.proofs.Joining.{agrees_on}
+use Rattle.share_ledger.specs.Values.{OwnerValue, TicketValue}
+use Rattle.realm_close.specs.Closes.{EndsReported, MayReport}
+use Rattle.realm_close.specs.declared.reports.CloseReport.{CloseReport}
+
+from_seen : (old new : OwnerValue) (xs : List RealmStep) (s : ℕ) (tickets left : List TicketValue) (result : Result CloseReport Refusal) → Agrees (TokenOf old.actor) old.seen xs → MayReport (record old { seen = xs }) new s tickets left (Some result) → IfOk result (λ report. EndsReported old new s tickets report)
+from_seen old new xs s tickets left (Ok report) agrees it = record {
+  there = it.there;
+  looks = record { agrees = agrees_on (TokenOf old.actor) old.seen xs it.there.seen agrees it.looks.agrees; legal = it.looks.legal };
+  same = it.same;
+  done = it.done;
+}
+from_seen old new xs s tickets left (Err refusal) agrees it = tt
+
+pub reported : (old now new : OwnerValue) (s : ℕ) (tickets given left : List TicketValue) (answer : Option (Result CloseReport Refusal)) (result : Result CloseReport Refusal)
+    → now ≡ record old { seen = now.seen } → Agrees (TokenOf old.actor) old.seen now.seen → given ≡ tickets → answer ≡ Some result → MayReport now new s given left answer → IfOk result (λ report. EndsReported old new s tickets report)
+reported old now new s tickets given left answer result same agrees handed is it =
+    let told = subst (λ (x : Option (Result CloseReport Refusal)). MayReport now new s given left x) is it in
+    let here = subst (λ (t : OwnerValue). MayReport t new s given left (Some result)) same told in
+    from_seen old new now.seen s tickets left result agrees (subst (λ (ts : List TicketValue). MayReport (record old { seen = now.seen }) new s ts left (Some result)) handed here)
