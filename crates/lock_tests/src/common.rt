@@ -1,5 +1,5 @@
 //! Calls of a realm that each row makes.
-ghost use Rattle.std.specs.Prelude.{◌≡◌, IfOk};
+ghost use Rattle.std.specs.Prelude.{◌≡◌, IfOk, IfSome};
 ghost use Rattle.share_ledger.specs.Values.{IsWaiting};
 
 use join_rules::Joiner;
@@ -68,6 +68,7 @@ pub fn finish<N: RealmName, R: Wait>(
     end: End,
 ) -> Option<Ticket>
     requires { (ticket.table ≡ N.table) × (token.table ≡ N.table) × (token.actor ≡ ticket.task) }
+    ensures { IfSome result (λ ended. ended.table ≡ N.table) }
 {
     if ticket.given() == 0 || ticket.started() == 0 || ticket.finished() != 0 {
         return None;

@@ -1,9 +1,27 @@
-//! Tests of the realm under its lock, by one thread.
+//! Tests of the realm under its lock: by one thread, by several, and beside the program.
 #![tactic(auto)]
 
+#[cfg(test)]
+mod beside;
 #[cfg(test)]
 mod closing;
 #[cfg(test)]
 mod common;
 #[cfg(test)]
+mod driven;
+#[cfg(test)]
+mod hands;
+#[cfg(test)]
+mod random;
+#[cfg(test)]
+mod reports;
+#[cfg(test)]
 mod rows;
+#[cfg(test)]
+mod scripts;
+#[cfg(test)]
+mod threads;
+#[cfg(test)]
+mod throws;
+#[cfg(test)]
+mod views;

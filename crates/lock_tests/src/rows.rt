@@ -6,6 +6,7 @@ ghost use Rattle.realm_lock.specs.Cells.{IsFresh};
 use crate::common::{PLAIN, finish, fork, label, name, open};
 use join_rules::Joiner;
 use realm_lock::{ActorToken, Forked, Mark, MarkCell, Realm, RealmName, Seat, Seed};
+use scope_log::LogEntry;
 use scope_rules::{
     AnyEnd, Cancelling, Cause, CauseKind, Counts, Effective, Limits, Options, Outcome, Refusal,
     ScopeId, State, Value,
@@ -137,6 +138,7 @@ fn a_deadline_passes<N: RealmName, R: Wait + Abort>(
     let ticket = fork(rt, realm, main, scope)?;
     realm.move_deadline(rt, main, scope, Some(100))?;
     realm.tick(rt, main, 99)?;
+    assert!(rt; realm.view(rt, main, scope)?.moment == 99);
     assert!(rt; realm.effective_deadline(rt, main, scope)? == Effective::At(100));
     realm.tick(rt, main, 100)?;
     assert!(rt; realm.effective_deadline(rt, main, scope)? == Effective::Past);
@@ -156,6 +158,14 @@ fn a_deadline_passes<N: RealmName, R: Wait + Abort>(
     Ok(())
 }
 
+/// Whether the log is that of a scope in which one task was forked, started and ended.
+fn is_served(entries: &[LogEntry]) -> bool {
+    entries.len() == 4
+        && matches!(entries.get(1), Some(LogEntry::Fork { .. }))
+        && matches!(entries.get(2), Some(LogEntry::Start { .. }))
+        && matches!(entries.get(3), Some(LogEntry::Finish { .. }))
+}
+
 /// A shielded scope goes on inside one that is cancelled, and main's view of it holds what its task did.
 fn a_shield_holds<N: RealmName, R: Wait + Abort>(
     rt: &R,
@@ -168,16 +178,16 @@ fn a_shield_holds<N: RealmName, R: Wait + Abort>(
     let ticket = fork(rt, realm, main, outer)?;
     let (_ticket, mut token) = realm.start(rt, ticket);
     let inner = open(rt, realm, &mut token, SHIELDED)?;
-    assert!(rt; realm.cancel(rt, main, outer)? == Cancelling::Recorded);
     let below = fork(rt, realm, &mut token, inner)?;
     let (below, its) = realm.start(rt, below);
+    assert!(rt; realm.cancel(rt, main, outer)? == Cancelling::Recorded);
     let Some(below) = finish(rt, realm, below, its, Ok(Value::Num(5))) else {
         return Err("the task below did not end")?;
     };
     assert!(rt; below.end() == Some(Ok(Value::Num(5))));
     let view = realm.view(rt, main, inner)?;
     assert!(rt; view.cause.is_none() && view.counts.finished == 1);
-    assert!(rt; view.log.entries().len() == 4);
+    assert!(rt; is_served(view.log.entries()));
     let late = realm.fork(rt, main, outer, label(b"late")?)?;
     assert!(rt;
         match late {

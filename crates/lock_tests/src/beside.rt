@@ -1,0 +1,112 @@
+//! A realm beside the program: its calls answer what the script engine answers to the same commands, and
+//! main's views show what the engine's book tells.
+ghost use Rattle.std.specs.Prelude.{◌≡◌};
+
+use crate::driven::driven;
+use crate::hands::Hands;
+use crate::views::is_seen_alike;
+use realm_lock::{Realm, RealmName, Seed};
+use scope_book::BookState;
+use scope_rules::types::values::MAIN;
+use scope_rules::{AnyEnd, Event, Limits, Refusal, ScopeId};
+use scope_script::{Command, Reply, append_line, perform};
+use std::alloc::Global;
+use std::sync::Wait;
+use std::test::Fail;
+
+/// Whether a call of the realm may be made: it would not wait, and it is one call. A join waits where the
+/// program refuses it as not ready. A close ends what it covers too, so it is made where the program ends
+/// the scope alone, or refuses it before all that.
+fn may_call(command: Command, said: &Reply) -> bool {
+    match (command, said) {
+        (Command::Do(Event::Join { .. }), Reply::Refused(Refusal::NotReady)) => false,
+        (Command::Do(Event::EndClose { .. }), Reply::Refused(refusal)) => matches!(
+            refusal,
+            Refusal::NoScope | Refusal::Retired | Refusal::NotOwner | Refusal::Closed
+        ),
+        _ => true,
+    }
+}
+
+/// A realm that one thread drives, and the book of a program.
+#[derive(Drop)]
+pub struct Beside<N: RealmName> {
+    alloc: Global,
+    realm: Realm<AnyEnd, N>,
+    hands: Hands<N>,
+    book: BookState<AnyEnd>,
+    /// How many calls of the realm were accepted.
+    accepted: u32,
+}
+
+impl<N: RealmName> Beside<N> {
+    /// Both as they begin.
+    pub fn new(alloc: Global, seed: Seed, limits: Limits) -> Result<Beside<N>, Fail>
+        requires { seed ≡ N.table }
+    {
+        let (realm, main) = Realm::<AnyEnd, N>::new(alloc, seed, limits)?;
+        Ok(Beside {
+            alloc,
+            realm,
+            hands: Hands::new(alloc, main)?,
+            book: BookState::new(alloc, limits),
+            accepted: 0,
+        })
+    }
+
+    /// How many calls of the realm were accepted.
+    pub fn accepted(&self) -> u32 {
+        self.accepted
+    }
+
+    /// The line of the reply.
+    fn line_of(&self, reply: &Reply) -> Result<Vec<u8>, Fail> {
+        let mut text = Vec::new(self.alloc);
+        append_line(&mut text, reply)?;
+        Ok(text)
+    }
+
+    /// Gives the command to both, and compares their answers. Where the realm cannot be called, the program
+    /// was to change nothing.
+    pub fn give<R: Wait>(&mut self, rt: &R, command: Command) -> Result<(), Fail> {
+        let said = perform(&mut self.book, command)?;
+        let is_refused = matches!(said, Reply::Refused(_));
+        let answer = if may_call(command, &said) {
+            driven(rt, &self.realm, &mut self.hands, command)?
+        } else {
+            None
+        };
+        match (answer, command) {
+            (Some(reply), _) => {
+                if self.line_of(&reply)?.as_slice() != self.line_of(&said)?.as_slice() {
+                    return Err("the realm answers otherwise")?;
+                }
+                if !is_refused {
+                    self.accepted = self.accepted.wrapping_add(1);
+                }
+                Ok(())
+            }
+            (None, Command::Ask(_)) => Ok(()),
+            (None, _) if is_refused => Ok(()),
+            _ => Err("nobody held what a call needs that the program accepts")?,
+        }
+    }
+
+    /// Whether main's view of the scope shows what the book tells.
+    fn is_seen<R: Wait>(&mut self, rt: &R, scope: ScopeId) -> Result<bool, Fail> {
+        let mut main = self.hands.token(MAIN).ok_or("main's token")?;
+        let is_alike = is_seen_alike(rt, &self.realm, &mut main, &self.book, scope);
+        self.hands.keep_token(MAIN, main)?;
+        Ok(is_alike)
+    }
+
+    /// Compares main's views of the scopes up to this one with the book.
+    pub fn compare_views<R: Wait>(&mut self, rt: &R, most: ScopeId) -> Result<(), Fail> {
+        for scope in 0..=most {
+            if !self.is_seen(rt, scope)? {
+                return Err("a view shows otherwise")?;
+            }
+        }
+        Ok(())
+    }
+}
