@@ -1,0 +1,5 @@
+pub mod Rooms
+pub mod Marks
+pub mod Forks
+pub mod Endings
+pub mod Reports

@@ -1,0 +1,5 @@
+//! Jobs of several kinds, and the spawners that run them.
+
+mod duties;
+mod rows;
+mod spawners;
