@@ -14,11 +14,15 @@ mod hands;
 #[cfg(test)]
 mod random;
 #[cfg(test)]
+mod replay;
+#[cfg(test)]
 mod reports;
 #[cfg(test)]
 mod rows;
 #[cfg(test)]
 mod scripts;
+#[cfg(test)]
+mod stress;
 #[cfg(test)]
 mod threads;
 #[cfg(test)]
