@@ -68,7 +68,7 @@ impl<C: Catalog, N: RealmName> Realm<C, N> {
     }
 
     /// The hold that begins a close.
-    fn begin_closing<R: Wait>(
+    pub fn begin_closing<R: Wait>(
         &self,
         rt: &R,
         token: &mut OwnerShare,
@@ -87,7 +87,7 @@ impl<C: Catalog, N: RealmName> Realm<C, N> {
     }
 
     /// Waits until the close that has begun can end, and ends it.
-    fn end_closing<R: Wait>(&self, rt: &R, token: &mut OwnerShare, scope: ScopeId) -> Verdict
+    pub fn end_closing<R: Wait>(&self, rt: &R, token: &mut OwnerShare, scope: ScopeId) -> Verdict
         requires named { token.old.table ≡ N.table }
         requires begun { IsBegun (history_seen token.old) token.old.actor scope }
         ensures token { token.new ≡ record token.old { seen = token.new.seen } }
@@ -109,7 +109,7 @@ impl<C: Catalog, N: RealmName> Realm<C, N> {
 
     /// Waits until the close that has begun can end, and ends it with a report, where the tickets are
     /// those of it.
-    fn end_reporting<R: Wait>(
+    pub fn end_reporting<R: Wait>(
         &self,
         rt: &R,
         token: &mut OwnerShare,

@@ -6,6 +6,7 @@ mod closing;
 mod commands;
 mod joins;
 mod locked;
+mod marks;
 mod opening;
 mod queries;
 mod realm;

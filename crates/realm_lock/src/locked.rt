@@ -8,31 +8,29 @@ ghost use Rattle.realm_core.specs.Tasks.{IsRunning, Finishes};
 ghost use Rattle.realm_lock.specs.Openings.{scope_alone, refusal_of};
 
 use cancel_marks::{MarkCell, MarkSetter};
-use join_rules::{Joiner, StoredTest};
+use join_rules::Joiner;
 use realm_core::{RealmCore, RealmName};
 use realm_steps::RealmStep;
 use scope_rules::{Catalog, End, Event, Options, Refusal, ScopeId};
 use share_ledger::{OwnerShare, Ticket};
 use std::alloc::Global;
 
-/// What lies under a realm's lock: the core, and beside it the callers' closures and the cells of
-/// marks, one place for each scope since the last retirement. No fact ties these two to the core: a
-/// closure that is asked is of the scope's own rule, or the totals answer in its place; and a mark is
-/// compared with the core before anything is said of it.
+/// What lies under a realm's lock: the core, and beside it the cells of marks, one place for each scope
+/// since the last retirement. No fact ties these to the core: a mark is compared with the core before
+/// anything is said of it.
 ///
-/// `K` is the core, and `T` a closure. The struct is generic in both, so that the check shows of any
-/// that may go to another thread that this may too; a realm's own are named where it has methods.
+/// `K` is the core. The struct is generic in it, so that the check shows of any that may go to another
+/// thread that this may too; a realm's own is named where it has methods.
 #[derive(Drop)]
-pub(crate) struct Locked<K: Drop, T: Drop> {
+pub(crate) struct Locked<K: Drop> {
     pub(crate) alloc: Global,
     pub(crate) core: K,
-    pub(crate) tests: Vec<Option<T>>,
     pub(crate) setters: Vec<MarkSetter>,
     /// How many scopes were cancelled since the last retirement whose cells are set.
     pub(crate) marked: usize,
 }
 
-impl<C: Catalog, N: RealmName> Locked<RealmCore<C, N>, StoredTest> {
+impl<C: Catalog, N: RealmName> Locked<RealmCore<C, N>> {
     /// Opens a scope for the token's actor, and gives its cell too. All room is made before.
     pub(crate) fn open(
         &mut self,
@@ -48,17 +46,9 @@ impl<C: Catalog, N: RealmName> Locked<RealmCore<C, N>, StoredTest> {
         let Some((setter, cell)) = self.room_for_a_scope() else {
             return Err((self.refusal_without_room(token), joiner));
         };
-        let listed = joiner.asks_closure();
-        match self.core.open(token, joiner.policy(), options, listed) {
+        match self.core.open(token, joiner.policy(), options, false) {
             Ok(scope) => {
-                self.add(
-                    setter,
-                    if listed {
-                        Some(joiner.into_test())
-                    } else {
-                        None
-                    },
-                );
+                self.add(setter);
                 Ok((scope, cell))
             }
             Err(refusal) => Err((refusal, joiner)),
@@ -82,22 +72,18 @@ impl<C: Catalog, N: RealmName> Locked<RealmCore<C, N>, StoredTest> {
         let setter = MarkSetter::new(self.alloc).ok()?;
         let cell = setter.cell().ok()?;
         self.setters.reserve(1).ok()?;
-        self.tests.reserve(1).ok()?;
         Some((setter, cell))
     }
 
     /// Keeps what belongs to a scope that was opened, for which there is room.
-    fn add(&mut self, setter: MarkSetter, test: Option<StoredTest>) {
+    fn add(&mut self, setter: MarkSetter) {
         if self.setters.len() < self.setters.capacity() {
             self.setters.push_reserved(setter);
-        }
-        if self.tests.len() < self.tests.capacity() {
-            self.tests.push_reserved(test);
         }
         self.set_marks();
     }
 
-    /// Records the end of the ticket's task, and asks the scope's closure, if it has one.
+    /// Records the end of the ticket's task.
     pub(crate) fn finish(
         &mut self,
         ticket: &mut Ticket,
@@ -111,9 +97,7 @@ impl<C: Catalog, N: RealmName> Locked<RealmCore<C, N>, StoredTest> {
         ensures ticket { ticket.new ≡ record ticket.old { seen = ticket.new.seen } }
         ensures answer { Finishes ticket.old ticket.new token end result }
     {
-        let place = self.place_of(ticket.scope());
-        let Locked { core, tests, .. } = &mut *self;
-        let result = core.finish(ticket, token, end, test_at(tests, place));
+        let result = self.core.finish(ticket, token, end, None);
         self.set_marks();
         result
     }
@@ -151,7 +135,6 @@ impl<C: Catalog, N: RealmName> Locked<RealmCore<C, N>, StoredTest> {
 
     /// Lets go of what belongs to the scopes before a retirement.
     pub(crate) fn clear(&mut self) {
-        self.tests.clear();
         self.setters.clear();
         self.marked = 0;
     }
@@ -165,9 +148,4 @@ fn refusal_or_memory(answer: Result<(), Refusal>) -> Refusal
         Ok(()) => Refusal::Memory,
         Err(refusal) => refusal,
     }
-}
-
-/// The closure at the place, if there is one.
-fn test_at(tests: &[Option<StoredTest>], place: Option<usize>) -> Option<&StoredTest> {
-    tests.get(place?)?.as_ref()
 }

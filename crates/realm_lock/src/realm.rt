@@ -1,8 +1,7 @@
-ghost use Rattle.std.specs.Prelude.{◌≡◌, [], vec_len, MatchResult};
+ghost use Rattle.std.specs.Prelude.{◌≡◌, [], MatchResult};
 ghost use Rattle.scope_rules.specs.declared.types.refusals.Refusal.TheVariants.{Memory};
 
 use crate::locked::Locked;
-use join_rules::StoredTest;
 use realm_core::{RealmCore, RealmName};
 use scope_rules::types::values::MAIN;
 use scope_rules::{Catalog, Limits, Refusal};
@@ -13,17 +12,18 @@ use std::sync::{Arc, Condvar, Mutex};
 /// The lock of a realm, and what those sleep on who wait for a join or a close. It is generic as
 /// `Locked` is.
 #[derive(Drop)]
-pub(crate) struct Room<K: Drop, T: Drop> {
-    pub(crate) locked: Mutex<Locked<K, T>>,
+pub(crate) struct Room<K: Drop> {
+    pub(crate) locked: Mutex<Locked<K>>,
     pub(crate) changed: Condvar,
 }
 
 /// A realm for threads to share: each has a share of it. Whenever its lock is free, its book is the
 /// replay of its list of steps, which is legal, and each end in it fits its task's label by the catalog
-/// `C`. `N` is the realm's name.
+/// `C`. `N` is the realm's name. It keeps no closure of a caller's: an `until` joiner goes by its rule, with
+/// which its closure agrees. So works for other threads may hold a share of it.
 #[derive(Drop)]
 pub struct Realm<C: Catalog, N: RealmName> {
-    pub(crate) room: Arc<Room<RealmCore<C, N>, StoredTest>, Global>,
+    pub(crate) room: Arc<Room<RealmCore<C, N>>, Global>,
 }
 
 impl<C: Catalog, N: RealmName> Realm<C, N> {
@@ -37,27 +37,10 @@ impl<C: Catalog, N: RealmName> Realm<C, N> {
         requires named { seed ≡ N.table }
         ensures { MatchResult result (λ made. made.1 ≡ record { table = N.table; limits = limits; actor = MAIN; seen = [] }) (λ refusal. refusal ≡ Memory) }
     {
-        Realm::over(alloc, seed, limits, Vec::new(alloc))
-    }
-
-    /// The same, with the list that the callers' closures come to lie in, which is empty. A crate above
-    /// that makes realms makes them by this call, as the check on calls that may give out a stored
-    /// closure wants.
-    pub fn over(
-        alloc: Global,
-        seed: Seed,
-        limits: Limits,
-        tests: Vec<Option<StoredTest>>,
-    ) -> Result<(Realm<C, N>, OwnerShare), Refusal>
-        requires named { seed ≡ N.table }
-        requires empty { vec_len tests ≡ 0 }
-        ensures { MatchResult result (λ made. made.1 ≡ record { table = N.table; limits = limits; actor = MAIN; seen = [] }) (λ refusal. refusal ≡ Memory) }
-    {
         let (core, token) = RealmCore::new(alloc, seed, limits);
         let locked = Locked {
             alloc,
             core,
-            tests,
             setters: Vec::new(alloc),
             marked: 0,
         };

@@ -30,7 +30,7 @@ pub trait Spawner<N: RealmName> {
     ghost use Rattle.share_ledger.specs.Values.{TicketValue};
 
     /// What is kept of a work until it is joined.
-    type Handle;
+    type Handle: Drop;
 
     /// The ticket that the work of this handle was given.
     ghost first_of: { Self.Handle → TicketValue };

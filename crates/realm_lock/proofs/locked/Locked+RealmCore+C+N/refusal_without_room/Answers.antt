@@ -5,7 +5,7 @@ use Rattle.scope_rules.specs.Replies.{next_scope}
 use Rattle.realm_steps.specs.declared.steps.RealmStep.TheVariants.{Happened}
 use Rattle.realm_core.specs.Calls.{DoesOrMemory}
 use Rattle.realm_lock.proofs.NoRoom.{no_room}
-use Rattle.realm_lock.proofs.locked.Locked+RealmCore+C+N+StoredTest.refusal_without_room.Goals as goal
+use Rattle.realm_lock.proofs.locked.Locked+RealmCore+C+N.refusal_without_room.Goals as goal
 
 pub returns-clause-answer : goal.returns-clause-answer
 returns-clause-answer g c = λ policy options.
