@@ -1,0 +1,3 @@
+pub mod Forked
+pub mod Seated
+pub mod Reported

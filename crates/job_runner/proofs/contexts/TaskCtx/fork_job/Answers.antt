@@ -1,0 +1,24 @@
+use Rattle.std.proofs.Common.{◌≡◌, sym, ◌∙◌}
+use Rattle.scope_rules.specs.declared.types.answers.ForkReply.TheVariants.{Thread}
+use Rattle.scope_rules.specs.declared.types.events.Event.TheVariants.{Fork}
+use Rattle.realm_steps.specs.declared.steps.RealmStep.TheVariants.{Happened}
+use Rattle.realm_core.specs.Calls.{Accepted}
+use Rattle.realm_core.specs.Tasks.{IsNewTicket}
+use Rattle.job_runner.specs.Forks.{reply_there, why_alone}
+use Rattle.job_runner.proofs.Forked.{forked_job}
+use Rattle.job_runner.proofs.contexts.TaskCtx.fork_job.Goals as goal
+
+pub returns-in-Ok-Thread-clause-answer : goal.returns-in-Ok-Thread-clause-answer
+returns-in-Ok-Thread-clause-answer g c =
+    let old = c.args.self.now.token in
+    let mid = c.fork.new.token in
+    let ticket = c.in-Ok-Thread.ticket in
+    let scope = c.args.scope in
+    let label = c.args.job.label in
+    let accepted : Accepted old mid (Happened (Fork old.actor scope label)) (reply_there scope) (Thread ticket.task) = rw (← c.label-label.ensures, ← c.room_for_a_thread.ensures.token, ← c.token.view_is) (rw c.in-Ok-Thread.field-0-is at c.in-Ok-Thread.ensures.answer) in
+    let fresh : IsNewTicket mid scope label ticket = rw (← c.label-label.ensures) (rw c.in-Ok-Thread.field-0-is at c.in-Ok-Thread.ensures.ticket) in
+    forked_job old mid c.start_thread.new.self.token scope label ticket (why_alone c.start_thread.result) accepted fresh c.start_thread.ensures.token c.start_thread.ensures.answer
+
+pub returns-in-Ok-Never-clause-answer : goal.returns-in-Ok-Never-clause-answer
+returns-in-Ok-Never-clause-answer g c =
+    rw (← c.label-label.ensures, ← c.room_for_a_thread.ensures.token, ← c.token.view_is) (rw c.in-Ok-Never.field-0-is at c.in-Ok-Never.ensures.answer)

@@ -1,0 +1,6 @@
+pub mod Rooms
+pub mod Marks
+pub mod Forks
+pub mod Endings
+pub mod Reports
+pub mod Readiness

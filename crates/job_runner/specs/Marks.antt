@@ -1,0 +1,19 @@
+-- Which seat a context's checkpoint looks from, and what it shows.
+use Rattle.std.specs.Prelude.{◌≡◌, Option, None, Some, List, [], ◌∷◌}
+use Rattle.std.specs.Option.{MatchOption}
+use Rattle.once_cell.specs.Once.{Agrees}
+use Rattle.cancel_marks.specs.declared.marks.Mark.{Mark}
+use Rattle.cancel_marks.specs.Marked.{said_by}
+use Rattle.cancel_marks.specs.Seats.{Seen}
+use Rattle.job_runner.specs.declared.contexts.OpenScope.{OpenScope}
+
+-- the seat of the innermost open scope, or else the one of the scope around
+abbrev pub seat_here : Option Seen → List OpenScope → Option Seen
+seat_here around [] = around
+seat_here around (first ∷ others) = seat_here (Some first.marker) others
+
+-- what a look from the seat showed, and left in it: a mark that it was shown before is shown again
+abbrev pub Shows : Option Seen → Option Seen → Option Mark → Type 0
+Shows None None None = Unit {0}
+Shows (Some before) (Some after) shown = (after.cell ≡ before.cell) × MatchOption shown ((before.known ≡ None) × (after.known ≡ None)) (λ mark. (mark.seat ≡ after) × (after.known ≡ Some (said_by mark)) × Agrees before.known (said_by mark))
+Shows _ _ _ = ⊥

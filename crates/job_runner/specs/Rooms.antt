@@ -1,0 +1,18 @@
+-- What a command does that makes room in its context before it is begun.
+use Rattle.std.specs.Prelude.{◌≡◌, ◌⊎◌, Result, Ok, Err}
+use Rattle.scope_rules.specs.declared.types.refusals.Refusal.{Refusal}
+use Rattle.scope_rules.specs.declared.types.refusals.Refusal.TheVariants.{Memory}
+use Rattle.scope_rules.specs.History.{History}
+use Rattle.realm_steps.specs.declared.steps.RealmStep.{RealmStep}
+use Rattle.share_ledger.specs.Values.{OwnerValue}
+use Rattle.realm_core.specs.Calls.{Accepted, DoesOrMemory}
+
+-- the context had no room: nothing was begun
+pub record WithoutRoom (old new : OwnerValue) (refusal : Refusal) : Type 0 where
+  pub same : new ≡ old
+  pub memory : refusal ≡ Memory
+
+-- what the realm's command does; or the context had no room
+abbrev pub DoesInRoom : {A : Type 0} → OwnerValue → OwnerValue → RealmStep → (History → A) → Result A Refusal → Type 0
+DoesInRoom old new x reply (Ok answer) = Accepted old new x reply answer
+DoesInRoom old new x reply (Err refusal) = DoesOrMemory old new x reply (Err refusal) ⊎ WithoutRoom old new refusal

@@ -1,0 +1,62 @@
+ghost use Rattle.std.specs.Prelude.{◌≡◌, [], IfOk};
+ghost use Rattle.scope_rules.specs.Replies.{base_of};
+ghost use Rattle.realm_core.specs.Calls.{DoesOrMemory, RecordsOrMemory, history_seen};
+
+use crate::contexts::TaskCtx;
+use realm_lock::RealmName;
+use realm_steps::RealmStep;
+use scope_rules::{Base, Cancelling, Catalog, Event, Name, Refusal, ScopeId, Value};
+use std::sync::Wait;
+use thread_crew::Spawner;
+
+/// Commands that neither open nor close a scope, each one hold of the realm's lock. Each does what the
+/// realm's call of that name does, with the context's token.
+impl<C: Catalog, S: Spawner<N>, N: RealmName> TaskCtx<C, S, N> {
+    /// Binds the key above the actor's other bindings (JEP 506, `where`). Refused as `Realm::bind` is.
+    pub fn bind<R: Wait>(&mut self, rt: &R, key: Name, value: Value) -> Result<(), Refusal>
+        ensures rest { self.new ≡ record self.old { token = record self.old.token { seen = self.new.token.seen } } }
+        ensures answer { DoesOrMemory self.old.token self.new.token (RealmStep.Happened (Event.Bind self.old.token.actor (record { key = key; value = value }))) (λ _. tt) result }
+    {
+        let token = &mut self.token;
+        self.realm.lent().bind(rt, &mut token.share, key, value)
+    }
+
+    /// Takes away the actor's last own binding. Refused as `Realm::unbind` is.
+    pub fn unbind<R: Wait>(&mut self, rt: &R) -> Result<(), Refusal>
+        ensures rest { self.new ≡ record self.old { token = record self.old.token { seen = self.new.token.seen } } }
+        ensures answer { DoesOrMemory self.old.token self.new.token (RealmStep.Happened (Event.Unbind self.old.token.actor)) (λ _. tt) result }
+    {
+        let token = &mut self.token;
+        self.realm.lent().unbind(rt, &mut token.share)
+    }
+
+    /// Cancels the scope and all that it reaches, whoever's it is (Trio, `cancel`). Refused as
+    /// `Realm::cancel` is.
+    pub fn cancel<R: Wait>(&mut self, rt: &R, scope: ScopeId) -> Result<Cancelling, Refusal>
+        ensures rest { self.new ≡ record self.old { token = record self.old.token { seen = self.new.token.seen } } }
+        ensures answer { RecordsOrMemory self.old.token self.new.token (Event.Cancel scope) result }
+    {
+        let token = &mut self.token;
+        self.realm.lent().cancel(rt, &mut token.share, scope)
+    }
+
+    /// Sets the moment, in milliseconds. Refused as `Realm::tick` is.
+    pub fn tick<R: Wait>(&mut self, rt: &R, now: u64) -> Result<(), Refusal>
+        ensures rest { self.new ≡ record self.old { token = record self.old.token { seen = self.new.token.seen } } }
+        ensures answer { DoesOrMemory self.old.token self.new.token (RealmStep.Happened (Event.Tick now)) (λ _. tt) result }
+    {
+        let token = &mut self.token;
+        self.realm.lent().tick(rt, &mut token.share, now)
+    }
+
+    /// Takes the events out and leaves a base, once main's outermost scope is closed. Refused as
+    /// `Realm::retire` is, so in the context of a task always.
+    pub fn retire<R: Wait>(&mut self, rt: &R) -> Result<Base, Refusal>
+        ensures rest { self.new ≡ record self.old { token = record self.old.token { seen = self.new.token.seen } } }
+        ensures answer { DoesOrMemory self.old.token self.new.token RealmStep.Retirement base_of result }
+        ensures base { IfOk result (λ base. history_seen self.new.token ≡ record { base = base; events = [] }) }
+    {
+        let token = &mut self.token;
+        self.realm.lent().retire(rt, &mut token.share)
+    }
+}

@@ -1,0 +1,86 @@
+ghost use Rattle.std.specs.Prelude.{◌≡◌};
+
+use crate::held::{HeldRealm, HeldTicket, HeldToken};
+use crate::markers::Marker;
+use realm_lock::{ActorToken, Realm, RealmName};
+use scope_rules::{Catalog, ScopeId};
+use std::alloc::Global;
+use thread_crew::Spawner;
+
+/// A scope that was opened in a context and not closed there.
+#[derive(Drop)]
+pub(crate) struct OpenScope {
+    pub(crate) scope: ScopeId,
+    pub(crate) marker: Marker,
+}
+
+/// A thread that was made in a context, until it is joined.
+#[derive(Drop)]
+pub(crate) struct Thread<N: RealmName, S: Spawner<N>> {
+    pub(crate) scope: ScopeId,
+    pub(crate) handle: S::Handle,
+}
+
+/// The ticket of a thread that was joined, until its scope is closed.
+#[derive(Drop)]
+pub(crate) struct Returned<N: RealmName> {
+    pub(crate) scope: ScopeId,
+    pub(crate) ticket: HeldTicket<N>,
+}
+
+/// What an actor of a realm acts by: main, or the job of a task (JEP 505 ties such calls to the thread
+/// that opened a scope; here they are tied to the context). It has the actor's token, of which contracts
+/// speak: each call says what the token has seen then. A context can't be let go: main's is left by
+/// `leave`, and a task's is ended by its thread.
+pub struct TaskCtx<C: Catalog, S: Spawner<N>, N: RealmName> {
+    pub(crate) alloc: Global,
+    pub(crate) realm: HeldRealm<C, N>,
+    pub(crate) token: HeldToken<N>,
+    pub(crate) spawner: S,
+    /// Of the scope in which the context's task was forked; main has none.
+    pub(crate) around: Option<Marker>,
+    /// The scopes that are open, the latest last.
+    pub(crate) opened: Vec<OpenScope>,
+    /// The threads of these scopes that were not joined yet.
+    pub(crate) threads: Vec<Thread<N, S>>,
+    /// The tickets of those that were; there is room for the others' too.
+    pub(crate) returned: Vec<Returned<N>>,
+}
+
+impl<C: Catalog, S: Spawner<N>, N: RealmName> TaskCtx<C, S, N> {
+    /// Main's context, with main's token of the realm.
+    pub fn main(
+        alloc: Global,
+        realm: Realm<C, N>,
+        token: ActorToken,
+        spawner: S,
+    ) -> TaskCtx<C, S, N>
+        requires { token.table ≡ N.table }
+        ensures { result.token ≡ token }
+    {
+        TaskCtx::of_actor(alloc, HeldRealm::new(realm), token, spawner, None)
+    }
+
+    /// The context of an actor that has no scope, with the mark of the scope around it.
+    pub(crate) fn of_actor(
+        alloc: Global,
+        realm: HeldRealm<C, N>,
+        token: ActorToken,
+        spawner: S,
+        around: Option<Marker>,
+    ) -> TaskCtx<C, S, N>
+        requires { token.table ≡ N.table }
+        ensures { result.token ≡ token }
+    {
+        TaskCtx {
+            alloc,
+            realm,
+            token: HeldToken::new(token),
+            spawner,
+            around,
+            opened: Vec::new(alloc),
+            threads: Vec::new(alloc),
+            returned: Vec::new(alloc),
+        }
+    }
+}

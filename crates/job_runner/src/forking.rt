@@ -1,0 +1,133 @@
+ghost use Rattle.std.specs.Prelude.{◌≡◌, ◌<◌, IfOk, IfErr, OnSome, vec_len, vec_capacity};
+ghost use Rattle.realm_core.specs.Tasks.{IsNewTicket};
+ghost use Rattle.job_runner.specs.Forks.{ForksJob, KeepsThread, SpawnsJob, refusal_of, why_alone};
+
+use crate::contexts::{TaskCtx, Thread};
+use crate::held::HeldRealm;
+use crate::markers::Marker;
+use crate::works::JobWork;
+use named_jobs::{Answers, NamedJob};
+use realm_lock::{Forked, RealmName, Ticket};
+use scope_rules::{Catalog, ForkReply, Refusal, ScopeId, TaskId};
+use std::sync::Wait;
+use thread_crew::{Spawner, Spawns};
+
+/// Why a fork handed its job back.
+#[derive(Clone, Copy, Debug, PartialEq, Eq)]
+pub enum ForkRefusal {
+    /// The fork was refused, and nothing is recorded.
+    Before(Refusal),
+    /// No thread was had for the task of this number: its fork is recorded, and its reject.
+    Rejected(TaskId),
+}
+
+impl ForkRefusal {
+    /// The refusal, for its number and word: a rejected task is refusal 16.
+    pub fn refusal(&self) -> Refusal
+        ensures { result ≡ refusal_of self.now }
+    {
+        match self {
+            ForkRefusal::Before(refusal) => *refusal,
+            ForkRefusal::Rejected(_) => Refusal::Rejected,
+        }
+    }
+}
+
+impl<C: Catalog, S: Spawner<N>, N: RealmName> TaskCtx<C, S, N> {
+    /// Forks the job in the actor's scope (JEP 505, `fork`), onto a thread of the spawner, or onto none
+    /// where the scope is cancelled: the job is then let go, uncalled. Refused as `Realm::fork` is, and
+    /// before anything is done where there is no room to keep the thread (`Memory`); and rejected where
+    /// the spawner refuses a thread (refusal 16). The job is then handed back. A thread is kept until its
+    /// scope is closed.
+    pub fn fork_job<J: Answers + Drop, R: Wait>(
+        &mut self,
+        rt: &R,
+        scope: ScopeId,
+        job: NamedJob<C, J>,
+    ) -> Result<ForkReply, (ForkRefusal, NamedJob<C, J>)>
+    where
+        S: Spawns<N, JobWork<C, N, J>>,
+        ensures token { self.new.token ≡ record self.old.token { seen = self.new.token.seen } }
+        ensures answer { ForksJob self.old.token self.new.token scope job.label (why_alone result) }
+        ensures handed_back { IfErr result (λ e. e.1 ≡ job) }
+        ensures kept { IfOk result (λ reply. KeepsThread reply (vec_len self.old.threads) (vec_len self.new.threads)) }
+    {
+        let Some((realm, around)) = self.room_for_a_thread(scope) else {
+            return Err((ForkRefusal::Before(Refusal::Memory), job));
+        };
+        let label = job.label();
+        let token = &mut self.token;
+        match self.realm.lent().fork(rt, &mut token.share, scope, label) {
+            Ok(Forked::Thread(ticket)) => {
+                let work = JobWork {
+                    alloc: self.alloc,
+                    job,
+                    realm,
+                    around,
+                };
+                self.start_thread(rt, ticket, work)
+            }
+            Ok(Forked::Never(task)) => Ok(ForkReply::Never(task)),
+            Err(refusal) => Err((ForkRefusal::Before(refusal), job)),
+        }
+    }
+
+    /// Has a thread run the work, for whose handle there is room, or rejects its task.
+    fn start_thread<J: Answers + Drop, R: Wait>(
+        &mut self,
+        rt: &R,
+        ticket: Ticket,
+        work: JobWork<C, N, J>,
+    ) -> Result<ForkReply, (ForkRefusal, NamedJob<C, J>)>
+    where
+        S: Spawns<N, JobWork<C, N, J>>,
+        requires room { vec_len self.old.threads < vec_capacity self.old.threads }
+        requires named { ticket.table ≡ N.table }
+        requires fresh { IsNewTicket self.old.token ticket.scope work.job.label ticket }
+        ensures token { self.new.token ≡ self.old.token }
+        ensures answer { SpawnsJob ticket (why_alone result) }
+        ensures handed_back { IfErr result (λ e. e.1 ≡ work.job) }
+        ensures kept { IfOk result (λ reply. KeepsThread reply (vec_len self.old.threads) (vec_len self.new.threads)) }
+    {
+        let (task, scope) = (ticket.task(), ticket.scope());
+        match self.spawner.spawn(rt, ticket, work) {
+            Ok(handle) => {
+                self.threads.push_reserved(Thread { scope, handle });
+                Ok(ForkReply::Thread(task))
+            }
+            Err((ticket, work)) => {
+                let _rejected = self.realm.lent().reject(rt, ticket);
+                let JobWork { job, .. } = work;
+                Err((ForkRefusal::Rejected(task), job))
+            }
+        }
+    }
+
+    /// Room for a thread of the scope: for its handle, and for its return, with what its own context
+    /// begins with.
+    fn room_for_a_thread(&mut self, scope: ScopeId) -> Option<(HeldRealm<C, N>, Option<Marker>)>
+        ensures token { self.new.token ≡ self.old.token }
+        ensures threads { vec_len self.new.threads ≡ vec_len self.old.threads }
+        ensures room { OnSome result (vec_len self.new.threads < vec_capacity self.new.threads) }
+    {
+        let realm = self.realm.again()?;
+        let around = match self.marker_of(scope) {
+            Some(marker) => Some(marker.fresh()?),
+            None => None,
+        };
+        self.threads.reserve(1).ok()?;
+        let returns = self.threads.len().saturating_add(1);
+        self.returned.reserve(returns).ok()?;
+        Some((realm, around))
+    }
+
+    /// The marker of the scope, if it is open in this context.
+    fn marker_of(&self, scope: ScopeId) -> Option<&Marker> {
+        for open in &self.opened {
+            if open.scope == scope {
+                return Some(&open.marker);
+            }
+        }
+        None
+    }
+}

@@ -1,0 +1,18 @@
+ghost use Rattle.std.specs.Prelude.{◌≡◌};
+
+use crate::contexts::TaskCtx;
+use named_jobs::Answers;
+use realm_lock::RealmName;
+use scope_rules::{Catalog, End};
+use std::sync::Wait;
+use thread_crew::Spawner;
+
+/// What a thread runs (JEP 505 has callables in its place). It acts by its context: it may open scopes,
+/// fork jobs, wait, and look whether it was cancelled. A scope that it leaves open is closed after it, and
+/// the task then ends with the fault `left-open`.
+pub trait Job<C: Catalog, S: Spawner<N>, N: RealmName>: Answers {
+    /// Does the job, and answers how it ends.
+    fn run<R: Wait>(self, rt: &R, ctx: &mut TaskCtx<C, S, N>) -> End
+        ensures ends { Self.may_end self result }
+        ensures actor { ctx.new.token.actor ≡ ctx.old.token.actor };
+}

@@ -1,0 +1,26 @@
+//! Jobs on threads: what a job calls to open scopes, fork other jobs onto threads, join and close them,
+//! and what a thread does with a job. Scopes, tasks and bindings are those of a realm; the threads are a
+//! spawner's.
+#![tactic(auto)]
+
+mod checkpoints;
+mod clocks;
+mod closing;
+mod commands;
+mod contexts;
+mod ending;
+mod forking;
+mod held;
+mod jobs;
+mod markers;
+mod opening;
+mod queries;
+mod reporting;
+mod works;
+
+pub use clocks::{SetClock, SystemClock, pulse};
+pub use contexts::TaskCtx;
+pub use forking::ForkRefusal;
+pub use jobs::Job;
+pub use named_jobs::{Answers, Clock, NamedJob};
+pub use works::JobWork;

@@ -1,0 +1,68 @@
+ghost use Rattle.std.specs.Prelude.{◌≡◌, IfSome, None, Some};
+ghost use Rattle.std.specs.Option.{MatchOption};
+ghost use Rattle.once_cell.specs.Once.{Agrees};
+ghost use Rattle.cancel_marks.specs.Marked.{said_by};
+
+use cancel_marks::{Mark, MarkCell, Seat};
+use realm_lock::{Realm, RealmName};
+use scope_rules::Catalog;
+use std::marker::Model;
+use std::sync::Wait;
+
+/// The cell of a scope, and a seat at it. Contracts see what the seat was shown.
+#[derive(Drop)]
+pub(crate) struct Marker {
+    cell: MarkCell,
+    seat: Seat,
+}
+
+impl Model for Marker {
+    ghost use Rattle.std.specs.Prelude.{◌≡◌};
+    ghost use Rattle.cancel_marks.specs.Seats.{Seen};
+
+    ghost Value = { Seen };
+
+    ghost view = { λ m. m.seat };
+
+    ghost invariant = { λ m. m.seat.cell ≡ m.cell };
+}
+
+impl Marker {
+    /// The seat at the cell.
+    pub(crate) fn new(cell: MarkCell, seat: Seat) -> Marker
+        requires { seat.cell ≡ cell }
+        ensures { result ≡ seat }
+    {
+        Marker { cell, seat }
+    }
+
+    /// A seat at the same cell that was shown nothing, as for another thread. None where std's count of
+    /// holders is full.
+    pub(crate) fn fresh(&self) -> Option<Marker>
+        ensures { IfSome result (λ other. (other.cell ≡ self.now.cell) × (other.known ≡ None)) }
+    {
+        let cell = self.cell.share().ok()?;
+        let seat = cell.seat();
+        Some(Marker { cell, seat })
+    }
+
+    /// The mark of the scope, if it is seen to be cancelled. A seat that was given a mark is given the
+    /// same each time.
+    pub(crate) fn look(&mut self) -> Option<Mark>
+        ensures cell { self.new.cell ≡ self.old.cell }
+        ensures mark { MatchOption result ((self.old.known ≡ None) × (self.new.known ≡ None)) (λ mark. (mark.seat ≡ self.new) × (self.new.known ≡ Some (said_by mark)) × Agrees self.old.known (said_by mark)) }
+    {
+        self.cell.checkpoint(&mut self.seat)
+    }
+    /// The mark of the scope once it is cancelled, in this realm: it sleeps until then.
+    pub(crate) fn wait<C: Catalog, N: RealmName, R: Wait>(
+        &mut self,
+        rt: &R,
+        realm: &Realm<C, N>,
+    ) -> Mark
+        ensures cell { self.new.cell ≡ self.old.cell }
+        ensures mark { (result.seat ≡ self.new) × (self.new.known ≡ Some (said_by result)) × Agrees self.old.known (said_by result) }
+    {
+        realm.wait_marked(rt, &self.cell, &mut self.seat)
+    }
+}

@@ -1,0 +1,47 @@
+ghost use Rattle.std.specs.Prelude.{◌≡◌, IfErr};
+ghost use Rattle.scope_rules.specs.Replies.{next_scope};
+ghost use Rattle.scope_book.specs.Books.{refusal_alone};
+ghost use Rattle.join_rules.specs.Joiners.{policy_of};
+ghost use Rattle.job_runner.specs.Rooms.{DoesInRoom};
+
+use crate::contexts::{OpenScope, TaskCtx};
+use crate::markers::Marker;
+use join_rules::Joiner;
+use realm_lock::RealmName;
+use realm_steps::RealmStep;
+use scope_rules::{Catalog, Event, Options, Refusal, ScopeId};
+use std::sync::Wait;
+use thread_crew::Spawner;
+
+impl<C: Catalog, S: Spawner<N>, N: RealmName> TaskCtx<C, S, N> {
+    /// Opens a scope for the context's actor, inside what lies around it (JEP 505, `open`). Refused as
+    /// `Realm::open` is, and before anything is done where there is no room to keep it (`Memory`); the
+    /// joiner is then handed back.
+    pub fn open<R: Wait>(
+        &mut self,
+        rt: &R,
+        joiner: Joiner,
+        options: Options,
+    ) -> Result<ScopeId, (Refusal, Joiner)>
+        ensures token { self.new.token ≡ record self.old.token { seen = self.new.token.seen } }
+        ensures answer { DoesInRoom self.old.token self.new.token (RealmStep.Happened (Event.Open self.old.token.actor (policy_of joiner) options)) next_scope (refusal_alone result) }
+        ensures handed_back { IfErr result (λ e. e.1 ≡ joiner) }
+    {
+        if self.opened.reserve(1).is_err() {
+            return Err((Refusal::Memory, joiner));
+        }
+        let token = &mut self.token;
+        match self
+            .realm
+            .lent()
+            .open_marked(rt, &mut token.share, joiner, options)
+        {
+            Ok((scope, cell, seat)) => {
+                let marker = Marker::new(cell, seat);
+                self.opened.push_reserved(OpenScope { scope, marker });
+                Ok(scope)
+            }
+            Err(back) => Err(back),
+        }
+    }
+}

@@ -1,0 +1,10 @@
+//! Jobs of several kinds, and the spawners that run them.
+
+mod deeds;
+mod duties;
+mod logs;
+mod outcomes;
+mod rows;
+mod soak;
+mod spawners;
+mod unruly;
