@@ -2,6 +2,6 @@
 #![tactic(auto)]
 
 #[cfg(test)]
-mod jobs;
-#[cfg(test)]
 mod guide;
+#[cfg(test)]
+mod jobs;

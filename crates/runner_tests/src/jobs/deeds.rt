@@ -103,10 +103,7 @@ pub fn open_all<N: RealmName, S: Spawner<N>, R: Wait>(
 }
 
 /// Opens scopes until one is refused, 100 at most: how many.
-fn open_inside<N: RealmName, S: Spawner<N>, R: Wait>(
-    rt: &R,
-    ctx: &mut TaskCtx<AnyEnd, S, N>,
-) -> i64
+fn open_inside<N: RealmName, S: Spawner<N>, R: Wait>(rt: &R, ctx: &mut TaskCtx<AnyEnd, S, N>) -> i64
     ensures { ctx.new.token.actor ≡ ctx.old.token.actor }
 {
     for opened in 0..100i64 {

@@ -1,7 +1,9 @@
 //! Jobs of several kinds, and how they are forked.
 ghost use Rattle.std.specs.Prelude.{◌≡◌};
 
-use super::deeds::{bind_and_unbind, grow, leave_two, look, meet_shielded, open_all, wait_for, wait_until};
+use super::deeds::{
+    bind_and_unbind, grow, leave_two, look, meet_shielded, open_all, wait_for, wait_until,
+};
 use job_runner::{Answers, ForkRefusal, Job, JobWork, NamedJob, TaskCtx};
 use join_rules::Joiner;
 use realm_lock::RealmName;

@@ -135,7 +135,9 @@ pub fn nth_is_refused<N: RealmName, S: Spawns<N, JobWork<AnyEnd, N, TestJob>>, R
     };
     for task in 1..4u32 {
         let forked = fork(rt, ctx, scope, board, Duty::Plain(i64::from(task)));
-        assert!(rt; forked.err() == (u64::from(task) == nth).then_some(ForkRefusal::Rejected(task)));
+        assert!(rt;
+            forked.err() == (u64::from(task) == nth).then_some(ForkRefusal::Rejected(task))
+        );
     }
     let joined = ctx.join(rt, scope)?;
     let Outcome::All(values) = &joined.outcome else {
@@ -144,10 +146,14 @@ pub fn nth_is_refused<N: RealmName, S: Spawns<N, JobWork<AnyEnd, N, TestJob>>, R
     let refused = u32::from(nth < 4);
     assert!(rt; values.as_slice().len() == if refused == 1 { 2 } else { 3 });
     for value in values.as_slice() {
-        assert!(rt; u64::from(value.task) != nth && value.value == Value::Num(i64::from(value.task)));
+        assert!(rt;
+            u64::from(value.task) != nth && value.value == Value::Num(i64::from(value.task))
+        );
     }
     let view = ctx.view(rt, scope)?;
-    assert!(rt; view.counts.never == refused && view.counts.finished == 3u32.saturating_sub(refused));
+    assert!(rt;
+        view.counts.never == refused && view.counts.finished == 3u32.saturating_sub(refused)
+    );
     ctx.close_scope_bare(rt, scope)?;
     Ok(())
 }

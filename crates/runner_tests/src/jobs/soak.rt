@@ -19,6 +19,7 @@ use thread_crew::Spawns;
 
 /// How many rounds there are, and after how many memory is measured first.
 const ROUNDS: u32 = 2_000;
+
 const EARLY: u32 = 200;
 
 /// How many jobs a round has.
@@ -112,7 +113,13 @@ pub fn soak<
         round(rt, ctx, board, faults)?;
     }
     let late = told(rt, "VmRSS:");
-    assert!(rt; late <= early.saturating_add(early / 20), "{early} kB, and then {late} kB");
-    assert_eq!(rt; board.calls(), u64::from(ROUNDS).saturating_mul(u64::from(AT_ONCE)));
+    assert!(rt;
+        late <= early.saturating_add(early / 20),
+        "{early} kB, and then {late} kB"
+    );
+    assert_eq!(rt;
+        board.calls(),
+        u64::from(ROUNDS).saturating_mul(u64::from(AT_ONCE))
+    );
     Ok(())
 }
