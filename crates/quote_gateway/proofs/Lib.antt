@@ -1,0 +1,3 @@
+pub mod OfferLabels
+pub mod StatesRead
+pub mod Served

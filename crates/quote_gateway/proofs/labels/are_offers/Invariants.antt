@@ -1,0 +1,8 @@
+-- The labels of the jobs before the index are those of the plan's offers.
+use Rattle.std.proofs.Common.{◌≡◌, ℕ, ◌<◌, slice_get}
+use Rattle.quote_plan.specs.Plans.{labels_of}
+use Rattle.quote_gateway.specs.Offers.{labels_in}
+use Rattle.quote_gateway.proofs.labels.are_offers.Given as goal
+
+abbrev pub invariant-loop-index : goal.invariant-loop-index
+invariant-loop-index g l = (k : ℕ) → k < l.index → slice_get (labels_in l.jobs) k ≡ slice_get (labels_of l.plan) k

@@ -1,0 +1,47 @@
+ghost use Rattle.std.specs.Prelude.{◌≡◌, ◌≢◌};
+ghost use Rattle.quote_gateway.specs.Requests.{IsOfCall, fault_of};
+
+use quote_plan::NoAnswer;
+use scope_rules::Refusal;
+
+/// Why a request has no answer.
+#[derive(Clone, Copy, Debug, PartialEq, Eq)]
+pub enum GatewayFault {
+    /// The labels of the jobs are not those of the plan's offers, in order, one each.
+    Strange,
+    /// Memory was refused.
+    Memory,
+    /// A thread was refused, or a call for another cause than memory, as where the jobs used up the limits
+    /// of the realm.
+    Rejected,
+    /// The scope of the jobs was cancelled, or its time ran out.
+    Cancelled,
+    /// The answer would rest on an end that is not the offer's.
+    Lost,
+}
+
+impl GatewayFault {
+    /// Why there is no answer where a call was refused.
+    pub(crate) fn of_refusal(refusal: Refusal) -> GatewayFault
+        ensures call { IsOfCall result }
+        ensures memory { refusal ≡ Refusal.Memory → result ≡ GatewayFault.Memory }
+        ensures other { refusal ≢ Refusal.Memory → result ≡ GatewayFault.Rejected }
+    {
+        if refusal == Refusal::Memory {
+            GatewayFault::Memory
+        } else {
+            GatewayFault::Rejected
+        }
+    }
+
+    /// Why there is no answer where the ends of the jobs make none.
+    pub(crate) fn of_no_answer(why: NoAnswer) -> GatewayFault
+        ensures { result ≡ fault_of why }
+    {
+        match why {
+            NoAnswer::Lost => GatewayFault::Lost,
+            NoAnswer::Cancelled => GatewayFault::Cancelled,
+            NoAnswer::Memory => GatewayFault::Memory,
+        }
+    }
+}

@@ -1,0 +1,14 @@
+//! The quote gateway, a service on the runtime: one request is a plan of offers, each is asked by a job on
+//! a thread of its own, and the answer is one that the plan allows, whatever the schedule.
+#![tactic(auto)]
+
+mod faults;
+mod labels;
+mod offer_jobs;
+mod requests;
+mod serving;
+
+pub use faults::GatewayFault;
+pub use offer_jobs::{OfferJob, jobs_of};
+pub use quote_plan::{Answer, Mode, Offer, Plan, PlanFault, Quote, Quotes, read_plan};
+pub use serving::{serve, serve_by};
