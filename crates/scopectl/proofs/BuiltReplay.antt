@@ -7,10 +7,10 @@ use Rattle.clap.specs.Kinds.{Kinds, or_else}
 use Rattle.clap.specs.Simple.{App, Shape, built, filled, help_rule, version_rule}
 use Rattle.clap.specs.Faults.{is_simple_and_free}
 use Rattle.clap.specs.Walk.{Names, Row, Rule, Text, Walk, arg_by_id, arg_by_long, arg_by_short, finished, nothing_held, settled, takes_values, walk, walk_from, walked}
-use Rattle.scopectl.specs.Application.{command_of, option_rule, scopectl}
+use Rattle.scopectl.specs.Application.{option_rule, scopectl, with_options}
 use Rattle.scopectl.specs.CommandLine.{command_word, is_name}
 use Rattle.scopectl.specs.declared.command_line.Job.{Job}
-use Rattle.scopectl.specs.declared.command_line.Job.TheVariants.{Replay, Dump}
+use Rattle.scopectl.specs.declared.command_line.Job.TheVariants.{Replay, Dump, Quote}
 use Rattle.scopectl.specs.Settings.{name_of}
 use Rattle.scopectl.specs.declared.command_line.settings.Setting.{Setting}
 use Rattle.scopectl.specs.declared.command_line.settings.Setting.TheVariants.{Scopes, Tasks, Load}
@@ -27,6 +27,9 @@ built_version = filled version_rule
 
 unfoldable pub replay_rules : List Rule
 replay_rules = built_option Scopes ∷ built_option Tasks ∷ built_option Load ∷ built_help ∷ []
+
+unfoldable pub quote_rules : List Rule
+quote_rules = built_help ∷ []
 
 unfoldable pub top_rules : List Rule
 top_rules = built_help ∷ built_version ∷ []
@@ -73,25 +76,36 @@ built_top = record {
   is_built = true;
 }
 
--- the command of a job: that of `replay`, but for its name
+-- the command of a job that runs a script: that of `replay`, but for its name
+abbrev pub built_script : Text → Shape
+built_script name = record built_replay { name = name }
+
+abbrev pub built_quote : Shape
+built_quote = record built_replay { name = codes "quote"; rules = quote_rules }
+
 abbrev pub built_command : Job → Shape
-built_command job = record built_replay { name = command_word job }
+built_command Replay = built_script (command_word Replay)
+built_command Dump = built_script (command_word Dump)
+built_command Quote = built_quote
 
 abbrev pub built_app : App
-built_app = record { top = built_top; subs = built_command Replay ∷ built_command Dump ∷ [] }
+built_app = record {
+  top = built_top;
+  subs = built_command Replay ∷ built_command Dump ∷ built_command Quote ∷ [];
+}
 
 abbrev pub command_names : Names
-command_names = (command_word Replay, []) ∷ (command_word Dump, []) ∷ []
+command_names = (command_word Replay, []) ∷ (command_word Dump, []) ∷ (command_word Quote, []) ∷ []
 
 pub is_built : built scopectl ≡ built_app
-unfolding scopectl command_of replay_rules top_rules
+unfolding scopectl with_options replay_rules quote_rules top_rules
 is_built = refl
 
 pub is_simple_app : is_simple_and_free scopectl ≡ true
-unfolding scopectl command_of
+unfolding scopectl with_options
 is_simple_app = refl
 
--- ---- the command of a job
+-- ---- the command of a job that runs a script
 
 pub finds_long : (s : Setting) → arg_by_long replay_rules (name_of s) ≡ Some (built_option s)
 unfolding replay_rules
@@ -147,20 +161,44 @@ replay_level = record {
 
 -- ---- the name of a command says nothing of its faults
 
-same_walk : (job : Job) (w : Walk) (words : List Text) → walk_fault (built_command job) [] w words ≡ walk_fault built_replay [] w words
+same_walk : (name : Text) (w : Walk) (words : List Text) → walk_fault (built_script name) [] w words ≡ walk_fault built_replay [] w words
 unfolding walk_fault
-same_walk job w [] = refl
-same_walk job w (word ∷ rest) = ap (or_else (turn_fault built_replay [] w word)) (same_walk job (walked replay_rules [] w word) rest)
+same_walk name w [] = refl
+same_walk name w (word ∷ rest) = ap (or_else (turn_fault built_replay [] w word)) (same_walk name (walked replay_rules [] w word) rest)
 
--- the faults of the words after a job's word
+-- the faults of the words that are to be options
 abbrev pub options_fault : List Text → Kinds
 options_fault rest = level_fault built_replay [] nothing_held rest false []
 
-pub same_level : (job : Job) (rest : List Text) → level_fault (built_command job) [] nothing_held rest false [] ≡ options_fault rest
-same_level job rest =
+pub same_level : (name : Text) (rest : List Text) → level_fault (built_script name) [] nothing_held rest false [] ≡ options_fault rest
+same_level name rest =
     let end = (walk replay_rules [] nothing_held rest).held in
     ap (λ (ks : Kinds). or_else ks (or_else (settle_fault replay_rules false end)
-    (or_else (defaults_fault (settled replay_rules end).rows replay_rules) (check_fault built_replay (finished replay_rules end) false)))) (same_walk job (walk_from nothing_held) rest)
+    (or_else (defaults_fault (settled replay_rules end).rows replay_rules) (check_fault built_replay (finished replay_rules end) false)))) (same_walk name (walk_from nothing_held) rest)
+
+-- ---- `quote`
+
+quote_asks : (x : ℕ) (a : Rule) → arg_by_short quote_rules x ≡ Some a → Asks a
+unfolding quote_rules
+quote_asks x a e = go ((104 == x) || false) e
+  where
+    go : (b : Bool) → cond b (Some built_help) None ≡ Some a → Asks a
+    go true is = found built_help a is asks_help
+    go false is = absurd (cc)
+
+pub quote_level : IsLevel built_quote
+unfolding quote_rules
+quote_level = record {
+  no_positional = refl;
+  flag = λ x a is. (quote_asks x a is).0;
+  asks = λ x a is. (quote_asks x a is).1;
+}
+
+-- the faults of the words after a job's word
+abbrev pub words_fault : Job → List Text → Kinds
+words_fault Replay rest = options_fault rest
+words_fault Dump rest = options_fault rest
+words_fault Quote rest = level_fault built_quote [] nothing_held rest false []
 
 -- ---- the program
 

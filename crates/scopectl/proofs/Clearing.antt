@@ -10,13 +10,14 @@ use Rattle.clap.specs.Faults.{built_fault, check_fault, default_fault, defaults_
 use Rattle.clap.specs.Simple.{entered}
 use Rattle.clap.specs.Walk.{Row, Rule, Text, Walk, finished, has_row, is_empty, nothing_held, settled, walk, walk_from, walked, with_default}
 use Rattle.scopectl.specs.Application.{scopectl}
-use Rattle.scopectl.specs.CommandLine.{Given, Said, command_said, command_word, job_named, numbers_given, options_said, said_with, text_given}
+use Rattle.scopectl.specs.CommandLine.{Given, Said, command_said, command_word, given_to, is_bare, job_named, numbers_given, options_said, said_with, text_given}
 use Rattle.scopectl.specs.Settings.{Numbers, greatest_of, is_plain, name_of, setting_number, plain_number}
 use Rattle.scopectl.specs.declared.command_line.Job.{Job}
-use Rattle.scopectl.specs.declared.command_line.Job.TheVariants.{Replay, Dump}
+use Rattle.scopectl.specs.declared.command_line.Job.TheVariants.{Replay, Dump, Quote}
 use Rattle.scopectl.specs.declared.command_line.settings.Setting.{Setting}
 use Rattle.scopectl.specs.declared.command_line.settings.Setting.TheVariants.{Scopes, Tasks, Load}
-use Rattle.scopectl.proofs.BuiltReplay.{built_app, built_replay, built_top, command_names, options_fault, replay_rules, top_rules}
+use Rattle.scopectl.proofs.Bare.{bare_clear, bare_end, quote_has_none}
+use Rattle.scopectl.proofs.BuiltReplay.{built_app, built_quote, built_replay, built_top, command_names, options_fault, quote_rules, replay_rules, top_rules, words_fault}
 use Rattle.scopectl.proofs.Passing.{AllPlain, or_else-both, passes}
 use Rattle.scopectl.proofs.TopLevel.{entered_is, fault_is, replay_has_none, stopped_at, stops}
 
@@ -44,6 +45,10 @@ replay_checks : (rows : List Row) → check_fault built_replay rows false ≡ []
 unfolding replay_rules
 replay_checks rows = refl
 
+quote_checks : (rows : List Row) → check_fault built_quote rows false ≡ []
+unfolding quote_rules
+quote_checks rows = refl
+
 top_checks : (rows : List Row) → check_fault built_top rows true ≡ []
 unfolding top_rules
 top_checks rows = refl
@@ -59,12 +64,14 @@ top_walk : (job : Job) (rest : List Text) → walk_fault built_top command_names
 unfolding walk_fault walked
 top_walk Replay rest = stopped_clear Replay [] rest
 top_walk Dump rest = stopped_clear Dump [] rest
+top_walk Quote rest = stopped_clear Quote [] rest
 
 met_checks : (job : Job) (rows : List Row) (rest : List Text) → check_fault built_top rows (is_some (entered built_app (Some (command_word job, rest)))) ≡ []
 met_checks Replay rows rest = top_checks rows
 met_checks Dump rows rest = top_checks rows
+met_checks Quote rows rest = top_checks rows
 
-built_clear : (job : Job) (rest : List Text) → options_fault rest ≡ [] → built_fault built_app nothing_held (command_word job ∷ rest) ≡ []
+built_clear : (job : Job) (rest : List Text) → words_fault job rest ≡ [] → built_fault built_app nothing_held (command_word job ∷ rest) ≡ []
 built_clear job rest e =
     let w = walk top_rules command_names nothing_held (command_word job ∷ rest) in
     let entered_clear : entered_fault built_app w.stopped ≡ [] = subst (λ (w : Walk). entered_fault built_app w.stopped ≡ []) (sym (stops job rest)) (entered_is job rest ∙ e) in
@@ -131,15 +138,36 @@ options_clear : (rest : List Text) (numbers : Numbers) (o : Option Given) → op
 options_clear rest numbers None is e = absurd (cc)
 options_clear rest numbers (Some final) is e = given_clear rest final is (all_plain final numbers e)
 
+bare_words_clear : (rest : List Text) → is_bare rest ≡ true → words_fault Quote rest ≡ []
+bare_words_clear rest bare =
+    let h = (walk quote_rules [] nothing_held rest).held in
+    let settle_clear : settle_fault quote_rules false h ≡ [] = ap (λ (h : Rattle.clap.specs.Walk.Held). settle_fault quote_rules false h) (bare_end rest bare) in
+    or_else-both _ _ (bare_clear rest bare) (or_else-both _ _ settle_clear
+    (or_else-both _ _ (defaults_clear quote_rules (settled quote_rules h).rows quote_has_none) (quote_checks (finished quote_rules h))))
+
+none_clear : (rest : List Text) (numbers : Numbers) → option_and_then numbers_given (given_to Quote rest) ≡ Some numbers → words_fault Quote rest ≡ []
+none_clear rest numbers e = go (is_bare rest) refl e
+  where
+    go : (b : Bool) → is_bare rest ≡ b → option_and_then numbers_given (cond b (Some []) None) ≡ Some numbers → words_fault Quote rest ≡ []
+    go true is e = bare_words_clear rest is
+    go false is e = absurd (cc)
+
+words_clear : (job : Job) (rest : List Text) (numbers : Numbers) → option_and_then numbers_given (given_to job rest) ≡ Some numbers → words_fault job rest ≡ []
+words_clear Replay rest numbers e = options_clear rest numbers (options_said [] rest) refl e
+words_clear Dump rest numbers e = options_clear rest numbers (options_said [] rest) refl e
+words_clear Quote rest numbers e = none_clear rest numbers e
+
 -- the job that a word names has that word
 named_word : (word : Text) (job : Job) → job_named word ≡ Some job → command_word job ≡ word
 unfolding job_named
-named_word word job e = go (bytes_eq (codes "replay") word) refl (bytes_eq (codes "dump") word) refl e
+named_word word job e = go (bytes_eq (codes "replay") word) refl (bytes_eq (codes "dump") word) refl (bytes_eq (codes "quote") word) refl e
   where
-    go : (a : Bool) → bytes_eq (codes "replay") word ≡ a → (b : Bool) → bytes_eq (codes "dump") word ≡ b → cond a (Some Replay) (cond b (Some Dump) None) ≡ Some job → command_word job ≡ word
-    go true replays b dumps e = ap (λ o. command_word (unwrap_or o Replay)) (sym e) ∙ (bytes_eq-Decides (codes "replay") word).0 replays
-    go false replays true dumps e = ap (λ o. command_word (unwrap_or o Replay)) (sym e) ∙ (bytes_eq-Decides (codes "dump") word).0 dumps
-    go false replays false dumps e = absurd (cc)
+    go : (a : Bool) → bytes_eq (codes "replay") word ≡ a → (b : Bool) → bytes_eq (codes "dump") word ≡ b → (c : Bool) → bytes_eq (codes "quote") word ≡ c
+        → cond a (Some Replay) (cond b (Some Dump) (cond c (Some Quote) None)) ≡ Some job → command_word job ≡ word
+    go true replays b dumps c quotes e = ap (λ o. command_word (unwrap_or o Replay)) (sym e) ∙ (bytes_eq-Decides (codes "replay") word).0 replays
+    go false replays true dumps c quotes e = ap (λ o. command_word (unwrap_or o Replay)) (sym e) ∙ (bytes_eq-Decides (codes "dump") word).0 dumps
+    go false replays false dumps true quotes e = ap (λ o. command_word (unwrap_or o Replay)) (sym e) ∙ (bytes_eq-Decides (codes "quote") word).0 quotes
+    go false replays false dumps false quotes e = absurd (cc)
 
 has_numbers : (job : Job) (o : Option Numbers) (said : Said) → option_map (said_with job) o ≡ Some said → (numbers : Numbers) × (o ≡ Some numbers)
 has_numbers job None said e = absurd (cc)
@@ -151,10 +179,10 @@ said_clear [] said e = absurd (cc)
 said_clear (program ∷ []) said e = absurd (cc)
 said_clear (program ∷ word ∷ rest) said e = go (job_named word) refl e
   where
-    go : (o : Option Job) → job_named word ≡ o → option_and_then (λ job. option_map (said_with job) (option_and_then numbers_given (options_said [] rest))) o ≡ Some said
+    go : (o : Option Job) → job_named word ≡ o → option_and_then (λ job. option_map (said_with job) (option_and_then numbers_given (given_to job rest))) o ≡ Some said
         → fault_of scopectl (program ∷ word ∷ rest) ≡ []
     go None is e = absurd (cc)
     go (Some job) is e =
-        let got = has_numbers job (option_and_then numbers_given (options_said [] rest)) said e in
+        let got = has_numbers job (option_and_then numbers_given (given_to job rest)) said e in
         fault_is (program ∷ word ∷ rest)
-        ∙ subst (λ w. built_fault built_app nothing_held (w ∷ rest) ≡ []) (named_word word job is) (built_clear job rest (options_clear rest got.0 (options_said [] rest) refl got.1))
+        ∙ subst (λ w. built_fault built_app nothing_held (w ∷ rest) ≡ []) (named_word word job is) (built_clear job rest (words_clear job rest got.0 got.1))

@@ -1,6 +1,6 @@
--- What a run of a script makes of a job.
-use Rattle.std.proofs.Common.{◌≡◌, ◌∙◌, ◌⊎◌, inl, inr, ℕ, Bool, true, refl, sym, ap, subst, List, [], ◌∷◌, ◌++◌, Option}
-use Rattle.std.proofs.KnownBytes.{Appends-trans}
+-- What was read and written makes what a job did.
+use Rattle.std.proofs.Common.{◌≡◌, ◌∙◌, inl, inr, ℕ, Bool, true, refl, sym, ap, subst, List, [], ◌∷◌, ◌++◌, Option}
+use Rattle.std.proofs.KnownBytes.{Appends-nil, Appends-trans}
 use Rattle.std.specs.Io.KnownBytes.{Appends}
 use Rattle.scope_rules.specs.Replies.{Realm}
 use Rattle.scope_rules.specs.declared.types.capacity.Limits.{Limits}
@@ -11,17 +11,45 @@ use Rattle.scope_script.specs.declared.session.run.ScriptFault.{ScriptFault}
 use Rattle.scope_script.specs.declared.session.run.ScriptFault.TheVariants as ended
 use Rattle.tree_dump.specs.Tree.{dump_text}
 use Rattle.scopectl.specs.CommandLine.{Says}
-use Rattle.scopectl.specs.Program.{CameFrom, DidAsSaid, DidJob, DidPart, DidPartly, Dumped, DumpedNothing, text_of}
+use Rattle.scopectl.specs.Naming.{CameFrom, NamesFault}
+use Rattle.scopectl.specs.Program.{AnswersPlan, DidAsSaid, DidJob, DidPart, DidPartly, FailedAtEnd, Made, Makes, ReadSome, WroteLate}
 use Rattle.scopectl.specs.Texts.{fault_of_run}
 use Rattle.scopectl.specs.declared.command_line.CommandLine.{CommandLine}
 use Rattle.scopectl.specs.declared.command_line.Job.{Job}
-use Rattle.scopectl.specs.declared.command_line.Job.TheVariants.{Dump, Replay}
+use Rattle.scopectl.specs.declared.command_line.Job.TheVariants.{Dump, Quote, Replay}
+use Rattle.scopectl.specs.declared.fault.ProgramFault.{ProgramFault}
+use Rattle.scopectl.specs.declared.fault.ProgramFault.TheVariants as program
+
+-- ---- faults
 
 -- a fault of the run came from the stream that it names
-pub came_of : (fault : ScriptFault) (ByReader ByWriter : Type 0) → (fault ≡ ended.Read → ByReader) → (fault ≡ ended.Write → ByWriter) → CameFrom (fault_of_run fault) ByReader ByWriter
-came_of ended.Read ByReader ByWriter read write = read refl
-came_of ended.Write ByReader ByWriter read write = write refl
-came_of ended.Memory ByReader ByWriter read write = tt
+pub came_of : (fault : ScriptFault) (ByReader ByWriter : Type 0) (OfPlan : ProgramFault → Type 0) → (fault ≡ ended.Read → ByReader) → (fault ≡ ended.Write → ByWriter)
+    → CameFrom (fault_of_run fault) ByReader ByWriter OfPlan
+came_of ended.Read ByReader ByWriter OfPlan read write = read refl
+came_of ended.Write ByReader ByWriter OfPlan read write = write refl
+came_of ended.Memory ByReader ByWriter OfPlan read write = tt
+
+-- what is known of a plan's faults may be said with less
+pub came_weaker : (fault : ProgramFault) (ByReader ByWriter Writer : Type 0) (OfPlan Plan : ProgramFault → Type 0) → (ByWriter → Writer) → ((f : ProgramFault) → OfPlan f → Plan f)
+    → CameFrom fault ByReader ByWriter OfPlan → CameFrom fault ByReader Writer Plan
+came_weaker program.Read ByReader ByWriter Writer OfPlan Plan writes weaker came = came
+came_weaker program.Write ByReader ByWriter Writer OfPlan Plan writes weaker came = writes came
+came_weaker program.Memory ByReader ByWriter Writer OfPlan Plan writes weaker came = tt
+came_weaker (program.PlanLine line) ByReader ByWriter Writer OfPlan Plan writes weaker came = weaker (program.PlanLine line) came
+came_weaker program.Strange ByReader ByWriter Writer OfPlan Plan writes weaker came = weaker program.Strange came
+came_weaker program.Rejected ByReader ByWriter Writer OfPlan Plan writes weaker came = weaker program.Rejected came
+came_weaker program.Cancelled ByReader ByWriter Writer OfPlan Plan writes weaker came = weaker program.Cancelled came
+came_weaker program.Lost ByReader ByWriter Writer OfPlan Plan writes weaker came = weaker program.Lost came
+
+pub names_weaker : (said said_new : Option (List ℕ)) (failed : Bool) (ByReader ByWriter : Type 0) (OfPlan Plan : ProgramFault → Type 0) → ((f : ProgramFault) → OfPlan f → Plan f)
+    → NamesFault said said_new failed ByReader ByWriter OfPlan → NamesFault said said_new failed ByReader ByWriter Plan
+names_weaker said said_new failed ByReader ByWriter OfPlan Plan weaker names = record {
+  fault = names.fault;
+  came = came_weaker names.fault ByReader ByWriter ByWriter OfPlan Plan (λ w. w) weaker names.came;
+  line = names.line;
+}
+
+-- ---- one run of a script
 
 no_part : (part rest : List ℕ) → [] ≡ part ++ rest → part ≡ []
 no_part [] rest e = refl
@@ -31,64 +59,86 @@ module _ (limits : Limits) (unread unread_new written mid : Option (List ℕ)) w
   -- ---- a replay
 
   pub replayed : (realm : Realm) → RunsToEnd unread unread_new written mid Replies limits realm → DidJob Replay limits unread unread_new written mid
-  replayed realm run = record { script = run.script; read = run.read; all = run.all; wrote = run.replied }
+  replayed realm run = record { bytes = run.script; read = run.read; all = run.all; text = _; makes = refl; wrote = run.replied }
 
   pub replayed_part : (failed : Bool) → RunsPartly unread unread_new written mid Replies limits → DidPart Replay limits unread unread_new written mid failed
-  replayed_part failed run = record { script = run.script; read = run.read; wrote = run.replied; late = tt }
+  replayed_part failed run = record { bytes = run.script; read = run.read; wrote = run.replied }
 
   -- ---- a dump: the run writes nothing
 
   pub dumped : (realm : Realm) (text : List ℕ) → RunsToEnd unread unread_new written mid Quiet limits realm → text ≡ dump_text realm.history ++ 10 ∷ []
-      → Dumped limits unread unread_new written mid text
+      → Made (Makes Dump limits) unread unread_new text
   dumped realm text run is = record {
-    script = run.script;
-    read = run.read;
-    all = run.all;
-    unwritten = run.replied;
-    is = is ∙ ap (λ (r : Realm). dump_text r.history ++ 10 ∷ []) run.left;
+    bytes = run.script;
+    whole = record { read = run.read; all = run.all };
+    makes = is ∙ ap (λ (r : Realm). dump_text r.history ++ 10 ∷ []) run.left;
   }
 
-  pub dumped_nothing : (realm : Realm) → RunsToEnd unread unread_new written mid Quiet limits realm → DumpedNothing unread unread_new written mid
-  dumped_nothing realm run = record { script = run.script; read = run.read; unwritten = run.replied }
+  pub read_all : (realm : Realm) → RunsToEnd unread unread_new written mid Quiet limits realm → ReadSome unread unread_new
+  read_all realm run = record { bytes = run.script; read = run.read }
 
-  pub stopped : RunsPartly unread unread_new written mid Quiet limits → DumpedNothing unread unread_new written mid
-  stopped run = record {
-    script = run.script;
-    read = run.read;
-    unwritten = subst (Appends written mid) (no_part run.replied.part run.replied.rest run.replied.whole) run.replied.appended;
+  pub read_part : RunsPartly unread unread_new written mid Quiet limits → ReadSome unread unread_new
+  read_part run = record { bytes = run.script; read = run.read }
+
+  pub unwritten : RunsPartly unread unread_new written mid Quiet limits → Appends written mid []
+  unwritten run = subst (Appends written mid) (no_part run.replied.part run.replied.rest run.replied.whole) run.replied.appended
+
+-- ---- a text that is made of all that is read, and then written
+
+module _ (job : Job) (limits : Limits) (unread unread_new written mid written_new : Option (List ℕ)) (text : List ℕ) (made : Made (Makes job limits) unread unread_new text) (unwritten : Appends written mid []) where
+  pub told : Appends mid written_new text → DidJob job limits unread unread_new written written_new
+  told wrote = record {
+    bytes = made.bytes;
+    read = made.whole.read;
+    all = made.whole.all;
+    text = text;
+    makes = made.makes;
+    wrote = Appends-trans written mid written_new [] text unwritten wrote;
   }
 
-  pub nothing_told : (failed : Bool) → DumpedNothing unread unread_new written mid → DidPart Dump limits unread unread_new written mid failed
-  nothing_told failed d = record {
-    script = d.script;
-    read = d.read;
-    wrote = record { part = []; rest = text_of Dump limits d.script; whole = refl; appended = d.unwritten };
-    late = inl d.unwritten;
+  failed_at_end : (failed : Bool) → AppendsPart mid written_new text → failed ≡ true → FailedAtEnd job limits made.bytes unread_new written written_new failed
+  failed_at_end failed wrote fails = record {
+    all = made.whole.all;
+    text = text;
+    makes = made.makes;
+    wrote = record {
+      part = wrote.part;
+      rest = wrote.rest;
+      whole = wrote.whole;
+      appended = Appends-trans written mid written_new [] wrote.part unwritten wrote.appended;
+    };
+    writer = fails;
   }
 
-  module _ (written_new : Option (List ℕ)) (text : List ℕ) (d : Dumped limits unread unread_new written mid text) where
-    pub told : Appends mid written_new text → DidJob Dump limits unread unread_new written written_new
-    told wrote = record {
-      script = d.script;
-      read = d.read;
-      all = d.all;
-      wrote = subst (Appends written written_new) d.is (Appends-trans written mid written_new [] text d.unwritten wrote);
-    }
+  pub late : (failed : Bool) → AppendsPart mid written_new text → failed ≡ true → WroteLate job limits made.bytes unread_new written written_new failed
+  late failed wrote fails = inr (failed_at_end failed wrote fails)
 
-    pub told_part : (failed : Bool) → AppendsPart mid written_new text → failed ≡ true → DidPart Dump limits unread unread_new written written_new failed
-    told_part failed wrote fails = record {
-      script = d.script;
-      read = d.read;
-      wrote = record {
-        part = wrote.part;
-        rest = wrote.rest;
-        whole = sym d.is ∙ wrote.whole;
-        appended = Appends-trans written mid written_new [] wrote.part d.unwritten wrote.appended;
-      };
-      late = inr (d.all, fails);
-    }
+module _ (limits : Limits) (unread unread_new written mid written_new : Option (List ℕ)) (failed : Bool) where
+  pub dump_told_part : (text : List ℕ) → Made (Makes Dump limits) unread unread_new text → Appends written mid [] → AppendsPart mid written_new text → failed ≡ true
+      → DidPart Dump limits unread unread_new written written_new failed
+  dump_told_part text made unwritten wrote fails =
+      record { bytes = made.bytes; read = made.whole.read; wrote = late Dump limits unread unread_new written mid written_new text made unwritten failed wrote fails }
 
--- what the words say was done, or a part of it
+pub dump_stopped : (limits : Limits) (unread unread_new written written_new : Option (List ℕ)) (failed : Bool) → ReadSome unread unread_new → Appends written written_new []
+    → DidPart Dump limits unread unread_new written written_new failed
+dump_stopped limits unread unread_new written written_new failed some unwritten =
+    record { bytes = some.bytes; read = some.read; wrote = inl unwritten }
+
+module _ (limits : Limits) (unread unread_new written written_new : Option (List ℕ)) where
+  pub quote_told : (text : List ℕ) → Made AnswersPlan unread unread_new text → Appends written written_new text → DidJob Quote limits unread unread_new written written_new
+  quote_told text made wrote = told Quote limits unread unread_new written written written_new text made (Appends-nil written) wrote
+
+  pub quote_told_part : (failed : Bool) (text : List ℕ) → Made AnswersPlan unread unread_new text → AppendsPart written written_new text → failed ≡ true
+      → DidPart Quote limits unread unread_new written written_new failed
+  quote_told_part failed text made wrote fails =
+      record { bytes = made.bytes; read = made.whole.read; wrote = late Quote limits unread unread_new written written written_new text made (Appends-nil written) failed wrote fails }
+
+pub quote_stopped : (limits : Limits) (unread unread_new written : Option (List ℕ)) (failed : Bool) → ReadSome unread unread_new → DidPart Quote limits unread unread_new written written failed
+quote_stopped limits unread unread_new written failed some =
+    record { bytes = some.bytes; read = some.read; wrote = inl (Appends-nil written) }
+
+-- ---- what the words say was done, or a part of it
+
 module _ (words : List (List ℕ)) (command : CommandLine) (job : Job) (said : Says words command) (is : command.job ≡ job) (unread unread_new written written_new : Option (List ℕ)) where
   pub did : DidJob job command.limits unread unread_new written written_new → DidAsSaid words unread unread_new written written_new
   did done = record {

@@ -1,4 +1,5 @@
 mod Answering
+mod Bare
 mod BuiltReplay
 mod Clearing
 mod Jobs

@@ -1,5 +1,5 @@
 -- What a parse that went well says.
-use Rattle.std.proofs.Common.{◌≡◌, ◌∙◌, ◌⊎◌, inl, inr, refl, sym, ap, subst, true, true≢false, map, List, [], Option, Some, None, is_some}
+use Rattle.std.proofs.Common.{◌≡◌, ◌∙◌, ap, subst, true, List, [], Some, is_some}
 use Rattle.std.specs.Prelude.{option_map, unwrap_or}
 use Rattle.clap.proofs.WalkLemmas.{both}
 use Rattle.clap.specs.Faults.{fault_of, is_simple_and_free}
@@ -8,9 +8,8 @@ use Rattle.clap.specs.Matches.{found_of, subcommand_name_of}
 use Rattle.clap.specs.Walk.{Row, Text, rows_of}
 use Rattle.clap.specs.declared.parser.matches.ArgMatches.{ArgMatches}
 use Rattle.scopectl.specs.Application.{scopectl}
-use Rattle.scopectl.specs.CommandLine.{Said, command_said, command_word, job_named, said_with}
-use Rattle.scopectl.specs.Settings.{Numbers, name_of, numbers_by}
-use Rattle.scopectl.specs.declared.command_line.Job.{Job}
+use Rattle.scopectl.specs.CommandLine.{command_said, command_word, job_named, said_with}
+use Rattle.scopectl.specs.Settings.{name_of, numbers_by}
 use Rattle.scopectl.proofs.Answering.{name_in_rows}
 use Rattle.scopectl.proofs.BuiltReplay.{is_simple_app}
 use Rattle.scopectl.proofs.TopLevel.{IsRead, named_is, numbers_said, read}

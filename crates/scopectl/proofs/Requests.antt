@@ -19,7 +19,7 @@ use Rattle.clap.specs.declared.builder.value_parser.ValueParser.{ValueParser}
 use Rattle.clap.specs.declared.error.kind.ErrorKind.{ErrorKind}
 use Rattle.clap.specs.declared.error.kind.ErrorKind.TheVariants as kind
 use Rattle.scopectl.specs.Application.{scopectl}
-use Rattle.scopectl.specs.declared.command_line.Job.TheVariants.{Replay, Dump}
+use Rattle.scopectl.specs.declared.command_line.Job.TheVariants.{Replay, Dump, Quote}
 use Rattle.scopectl.proofs.BuiltReplay.{built_app, built_command, built_top}
 use Rattle.scopectl.proofs.TopLevel.{fault_is}
 
@@ -198,12 +198,14 @@ module _ (s : Shape) (no_help : s.disable_help_subcommand ≡ true) where
 -- ---- the program
 
 entered_alone : (stop : Option (Text × List Text)) → Alone (entered_fault built_app stop)
-entered_alone stop = may _ stop (λ p. go p (answers_to p.0 (label_of (built_command Replay))) (answers_to p.0 (label_of (built_command Dump))))
+entered_alone stop = may _ stop (λ p. go p (answers_to p.0 (label_of (built_command Replay))) (answers_to p.0 (label_of (built_command Dump))) (answers_to p.0 (label_of (built_command Quote))))
   where
-    go : (p : Text × List Text) (a b : Bool) → Alone (option_map_or (λ s. level_fault s [] nothing_held p.1 false []) (cond a (Some (built_command Replay)) (cond b (Some (built_command Dump)) None)) [])
-    go p true b = level_alone (built_command Replay) refl [] nothing_held p.1 false [] none
-    go p false true = level_alone (built_command Dump) refl [] nothing_held p.1 false [] none
-    go p false false = none
+    go : (p : Text × List Text) (a b c : Bool)
+        → Alone (option_map_or (λ s. level_fault s [] nothing_held p.1 false []) (cond a (Some (built_command Replay)) (cond b (Some (built_command Dump)) (cond c (Some (built_command Quote)) None))) [])
+    go p true b c = level_alone (built_command Replay) refl [] nothing_held p.1 false [] none
+    go p false true c = level_alone (built_command Dump) refl [] nothing_held p.1 false [] none
+    go p false false true = level_alone (built_command Quote) refl [] nothing_held p.1 false [] none
+    go p false false false = none
 
 fault_alone : (words : List Text) → Alone (fault_of scopectl words)
 fault_alone words =

@@ -9,16 +9,17 @@ use Rattle.clap.specs.Matches.{first_value}
 use Rattle.clap.specs.declared.parser.matches.Found.{Found}
 use Rattle.clap.specs.Lexer.{long_of}
 use Rattle.clap.specs.Kinds.{Kinds}
-use Rattle.clap.specs.Faults.{built_fault, check_fault, defaults_fault, entered_fault, fault_of, level_fault, long_fault, settle_fault, turn_fault, use_fault, walk_fault}
+use Rattle.clap.specs.Faults.{built_fault, check_fault, defaults_fault, entered_fault, fault_of, long_fault, settle_fault, turn_fault, use_fault, walk_fault}
 use Rattle.clap.specs.Simple.{App, argument_words, entered, names_of, subcommand_of}
 use Rattle.clap.specs.Walk.{Held, Row, Rule, Text, Walk, arg_by_long, default_rows, finished, first_of, has_row, idle, is_empty, nothing_held, reading_by, rows_of, settled, stop_after, subcommand_met, walk, walk_from, walked, with_default}
 use Rattle.scopectl.specs.Application.{scopectl}
-use Rattle.scopectl.specs.CommandLine.{Given, Said, command_said, command_word, job_named, numbers_given, options_said, said_with, text_given}
-use Rattle.scopectl.specs.Settings.{Numbers, name_of, numbers_by}
+use Rattle.scopectl.specs.CommandLine.{Given, command_said, command_word, given_to, job_named, numbers_given, said_with, text_given}
+use Rattle.scopectl.specs.Settings.{name_of, numbers_by}
 use Rattle.scopectl.specs.declared.command_line.Job.{Job}
-use Rattle.scopectl.specs.declared.command_line.Job.TheVariants.{Replay, Dump}
+use Rattle.scopectl.specs.declared.command_line.Job.TheVariants.{Replay, Dump, Quote}
 use Rattle.scopectl.specs.declared.command_line.settings.Setting.{Setting}
-use Rattle.scopectl.proofs.BuiltReplay.{asks_help, asks_version, built_app, built_help, built_replay, built_top, built_version, command_names, is_built, options_fault, replay_rules, same_level, top_level, top_rules}
+use Rattle.scopectl.proofs.BuiltReplay.{asks_help, asks_version, built_app, built_help, built_top, built_version, command_names, is_built, options_fault, quote_rules, replay_rules, same_level, top_level, top_rules, words_fault}
+use Rattle.scopectl.proofs.Bare.{bare_end, clear_is_bare, quote_has_none}
 use Rattle.scopectl.proofs.Levels.{at, dashes, dashes_end, holding, long_clear, no_value, nothing_past_dashes, or_else-nil, past_dashes}
 use Rattle.scopectl.proofs.Saying.{reads}
 use Rattle.scopectl.proofs.Walking.{row_given, rows_given}
@@ -57,6 +58,7 @@ pub stops : (job : Job) (rest : List Text) → walk top_rules command_names noth
 unfolding walked
 stops Replay rest = stop_more Replay [] rest
 stops Dump rest = stop_more Dump [] rest
+stops Quote rest = stop_more Quote [] rest
 
 -- ---- any other first word meets a fault
 
@@ -112,14 +114,15 @@ module _ (word : Text) (rest : List Text) (own : subcommand_met command_names id
       go true e = after_dashes rest refl e
       go false e = long e (long_of word) refl
 
--- ---- the options of a job
+-- ---- the words after a job's word
 
-pub entered_is : (job : Job) (rest : List Text) → entered_fault built_app (Some (command_word job, rest)) ≡ options_fault rest
-entered_is Replay rest = same_level Replay rest
-entered_is Dump rest = same_level Dump rest
+pub entered_is : (job : Job) (rest : List Text) → entered_fault built_app (Some (command_word job, rest)) ≡ words_fault job rest
+entered_is Replay rest = same_level (command_word Replay) rest
+entered_is Dump rest = same_level (command_word Dump) rest
+entered_is Quote rest = refl
 
-options_clear : (job : Job) (rest : List Text) → built_fault built_app nothing_held (command_word job ∷ rest) ≡ [] → options_fault rest ≡ []
-options_clear job rest e =
+words_clear : (job : Job) (rest : List Text) → built_fault built_app nothing_held (command_word job ∷ rest) ≡ [] → words_fault job rest ≡ []
+words_clear job rest e =
     let all = or_else-nil _ _ e in
     let below : entered_fault built_app (walk top_rules command_names nothing_held (command_word job ∷ rest)).stopped ≡ [] = (or_else-nil _ _ all.1).0 in
     sym (entered_is job rest) ∙ subst (λ (w : Walk). entered_fault built_app w.stopped ≡ []) (stops job rest) below
@@ -158,39 +161,69 @@ pub named_is : (job : Job) → job_named (command_word job) ≡ Some job
 unfolding job_named
 named_is Replay = refl
 named_is Dump = refl
+named_is Quote = refl
 
-rows_entered : (job : Job) (rest : List Text) → entered built_app (Some (command_word job, rest)) ≡ Some (command_word job, finished replay_rules (walk replay_rules [] nothing_held rest).held)
+-- the rows that a job's command leaves
+abbrev rows_left : Job → List Text → List Row
+rows_left Replay rest = finished replay_rules (walk replay_rules [] nothing_held rest).held
+rows_left Dump rest = finished replay_rules (walk replay_rules [] nothing_held rest).held
+rows_left Quote rest = finished quote_rules (walk quote_rules [] nothing_held rest).held
+
+rows_entered : (job : Job) (rest : List Text) → entered built_app (Some (command_word job, rest)) ≡ Some (command_word job, rows_left job rest)
 rows_entered Replay rest = refl
 rows_entered Dump rest = refl
+rows_entered Quote rest = refl
 
-said_at : (program : Text) (job : Job) (rest : List Text) → command_said (program ∷ command_word job ∷ rest) ≡ option_map (said_with job) (option_and_then numbers_given (options_said [] rest))
+said_at : (program : Text) (job : Job) (rest : List Text) → command_said (program ∷ command_word job ∷ rest) ≡ option_map (said_with job) (option_and_then numbers_given (given_to job rest))
 unfolding command_said
-said_at program job rest = ap (option_and_then (λ j. option_map (said_with j) (option_and_then numbers_given (options_said [] rest)))) (named_is job)
+said_at program job rest = ap (option_and_then (λ j. option_map (said_with j) (option_and_then numbers_given (given_to j rest)))) (named_is job)
 
-read_command : (program : Text) (job : Job) (rest : List Text) → options_fault rest ≡ [] → IsRead (program ∷ command_word job ∷ rest)
-read_command program job rest e =
+-- what the words after a job's word give, where they meet no fault, and the rows of it
+abbrev IsGiven : Job → List Text → Type 0
+IsGiven job rest = (given : Given) × (given_to job rest ≡ Some given) × (rows_left job rest ≡ rows_given given)
+
+options_given : (rest : List Text) → options_fault rest ≡ [] → IsGiven Replay rest
+options_given rest e =
     let parts = or_else-nil _ _ e in
     let settles = or_else-nil _ _ parts.1 in
     let read = reads rest (Some []) [] None (λ _. ([], refl, refl)) parts.0 settles.0 in
+    (read.0, read.1, no_defaults replay_rules _ replay_has_none ∙ read.2)
+
+none_given : (rest : List Text) → words_fault Quote rest ≡ [] → IsGiven Quote rest
+none_given rest e =
+    let bare = clear_is_bare rest (or_else-nil _ _ e).0 in
+    let none : given_to Quote rest ≡ Some [] = ap (λ (b : Bool). cond b (Some []) None) bare in
+    ([], none, no_defaults quote_rules _ quote_has_none ∙ ap (λ (h : Held). (settled quote_rules h).rows) (bare_end rest bare))
+
+given_is : (job : Job) (rest : List Text) → words_fault job rest ≡ [] → IsGiven job rest
+given_is Replay rest e = options_given rest e
+given_is Dump rest e = options_given rest e
+given_is Quote rest e = none_given rest e
+
+read_command : (program : Text) (job : Job) (rest : List Text) → words_fault job rest ≡ [] → IsRead (program ∷ command_word job ∷ rest)
+read_command program job rest e =
+    let got = given_is job rest e in
     record {
       job = job;
-      given = read.0;
+      given = got.0;
       rows = subcommand_is (program ∷ command_word job ∷ rest) ∙ ap (λ (w : Walk). entered built_app w.stopped) (stops job rest)
-          ∙ rows_entered job rest ∙ ap (λ r. Some (command_word job, r)) (no_defaults replay_rules _ replay_has_none ∙ read.2);
-      said = said_at program job rest ∙ ap (λ o. option_map (said_with job) (option_and_then numbers_given o)) read.1;
+          ∙ rows_entered job rest ∙ ap (λ r. Some (command_word job, r)) got.2;
+      said = said_at program job rest ∙ ap (λ o. option_map (said_with job) (option_and_then numbers_given o)) got.1;
     }
 
 read_after : (program word : Text) (rest : List Text) → built_fault built_app nothing_held (word ∷ rest) ≡ [] → IsRead (program ∷ word ∷ rest)
-read_after program word rest e = go (bytes_eq (codes "replay") word) refl (bytes_eq (codes "dump") word) refl
+read_after program word rest e = go (bytes_eq (codes "replay") word) refl (bytes_eq (codes "dump") word) refl (bytes_eq (codes "quote") word) refl
   where
     at_job : (job : Job) → command_word job ≡ word → IsRead (program ∷ word ∷ rest)
     at_job job same =
-        subst (λ w. IsRead (program ∷ w ∷ rest)) same (read_command program job rest (options_clear job rest (subst (λ w. built_fault built_app nothing_held (w ∷ rest) ≡ []) (sym same) e)))
+        subst (λ w. IsRead (program ∷ w ∷ rest)) same (read_command program job rest (words_clear job rest (subst (λ w. built_fault built_app nothing_held (w ∷ rest) ≡ []) (sym same) e)))
 
-    go : (a : Bool) → bytes_eq (codes "replay") word ≡ a → (b : Bool) → bytes_eq (codes "dump") word ≡ b → IsRead (program ∷ word ∷ rest)
-    go true replays b dumps = at_job Replay ((bytes_eq-Decides (codes "replay") word).0 replays)
-    go false replays true dumps = at_job Dump ((bytes_eq-Decides (codes "dump") word).0 dumps)
-    go false replays false dumps = absurd (no_other word rest (rw (replays, dumps) refl) e)
+    go : (a : Bool) → bytes_eq (codes "replay") word ≡ a → (b : Bool) → bytes_eq (codes "dump") word ≡ b → (c : Bool) → bytes_eq (codes "quote") word ≡ c
+        → IsRead (program ∷ word ∷ rest)
+    go true replays b dumps c quotes = at_job Replay ((bytes_eq-Decides (codes "replay") word).0 replays)
+    go false replays true dumps c quotes = at_job Dump ((bytes_eq-Decides (codes "dump") word).0 dumps)
+    go false replays false dumps true quotes = at_job Quote ((bytes_eq-Decides (codes "quote") word).0 quotes)
+    go false replays false dumps false quotes = absurd (no_other word rest (rw (replays, dumps, quotes) refl) e)
 
 pub read : (words : List Text) → fault_of scopectl words ≡ [] → IsRead words
 read [] e = absurd (none_met [] refl (sym (fault_is []) ∙ e))

@@ -1,5 +1,5 @@
 -- What the words of a command line say.
-use Rattle.std.specs.Prelude.{◌≡◌, ℕ, Bool, List, [], ◌∷◌, ◌++◌, Option, Some, None, ◌&&◌, ◌||◌, not, codes, find, if◌then◌else◌}
+use Rattle.std.specs.Prelude.{◌≡◌, ℕ, Bool, true, false, List, [], ◌∷◌, ◌++◌, Option, Some, None, ◌&&◌, ◌||◌, not, codes, find, if◌then◌else◌}
 use Rattle.std.specs.Prelude.{option_map, option_and_then}
 use Rattle.std.specs.List.{list_any}
 use Rattle.std.specs.Str.{bytes_eq}
@@ -7,7 +7,7 @@ use Rattle.clap.specs.Lexer.{long_of}
 use Rattle.scopectl.specs.Settings.{Numbers, name_of, numbers_by, numbers_of}
 use Rattle.scopectl.specs.declared.command_line.CommandLine.{CommandLine}
 use Rattle.scopectl.specs.declared.command_line.Job.{Job}
-use Rattle.scopectl.specs.declared.command_line.Job.TheVariants.{Replay, Dump}
+use Rattle.scopectl.specs.declared.command_line.Job.TheVariants.{Replay, Dump, Quote}
 use Rattle.scopectl.specs.declared.command_line.settings.Setting.TheVariants.{Scopes, Tasks, Load}
 
 -- the name and the text of each option that was given, in order
@@ -53,6 +53,18 @@ options_said given (word ∷ after ∷ rest) = option_and_then (λ long.
     attached_or_apart (λ g. options_said g (after ∷ rest)) (λ g. options_said g rest) given after
     long.0 long.1) (long_of word)
 
+-- no word, but `--` may stand
+abbrev pub is_bare : List (List ℕ) → Bool
+is_bare [] = true
+is_bare (word ∷ []) = bytes_eq word (codes "--")
+is_bare (word ∷ after ∷ rest) = false
+
+-- the options that the words after a job's give, if they are such options and no more; `quote` has none
+abbrev pub given_to : Job → List (List ℕ) → Option Given
+given_to Replay words = options_said [] words
+given_to Dump words = options_said [] words
+given_to Quote words = if is_bare words then Some [] else None
+
 -- the numbers of the options that are given
 abbrev pub numbers_given : Given → Option Numbers
 numbers_given given = numbers_by (λ setting. text_given given (name_of setting))
@@ -61,11 +73,13 @@ numbers_given given = numbers_by (λ setting. text_given given (name_of setting)
 abbrev pub command_word : Job → List ℕ
 command_word Replay = codes "replay"
 command_word Dump = codes "dump"
+command_word Quote = codes "quote"
 
 -- the job that has this word
 unfoldable pub job_named : List ℕ → Option Job
 job_named word = if bytes_eq (command_word Replay) word then Some Replay
-    else (if bytes_eq (command_word Dump) word then Some Dump else None)
+    else (if bytes_eq (command_word Dump) word then Some Dump
+    else (if bytes_eq (command_word Quote) word then Some Quote else None))
 
 -- a job, and the numbers of its options
 pub record Said : Type 0 where
@@ -78,7 +92,7 @@ said_with job numbers = record { job = job; numbers = numbers }
 -- the program's name, the word of a job and its options
 unfoldable pub command_said : List (List ℕ) → Option Said
 command_said (program ∷ command ∷ options) = option_and_then (λ job. option_map (said_with job)
-    (option_and_then numbers_given (options_said [] options))) (job_named command)
+    (option_and_then numbers_given (given_to job options))) (job_named command)
 command_said _ = None
 
 -- the words say the command

@@ -4,3 +4,4 @@ pub mod Faults
 pub mod Settings
 pub mod Texts
 pub mod Program
+pub mod Naming

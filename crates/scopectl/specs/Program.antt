@@ -1,18 +1,19 @@
 -- What the program has done.
-use Rattle.std.specs.Prelude.{◌≡◌, ◌⊎◌, ◌++◌, ⊤, ℕ, Bool, true, Option, List, [], ◌∷◌}
+use Rattle.std.specs.Prelude.{◌≡◌, ◌⊎◌, ◌++◌, ℕ, Bool, true, Option, List, [], ◌∷◌}
 use Rattle.std.specs.Io.KnownBytes.{Appends, Consumes, IsAtEnd}
 use Rattle.scope_rules.specs.declared.types.capacity.Limits.{Limits}
 use Rattle.scope_script.specs.Sessions.{replies_of, realm_of_script}
 use Rattle.tree_dump.specs.Tree.{dump_text}
 use Rattle.scope_script.specs.Streams.{AppendsPart}
+use Rattle.quote_plan.specs.Allowed.{AllowedText}
+use Rattle.quote_plan.specs.PlanReading.{SayPlan, lines_of}
+use Rattle.quote_plan.specs.Plans.{PlanValue}
 use Rattle.scopectl.specs.declared.command_line.CommandLine.{CommandLine}
 use Rattle.scopectl.specs.declared.command_line.Job.{Job}
-use Rattle.scopectl.specs.declared.command_line.Job.TheVariants.{Replay, Dump}
-use Rattle.scopectl.specs.declared.fault.ProgramFault.{ProgramFault}
-use Rattle.scopectl.specs.declared.fault.ProgramFault.TheVariants.{Read, Write, Memory}
+use Rattle.scopectl.specs.declared.command_line.Job.TheVariants.{Replay, Dump, Quote}
 use Rattle.scopectl.specs.CommandLine.{Says, SaysNone}
 use Rattle.scopectl.specs.Faults.{IsNoRequest}
-use Rattle.scopectl.specs.Texts.{AsksFor, line_of}
+use Rattle.scopectl.specs.Texts.{AsksFor}
 
 -- the words say no command, and ask for neither help nor the version
 abbrev pub IsNotUnderstood : List (List ℕ) → Type 0
@@ -33,31 +34,58 @@ pub record GaveTextPartly (words : List (List ℕ)) (written written_new : Optio
   pub wrote : AppendsPart written written_new text
   pub writer : failed ≡ true
 
--- what a job makes of a script, in a realm of these limits: the replies to it, or the dump of the
--- realm that it leaves, and a line feed
-abbrev pub text_of : Job → Limits → List ℕ → List ℕ
-text_of Replay limits script = replies_of limits script
-text_of Dump limits script = dump_text (realm_of_script limits script).history ++ 10 ∷ []
+-- the bytes are a plan, and the text is a line that the plan allows, and a line feed
+pub record AnswersPlan (bytes text : List ℕ) : Type 0 where
+  pub plan : PlanValue
+  pub say_plan : SayPlan (lines_of bytes) plan
+  pub line : List ℕ
+  pub allowed : AllowedText plan line
+  pub is : text ≡ line ++ 10 ∷ []
 
--- the job was done: it read all bytes, and wrote exactly its text of them
+-- what a job makes of the bytes that it reads: the replies to a script, in a realm of these limits; the
+-- dump of the realm that the script leaves, and a line feed; or an answer to a plan
+abbrev pub Makes : Job → Limits → (bytes text : List ℕ) → Type 0
+Makes Replay limits bytes text = text ≡ replies_of limits bytes
+Makes Dump limits bytes text = text ≡ dump_text (realm_of_script limits bytes).history ++ 10 ∷ []
+Makes Quote limits bytes text = AnswersPlan bytes text
+
+-- the job was done: it read all bytes, and wrote exactly a text that it makes of them
 pub record DidJob (job : Job) (limits : Limits) (unread unread_new written written_new : Option (List ℕ)) : Type 0 where
-  pub script : List ℕ
-  pub read : Consumes unread unread_new script
+  pub bytes : List ℕ
+  pub read : Consumes unread unread_new bytes
   pub all : IsAtEnd unread_new
-  pub wrote : Appends written written_new (text_of job limits script)
+  pub text : List ℕ
+  pub makes : Makes job limits bytes text
+  pub wrote : Appends written written_new text
 
--- of a dump nothing is written, but where all bytes were read and the writer failed
-abbrev pub IsLate : Job → (unread_new written written_new : Option (List ℕ)) (failed : Bool) → Type 0
-IsLate Replay unread_new written written_new failed = ⊤
-IsLate Dump unread_new written written_new failed =
-    Appends written written_new [] ⊎ (IsAtEnd unread_new × (failed ≡ true))
+-- all bytes were read, and the writer failed and took a beginning of a text that the job makes of them
+pub record FailedAtEnd (job : Job) (limits : Limits) (bytes : List ℕ) (unread_new written written_new : Option (List ℕ)) (failed : Bool) : Type 0 where
+  pub all : IsAtEnd unread_new
+  pub text : List ℕ
+  pub makes : Makes job limits bytes text
+  pub wrote : AppendsPart written written_new text
+  pub writer : failed ≡ true
 
--- a fault ended the job: it wrote a beginning of its text of what it read
+-- nothing was written, but where all bytes were read and the writer failed
+abbrev pub WroteLate : Job → Limits → (bytes : List ℕ) (unread_new written written_new : Option (List ℕ)) (failed : Bool) → Type 0
+WroteLate job limits bytes unread_new written written_new failed =
+    Appends written written_new [] ⊎ FailedAtEnd job limits bytes unread_new written written_new failed
+
+-- what a job wrote that a fault ended: a beginning of the replies to what it read, and else nothing
+-- before all was read
+abbrev pub WrotePart : Job → Limits → (bytes : List ℕ) (unread_new written written_new : Option (List ℕ)) (failed : Bool) → Type 0
+WrotePart Replay limits bytes unread_new written written_new failed =
+    AppendsPart written written_new (replies_of limits bytes)
+WrotePart Dump limits bytes unread_new written written_new failed =
+    WroteLate Dump limits bytes unread_new written written_new failed
+WrotePart Quote limits bytes unread_new written written_new failed =
+    WroteLate Quote limits bytes unread_new written written_new failed
+
+-- a fault ended the job
 pub record DidPart (job : Job) (limits : Limits) (unread unread_new written written_new : Option (List ℕ)) (failed : Bool) : Type 0 where
-  pub script : List ℕ
-  pub read : Consumes unread unread_new script
-  pub wrote : AppendsPart written written_new (text_of job limits script)
-  pub late : IsLate job unread_new written written_new failed
+  pub bytes : List ℕ
+  pub read : Consumes unread unread_new bytes
+  pub wrote : WrotePart job limits bytes unread_new written written_new failed
 
 -- it did all that the words say
 pub record DidAsSaid (words : List (List ℕ)) (unread unread_new written written_new : Option (List ℕ)) : Type 0 where
@@ -71,35 +99,20 @@ pub record DidPartly (words : List (List ℕ)) (unread unread_new written writte
   pub said : Says words command
   pub did : DidPart command.job command.limits unread unread_new written written_new failed
 
--- the script was read to its end, nothing was written, and the text is the dump of what it leaves
-pub record Dumped (limits : Limits) (unread unread_new written written_new : Option (List ℕ)) (text : List ℕ) : Type 0 where
-  pub script : List ℕ
-  pub read : Consumes unread unread_new script
+-- ---- before anything is written
+
+-- all bytes were read
+pub record ReadAll (unread unread_new : Option (List ℕ)) (bytes : List ℕ) : Type 0 where
+  pub read : Consumes unread unread_new bytes
   pub all : IsAtEnd unread_new
-  pub unwritten : Appends written written_new []
-  pub is : text ≡ text_of Dump limits script
 
--- a part of the script was read, and nothing was written
-pub record DumpedNothing (unread unread_new written written_new : Option (List ℕ)) : Type 0 where
-  pub script : List ℕ
-  pub read : Consumes unread unread_new script
-  pub unwritten : Appends written written_new []
+-- some bytes were read
+pub record ReadSome (unread unread_new : Option (List ℕ)) : Type 0 where
+  pub bytes : List ℕ
+  pub read : Consumes unread unread_new bytes
 
--- ---- what was said on standard error
-
--- the stream took the whole text, or failed and took a beginning of it
-abbrev pub IsSaid : (text : List ℕ) (said said_new : Option (List ℕ)) (failed : Bool) → Type 0
-IsSaid text said said_new failed =
-    Appends said said_new text ⊎ (AppendsPart said said_new text × (failed ≡ true))
-
--- `read` comes only where the reader ended the run, and `write` only where the writer did
-abbrev pub CameFrom : ProgramFault → (ByReader ByWriter : Type 0) → Type 0
-CameFrom Read ByReader ByWriter = ByReader
-CameFrom Write ByReader ByWriter = ByWriter
-CameFrom Memory ByReader ByWriter = ⊤
-
--- one line was said, which names a fault that came
-pub record NamesFault (said said_new : Option (List ℕ)) (failed : Bool) (ByReader ByWriter : Type 0) : Type 0 where
-  pub fault : ProgramFault
-  pub came : CameFrom fault ByReader ByWriter
-  pub line : IsSaid (line_of fault) said said_new failed
+-- all bytes were read, and the text is such of them
+pub record Made (IsSuch : (bytes text : List ℕ) → Type 0) (unread unread_new : Option (List ℕ)) (text : List ℕ) : Type 0 where
+  pub bytes : List ℕ
+  pub whole : ReadAll unread unread_new bytes
+  pub makes : IsSuch bytes text

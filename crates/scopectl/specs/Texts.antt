@@ -1,18 +1,24 @@
 -- The texts that the program says: help, the version, and the lines that name a fault.
 use Rattle.std.specs.Prelude.{◌≡◌, ◌⊎◌, ◌++◌, ℕ, List, [], ◌∷◌, codes, slice_get, if◌then◌else◌}
+use Rattle.std.specs.Fmt.{decimal}
 use Rattle.std.specs.Option.{option_map_or}
 use Rattle.std.specs.Str.{bytes_eq}
 use Rattle.scope_script.specs.declared.session.run.ScriptFault.{ScriptFault}
 use Rattle.scope_script.specs.declared.session.run.ScriptFault.TheVariants as script
-use Rattle.scopectl.specs.declared.command_line.help.TheConstants.{HELP, REPLAY_HELP, DUMP_HELP}
+use Rattle.quote_plan.specs.declared.reading.PlanFault.{PlanFault}
+use Rattle.quote_plan.specs.declared.reading.PlanFault.TheVariants as plan
+use Rattle.quote_gateway.specs.declared.faults.GatewayFault.{GatewayFault}
+use Rattle.quote_gateway.specs.declared.faults.GatewayFault.TheVariants as service
+use Rattle.scopectl.specs.declared.command_line.help.TheConstants.{HELP, REPLAY_HELP, DUMP_HELP, QUOTE_HELP}
 use Rattle.scopectl.specs.declared.fault.ProgramFault.{ProgramFault}
-use Rattle.scopectl.specs.declared.fault.ProgramFault.TheVariants.{Read, Write, Memory}
+use Rattle.scopectl.specs.declared.fault.ProgramFault.TheVariants.{Read, Write, Memory, PlanLine, Strange, Rejected, Cancelled, Lost}
 use Rattle.scopectl.specs.Faults.{AsksHelp, AsksVersion}
 
 -- the help at a first word after the program's name: that of a job at its word
 abbrev pub help_at : List ℕ → List ℕ
 help_at command = if bytes_eq command (codes "replay") then REPLAY_HELP.now
-    else (if bytes_eq command (codes "dump") then DUMP_HELP.now else HELP.now)
+    else (if bytes_eq command (codes "dump") then DUMP_HELP.now
+    else (if bytes_eq command (codes "quote") then QUOTE_HELP.now else HELP.now))
 
 -- the help that the words ask for
 abbrev pub help_of : List (List ℕ) → List ℕ
@@ -33,11 +39,32 @@ fault_of_run script.Read = Read
 fault_of_run script.Write = Write
 fault_of_run script.Memory = Memory
 
+abbrev pub fault_of_plan : PlanFault → ProgramFault
+fault_of_plan (plan.Word line) = PlanLine line
+fault_of_plan plan.Memory = Memory
+
+abbrev pub fault_of_service : GatewayFault → ProgramFault
+fault_of_service service.Strange = Strange
+fault_of_service service.Memory = Memory
+fault_of_service service.Rejected = Rejected
+fault_of_service service.Cancelled = Cancelled
+fault_of_service service.Lost = Lost
+
 abbrev pub word_of : ProgramFault → List ℕ
 word_of Read = codes "read"
 word_of Write = codes "write"
 word_of Memory = codes "memory"
+word_of (PlanLine line) = codes "bad-word"
+word_of Strange = codes "strange"
+word_of Rejected = codes "rejected"
+word_of Cancelled = codes "cancelled"
+word_of Lost = codes "lost"
+
+-- where the fault is: in which line of the plan, if in one
+abbrev pub place_of : ProgramFault → List ℕ
+place_of (PlanLine line) = codes "plan line " ++ decimal line ++ codes ": "
+place_of _ = []
 
 -- the line that names a fault
 abbrev pub line_of : ProgramFault → List ℕ
-line_of fault = codes "scopectl: " ++ word_of fault ++ 10 ∷ []
+line_of fault = codes "scopectl: " ++ place_of fault ++ word_of fault ++ 10 ∷ []

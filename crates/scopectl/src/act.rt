@@ -2,18 +2,26 @@
 ghost use Rattle.std.specs.Prelude.{◌≡◌, ◌≢◌, ◌≤◌, ◌⊎◌, ◌++◌, [], ◌∷◌, false, true, map, IfOk, IfErr, OnErr, string_bytes};
 ghost use Rattle.std.specs.Io.KnownBytes.{Appends};
 ghost use Rattle.scope_book.specs.Books.{history_of};
+ghost use Rattle.scope_rules.specs.declared.types.capacity.Limits.{Limits};
 ghost use Rattle.scope_script.specs.Streams.{AppendsPart};
 ghost use Rattle.tree_dump.specs.Tree.{dump_text};
-ghost use Rattle.scopectl.specs.Program.{CameFrom, DidAsSaid, DidJob, DidPart, DidPartly, Dumped, DumpedNothing, GaveText, GaveTextPartly, IsNotUnderstood, IsSaid, NamesFault};
+ghost use Rattle.scopectl.specs.Naming.{CameFrom, IsOfPlan, IsSaid, NamesFault, SaysQuote};
+ghost use Rattle.scopectl.specs.Program.{DidAsSaid, DidJob, DidPart, DidPartly, GaveText, GaveTextPartly, IsNotUnderstood, Made, Makes, ReadSome};
 ghost use Rattle.scopectl.specs.Texts.{line_of};
 
 use crate::command_line::{Job, LineFault, VERSION_LINE, help_of, line};
 use crate::fault::ProgramFault;
+use crate::quoting::quoted;
+use job_runner::JobWork;
+use quote_gateway::OfferJob;
+use realm_lock::{RealmName, Seed};
 use scope_book::BookState;
-use scope_rules::{AnyEnd, Limits};
+use scope_rules::{AnyEnd, Due, Limits};
 use scope_script::{Mode, Watched, run};
 use std::alloc::{AllocError, Global};
 use std::io::{ErrorKind, Read, Write};
+use std::sync::Wait;
+use thread_crew::Spawns;
 
 /// The status of a line that was understood and carried out.
 pub const DONE: u8 = 0;
@@ -26,29 +34,46 @@ pub const NOT_UNDERSTOOD: u8 = 2;
 
 /// Does what the words say, of which the first is the program's name, and answers the exit status.
 /// What is read comes from `reader`, what is written goes to `writer`, and what is said of faults to
-/// `errors`, whose own failing is passed over.
+/// `errors`, whose own failing is passed over. The threads of a plan's jobs are the spawner's, and the seed
+/// is that of the realm that they run in; else neither is used.
 ///
 /// With status 0 the words asked for help or the version, and exactly that text was written and nothing
 /// read; or they said a replay, all bytes were read, and exactly the reply text of them was written, in
 /// a realm of the limits that stand in the words; or they said a dump, all bytes were read, and exactly
-/// the dump text of the realm that they leave was written, and a line feed. Nothing was said on `errors`.
+/// the dump text of the realm that they leave was written, and a line feed; or they said a quote, all bytes
+/// were read, which are a plan, and exactly a line that it allows was written, and a line feed. Nothing was
+/// said on `errors`.
 ///
 /// With status 1 one line on `errors` names the fault: `read` or `write` only where that stream failed,
-/// or the reader was given up after 2^64 - 1 reads.
+/// or the reader was given up after 2^64 - 1 reads; a line of the plan, `rejected`, `cancelled` or `lost`
+/// only of a quote whose bytes were all read, and the first of these only of the plan's first bad line;
+/// `strange` never.
 /// Nothing was read or written, or the writer failed at the text that was asked for, or what was written
-/// is a beginning of the replies to what was read. Of a dump nothing was written, but where all bytes
-/// were read and the writer failed.
+/// is a beginning of the replies to what was read. Of a dump or a quote nothing was written, but where all
+/// bytes were read and the writer failed.
 ///
 /// With status 2 the words say no command and ask for no text, and nothing was read or written. So words
 /// that say a command or ask for a text never end with 2, and other words with 2, or with 1 where memory
 /// was refused.
-pub fn act<'a, R: Read + Drop, W: Write + Drop, E: Write + Drop>(
+pub fn act<
+    'a,
+    N: RealmName,
+    S: Spawns<N, JobWork<Due, N, OfferJob>> + Drop,
+    T: Wait,
+    R: Read + Drop,
+    W: Write + Drop,
+    E: Write + Drop,
+>(
+    rt: &T,
     alloc: Global,
+    seed: Seed,
+    spawner: S,
     words: &'a [&'a str],
     reader: &mut Watched<R>,
     writer: &mut Watched<W>,
     errors: &mut Watched<E>,
 ) -> u8
+    requires named { seed ≡ N.table }
     requires reader { reader.old.failed ≡ false }
     requires writer { writer.old.failed ≡ false }
     ensures status { result ≤ 2 }
@@ -60,7 +85,8 @@ pub fn act<'a, R: Read + Drop, W: Write + Drop, E: Write + Drop>(
         ⊎ (((reader.new ≡ reader.old)
         × GaveTextPartly (map (λ word. word.now) words.now) (W.contents writer.old.inner) (W.contents writer.new.inner) writer.new.failed)
         ⊎ DidPartly (map (λ word. word.now) words.now) (R.remaining reader.old.inner) (R.remaining reader.new.inner) (W.contents writer.old.inner) (W.contents writer.new.inner) writer.new.failed) }
-    ensures named { result ≡ 1 → NamesFault (E.contents errors.old.inner) (E.contents errors.new.inner) errors.new.failed ((reader.new.failed ≡ true) ⊎ (reader.new.reads ≡ u64.MAX)) (writer.new.failed ≡ true) }
+    ensures named { result ≡ 1 → NamesFault (E.contents errors.old.inner) (E.contents errors.new.inner) errors.new.failed ((reader.new.failed ≡ true) ⊎ (reader.new.reads ≡ u64.MAX)) (writer.new.failed ≡ true)
+        (λ fault. SaysQuote (map (λ word. word.now) words.now) × IsOfPlan N.table (R.remaining reader.old.inner) (R.remaining reader.new.inner) fault) }
     ensures not_understood { result ≡ 2 → IsNotUnderstood (map (λ word. word.now) words.now)
         × (reader.new ≡ reader.old) × (writer.new ≡ writer.old) }
 {
@@ -68,6 +94,9 @@ pub fn act<'a, R: Read + Drop, W: Write + Drop, E: Write + Drop>(
         Ok(command) => match command.job {
             Job::Replay => replay(alloc, command.limits, reader, writer, errors),
             Job::Dump => dump(alloc, command.limits, reader, writer, errors),
+            Job::Quote => {
+                quote::<N, S, T, R, W, E>(rt, alloc, seed, spawner, reader, writer, errors)
+            }
         },
         Err(LineFault::Help) => tell(help_of(words), writer, errors),
         Err(LineFault::Version) => tell(VERSION_LINE, writer, errors),
@@ -107,7 +136,7 @@ fn replay<R: Read + Drop, W: Write + Drop, E: Write + Drop>(
     ensures done { result ≡ 0 → DidJob Job.Replay limits (R.remaining reader.old.inner) (R.remaining reader.new.inner) (W.contents writer.old.inner) (W.contents writer.new.inner) }
     ensures silent { result ≡ 0 → errors.new ≡ errors.old }
     ensures fault { result ≡ 1 → DidPart Job.Replay limits (R.remaining reader.old.inner) (R.remaining reader.new.inner) (W.contents writer.old.inner) (W.contents writer.new.inner) writer.new.failed }
-    ensures named { result ≡ 1 → NamesFault (E.contents errors.old.inner) (E.contents errors.new.inner) errors.new.failed ((reader.new.failed ≡ true) ⊎ (reader.new.reads ≡ u64.MAX)) (writer.new.failed ≡ true) }
+    ensures named { result ≡ 1 → NamesFault (E.contents errors.old.inner) (E.contents errors.new.inner) errors.new.failed ((reader.new.failed ≡ true) ⊎ (reader.new.reads ≡ u64.MAX)) (writer.new.failed ≡ true) (λ _. ⊥) }
 {
     let fault = match run(alloc, reader, writer, limits, Mode::Replies) {
         Ok(_) => return DONE,
@@ -130,7 +159,7 @@ fn dump<R: Read + Drop, W: Write + Drop, E: Write + Drop>(
     ensures done { result ≡ 0 → DidJob Job.Dump limits (R.remaining reader.old.inner) (R.remaining reader.new.inner) (W.contents writer.old.inner) (W.contents writer.new.inner) }
     ensures silent { result ≡ 0 → errors.new ≡ errors.old }
     ensures fault { result ≡ 1 → DidPart Job.Dump limits (R.remaining reader.old.inner) (R.remaining reader.new.inner) (W.contents writer.old.inner) (W.contents writer.new.inner) writer.new.failed }
-    ensures named { result ≡ 1 → NamesFault (E.contents errors.old.inner) (E.contents errors.new.inner) errors.new.failed ((reader.new.failed ≡ true) ⊎ (reader.new.reads ≡ u64.MAX)) (writer.new.failed ≡ true) }
+    ensures named { result ≡ 1 → NamesFault (E.contents errors.old.inner) (E.contents errors.new.inner) errors.new.failed ((reader.new.failed ≡ true) ⊎ (reader.new.reads ≡ u64.MAX)) (writer.new.failed ≡ true) (λ _. ⊥) }
 {
     match dumped(alloc, limits, reader, writer) {
         Ok(text) => tell(&text, writer, errors),
@@ -147,9 +176,10 @@ fn dumped<R: Read + Drop, W: Write + Drop>(
 ) -> Result<String, ProgramFault>
     requires reader { reader.old.failed ≡ false }
     requires writer { writer.old.failed ≡ false }
-    ensures ok { IfOk result (λ text. Dumped limits (R.remaining reader.old.inner) (R.remaining reader.new.inner) (W.contents writer.old.inner) (W.contents writer.new.inner) (string_bytes text)) }
-    ensures nothing { OnErr result (DumpedNothing (R.remaining reader.old.inner) (R.remaining reader.new.inner) (W.contents writer.old.inner) (W.contents writer.new.inner)) }
-    ensures came { IfErr result (λ fault. CameFrom fault ((reader.new.failed ≡ true) ⊎ (reader.new.reads ≡ u64.MAX)) (writer.new.failed ≡ true)) }
+    ensures ok { IfOk result (λ text. Made (Makes Job.Dump limits) (R.remaining reader.old.inner) (R.remaining reader.new.inner) (string_bytes text)) }
+    ensures part { OnErr result (ReadSome (R.remaining reader.old.inner) (R.remaining reader.new.inner)) }
+    ensures unwritten { Appends (W.contents writer.old.inner) (W.contents writer.new.inner) [] }
+    ensures came { IfErr result (λ fault. CameFrom fault ((reader.new.failed ≡ true) ⊎ (reader.new.reads ≡ u64.MAX)) (writer.new.failed ≡ true) (λ _. ⊥)) }
 {
     match run(alloc, reader, writer, limits, Mode::Quiet) {
         Ok(book) => match dump_line(alloc, &book) {
@@ -167,6 +197,36 @@ fn dump_line(alloc: Global, book: &BookState<AnyEnd>) -> Result<String, AllocErr
     let mut text = tree_dump::dump(alloc, book)?;
     text.push('\n')?;
     Ok(text)
+}
+
+/// Serves the plan that is read.
+fn quote<
+    N: RealmName,
+    S: Spawns<N, JobWork<Due, N, OfferJob>> + Drop,
+    T: Wait,
+    R: Read + Drop,
+    W: Write + Drop,
+    E: Write + Drop,
+>(
+    rt: &T,
+    alloc: Global,
+    seed: Seed,
+    spawner: S,
+    reader: &mut Watched<R>,
+    writer: &mut Watched<W>,
+    errors: &mut Watched<E>,
+) -> u8
+    requires named { seed ≡ N.table }
+    ensures status { result ≤ 1 }
+    ensures done { (limits : Limits) → result ≡ 0 → DidJob Job.Quote limits (R.remaining reader.old.inner) (R.remaining reader.new.inner) (W.contents writer.old.inner) (W.contents writer.new.inner) }
+    ensures silent { result ≡ 0 → errors.new ≡ errors.old }
+    ensures fault { (limits : Limits) → result ≡ 1 → DidPart Job.Quote limits (R.remaining reader.old.inner) (R.remaining reader.new.inner) (W.contents writer.old.inner) (W.contents writer.new.inner) writer.new.failed }
+    ensures named { result ≡ 1 → NamesFault (E.contents errors.old.inner) (E.contents errors.new.inner) errors.new.failed ((reader.new.failed ≡ true) ⊎ (reader.new.reads ≡ u64.MAX)) (writer.new.failed ≡ true) (IsOfPlan N.table (R.remaining reader.old.inner) (R.remaining reader.new.inner)) }
+{
+    match quoted::<N, S, T, R>(rt, alloc, seed, spawner, reader) {
+        Ok(answer) => tell(&answer, writer, errors),
+        Err(reason) => fail(reason, errors),
+    }
 }
 
 /// Writes the text that was asked for.
@@ -193,7 +253,7 @@ fn fail<E: Write + Drop>(fault: ProgramFault, errors: &mut Watched<E>) -> u8
     ensures status { result ≡ 1 }
     ensures named { IsSaid (line_of fault) (E.contents errors.old.inner) (E.contents errors.new.inner) errors.new.failed }
 {
-    say(fault.line(), errors);
+    say(fault.line().as_str(), errors);
     FAULT
 }
 

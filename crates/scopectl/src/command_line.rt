@@ -17,7 +17,7 @@ use std::alloc::Global;
 #[derive(Clone, Copy)]
 pub struct CommandLine {
     pub job: Job,
-    /// The limits of the realm that the job runs in.
+    /// The limits of the realm that the job runs in: the greatest where it is a plan's.
     pub limits: Limits,
 }
 
@@ -28,6 +28,8 @@ pub enum Job {
     Replay,
     /// Runs the script on standard input without replies, and writes the tree of what it leaves.
     Dump,
+    /// Serves the plan on standard input, and writes the answer.
+    Quote,
 }
 
 impl Job {
@@ -38,6 +40,7 @@ impl Job {
         match self {
             Job::Replay => "replay",
             Job::Dump => "dump",
+            Job::Quote => "quote",
         }
     }
 
@@ -50,6 +53,8 @@ impl Job {
             Some(Job::Replay)
         } else if word == "dump" {
             Some(Job::Dump)
+        } else if word == "quote" {
+            Some(Job::Quote)
         } else {
             None
         }

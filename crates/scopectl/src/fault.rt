@@ -1,7 +1,10 @@
 //! Why the program ends with status 1.
-ghost use Rattle.std.specs.Prelude.{◌≡◌};
-ghost use Rattle.scopectl.specs.Texts.{fault_of_run, line_of};
+ghost use Rattle.std.specs.Prelude.{◌≡◌, ◌≤◌, length};
+ghost use Rattle.scopectl.specs.Texts.{fault_of_plan, fault_of_run, fault_of_service, line_of, word_of};
 
+use arrayvec::ArrayString;
+use itoa::Buffer;
+use quote_gateway::{GatewayFault, PlanFault};
 use scope_script::ScriptFault;
 
 /// Why the program ends with status 1.
@@ -13,7 +16,21 @@ pub enum ProgramFault {
     Write,
     /// Memory was refused.
     Memory,
+    /// This line of the plan is the first bad one, counted from 1; where no line says a mode and none is
+    /// bad, it is the line after the last.
+    PlanLine { line: usize },
+    /// The jobs weren't those of the plan.
+    Strange,
+    /// A thread was refused, or a call for another cause than memory.
+    Rejected,
+    /// The scope of the jobs was cancelled.
+    Cancelled,
+    /// The answer would rest on an end that is not the offer's.
+    Lost,
 }
+
+/// How many bytes the line that names a fault may have. The longest takes 51.
+pub const LINE_ROOM: usize = 80;
 
 impl ProgramFault {
     /// The program's fault for a fault of the run.
@@ -27,14 +44,60 @@ impl ProgramFault {
         }
     }
 
-    /// The one line on standard error that names the fault, with its end.
-    pub fn line(self) -> &'static str
-        ensures { result.now ≡ line_of self }
+    /// The program's fault for one in reading a plan.
+    pub fn of_plan(fault: PlanFault) -> ProgramFault
+        ensures { result ≡ fault_of_plan fault }
+    {
+        match fault {
+            PlanFault::Word { line } => ProgramFault::PlanLine { line },
+            PlanFault::Memory => ProgramFault::Memory,
+        }
+    }
+
+    /// The program's fault for one in serving a plan.
+    pub fn of_service(fault: GatewayFault) -> ProgramFault
+        ensures { result ≡ fault_of_service fault }
+    {
+        match fault {
+            GatewayFault::Strange => ProgramFault::Strange,
+            GatewayFault::Memory => ProgramFault::Memory,
+            GatewayFault::Rejected => ProgramFault::Rejected,
+            GatewayFault::Cancelled => ProgramFault::Cancelled,
+            GatewayFault::Lost => ProgramFault::Lost,
+        }
+    }
+
+    /// The one line on standard error that names the fault, with its end. It takes no memory.
+    pub fn line(self) -> ArrayString<LINE_ROOM>
+        ensures { result.bytes ≡ line_of self }
+    {
+        let mut digits = Buffer::new();
+        let mut line = ArrayString::new();
+        line.push_str("scopectl: ");
+        if let ProgramFault::PlanLine { line: number } = self {
+            line.push_str("plan line ");
+            line.push_str(digits.format(number));
+            line.push_str(": ");
+        }
+        line.push_str(self.word());
+        line.push_str("\n");
+        line
+    }
+
+    /// The word at the end of the line that names the fault.
+    fn word(self) -> &'static str
+        ensures word { result.now ≡ word_of self }
+        ensures short { length result.now ≤ 9 }
     {
         match self {
-            ProgramFault::Read => "scopectl: read\n",
-            ProgramFault::Write => "scopectl: write\n",
-            ProgramFault::Memory => "scopectl: memory\n",
+            ProgramFault::Read => "read",
+            ProgramFault::Write => "write",
+            ProgramFault::Memory => "memory",
+            ProgramFault::PlanLine { line: _ } => "bad-word",
+            ProgramFault::Strange => "strange",
+            ProgramFault::Rejected => "rejected",
+            ProgramFault::Cancelled => "cancelled",
+            ProgramFault::Lost => "lost",
         }
     }
 }

@@ -55,8 +55,9 @@ impl<T: Drop> Watched<T> {
 }
 
 impl<R: Read + Drop> Watched<R> {
-    /// Reads some bytes into the front of the piece, none only at the end of the stream.
-    pub(crate) fn read_piece(&mut self, piece: &mut [u8]) -> Result<usize, StreamFailed>
+    /// Reads some bytes into the front of the piece, none only at the end of the stream. Refused where the
+    /// stream failed.
+    pub fn read_piece(&mut self, piece: &mut [u8]) -> Result<usize, StreamFailed>
         requires some { 0 < length piece.old }
         requires going { self.old.reads < u64.MAX }
         ensures within { IfOk result (λ n. n ≤ length piece.new) }

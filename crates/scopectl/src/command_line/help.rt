@@ -16,17 +16,18 @@ Usage: scopectl <COMMAND>
 Commands:
   replay  Reads a script of commands from standard input, and writes the replies
   dump    Reads a script of commands from standard input, and writes what it leaves as JSON
+  quote   Reads a plan of offers from standard input, asks them on threads, and writes the answer
 
 Options:
   -h, --help     Print help
   -V, --version  Print version
 
 Exit status:
-  0  the script was read to its end, also where commands were refused
-  1  standard error has one line: scopectl: read, scopectl: write or scopectl: memory
+  0  the script was read to its end, also where commands were refused; or the plan has its answer
+  1  standard error has one line that names the fault, as scopectl: read
   2  the command line is not understood
 
-Try 'scopectl replay --help' or 'scopectl dump --help' for an example.
+Try 'scopectl replay --help', or that of another command, for an example.
 ";
 
 /// What `scopectl replay --help` writes.
@@ -89,6 +90,39 @@ Exit status:
   2  the command line is not understood
 ";
 
+/// What `scopectl quote --help` writes.
+pub const QUOTE_HELP: &str =
+    "Reads a plan from standard input, to its end: a mode, and offers, each of a price or a fault. Asks
+each offer in a task of its own, on threads, in one scope, and writes the answer as one line.
+
+Usage: scopectl quote [OPTIONS]
+
+Options:
+  -h, --help  Print help
+
+A plan says one of these modes, and then up to 64 offers, whose names differ. A line that is empty
+or begins with # says nothing. A price is a number up to 999999999999.
+
+  mode best               the least price: best NAME PRICE; none where there is no price
+  mode all                all prices: all NAME=PRICE ..; or an offer that fails: failed NAME FAULT
+  mode first              any price: first NAME PRICE; where there is none, an offer that fails:
+                          failed NAME FAULT; empty where there are no offers
+  offer NAME PRICE
+  offer NAME fail FAULT
+
+Example: the plan on the left has the answer on the right.
+
+  mode best       best b 899
+  offer a 1200
+  offer b 899
+
+Exit status:
+  0  the plan was served, and its answer written
+  1  standard error has one line: scopectl: plan line N: bad-word where line N is the first that may
+     not stand there, and else scopectl: read, write, memory, rejected, cancelled or lost
+  2  the command line is not understood
+";
+
 /// The help that the words ask for, of which the first is the program's name.
 pub fn help_of(words: &[&str]) -> &'static str
     ensures { result.now ≡ help_of (map (λ word. word.now) words.now) }
@@ -107,6 +141,8 @@ fn help_at(command: &str) -> &'static str
         REPLAY_HELP
     } else if command == "dump" {
         DUMP_HELP
+    } else if command == "quote" {
+        QUOTE_HELP
     } else {
         HELP
     }

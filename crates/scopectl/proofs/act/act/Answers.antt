@@ -1,6 +1,7 @@
 use Rattle.std.proofs.Common.{inl, inr, refl, subst}
 use Rattle.scopectl.specs.Faults.{Answers}
-use Rattle.scopectl.proofs.Jobs.{did, did_part}
+use Rattle.scopectl.specs.declared.fault.ProgramFault.TheVariants.{Write}
+use Rattle.scopectl.proofs.Jobs.{did, did_part, names_weaker}
 use Rattle.scopectl.proofs.act.act.Goals as goal
 
 pub returns-in-Replay-clause-done : goal.returns-in-Replay-clause-done
@@ -14,6 +15,22 @@ returns-in-Dump-clause-done g c = λ e. inr (did _ c.in-Ok.command _ c.in-Ok.ens
 
 pub returns-in-Dump-clause-fault : goal.returns-in-Dump-clause-fault
 returns-in-Dump-clause-fault g c = λ e. inr (inr (did_part _ c.in-Ok.command _ c.in-Ok.ensures.said c.in-Dump.is _ _ _ _ _ (c.dump.ensures.fault e)))
+
+pub returns-in-Replay-clause-named : goal.returns-in-Replay-clause-named
+returns-in-Replay-clause-named g c = λ e. names_weaker _ _ _ _ _ _ _ (λ f none. absurd none) (c.replay.ensures.named e)
+
+pub returns-in-Dump-clause-named : goal.returns-in-Dump-clause-named
+returns-in-Dump-clause-named g c = λ e. names_weaker _ _ _ _ _ _ _ (λ f none. absurd none) (c.dump.ensures.named e)
+
+pub returns-in-Ok-clause-done : goal.returns-in-Ok-clause-done
+returns-in-Ok-clause-done g c = λ e. inr (did _ c.in-Ok.command _ c.in-Ok.ensures.said c.in-Quote.is _ _ _ _ (c.quote.ensures.done _ e))
+
+pub returns-in-Ok-clause-fault : goal.returns-in-Ok-clause-fault
+returns-in-Ok-clause-fault g c = λ e. inr (inr (did_part _ c.in-Ok.command _ c.in-Ok.ensures.said c.in-Quote.is _ _ _ _ _ (c.quote.ensures.fault _ e)))
+
+pub returns-in-Ok-clause-named : goal.returns-in-Ok-clause-named
+returns-in-Ok-clause-named g c =
+    λ e. names_weaker _ _ _ _ _ _ _ (λ f it. (record { command = c.in-Ok.command; said = c.in-Ok.ensures.said; job = c.in-Quote.is }, it)) (c.quote.ensures.named e)
 
 pub returns-in-Err-Help-clause-done : goal.returns-in-Err-Help-clause-done
 returns-in-Err-Help-clause-done g c = λ e. inl (
@@ -35,6 +52,14 @@ returns-in-Err-Help-clause-fault g c = λ e. inr (inl (
     writer = c.tell.ensures.failed e;
   },
 ))
+
+pub returns-in-Err-Help-clause-named : goal.returns-in-Err-Help-clause-named
+returns-in-Err-Help-clause-named g c =
+    λ e. record { fault = Write; came = c.tell.ensures.failed e; line = c.tell.ensures.named e }
+
+pub returns-in-Err-Version-clause-named : goal.returns-in-Err-Version-clause-named
+returns-in-Err-Version-clause-named g c =
+    λ e. record { fault = Write; came = c.tell-in-Err-Version.ensures.failed e; line = c.tell-in-Err-Version.ensures.named e }
 
 pub returns-in-Err-Usage-clause-not_understood : goal.returns-in-Err-Usage-clause-not_understood
 returns-in-Err-Usage-clause-not_understood g c = λ e. (

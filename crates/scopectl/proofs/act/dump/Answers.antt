@@ -1,14 +1,27 @@
 use Rattle.std.proofs.Common.{subst}
 use Rattle.std.specs.Io.KnownBytes.{Appends}
 use Rattle.scope_script.specs.Streams.{AppendsPart}
-use Rattle.scopectl.proofs.Jobs.{nothing_told, told, told_part}
+use Rattle.scopectl.specs.declared.fault.ProgramFault.TheVariants.{Write}
+use Rattle.scopectl.proofs.Jobs.{dump_stopped, dump_told_part, told}
 use Rattle.scopectl.proofs.act.dump.Goals as goal
 
 pub returns-in-Ok-clause-done : goal.returns-in-Ok-clause-done
-returns-in-Ok-clause-done g c = λ e. told _ _ _ _ _ _ _ c.in-Ok.ensures.ok (subst (Appends _ _) c.deref.ensures (c.tell.ensures.done e))
+returns-in-Ok-clause-done g c = λ e. told _ _ _ _ _ _ _ _ c.in-Ok.ensures.ok c.dumped.ensures.unwritten (subst (Appends _ _) c.deref.ensures (c.tell.ensures.done e))
 
 pub returns-in-Ok-clause-fault : goal.returns-in-Ok-clause-fault
-returns-in-Ok-clause-fault g c = λ e. told_part _ _ _ _ _ _ _ c.in-Ok.ensures.ok _ (subst (AppendsPart _ _) c.deref.ensures (c.tell.ensures.fault e)) (c.tell.ensures.failed e)
+returns-in-Ok-clause-fault g c =
+    λ e. dump_told_part _ _ _ _ _ _ _ _ c.in-Ok.ensures.ok c.dumped.ensures.unwritten (subst (AppendsPart _ _) c.deref.ensures (c.tell.ensures.fault e)) (c.tell.ensures.failed e)
 
 pub returns-in-Err-clause-fault : goal.returns-in-Err-clause-fault
-returns-in-Err-clause-fault g c = λ e. nothing_told _ _ _ _ _ _ c.in-Err.ensures.nothing
+returns-in-Err-clause-fault g c = λ e. dump_stopped _ _ _ _ _ _ c.in-Err.ensures.part c.dumped.ensures.unwritten
+
+pub returns-in-Ok-clause-named : goal.returns-in-Ok-clause-named
+returns-in-Ok-clause-named g c =
+    λ e. record { fault = Write; came = c.tell.ensures.failed e; line = c.tell.ensures.named e }
+
+pub returns-in-Err-clause-named : goal.returns-in-Err-clause-named
+returns-in-Err-clause-named g c = λ e. record {
+  fault = c.in-Err.fault;
+  came = c.in-Err.ensures.came;
+  line = c.fail.ensures.named;
+}

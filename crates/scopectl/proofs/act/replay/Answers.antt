@@ -1,6 +1,6 @@
 use Rattle.std.proofs.Common.{◌≡◌, ◌∙◌, ◌⊎◌, true, sym, ap, subst, Err}
 use Rattle.scope_book.specs.Books.{realm_of}
-use Rattle.scopectl.specs.Program.{CameFrom}
+use Rattle.scopectl.specs.Naming.{CameFrom}
 use Rattle.scopectl.specs.declared.fault.ProgramFault.{ProgramFault}
 use Rattle.scopectl.proofs.Jobs.{came_of, replayed, replayed_part}
 use Rattle.scopectl.proofs.act.replay.Goals as goal
@@ -14,7 +14,7 @@ returns-clause-fault g c = λ e. replayed_part _ _ _ _ _ _ c.in-Err.ensures.faul
 pub returns-clause-named : goal.returns-clause-named
 returns-clause-named g c = λ e. record {
   fault = c.of_run.result;
-  came = subst (λ (f : ProgramFault). CameFrom f ((c.run.new.reader.failed ≡ true) ⊎ (c.run.new.reader.reads ≡ 18446744073709551615)) (c.run.new.writer.failed ≡ true)) (sym c.of_run.ensures)
-      (came_of c.in-Err.fault _ _ (λ is. c.run.ensures.read (c.in-Err.is ∙ ap Err is)) (λ is. c.run.ensures.write (c.in-Err.is ∙ ap Err is)));
+  came = subst (λ (f : ProgramFault). CameFrom f ((c.run.new.reader.failed ≡ true) ⊎ (c.run.new.reader.reads ≡ 18446744073709551615)) (c.run.new.writer.failed ≡ true) (λ _. ⊥)) (sym c.of_run.ensures)
+      (came_of c.in-Err.fault _ _ _ (λ is. c.run.ensures.read (c.in-Err.is ∙ ap Err is)) (λ is. c.run.ensures.write (c.in-Err.is ∙ ap Err is)));
   line = c.fail.ensures.named;
 }

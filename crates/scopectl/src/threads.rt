@@ -1,0 +1,105 @@
+//! The threads of a plan's jobs, which there are only where the words say a quote.
+ghost use Rattle.std.specs.Prelude.{◌≡◌, false};
+
+use crate::act::{act, refuse_words};
+use crate::command_line::Job;
+use job_runner::JobWork;
+use quote_gateway::OfferJob;
+use realm_lock::{RealmName, Seed};
+use scope_rules::Due;
+use scope_script::Watched;
+use std::alloc::Global;
+use std::io::{ErrorKind, Read, Write};
+use std::marker::Brand;
+use std::sync::Wait;
+use thread_crew::{Crew, CrewRuntime, Nobody, OsThreads};
+
+/// How many threads of a crew may rest.
+const KEPT: usize = 4;
+
+/// Does what the words say, and answers the exit status: `act` over threads where the words say a quote,
+/// and over none else.
+pub fn act_on<T: CrewRuntime, R: Read + Drop, W: Write + Drop, E: Write + Drop>(
+    rt: &T,
+    alloc: Global,
+    owned: &[String],
+    reader: &mut Watched<R>,
+    writer: &mut Watched<W>,
+    errors: &mut Watched<E>,
+) -> u8
+    requires reader { reader.old.failed ≡ false }
+    requires writer { writer.old.failed ≡ false }
+{
+    let words: Vec<&str> = match owned.iter().map(|word| word.as_str()).collect(alloc) {
+        Ok(words) => words,
+        Err(_) => return refuse_words(ErrorKind::OutOfMemory, errors),
+    };
+    let Ok(seed) = Seed::new(alloc) else {
+        return refuse_words(ErrorKind::OutOfMemory, errors);
+    };
+    if needs_threads(&words) {
+        act_with_crew::<Brand, T, R, W, E>(rt, alloc, seed, &words, reader, writer, errors)
+    } else {
+        act_alone::<Brand, T, R, W, E>(rt, alloc, seed, &words, reader, writer, errors)
+    }
+}
+
+/// Whether the words may say a job that runs on threads.
+fn needs_threads(words: &[&str]) -> bool {
+    match words.get(1) {
+        Some(word) => *word == Job::Quote.word(),
+        None => false,
+    }
+}
+
+/// Does what the words say over no threads: each job's thread is refused.
+fn act_alone<'a, N: RealmName, T: Wait, R: Read + Drop, W: Write + Drop, E: Write + Drop>(
+    rt: &T,
+    alloc: Global,
+    seed: Seed,
+    words: &'a [&'a str],
+    reader: &mut Watched<R>,
+    writer: &mut Watched<W>,
+    errors: &mut Watched<E>,
+) -> u8
+    requires named { seed ≡ N.table }
+    requires reader { reader.old.failed ≡ false }
+    requires writer { writer.old.failed ≡ false }
+{
+    act::<N, Nobody, T, R, W, E>(rt, alloc, seed, Nobody, words, reader, writer, errors)
+}
+
+/// Does what the words say with a crew of threads, which is closed then. Where the crew's own thread is
+/// refused, so is each job's.
+fn act_with_crew<
+    'a,
+    N: RealmName + Send + Sync + 'static,
+    T: CrewRuntime,
+    R: Read + Drop,
+    W: Write + Drop,
+    E: Write + Drop,
+>(
+    rt: &T,
+    alloc: Global,
+    seed: Seed,
+    words: &'a [&'a str],
+    reader: &mut Watched<R>,
+    writer: &mut Watched<W>,
+    errors: &mut Watched<E>,
+) -> u8
+    requires named { seed ≡ N.table }
+    requires reader { reader.old.failed ≡ false }
+    requires writer { writer.old.failed ≡ false }
+{
+    let Ok(crew) = Crew::<N, JobWork<Due, N, OfferJob>>::open(rt, alloc, KEPT) else {
+        return act_alone::<N, T, R, W, E>(rt, alloc, seed, words, reader, writer, errors);
+    };
+    let status = match crew.threads() {
+        Ok(threads) => act::<N, OsThreads<N, JobWork<Due, N, OfferJob>>, T, R, W, E>(
+            rt, alloc, seed, threads, words, reader, writer, errors,
+        ),
+        Err(_) => act_alone::<N, T, R, W, E>(rt, alloc, seed, words, reader, writer, errors),
+    };
+    crew.close(rt);
+    status
+}
