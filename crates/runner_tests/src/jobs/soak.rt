@@ -22,6 +22,11 @@ const ROUNDS: u32 = 2_000;
 
 const EARLY: u32 = 200;
 
+/// What the system's allocator may come to keep for threads between the two, in kB: it has an arena for each
+/// that allocates at once with others, whose pages come into use by and by. Jobs that left 50 bytes behind,
+/// each, would need more.
+const ARENAS: u64 = 512;
+
 /// How many jobs a round has.
 const AT_ONCE: u32 = 8;
 
@@ -113,10 +118,8 @@ pub fn soak<
         round(rt, ctx, board, faults)?;
     }
     let late = told(rt, "VmRSS:");
-    assert!(rt;
-        late <= early.saturating_add(early / 20),
-        "{early} kB, and then {late} kB"
-    );
+    let most = early.saturating_add(early / 20).saturating_add(ARENAS);
+    assert!(rt; late <= most, "{early} kB, and then {late} kB");
     assert_eq!(rt;
         board.calls(),
         u64::from(ROUNDS).saturating_mul(u64::from(AT_ONCE))
