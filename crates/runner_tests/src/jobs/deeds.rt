@@ -10,7 +10,7 @@ use std::sync::Wait;
 use std::thread;
 use thread_crew::{Spawner, Spawns};
 
-/// Looks at the task until it has ended.
+/// Looks at the task until it has ended with a result.
 pub fn wait_for<N: RealmName, S: Spawner<N>, R: Wait>(
     rt: &R,
     ctx: &mut TaskCtx<AnyEnd, S, N>,
@@ -20,8 +20,8 @@ pub fn wait_for<N: RealmName, S: Spawner<N>, R: Wait>(
 {
     for _ in 0..1_000_000_000u32 {
         match ctx.state(rt, task) {
-            Ok(State::Unavailable) => thread::yield_now(),
-            _ => return,
+            Ok(State::Success(_) | State::Failed(_)) => return,
+            _ => thread::yield_now(), // it may not be forked yet
         }
     }
 }
