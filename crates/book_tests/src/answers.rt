@@ -9,7 +9,7 @@ use scope_rules::{
 };
 
 /// What an accepted command is answered.
-#[derive(Clone, Copy, Debug, PartialEq, Eq)]
+#[derive(Clone, Copy, PartialEq, Eq)]
 pub enum Said {
     Done,
     Already,

@@ -41,11 +41,11 @@ fn tell(
     };
     let wanted = told_plain(&mut both.realm, step);
     let said = told_book(&mut both.book, step, joiner);
-    assert_eq!(rt;
-        said,
-        wanted,
+    assert!(rt;
+        said == wanted,
         "script {}, command {}",
-        both.seed, both.commands
+        both.seed,
+        both.commands
     );
     both.commands = both.commands.saturating_add(1);
     met.count(step, said.is_ok());

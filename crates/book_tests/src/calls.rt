@@ -67,7 +67,7 @@ fn check_handed_back(rt: &impl Abort, alloc: Global, book: &mut Book) -> Result<
     };
     assert_eq!(rt; refusal, Refusal::NoTask);
     let found = (joiner.policy(), joiner.asks_closure());
-    assert_eq!(rt; found, (UNTIL_TWO, true));
+    assert!(rt; found == (UNTIL_TWO, true));
     Ok(())
 }
 

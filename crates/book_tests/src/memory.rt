@@ -19,7 +19,7 @@ use std::test::Fail;
 type Book = BookState<AnyEnd>;
 
 /// What is asked of a scope.
-#[derive(Clone, Copy, Debug, PartialEq, Eq)]
+#[derive(Clone, Copy, PartialEq, Eq)]
 struct ScopeSeen {
     cause: Result<Option<Cause>, Refusal>,
     place: Result<Option<usize>, Refusal>,
@@ -28,7 +28,7 @@ struct ScopeSeen {
 }
 
 /// What is asked of a task, and of what it sees bound.
-#[derive(Clone, Copy, Debug, PartialEq, Eq)]
+#[derive(Clone, Copy, PartialEq, Eq)]
 struct TaskSeen {
     state: Result<State, Refusal>,
     stage: Result<Stage, Refusal>,
@@ -37,7 +37,7 @@ struct TaskSeen {
 }
 
 /// What is asked of the book: all but outcomes, which take memory.
-#[derive(Clone, Copy, Debug, PartialEq, Eq)]
+#[derive(Clone, Copy, PartialEq, Eq)]
 struct Seen {
     moment: u64,
     scopes: [ScopeSeen; 4],
@@ -226,10 +226,10 @@ fn tell(
     let mut said = told(alloc, book, step)?;
     if said == Err(Refusal::Memory) {
         assert!(rt; takes_memory(step), "at {}", before.moment);
-        assert_eq!(rt; all_seen(book, key), before);
+        assert!(rt; all_seen(book, key) == before);
         said = told(alloc, book, step)?;
     }
-    assert!(rt; said.is_ok(), "{said:?} at {}", before.moment);
+    assert!(rt; said.is_ok(), "at {}", before.moment);
     Ok(())
 }
 
@@ -301,7 +301,7 @@ fn retired(rt: &impl Abort, book: &mut Book, key: &Name) -> Result<Base, Refusal
     let before = all_seen(book, key);
     match book.retire(0) {
         Err(Refusal::Memory) => {
-            assert_eq!(rt; all_seen(book, key), before);
+            assert!(rt; all_seen(book, key) == before);
             book.retire(0)
         }
         answer => answer,
@@ -316,8 +316,8 @@ fn check_begun(
     book: &Book,
     key: &Name,
 ) -> Result<(), Fail> {
-    assert_eq!(rt; all_seen(again, key), all_seen(book, key));
-    assert_eq!(rt; again.limits(), book.limits());
+    assert!(rt; all_seen(again, key) == all_seen(book, key));
+    assert!(rt; again.limits() == book.limits());
     tell(rt, alloc, again, open(0, Policy::All, None), key)?;
     assert_eq!(rt; again.cause(4), Ok(None));
     Ok(())

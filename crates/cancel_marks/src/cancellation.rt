@@ -1,7 +1,7 @@
 use scope_rules::{Cause, ScopeId};
 
 /// What a mark says: that the scope became cancelled, why, and where in the history.
-#[derive(Clone, Copy, Debug, PartialEq, Eq)]
+#[derive(Clone, Copy, PartialEq, Eq)]
 pub struct Cancellation {
     pub scope: ScopeId,
     pub cause: Cause,

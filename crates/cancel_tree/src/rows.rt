@@ -4,7 +4,7 @@ use scope_rules::ScopeId;
 use scope_rules::types::records::Cut;
 
 /// What a tree was told of a scope.
-#[derive(Clone, Copy, Debug, PartialEq, Eq)]
+#[derive(Clone, Copy)]
 pub struct Told {
     pub parent: Option<ScopeId>,
     pub shield: bool,
@@ -27,7 +27,7 @@ impl Told {
 }
 
 /// Where the walk over the scopes inside a scope goes on.
-#[derive(Clone, Copy, Debug, PartialEq, Eq)]
+#[derive(Clone, Copy)]
 pub struct Links {
     /// How many scopes lie around one another down to this one.
     pub level: u32,

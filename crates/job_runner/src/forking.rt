@@ -13,7 +13,7 @@ use std::sync::Wait;
 use thread_crew::{Spawner, Spawns};
 
 /// Why a fork handed its job back.
-#[derive(Clone, Copy, Debug, PartialEq, Eq)]
+#[derive(Clone, Copy, PartialEq, Eq)]
 pub enum ForkRefusal {
     /// The fork was refused, and nothing is recorded.
     Before(Refusal),

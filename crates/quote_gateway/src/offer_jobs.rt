@@ -12,7 +12,7 @@ use std::sync::Wait;
 use thread_crew::Spawner;
 
 /// The job of an offer: it ends as the offer says.
-#[derive(Clone, Copy, Debug)]
+#[derive(Clone, Copy)]
 pub struct OfferJob {
     offer: Offer,
 }

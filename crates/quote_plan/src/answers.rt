@@ -11,14 +11,14 @@ use std::fmt;
 use std::marker::Model;
 
 /// An offer's name, and its price.
-#[derive(Clone, Copy, Debug, PartialEq, Eq)]
+#[derive(Clone, Copy)]
 pub struct Quote {
     pub name: Name,
     pub price: i64,
 }
 
 /// Offers with their prices, in the plan's order.
-#[derive(Debug, Drop)]
+#[derive(Drop)]
 pub struct Quotes {
     items: Vec<Quote>,
 }
@@ -47,7 +47,7 @@ impl Quotes {
 }
 
 /// What the gateway answers.
-#[derive(Debug, Drop)]
+#[derive(Drop)]
 pub enum Answer {
     /// In mode `best`: the least price, the first listed of equals.
     Best(Quote),

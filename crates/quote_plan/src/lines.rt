@@ -15,7 +15,7 @@ pub const OFFER_LIMIT: usize = 64;
 pub const PRICE_LIMIT: u64 = 999999999999;
 
 /// What one line of a plan says by itself.
-#[derive(Clone, Copy, Debug, PartialEq, Eq)]
+#[derive(Clone, Copy)]
 pub enum PlanLine {
     /// No field, or a comment.
     Silent,

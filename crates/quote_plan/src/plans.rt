@@ -32,7 +32,7 @@ impl Mode {
 }
 
 /// How the job of an offer is to end.
-#[derive(Clone, Copy, Debug, PartialEq, Eq)]
+#[derive(Clone, Copy, PartialEq, Eq)]
 pub enum Offer {
     /// With this price.
     Price(i64),

@@ -9,7 +9,7 @@ use scope_rules::{Catalog, ScopeId, Verdict};
 use share_ledger::OwnerShare;
 
 /// A scope that was closed, and how.
-#[derive(Clone, Copy, Debug, PartialEq, Eq)]
+#[derive(Clone, Copy)]
 pub struct Ended {
     pub scope: ScopeId,
     pub verdict: Verdict,

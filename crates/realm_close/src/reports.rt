@@ -16,7 +16,7 @@ use std::alloc::{AllocError, Global};
 
 /// What the close of a scope shows: how the scope was closed and its log, and the same of each scope that
 /// was closed with it, since its owner had opened it later and not closed it, in the order of their ends.
-#[derive(Debug, Drop)]
+#[derive(Drop)]
 pub struct CloseReport {
     pub verdict: Verdict,
     pub log: ScopeLog,

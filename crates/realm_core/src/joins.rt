@@ -9,7 +9,7 @@ use scope_rules::{Catalog, Event, Outcome, Refusal, ScopeId};
 use share_ledger::OwnerShare;
 
 /// What a join gives.
-#[derive(Debug, Drop)]
+#[derive(Drop)]
 pub struct Joined {
     /// What the scope's joiner made of the ends of its tasks, or why not.
     pub outcome: Outcome,

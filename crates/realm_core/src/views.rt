@@ -12,7 +12,7 @@ use share_ledger::OwnerShare;
 use std::alloc::Global;
 
 /// What a view shows of a scope, at the moment of the view.
-#[derive(Debug, Drop)]
+#[derive(Drop)]
 pub struct View {
     /// The scope's own events, with the mark of its cancellation among them.
     pub log: ScopeLog,

@@ -1,7 +1,7 @@
 use scope_rules::{Actor, Event, TaskId};
 
 /// One step of a realm. The list of all its steps since it began is never shortened.
-#[derive(Clone, Copy, Debug, PartialEq, Eq)]
+#[derive(Clone, Copy)]
 pub enum RealmStep {
     /// The command was accepted, and recorded its event.
     Happened(Event),
@@ -10,7 +10,7 @@ pub enum RealmStep {
 }
 
 /// Who has steps of its own.
-#[derive(Clone, Copy, Debug, PartialEq, Eq)]
+#[derive(Clone, Copy, PartialEq, Eq)]
 pub enum Holder {
     /// The token of the actor.
     TokenOf(Actor),

@@ -7,7 +7,7 @@ use scope_rules::{Actor, Cause, End, Event, Label, Options, Policy, TaskId};
 
 /// An entry of the log of a scope: an event that names the scope or a task of it, or the mark of the
 /// scope's cancellation.
-#[derive(Clone, Copy, Debug, PartialEq, Eq)]
+#[derive(Clone, Copy, PartialEq, Eq)]
 pub enum LogEntry {
     /// The actor opened the scope.
     Open {

@@ -13,7 +13,7 @@ use std::alloc::{AllocError, Global};
 use std::marker::Model;
 
 /// The log of a scope: its number, what it was opened with, and its entries, in order.
-#[derive(Debug, Drop)]
+#[derive(Drop)]
 pub struct ScopeLog {
     scope: ScopeId,
     policy: Policy,

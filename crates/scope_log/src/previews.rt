@@ -4,7 +4,7 @@ use crate::log::ScopeLog;
 use scope_rules::Outcome;
 
 /// What a join of a scope would give.
-#[derive(Debug, Drop)]
+#[derive(Drop)]
 pub struct Preview {
     /// What the join would answer.
     pub outcome: Outcome,

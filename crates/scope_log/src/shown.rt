@@ -11,7 +11,7 @@ use std::{fmt, str};
 
 /// An entry of the log of this scope. It is shown as the line of its command in a script, with the
 /// number that a fork gave; the mark as `cancelled P KIND`, with the scope P whose own cancel it was.
-#[derive(Clone, Copy, Debug, PartialEq, Eq)]
+#[derive(Clone, Copy)]
 pub struct ShownEntry {
     pub scope: ScopeId,
     pub entry: LogEntry,

@@ -4,7 +4,7 @@ use scope_rules::types::records::{Forking, Opening};
 use scope_rules::{Counts, ScopeId, Stage, State};
 
 /// What is kept of a scope.
-#[derive(Clone, Copy, Debug, PartialEq, Eq)]
+#[derive(Clone, Copy)]
 pub struct ScopeRow {
     pub opening: Opening,
     /// The scope around it.
@@ -25,7 +25,7 @@ pub struct ScopeRow {
 }
 
 /// What is kept of a task.
-#[derive(Clone, Copy, Debug, PartialEq, Eq)]
+#[derive(Clone, Copy)]
 pub struct TaskRow {
     pub forking: Forking,
     pub stage: Stage,

@@ -10,7 +10,7 @@ use std::marker::Model;
 /// The bindings that an actor sees: the pairs that it inherited at its fork, then its own stack.
 /// The last pair with a key wins. An inherited pair is never taken away, and never changes when the
 /// actor that it came from binds or unbinds, as JEP 506 has it of scoped values.
-#[derive(Debug, Drop)]
+#[derive(Drop)]
 pub struct Env {
     inherited: SharedPairs,
     stack: Vec<Binding>,

@@ -6,7 +6,7 @@ use std::marker::Model;
 use std::sync::ArcSlice;
 
 /// A list of pairs that several environments can hold at once, in any threads.
-#[derive(Debug, Drop)]
+#[derive(Drop)]
 pub struct SharedPairs {
     // `None` stands for the empty list, which takes no memory.
     pairs: Option<ArcSlice<Binding>>,

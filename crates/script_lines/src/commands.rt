@@ -1,7 +1,7 @@
 use scope_rules::{Actor, Event, Name, ScopeId, TaskId};
 
 /// What one line of a script says.
-#[derive(Clone, Copy, Debug, PartialEq, Eq)]
+#[derive(Clone, Copy)]
 pub enum Line {
     /// No field, or a comment: it gets no reply.
     Silent,
@@ -12,7 +12,7 @@ pub enum Line {
 
 /// A line that was understood, with its arguments. Numbers are as they were read, and need not be
 /// given ones.
-#[derive(Clone, Copy, Debug, PartialEq, Eq)]
+#[derive(Clone, Copy)]
 pub enum Command {
     /// What adds just this event to the history, where it is accepted.
     Do(Event),
@@ -23,7 +23,7 @@ pub enum Command {
 }
 
 /// What can be asked of a realm.
-#[derive(Clone, Copy, Debug, PartialEq, Eq)]
+#[derive(Clone, Copy)]
 pub enum Question {
     /// `state K`
     State { task: TaskId },

@@ -4,7 +4,7 @@ use scope_rules::{
 };
 
 /// What a command is answered. Its text is the line of the reply, without the line feed.
-#[derive(Debug, Drop)]
+#[derive(Drop)]
 pub enum Reply {
     /// A scope was opened.
     Scope(ScopeId),

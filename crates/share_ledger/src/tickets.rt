@@ -34,7 +34,7 @@ impl Model for Ticket {
 }
 
 /// How many tickets were given a thread, started and finished.
-#[derive(Clone, Copy, Debug, PartialEq, Eq)]
+#[derive(Clone, Copy, PartialEq, Eq)]
 pub struct Totals {
     pub given: u64,
     pub started: u64,

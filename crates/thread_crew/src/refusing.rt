@@ -7,7 +7,7 @@ use share_ledger::{RealmName, Ticket};
 use std::sync::Wait;
 
 /// A spawner for tests that refuses every work.
-#[derive(Clone, Copy, Debug)]
+#[derive(Clone, Copy)]
 pub struct Nobody;
 
 impl<N: RealmName> Spawner<N> for Nobody {

@@ -8,7 +8,7 @@ use scope_rules::types::infos::ScopeInfo;
 use scope_rules::{Label, ScopeId, Stage, State, TaskId};
 
 /// What there is to say of a task.
-#[derive(Clone, Copy, Debug, PartialEq, Eq)]
+#[derive(Clone, Copy)]
 pub struct TaskTold {
     pub task: TaskId,
     pub label: Label,

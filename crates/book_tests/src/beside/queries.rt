@@ -31,9 +31,8 @@ impl Both {
             realm.effective_deadline(scope),
             realm.counts(scope),
         );
-        assert_eq!(rt;
-            found,
-            wanted,
+        assert!(rt;
+            found == wanted,
             "script {seed}, {commands} commands, scope {scope}"
         );
         let same = is_same_answer(&book.outcome(scope), &realm.outcome(scope));
@@ -48,17 +47,15 @@ impl Both {
         let (book, realm) = (&self.book, &self.realm);
         let found = (book.state(task), book.stage(task));
         let wanted = (realm.state(task), realm.stage(task));
-        assert_eq!(rt;
-            found,
-            wanted,
+        assert!(rt;
+            found == wanted,
             "script {seed}, {commands} commands, task {task}"
         );
         for actor in [0, owner, task] {
             let found = (book.result(actor, task), book.fault(actor, task));
             let wanted = (realm.result(actor, task), realm.fault(actor, task));
-            assert_eq!(rt;
-                found,
-                wanted,
+            assert!(rt;
+                found == wanted,
                 "script {seed}, {commands} commands, {actor} of task {task}"
             );
         }
@@ -69,9 +66,8 @@ impl Both {
         for name in names {
             let found = self.book.binding(actor, name);
             let wanted = self.realm.binding(actor, name);
-            assert_eq!(rt;
-                found,
-                wanted,
+            assert!(rt;
+                found == wanted,
                 "script {seed}, {commands} commands, bindings of {actor}"
             );
         }

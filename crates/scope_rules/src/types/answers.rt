@@ -12,7 +12,7 @@ pub enum Stage {
 }
 
 /// What can be read of a task (JEP 505, `Subtask.State`).
-#[derive(Clone, Copy, Debug, PartialEq, Eq)]
+#[derive(Clone, Copy, PartialEq, Eq)]
 pub enum State {
     /// It has not ended, or ended after its scope was cancelled.
     Unavailable,
@@ -50,7 +50,7 @@ pub struct Counts {
 }
 
 /// What a cancel or the beginning of a close did.
-#[derive(Clone, Copy, Debug, PartialEq, Eq)]
+#[derive(Clone, Copy, PartialEq, Eq)]
 pub enum Cancelling {
     /// The event was recorded.
     Recorded,
@@ -69,7 +69,7 @@ pub enum Verdict {
 }
 
 /// The earliest deadline in effect for a scope (Trio, `current_effective_deadline`).
-#[derive(Clone, Copy, Debug, PartialEq, Eq)]
+#[derive(Clone, Copy, PartialEq, Eq)]
 pub enum Effective {
     /// The scope is cancelled.
     Past,
@@ -79,7 +79,7 @@ pub enum Effective {
 }
 
 /// What a fork gave: the task's number, and whether it gets a thread.
-#[derive(Clone, Copy, Debug, PartialEq, Eq)]
+#[derive(Clone, Copy, PartialEq, Eq)]
 pub enum ForkReply {
     /// The task waits for its thread.
     Thread(TaskId),

@@ -6,7 +6,7 @@ use std::marker::Model;
 
 /// What a retirement leaves of a history: the moment, how many scopes and tasks were numbered so
 /// far, and main's own bindings. A fresh realm has the base that is empty.
-#[derive(Debug, Drop)]
+#[derive(Drop)]
 pub struct Base {
     moment: u64,
     scopes: u32,

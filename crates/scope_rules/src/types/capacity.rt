@@ -27,7 +27,7 @@ pub const STEP_LOAD: u64 = 1;
 
 /// How much a realm takes: scopes and tasks since it began or was last retired, and units of load.
 /// Each is at least 1.
-#[derive(Clone, Copy, Debug, PartialEq, Eq)]
+#[derive(Clone, Copy, PartialEq, Eq)]
 pub struct Limits {
     pub scopes: u32,
     pub tasks: u32,

@@ -17,7 +17,7 @@ pub trait Catalog {
 }
 
 /// The catalog in which every end fits every label.
-#[derive(Clone, Copy, Debug, PartialEq, Eq)]
+#[derive(Clone, Copy)]
 pub struct AnyEnd;
 
 impl Catalog for AnyEnd {
@@ -32,7 +32,7 @@ impl Catalog for AnyEnd {
 
 /// The catalog in which an end fits where it is the one that its label expects, or a fault that the
 /// runtime makes.
-#[derive(Clone, Copy, Debug, PartialEq, Eq)]
+#[derive(Clone, Copy)]
 pub struct Due;
 
 impl Catalog for Due {

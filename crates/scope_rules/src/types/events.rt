@@ -3,7 +3,7 @@ use crate::types::names::Name;
 use crate::types::values::{Actor, End, Label, ScopeId, TaskId, Value};
 
 /// What the deadline of a scope means for its join.
-#[derive(Clone, Copy, Debug, PartialEq, Eq)]
+#[derive(Clone, Copy, PartialEq, Eq)]
 pub enum Expiry {
     /// The join answers that time ran out (Trio, `fail_after`).
     Fail,
@@ -12,7 +12,7 @@ pub enum Expiry {
 }
 
 /// What a scope is opened with, beside its joiner.
-#[derive(Clone, Copy, Debug, PartialEq, Eq)]
+#[derive(Clone, Copy, PartialEq, Eq)]
 pub struct Options {
     /// The moment, in milliseconds, at which the scope is cancelled unless it is joined before.
     pub deadline: Option<u64>,
@@ -23,14 +23,14 @@ pub struct Options {
 }
 
 /// A key and what it is bound to.
-#[derive(Clone, Copy, Debug, PartialEq, Eq)]
+#[derive(Clone, Copy)]
 pub struct Binding {
     pub key: Name,
     pub value: Value,
 }
 
 /// One accepted command, with its arguments. A list of events is all that a realm is made of.
-#[derive(Clone, Copy, Debug, PartialEq, Eq)]
+#[derive(Clone, Copy)]
 pub enum Event {
     /// The actor opened the next scope.
     Open {

@@ -4,7 +4,7 @@ use crate::types::joiners::Policy;
 use crate::types::values::{Actor, ScopeId};
 
 /// How far a scope has come.
-#[derive(Clone, Copy, Debug, PartialEq, Eq)]
+#[derive(Clone, Copy, PartialEq, Eq)]
 pub enum ScopeStage {
     Open,
     /// The beginning of a close covers it, its own or that of a scope that its owner opened before.
@@ -13,7 +13,7 @@ pub enum ScopeStage {
 }
 
 /// What there is to say of a scope by itself, without its tasks and what lies inside it.
-#[derive(Clone, Copy, Debug, PartialEq, Eq)]
+#[derive(Clone, Copy, PartialEq, Eq)]
 pub struct ScopeInfo {
     pub scope: ScopeId,
     /// Who opened it.

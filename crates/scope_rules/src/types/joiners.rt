@@ -1,5 +1,5 @@
 /// A rule that a list of completions meets or not, asked after each completion.
-#[derive(Clone, Copy, Debug, PartialEq, Eq)]
+#[derive(Clone, Copy, PartialEq, Eq)]
 pub enum Rule {
     /// At least so many completions failed.
     FailuresAtLeast(u32),
@@ -10,7 +10,7 @@ pub enum Rule {
 }
 
 /// A joiner as plain data: what a scope's join waits for, and what it answers (JEP 505, `Joiner`).
-#[derive(Clone, Copy, Debug, PartialEq, Eq)]
+#[derive(Clone, Copy, PartialEq, Eq)]
 pub enum Policy {
     /// `allSuccessfulOrThrow`: all values, or the first failure.
     All,

@@ -9,7 +9,7 @@ pub const NAME_LIMIT: usize = 24;
 
 /// A name of 1 to 24 bytes: the first in `a`..`z`, the others in `a`..`z`, `0`..`9`, `-`, `_`, `.`.
 /// It is kept inline, and the bytes after its text are 0, so that equal texts are equal names.
-#[derive(Clone, Copy, Debug, PartialEq, Eq, Hash)]
+#[derive(Clone, Copy, PartialEq, Eq, Hash)]
 pub struct Name {
     len: u8,
     bytes: [u8; NAME_LIMIT],

@@ -5,21 +5,21 @@ use crate::types::values::{Fault, ScopeId, TaskId, Value};
 use std::marker::Model;
 
 /// A task that succeeded, with its value.
-#[derive(Clone, Copy, Debug, PartialEq, Eq)]
+#[derive(Clone, Copy, PartialEq, Eq)]
 pub struct TaskValue {
     pub task: TaskId,
     pub value: Value,
 }
 
 /// A task with its state.
-#[derive(Clone, Copy, Debug, PartialEq, Eq)]
+#[derive(Clone, Copy, PartialEq, Eq)]
 pub struct TaskState {
     pub task: TaskId,
     pub state: State,
 }
 
 /// Tasks that succeeded, in fork order.
-#[derive(Debug, Drop)]
+#[derive(Drop)]
 pub struct TaskValues {
     items: Vec<TaskValue>,
 }
@@ -48,7 +48,7 @@ impl TaskValues {
 }
 
 /// Tasks with their states, in fork order.
-#[derive(Debug, Drop)]
+#[derive(Drop)]
 pub struct TaskStates {
     items: Vec<TaskState>,
 }
@@ -77,7 +77,7 @@ impl TaskStates {
 }
 
 /// What a join answered (JEP 505, `join` and the joiners' `result`).
-#[derive(Debug, Drop)]
+#[derive(Drop)]
 pub enum Outcome {
     /// All tasks succeeded.
     All(TaskValues),

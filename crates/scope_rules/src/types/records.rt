@@ -4,7 +4,7 @@ use crate::types::joiners::Policy;
 use crate::types::values::{Actor, End, Label, ScopeId};
 
 /// The opening of a scope: the event that gave its number, with the event's place in the history.
-#[derive(Clone, Copy, Debug, PartialEq, Eq)]
+#[derive(Clone, Copy)]
 pub struct Opening {
     pub place: usize,
     pub actor: Actor,
@@ -13,7 +13,7 @@ pub struct Opening {
 }
 
 /// The forking of a task: the event that gave its number, with the event's place in the history.
-#[derive(Clone, Copy, Debug, PartialEq, Eq)]
+#[derive(Clone, Copy)]
 pub struct Forking {
     pub place: usize,
     pub actor: Actor,
@@ -22,21 +22,21 @@ pub struct Forking {
 }
 
 /// The end of a task, with the place of its event in the history.
-#[derive(Clone, Copy, Debug, PartialEq, Eq)]
+#[derive(Clone, Copy)]
 pub struct Ending {
     pub place: usize,
     pub end: End,
 }
 
 /// A scope's own cancel: what made it, with the place of the event that did.
-#[derive(Clone, Copy, Debug, PartialEq, Eq)]
+#[derive(Clone, Copy)]
 pub struct OwnCancel {
     pub place: usize,
     pub kind: CauseKind,
 }
 
 /// Why a scope is cancelled, with the place of the event that did it.
-#[derive(Clone, Copy, Debug, PartialEq, Eq)]
+#[derive(Clone, Copy)]
 pub struct Cut {
     pub place: usize,
     pub cause: Cause,

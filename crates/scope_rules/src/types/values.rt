@@ -16,7 +16,7 @@ pub type Actor = u32;
 pub const MAIN: Actor = 0;
 
 /// What a task can give, and what a key can be bound to.
-#[derive(Clone, Copy, Debug, PartialEq, Eq)]
+#[derive(Clone, Copy, PartialEq, Eq)]
 pub enum Value {
     Num(i64),
     Text(Name),
@@ -37,14 +37,14 @@ impl Value {
 }
 
 /// Why a task failed.
-#[derive(Clone, Copy, Debug, PartialEq, Eq)]
+#[derive(Clone, Copy, PartialEq, Eq)]
 pub struct Fault(pub Name);
 
 /// How a task ended: with a value, or with a fault.
 pub type End = Result<Value, Fault>;
 
 /// What a forked job is called, and the end that is expected of it, where the caller knows one.
-#[derive(Clone, Copy, Debug, PartialEq, Eq)]
+#[derive(Clone, Copy, PartialEq, Eq)]
 pub struct Label {
     pub name: Name,
     pub due: Option<End>,
@@ -74,7 +74,7 @@ fn is_same_end(left: &End, right: &End) -> bool
 }
 
 /// A completion: a task, and how it ended.
-#[derive(Clone, Copy, Debug, PartialEq, Eq)]
+#[derive(Clone, Copy)]
 pub struct Completion {
     pub task: TaskId,
     pub end: End,

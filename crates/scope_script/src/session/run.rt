@@ -19,7 +19,7 @@ use std::io::{Read, Write};
 pub const PIECE: usize = 4096;
 
 /// Whether a run writes its replies.
-#[derive(Clone, Copy, Debug, PartialEq, Eq)]
+#[derive(Clone, Copy, PartialEq, Eq)]
 pub enum Mode {
     /// One line of reply a command.
     Replies,

@@ -6,7 +6,7 @@ use std::io::{Read, Write};
 
 /// A stream that remembers whether a call of it has failed, and how many reads were asked of it. A
 /// write that takes no byte of a piece that has some counts as failed.
-#[derive(Debug, Drop)]
+#[derive(Drop)]
 pub struct Watched<T: Drop> {
     inner: T,
     failed: bool,
@@ -14,7 +14,7 @@ pub struct Watched<T: Drop> {
 }
 
 /// A call of the stream failed.
-#[derive(Clone, Copy, Debug, PartialEq, Eq)]
+#[derive(Clone, Copy)]
 pub struct StreamFailed;
 
 impl<T: Drop> Watched<T> {
