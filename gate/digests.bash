@@ -91,6 +91,22 @@ is_of_line() {
     [[ -x $1 && -f $2 && $(sum <"$1") == "$(awk '{ print $1; exit }' "$2")" ]]
 }
 
+# is_carried: whether the carried program is whole, and of this kind of machine.
+is_carried() {
+    [[ $(uname -sm) == "Linux x86_64" ]] && is_of_line "$top/carried/scopectl" "$top/carried/line"
+}
+
+# program_of SOURCES: the program that was proved and built from these sources, the carried one or that which
+# was built here, if there is one.
+program_of() {
+    local built="$top/crates/scopectl/out"
+    if [[ $(sources_of_line "$top/carried/line") == "$1" ]] && is_carried; then
+        echo "$top/carried/scopectl"
+    elif [[ $(sources_of_line "$built/built") == "$1" ]] && is_of_line "$built/scopectl" "$built/built"; then
+        echo "$built/scopectl"
+    fi
+}
+
 # keep_program PROGRAM SOURCES: takes it for what ./scopectl has built.
 keep_program() {
     local out="$top/crates/scopectl/out"
