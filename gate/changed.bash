@@ -76,5 +76,6 @@ check_changed() {
         ((edit_count[$name] == 0)) || [[ -n ${tried_day[$name]:-} ]] || edits+=("$name")
     done
     ((${#edits[@]} == 0 || failed > 0)) || try_edits_of "${edits[@]}"
-    echo "test: ${#changed[@]} crates changed since $base, ${#above[@]} checked over kept work: $(($(processor_seconds) / 60)) processor minutes. This is not the gate"
+    take_time
+    echo "test: ${#changed[@]} crates changed since $base, ${#above[@]} checked over kept work, the edits of ${#edits[@]} tried: $minutes_taken processor minutes. This is not the gate"
 }

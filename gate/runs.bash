@@ -21,13 +21,14 @@ has_ended() {
     grep -q '^[0-9]* passed, [0-9]* failed' "$1"
 }
 
-# Seconds of the processor that all have taken which this shell has waited for.
-processor_seconds() {
+# Sets `minutes_taken` to the minutes of the processor that all have taken which this shell has waited for.
+# (In a subshell it would be that one's.)
+take_time() {
     times >"$room/times"
-    awk 'NR == 2 {
+    minutes_taken=$(awk 'NR == 2 {
         split($1, program, /[ms]/); split($2, kernel, /[ms]/)
-        printf "%d\n", (program[1] + kernel[1]) * 60 + program[2] + kernel[2]
-    }' "$room/times"
+        printf "%d", program[1] + kernel[1] + (program[2] + kernel[2]) / 60 + 0.5
+    }' "$room/times")
 }
 
 # The seconds that are left of the run's time.
