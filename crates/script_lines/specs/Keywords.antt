@@ -1,5 +1,5 @@
 -- The words that forms begin with.
-use Rattle.std.specs.Prelude.{ℕ, List, Option, Some, None, codes, if◌then◌else◌}
+use Rattle.std.specs.Prelude.{ℕ, List, [], ◌∷◌, Option, Some, None, codes, if◌then◌else◌}
 use Rattle.std.specs.Str.{bytes_eq}
 use Rattle.script_lines.specs.declared.keywords.Keyword.{Keyword}
 use Rattle.script_lines.specs.declared.keywords.Keyword.TheVariants as keyword
@@ -31,3 +31,8 @@ keyword_said word =
     else if bytes_eq word (codes "counts") then Some keyword.Counts
     else if bytes_eq word (codes "get") then Some keyword.Get
     else None
+
+-- the keyword that a table has beside the word, in its first row with that word
+abbrev pub keyword_beside : List (List ℕ × Keyword) → List ℕ → Option Keyword
+keyword_beside [] word = None
+keyword_beside (row ∷ rows) word = if bytes_eq word row.0 then Some row.1 else keyword_beside rows word
