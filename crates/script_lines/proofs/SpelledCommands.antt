@@ -24,7 +24,7 @@ use Rattle.script_lines.specs.Fields.{just_one, just_two, just_three}
 use Rattle.script_lines.specs.Joiners.{after}
 use Rattle.script_lines.specs.Keywords.{keyword_said}
 use Rattle.script_lines.specs.Openings.{policy_next, deadline_next, flag_next, opened, open_said}
-use Rattle.script_lines.specs.Forms.{number_alone, two_numbers, label_of, fork_said, ok_said, fail_said, new_deadline_said, move_said, tick_said, bind_said, get_said, form_said}
+use Rattle.script_lines.specs.Forms.{number_alone, two_numbers, label_of, fork_said, ok_said, fail_said, new_deadline_said, move_said, tick_said, bind_said, get_said, one_number_said, two_numbers_said, form_said}
 use Rattle.script_lines.specs.Lines.{command_said, fields_said}
 use Rattle.script_lines.specs.Spelling.{IsSmall, IsMoment, IsValue, IsEnd, IsPolicy, HasWords, WordsSayTheCommand, words_of, value_word, policy_word, option_words, end_words, new_deadline_word}
 use Rattle.script_lines.proofs.Numerals.{by_digits}
@@ -122,7 +122,7 @@ unfolding tick_said just_one
 tick_read now fits = let read = moment_read now fits in rw read refl
 
 pub words_say_the_command : WordsSayTheCommand
-unfolding words_of HasWords fields_said command_said keyword_said form_said
+unfolding words_of HasWords fields_said command_said keyword_said form_said one_number_said two_numbers_said
 words_say_the_command (command.Do (event.Open actor policy options)) fits = let read = open_read actor policy options fits.0 fits.1 fits.2 in rw read refl
 words_say_the_command (command.Do (event.Fork actor scope label)) fits = let read = fork_read actor scope label fits.0 fits.1 fits.2 in rw read refl
 words_say_the_command (command.Do (event.Reject task)) fits = let read = number_alone_read task fits in rw read refl

@@ -10,6 +10,10 @@ use Rattle.script_lines.specs.declared.commands.Question.TheVariants as question
 use Rattle.script_lines.specs.declared.commands.Command.TheVariants as command
 use Rattle.script_lines.specs.declared.keywords.Keyword.{Keyword}
 use Rattle.script_lines.specs.declared.keywords.Keyword.TheVariants as keyword
+use Rattle.script_lines.specs.declared.keywords.OneNumber.{OneNumber}
+use Rattle.script_lines.specs.declared.keywords.OneNumber.TheVariants as one
+use Rattle.script_lines.specs.declared.keywords.TwoNumbers.{TwoNumbers}
+use Rattle.script_lines.specs.declared.keywords.TwoNumbers.TheVariants as two
 use Rattle.script_lines.specs.Steps.{◌>>=◌}
 use Rattle.script_lines.specs.Fields.{just_one, just_two, just_three}
 use Rattle.script_lines.specs.Numbers.{small_said, moment_said}
@@ -94,28 +98,36 @@ get_said args = do
   key ← name_said words.1
   Some (command.Ask (question.Get actor key))
 
+-- the command of a form with this number
+unfoldable pub one_number_said : OneNumber → ℕ → Command
+one_number_said one.Reject n = command.Do (event.Reject n)
+one_number_said one.Start n = command.Do (event.Start n)
+one_number_said one.Cancel n = command.Do (event.Cancel n)
+one_number_said one.Unbind n = command.Do (event.Unbind n)
+one_number_said one.Retire n = command.Retire n
+one_number_said one.State n = command.Ask (question.State n)
+one_number_said one.Stage n = command.Ask (question.Stage n)
+one_number_said one.Cause n = command.Ask (question.Cause n)
+one_number_said one.Until n = command.Ask (question.Until n)
+one_number_said one.Counts n = command.Ask (question.Counts n)
+
+-- the command of a form with these numbers
+unfoldable pub two_numbers_said : TwoNumbers → ℕ → ℕ → Command
+two_numbers_said two.Join a b = command.Do (event.Join a b)
+two_numbers_said two.Close a b = command.Do (event.BeginClose a b)
+two_numbers_said two.Closed a b = command.Do (event.EndClose a b)
+two_numbers_said two.ResultOf a b = command.Ask (question.Result a b)
+two_numbers_said two.FaultOf a b = command.Ask (question.Fault a b)
+
 -- the command with this keyword and these arguments
 unfoldable pub form_said : Keyword → List (List ℕ) → Option Command
 form_said keyword.Open args = open_said args
 form_said keyword.Fork args = fork_said args
-form_said keyword.Reject args = option_map (λ n. command.Do (event.Reject n)) (number_alone args)
-form_said keyword.Start args = option_map (λ n. command.Do (event.Start n)) (number_alone args)
 form_said keyword.Succeed args = ok_said args
 form_said keyword.Fail args = fail_said args
-form_said keyword.Cancel args = option_map (λ n. command.Do (event.Cancel n)) (number_alone args)
 form_said keyword.Move args = move_said args
 form_said keyword.Tick args = tick_said args
 form_said keyword.Bind args = bind_said args
-form_said keyword.Unbind args = option_map (λ n. command.Do (event.Unbind n)) (number_alone args)
-form_said keyword.Join args = option_map (λ n. command.Do (event.Join n.0 n.1)) (two_numbers args)
-form_said keyword.Close args = option_map (λ n. command.Do (event.BeginClose n.0 n.1)) (two_numbers args)
-form_said keyword.Closed args = option_map (λ n. command.Do (event.EndClose n.0 n.1)) (two_numbers args)
-form_said keyword.Retire args = option_map command.Retire (number_alone args)
-form_said keyword.State args = option_map (λ n. command.Ask (question.State n)) (number_alone args)
-form_said keyword.Stage args = option_map (λ n. command.Ask (question.Stage n)) (number_alone args)
-form_said keyword.ResultOf args = option_map (λ n. command.Ask (question.Result n.0 n.1)) (two_numbers args)
-form_said keyword.FaultOf args = option_map (λ n. command.Ask (question.Fault n.0 n.1)) (two_numbers args)
-form_said keyword.Cause args = option_map (λ n. command.Ask (question.Cause n)) (number_alone args)
-form_said keyword.Until args = option_map (λ n. command.Ask (question.Until n)) (number_alone args)
-form_said keyword.Counts args = option_map (λ n. command.Ask (question.Counts n)) (number_alone args)
 form_said keyword.Get args = get_said args
+form_said (keyword.OneNumber form) args = option_map (λ n. one_number_said form n) (number_alone args)
+form_said (keyword.TwoNumbers form) args = option_map (λ n. two_numbers_said form n.0 n.1) (two_numbers args)

@@ -1,10 +1,10 @@
 ghost use Rattle.std.specs.Prelude.{◌≡◌};
 ghost use Rattle.script_lines.specs.Fields.{fields};
-ghost use Rattle.script_lines.specs.Forms.{number_alone, two_numbers, fork_said, ok_said, fail_said, new_deadline_said, move_said, tick_said, bind_said, get_said, form_said};
+ghost use Rattle.script_lines.specs.Forms.{number_alone, two_numbers, fork_said, ok_said, fail_said, new_deadline_said, move_said, tick_said, bind_said, get_said, one_number_said, two_numbers_said, form_said};
 
 use crate::commands::{Command, Question};
 use crate::fields::{just_one, just_three, just_two};
-use crate::keywords::Keyword;
+use crate::keywords::{Keyword, OneNumber, TwoNumbers};
 use crate::numbers::{moment, small};
 use crate::openings::open;
 use crate::words::{name, value};
@@ -24,36 +24,59 @@ pub fn form(keyword: Keyword, args: &[u8]) -> Option<Command>
         Keyword::Tick => tick(args),
         Keyword::Bind => bind(args),
         Keyword::Get => get(args),
-        Keyword::Reject => number_alone(args).map(|task| Command::Do(Event::Reject { task })),
-        Keyword::Start => number_alone(args).map(|task| Command::Do(Event::Start { task })),
-        Keyword::Cancel => number_alone(args).map(|scope| Command::Do(Event::Cancel { scope })),
-        Keyword::Unbind => number_alone(args).map(|actor| Command::Do(Event::Unbind { actor })),
-        Keyword::Retire => number_alone(args).map(|actor| Command::Retire { actor }),
-        Keyword::State => number_alone(args).map(|task| Command::Ask(Question::State { task })),
-        Keyword::Stage => number_alone(args).map(|task| Command::Ask(Question::Stage { task })),
-        Keyword::Cause => number_alone(args).map(|scope| Command::Ask(Question::Cause { scope })),
-        Keyword::Until => number_alone(args).map(|scope| Command::Ask(Question::Until { scope })),
-        Keyword::Counts => number_alone(args).map(|scope| Command::Ask(Question::Counts { scope })),
-        Keyword::Join => two_numbers(args).map(|(actor, scope)| Command::Do(Event::Join {
+        Keyword::OneNumber(form) => Some(one_number(form, number_alone(args)?)),
+        Keyword::TwoNumbers(form) => {
+            let (first, second) = two_numbers_alone(args)?;
+            Some(two_numbers(form, first, second))
+        }
+    }
+}
+
+/// The command of a form with this number.
+#[tactic(auto, unfolding(crate::specs::Forms::one_number_said))]
+fn one_number(form: OneNumber, number: u32) -> Command
+    ensures { result ≡ one_number_said form number }
+{
+    match form {
+        OneNumber::Reject => Command::Do(Event::Reject { task: number }),
+        OneNumber::Start => Command::Do(Event::Start { task: number }),
+        OneNumber::Cancel => Command::Do(Event::Cancel { scope: number }),
+        OneNumber::Unbind => Command::Do(Event::Unbind { actor: number }),
+        OneNumber::Retire => Command::Retire { actor: number },
+        OneNumber::State => Command::Ask(Question::State { task: number }),
+        OneNumber::Stage => Command::Ask(Question::Stage { task: number }),
+        OneNumber::Cause => Command::Ask(Question::Cause { scope: number }),
+        OneNumber::Until => Command::Ask(Question::Until { scope: number }),
+        OneNumber::Counts => Command::Ask(Question::Counts { scope: number }),
+    }
+}
+
+/// The command of a form with these numbers, the first of which is the actor.
+#[tactic(auto, unfolding(crate::specs::Forms::two_numbers_said))]
+fn two_numbers(form: TwoNumbers, actor: u32, number: u32) -> Command
+    ensures { result ≡ two_numbers_said form actor number }
+{
+    match form {
+        TwoNumbers::Join => Command::Do(Event::Join {
             actor,
-            scope,
-        })),
-        Keyword::Close => two_numbers(args).map(|(actor, scope)| Command::Do(Event::BeginClose {
+            scope: number,
+        }),
+        TwoNumbers::Close => Command::Do(Event::BeginClose {
             actor,
-            scope,
-        })),
-        Keyword::Closed => two_numbers(args).map(|(actor, scope)| Command::Do(Event::EndClose {
+            scope: number,
+        }),
+        TwoNumbers::Closed => Command::Do(Event::EndClose {
             actor,
-            scope,
-        })),
-        Keyword::ResultOf => two_numbers(args).map(|(actor, task)| Command::Ask(Question::Result {
+            scope: number,
+        }),
+        TwoNumbers::ResultOf => Command::Ask(Question::Result {
             actor,
-            task,
-        })),
-        Keyword::FaultOf => two_numbers(args).map(|(actor, task)| Command::Ask(Question::Fault {
+            task: number,
+        }),
+        TwoNumbers::FaultOf => Command::Ask(Question::Fault {
             actor,
-            task,
-        })),
+            task: number,
+        }),
     }
 }
 
@@ -67,7 +90,7 @@ fn number_alone(args: &[u8]) -> Option<u32>
 
 /// The numbers that are the two arguments.
 #[tactic(auto, unfolding(crate::specs::Forms::two_numbers))]
-fn two_numbers(args: &[u8]) -> Option<(u32, u32)>
+fn two_numbers_alone(args: &[u8]) -> Option<(u32, u32)>
     ensures { result ≡ two_numbers (fields args.now) }
 {
     let (first, second) = just_two(args)?;

@@ -6,53 +6,65 @@ ghost use Rattle.script_lines.specs.Keywords.{keyword_beside, keyword_said};
 pub enum Keyword {
     Open,
     Fork,
-    Reject,
-    Start,
     Succeed,
     Fail,
-    Cancel,
     Move,
     Tick,
     Bind,
+    Get,
+    OneNumber(OneNumber),
+    TwoNumbers(TwoNumbers),
+}
+
+/// The first word of a form with one number.
+#[derive(Clone, Copy)]
+pub enum OneNumber {
+    Reject,
+    Start,
+    Cancel,
     Unbind,
-    Join,
-    Close,
-    Closed,
     Retire,
     State,
     Stage,
-    ResultOf,
-    FaultOf,
     Cause,
     Until,
     Counts,
-    Get,
+}
+
+/// The first word of a form with two numbers.
+#[derive(Clone, Copy)]
+pub enum TwoNumbers {
+    Join,
+    Close,
+    Closed,
+    ResultOf,
+    FaultOf,
 }
 
 /// Each word that a form begins with, and its keyword.
 const KEYWORDS: [(&[u8], Keyword); 23] = [
     (b"open", Keyword::Open),
     (b"fork", Keyword::Fork),
-    (b"reject", Keyword::Reject),
-    (b"start", Keyword::Start),
+    (b"reject", Keyword::OneNumber(OneNumber::Reject)),
+    (b"start", Keyword::OneNumber(OneNumber::Start)),
     (b"ok", Keyword::Succeed),
     (b"fail", Keyword::Fail),
-    (b"cancel", Keyword::Cancel),
+    (b"cancel", Keyword::OneNumber(OneNumber::Cancel)),
     (b"move", Keyword::Move),
     (b"tick", Keyword::Tick),
     (b"bind", Keyword::Bind),
-    (b"unbind", Keyword::Unbind),
-    (b"join", Keyword::Join),
-    (b"close", Keyword::Close),
-    (b"closed", Keyword::Closed),
-    (b"retire", Keyword::Retire),
-    (b"state", Keyword::State),
-    (b"stage", Keyword::Stage),
-    (b"result", Keyword::ResultOf),
-    (b"fault", Keyword::FaultOf),
-    (b"cause", Keyword::Cause),
-    (b"until", Keyword::Until),
-    (b"counts", Keyword::Counts),
+    (b"unbind", Keyword::OneNumber(OneNumber::Unbind)),
+    (b"join", Keyword::TwoNumbers(TwoNumbers::Join)),
+    (b"close", Keyword::TwoNumbers(TwoNumbers::Close)),
+    (b"closed", Keyword::TwoNumbers(TwoNumbers::Closed)),
+    (b"retire", Keyword::OneNumber(OneNumber::Retire)),
+    (b"state", Keyword::OneNumber(OneNumber::State)),
+    (b"stage", Keyword::OneNumber(OneNumber::Stage)),
+    (b"result", Keyword::TwoNumbers(TwoNumbers::ResultOf)),
+    (b"fault", Keyword::TwoNumbers(TwoNumbers::FaultOf)),
+    (b"cause", Keyword::OneNumber(OneNumber::Cause)),
+    (b"until", Keyword::OneNumber(OneNumber::Until)),
+    (b"counts", Keyword::OneNumber(OneNumber::Counts)),
     (b"get", Keyword::Get),
 ];
 
