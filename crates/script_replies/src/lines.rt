@@ -10,7 +10,7 @@ use arrayvec::ArrayString;
 use scope_rules::{Effective, ForkReply};
 use std::alloc::AllocError;
 use std::fmt;
-use std::fmt::Write;
+use std::fmt::{Display, Write};
 
 /// The line of the reply, without the line feed.
 impl fmt::Display for Reply {
@@ -18,37 +18,38 @@ impl fmt::Display for Reply {
 
     #[tactic(auto, unfolding(crate::specs::ReplyText::reply_text))]
     fn fmt<W: fmt::Write>(&self, f: &mut fmt::Formatter<W>) -> fmt::Result {
-        match self {
-            Reply::Scope(scope) => write!(f, "scope {scope}"),
-            Reply::Task(ForkReply::Thread(task)) => write!(f, "task {task} thread"),
-            Reply::Task(ForkReply::Never(task)) => write!(f, "task {task} none"),
-            Reply::Rejected => f.write_str("rejected"),
-            Reply::Started => f.write_str("started"),
-            Reply::Finished => f.write_str("finished"),
-            Reply::Cancelled => f.write_str("cancelled"),
-            Reply::Already => f.write_str("already"),
-            Reply::Moved => f.write_str("moved"),
-            Reply::Moment(moment) => write!(f, "moment {moment}"),
-            Reply::Bound => f.write_str("bound"),
-            Reply::Unbound => f.write_str("unbound"),
-            Reply::Outcome(outcome) => write!(f, "{}", ShownOutcome(outcome)),
-            Reply::Closing => f.write_str("closing"),
-            Reply::Closed(verdict) => f.write_str(closed_line(*verdict)),
-            Reply::Retired { scopes, tasks } => write!(f, "retired {scopes} {tasks}"),
-            Reply::State(state) => f.write_str(state_line(*state)),
-            Reply::Stage(stage) => f.write_str(stage_line(*stage)),
-            Reply::Value(value) => write!(f, "value {}", ShownValue(*value)),
-            Reply::Fault(fault) => write!(f, "fault {}", ShownFault(*fault)),
-            Reply::Cause(None) => f.write_str("live"),
+        let words = match self {
+            Reply::Rejected => "rejected",
+            Reply::Started => "started",
+            Reply::Finished => "finished",
+            Reply::Cancelled => "cancelled",
+            Reply::Already => "already",
+            Reply::Moved => "moved",
+            Reply::Bound => "bound",
+            Reply::Unbound => "unbound",
+            Reply::Closing => "closing",
+            Reply::Closed(verdict) => closed_line(*verdict),
+            Reply::State(state) => state_line(*state),
+            Reply::Stage(stage) => stage_line(*stage),
+            Reply::Cause(None) => "live",
+            Reply::Until(Effective::Past) => "past",
+            Reply::Until(Effective::Never) => "never",
+            Reply::Scope(scope) => return write!(f, "scope {scope}"),
+            Reply::Task(ForkReply::Thread(task)) => return write!(f, "task {task} thread"),
+            Reply::Task(ForkReply::Never(task)) => return write!(f, "task {task} none"),
+            Reply::Moment(moment) => return write!(f, "moment {moment}"),
+            Reply::Outcome(outcome) => return ShownOutcome(outcome).fmt(f),
+            Reply::Retired { scopes, tasks } => return write!(f, "retired {scopes} {tasks}"),
+            Reply::Value(value) => return write!(f, "value {}", ShownValue(*value)),
+            Reply::Fault(fault) => return write!(f, "fault {}", ShownFault(*fault)),
             Reply::Cause(Some(cause)) => {
-                write!(f, "cancelled {} {}", cause.scope, kind_word(cause.kind))
+                return write!(f, "cancelled {} {}", cause.scope, kind_word(cause.kind));
             }
-            Reply::Until(Effective::Past) => f.write_str("past"),
-            Reply::Until(Effective::At(moment)) => write!(f, "at {moment}"),
-            Reply::Until(Effective::Never) => f.write_str("never"),
-            Reply::Counts(counts) => write!(f, "{}", ShownCounts(*counts)),
-            Reply::Refused(refusal) => write!(f, "{refusal}"),
-        }
+            Reply::Until(Effective::At(moment)) => return write!(f, "at {moment}"),
+            Reply::Counts(counts) => return ShownCounts(*counts).fmt(f),
+            Reply::Refused(refusal) => return refusal.fmt(f),
+        };
+        f.write_str(words)
     }
 }
 
