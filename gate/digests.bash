@@ -52,14 +52,15 @@ files() {
     ((${#there[@]} == 0)) || (cd "$top/crates" && find "${there[@]}" -type f -print0 | LC_ALL=C sort -z | xargs -0 sha256sum)
 }
 
-# sources NAME..: the lines of crates.txt of these crates, and each file that a proof of one of them reads.
+# sources NAME..: the lines of crates.txt of these crates, whatever their order, and each file that a proof of
+# one of them reads.
 sources() {
     awk -v names="$*" '
         BEGIN { count = split(names, list, " "); for (i = 1; i <= count; i++) wanted[list[i]] = 1 }
         /^[ \t]*(#|$)/ { next }
         { sub(/[ \t]*#.*/, ""); split($0, words, /[ \t:]+/) }
         words[1] in wanted
-    ' "$top/crates.txt"
+    ' "$top/crates.txt" | LC_ALL=C sort
     local name folders=()
     for name; do folders+=("$name/src" "$name/specs" "$name/proofs"); done
     files "${folders[@]}"
