@@ -2,11 +2,12 @@
 //! alike; the logs of both tell the same, and so do their dumps.
 
 use crate::plain::reply_of;
+use crate::scripts::{CLOSES, JOINS, LIMITED, REFUSALS};
 use crate::{dumps, logs};
 use scope_book::BookState;
 use scope_model::Plain;
-use scope_rules::{AnyEnd, Event, Limits, Name, Refusal, ScopeId};
-use scope_script::{Command, Line, Question, Reply, append_line, perform, read_line};
+use scope_rules::{AnyEnd, Event, Limits, Name, ScopeId};
+use scope_script::{Command, Line, Question, append_line, perform, read_line};
 use std::alloc::Global;
 use std::process::Abort;
 use std::test::Fail;
@@ -16,7 +17,7 @@ const NUMBERS: u32 = 8;
 
 /// Both, and what was answered to the last command.
 #[derive(Drop)]
-pub struct Both {
+struct Both {
     book: BookState<AnyEnd>,
     plain: Plain,
     by_book: Vec<u8>,
@@ -24,7 +25,7 @@ pub struct Both {
 }
 
 impl Both {
-    pub fn new(alloc: Global, limits: Limits) -> Both {
+    fn new(alloc: Global, limits: Limits) -> Both {
         Both {
             book: BookState::new(alloc, limits),
             plain: Plain::new(alloc, limits),
@@ -114,22 +115,12 @@ impl Both {
         }
     }
 
-    /// Tells both the line, and then asks both everything and compares their dumps. What the line is answered goes to the end of
-    /// `replies`.
-    fn line(
-        &mut self,
-        rt: &(impl Abort + AllocGlobal),
-        line: &str,
-        replies: &mut Vec<u8>,
-    ) -> Result<(), Fail> {
-        match read_line(line.as_bytes()) {
-            Line::Silent => {}
-            Line::BadWord => append_line(replies, &Reply::Refused(Refusal::BadWord))?,
-            Line::Command(command) => {
-                self.tell_line(rt, command, line)?;
-                replies.extend_from_slice(&self.by_plain)?;
-            }
-        }
+    /// Tells both the line, which is a command, and then asks both everything and compares their dumps.
+    fn line(&mut self, rt: &(impl Abort + AllocGlobal), line: &str) -> Result<(), Fail> {
+        let Line::Command(command) = read_line(line.as_bytes()) else {
+            return Err(Fail::from("a command"));
+        };
+        self.tell_line(rt, command, line)?;
         for number in 0..NUMBERS {
             self.ask_of(rt, number, line)?;
             self.compare_log(rt, number, line)?;
@@ -138,15 +129,48 @@ impl Both {
     }
 
     /// Tells both the lines that ` / ` parts.
-    pub fn lines(
-        &mut self,
-        rt: &(impl Abort + AllocGlobal),
-        script: &str,
-        replies: &mut Vec<u8>,
-    ) -> Result<(), Fail> {
+    fn lines(&mut self, rt: &(impl Abort + AllocGlobal), script: &str) -> Result<(), Fail> {
         for line in script.split(" / ") {
-            self.line(rt, line, replies)?;
+            self.line(rt, line)?;
         }
         Ok(())
     }
+}
+
+/// Tells both the lines of the script, in realms of these limits.
+fn play(rt: &(impl Abort + AllocGlobal), limits: Limits, script: &str) -> Result<(), Fail> {
+    let mut both = Both::new(rt.alloc(), limits);
+    both.lines(rt, script)
+}
+
+/// Tells both the lines of each script, in realms that take as much as one can.
+fn play_all(rt: &(impl Abort + AllocGlobal), scripts: &[&str]) -> Result<(), Fail> {
+    for script in scripts {
+        play(rt, Limits::GREATEST, script)?;
+    }
+    Ok(())
+}
+
+#[test]
+fn joiners_and_cancels(rt: HostRuntime) -> Result<(), Fail> {
+    play_all(&rt, &JOINS)
+}
+
+#[test]
+fn closes_and_bindings(rt: HostRuntime) -> Result<(), Fail> {
+    play_all(&rt, &CLOSES)
+}
+
+#[test]
+fn checks_and_forms(rt: HostRuntime) -> Result<(), Fail> {
+    play_all(&rt, &REFUSALS)
+}
+
+#[test]
+fn limits_that_are_met(rt: HostRuntime) -> Result<(), Fail> {
+    for ((scopes, tasks, load), script) in LIMITED {
+        let limits = Limits::new(scopes, tasks, load).ok_or("limits")?;
+        play(&rt, limits, script)?;
+    }
+    Ok(())
 }

@@ -1,6 +1,6 @@
-//! Tests of the script engine, of what no contract says: that runs succeed where there is memory, what
-//! streams that fail or are short make of them, and values from outside. Each row of a table of scripts
-//! is run once through `run`, and its lines once on a book and the plain evaluator, side by side.
+//! Tests of the script engine, of what no contract says and no script of the program can say: that the book
+//! answers as the plain evaluator does, line by line, and what streams that fail or are short make of a run.
+//! What a script is answered is tested by `crates/scopectl/test-program`.
 #![tactic(auto)]
 
 #[cfg(test)]
@@ -14,16 +14,12 @@ mod engine;
 #[cfg(test)]
 mod logs;
 #[cfg(test)]
-mod long_run;
-#[cfg(test)]
 mod plain;
 #[cfg(test)]
 mod readers;
 #[cfg(test)]
-mod refusals;
-#[cfg(test)]
-mod rows;
+mod scripts;
 #[cfg(test)]
 mod streams;
 #[cfg(test)]
-mod worked;
+mod texts;

@@ -2,7 +2,7 @@
 //! answers of the scope, and by its lines.
 
 use crate::plain::reply_of;
-use crate::rows::lines;
+use crate::texts::lines;
 use scope_book::BookState;
 use scope_log::{LogEntry, Preview, ScopeLog};
 use scope_model::Plain;

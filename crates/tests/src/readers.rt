@@ -1,7 +1,7 @@
 //! What the readers of the tree of scopes answer, each asked by itself: of a realm with scopes inside one
 //! another and inside a task, and of one that was retired.
 
-use crate::rows::lines;
+use crate::texts::lines;
 use scope_book::BookState;
 use scope_rules::{
     AnyEnd, Cause, CauseKind, Expiry, Limits, Policy, Refusal, Rule, ScopeId, ScopeInfo,

@@ -1,9 +1,9 @@
-//! Streams that fail in mid-run, or give and take little, and scripts that are cut.
+//! Streams that fail in mid-run, or give and take little.
 
 ghost use Rattle.std.specs.Prelude.{◌≤◌, length};
 
 use crate::doubles::{FullWriter, LateWriter, ShortWriter, SlowReader};
-use crate::rows::{answers, lines};
+use crate::texts::lines;
 use scope_rules::{Limits, State};
 use scope_script::{Mode, ScriptFault, Watched, run};
 use std::process::Abort;
@@ -129,53 +129,20 @@ fn replied(script: &[u8], replies: &[u8]) -> usize
     replies.len()
 }
 
-/// Cut at each byte, a script has its last line refused; a reader that fails there leaves the replies
-/// to the whole lines.
+/// A reader that fails after some bytes of a script leaves the replies to the whole lines of them.
 #[test]
-fn scripts_that_are_cut(rt: HostRuntime) -> Result<(), Fail> {
+fn readers_that_fail(rt: HostRuntime) -> Result<(), Fail> {
     let script = lines(&rt, SHIELDED)?;
     let replies = lines(&rt, SHIELDED_REPLIES)?;
     for cut in 0..script.len() + 1 {
         let bytes = &script.as_bytes()[..cut];
         let whole = replied(bytes, replies.as_bytes());
         let (written, fault) = read_slowly(&rt, bytes, 7, true)?;
-        assert_eq!(rt; fault, Some(ScriptFault::Read));
+        let is_begun = written.as_slice() == &replies.as_bytes()[..whole];
         assert!(rt;
-            written.as_slice() == &replies.as_bytes()[..whole],
+            is_begun && fault == Some(ScriptFault::Read),
             "after {cut} bytes"
         );
-        let mut wanted = Vec::new(rt.alloc());
-        wanted.extend_from_slice(&replies.as_bytes()[..whole])?;
-        if cut > 0 && bytes[cut - 1] != b'\n' {
-            wanted.extend_from_slice(b"refused 18 bad-word\n".as_slice())?;
-        }
-        answers(&rt, Limits::GREATEST, bytes, &wanted)?;
-    }
-    Ok(())
-}
-
-/// A line of so many bytes: `first`, and then `rest` again and again.
-fn long_line(rt: &impl AllocGlobal, first: u8, rest: u8, length: usize) -> Result<Vec<u8>, Fail> {
-    let mut line = Vec::new(rt.alloc());
-    line.push(first)?;
-    for _ in 1..length {
-        line.push(rest)?;
-    }
-    line.push(b'\n')?;
-    Ok(line)
-}
-
-/// A line has at most 200 bytes.
-#[test]
-fn long_lines(rt: HostRuntime) -> Result<(), Fail> {
-    for (first, rest, length, wanted) in [
-        (b'#', b'x', 200, ""),
-        (b'#', b'x', 201, "refused 18 bad-word\n"),
-        (b' ', b' ', 200, ""),
-        (b' ', b' ', 10_000, "refused 18 bad-word\n"),
-    ] {
-        let line = long_line(&rt, first, rest, length)?;
-        answers(&rt, Limits::GREATEST, &line, wanted.as_bytes())?;
     }
     Ok(())
 }
@@ -183,11 +150,14 @@ fn long_lines(rt: HostRuntime) -> Result<(), Fail> {
 /// A run asks 70,000 reads of a byte each, and more.
 #[test]
 fn many_reads(rt: HostRuntime) -> Result<(), Fail> {
-    let mut script = long_line(&rt, b'x', b'x', 70_000)?;
-    script.extend_from_slice(b"tick 5\n".as_slice())?;
+    let mut script = Vec::new(rt.alloc());
+    for _ in 0..70_000u32 {
+        script.push(b'x')?;
+    }
+    script.extend_from_slice(b"\ntick 5\n".as_slice())?;
     let (written, fault) = read_slowly(&rt, &script, 1, false)?;
-    assert_eq!(rt; fault, None);
-    assert!(rt; written.as_slice() == b"refused 18 bad-word\nmoment 5\n".as_slice());
+    let is_whole = written.as_slice() == b"refused 18 bad-word\nmoment 5\n".as_slice();
+    assert!(rt; is_whole && fault.is_none(), "it wrote other replies");
     Ok(())
 }
 
