@@ -15,19 +15,28 @@ struct Row {
     wanted: Result<&'static str, NoAnswer>,
 }
 
+/// Whether the answer, or the reason why there is none, is the wanted one.
+fn is_wanted(found: &Result<String, NoAnswer>, wanted: Result<&str, NoAnswer>) -> bool {
+    match (found, wanted) {
+        (Ok(line), Ok(text)) => line.as_str() == text,
+        (Err(why), Err(reason)) => *why == reason,
+        _ => false,
+    }
+}
+
 fn check(rt: &(impl Abort + AllocGlobal), row: &Row, expiry: Expiry) -> Result<(), Fail> {
     let plan = plan(rt, row.plan)?;
-    match (answered(rt.alloc(), &plan, expiry, row.steps)?, row.wanted) {
-        (Ok(line), Ok(wanted)) => assert_eq!(rt; line.as_str(), wanted, "{}", row.plan),
-        (Err(why), Err(wanted)) => assert_eq!(rt; why, wanted, "{}", row.plan),
-        (Ok(line), Err(_)) => assert!(rt; false, "{}: it answered {line}", row.plan),
-        (Err(_), Ok(_)) => assert!(rt; false, "{}: no answer", row.plan),
-    }
+    let found = answered(rt.alloc(), &plan, expiry, row.steps)?;
+    assert!(rt;
+        is_wanted(&found, row.wanted),
+        "{} has another answer",
+        row.plan
+    );
     Ok(())
 }
 
-/// Each job ends as its offer says.
-const ANSWERED: [Row; 20] = [
+/// Each job that ends does so as its offer says, in an order by which the answer goes, or must not go.
+const ANSWERED: [Row; 11] = [
     Row {
         plan: "mode best / offer a 905 / offer b 899 / offer c 899",
         steps: &[Ends(2), Ends(1), Ends(0)],
@@ -39,44 +48,9 @@ const ANSWERED: [Row; 20] = [
         wanted: Ok("best a 3"),
     },
     Row {
-        plan: "mode best / offer a fail x / offer b 7 / offer c fail y",
-        steps: &[Ends(0), Ends(1), Ends(2)],
-        wanted: Ok("best b 7"),
-    },
-    Row {
-        plan: "mode best / offer a 999999999999 / offer b 0",
-        steps: &[Ends(0), Ends(1)],
-        wanted: Ok("best b 0"),
-    },
-    Row {
-        plan: "mode best / offer a fail x / offer b fail y",
-        steps: &[Ends(0), Ends(1)],
-        wanted: Ok("none"),
-    },
-    Row {
-        plan: "mode best",
-        steps: &[],
-        wanted: Ok("none"),
-    },
-    Row {
         plan: "mode all / offer a 5 / offer b 0",
         steps: &[Ends(1), Ends(0)],
         wanted: Ok("all a=5 b=0"),
-    },
-    Row {
-        plan: "mode all / offer z 1 / offer a 2 / offer m 3",
-        steps: &[Ends(0), Ends(1), Ends(2)],
-        wanted: Ok("all z=1 a=2 m=3"),
-    },
-    Row {
-        plan: "mode all",
-        steps: &[],
-        wanted: Ok("all"),
-    },
-    Row {
-        plan: "mode all / offer a 5 / offer b fail down",
-        steps: &[Ends(0), Ends(1)],
-        wanted: Ok("failed b down"),
     },
     Row {
         plan: "mode all / offer a 5 / offer b fail down",
@@ -90,16 +64,6 @@ const ANSWERED: [Row; 20] = [
     },
     Row {
         plan: "mode all / offer a fail x / offer b fail y",
-        steps: &[Ends(0)],
-        wanted: Ok("failed a x"),
-    },
-    Row {
-        plan: "mode first",
-        steps: &[],
-        wanted: Ok("empty"),
-    },
-    Row {
-        plan: "mode first / offer a fail x",
         steps: &[Ends(0)],
         wanted: Ok("failed a x"),
     },
@@ -280,39 +244,29 @@ fn scopes_that_are_cancelled(rt: HostRuntime) -> Result<(), Fail> {
     Ok(())
 }
 
-/// Why the plan has no answer after this outcome.
-fn unanswered(
-    rt: &impl AllocGlobal,
-    plan: &Plan,
-    tasks: &[TaskState],
-    outcome: Outcome,
-) -> Result<NoAnswer, Fail> {
-    match answer(rt.alloc(), plan, tasks, &outcome) {
-        Ok(_) => Err(Fail::from("no answer")),
-        Err(why) => Ok(why),
-    }
+/// Whether the plan has no answer after this outcome, since it would rest on an end that is not the offer's.
+fn is_lost(rt: &impl AllocGlobal, plan: &Plan, tasks: &[TaskState], outcome: Outcome) -> bool {
+    matches!(
+        answer(rt.alloc(), plan, tasks, &outcome),
+        Err(NoAnswer::Lost)
+    )
 }
 
 #[test]
 fn outcomes_that_the_joiner_never_gives(rt: HostRuntime) -> Result<(), Fail> {
     let plan = plan(&rt, "mode all / offer a 5")?;
+    let value = Value::Num(5);
     let tasks = [TaskState {
         task: 1,
-        state: State::Success(Value::Num(5)),
+        state: State::Success(value),
     }];
-    let any = Outcome::Any {
-        task: 1,
-        value: Value::Num(5),
-    };
-    assert_eq!(rt;
-        unanswered(&rt, &plan, &tasks, Outcome::Done)?,
-        NoAnswer::Lost
+    let any = Outcome::Any { task: 1, value };
+    assert!(rt;
+        is_lost(&rt, &plan, &tasks, Outcome::Done)
+            && is_lost(&rt, &plan, &tasks, Outcome::Empty)
+            && is_lost(&rt, &plan, &tasks, any),
+        "it has an answer"
     );
-    assert_eq!(rt;
-        unanswered(&rt, &plan, &tasks, Outcome::Empty)?,
-        NoAnswer::Lost
-    );
-    assert_eq!(rt; unanswered(&rt, &plan, &tasks, any)?, NoAnswer::Lost);
     Ok(())
 }
 

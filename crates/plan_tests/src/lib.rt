@@ -1,5 +1,6 @@
-//! Tests of plans and of their answers, of what no contract says: that plans are read where there is
-//! memory, values from outside, and that the outcomes that joiners really give are answered.
+//! Tests of plans and of their answers, of what no contract says and no plan of the program can say: what a
+//! plan holds, and that the outcomes that joiners really give are answered, whatever the jobs' order and ends.
+//! Which plans are read, and their answers, are tested by `crates/scopectl/test-program`.
 #![tactic(auto)]
 
 #[cfg(test)]
