@@ -1,4 +1,4 @@
-//! Calls that no script makes: the example of README.md, and an open that hands its joiner back.
+//! Calls that no script makes: the example of docs/BOOK.md, and an open that hands its joiner back.
 
 use crate::closures::joiner_of;
 use join_rules::Joiner;
@@ -13,7 +13,7 @@ use std::test::Fail;
 
 type Book = BookState<AnyEnd>;
 
-/// The example of README.md.
+/// The example of docs/BOOK.md.
 fn one_task(
     book: &mut BookState<AnyEnd>,
     options: Options,
