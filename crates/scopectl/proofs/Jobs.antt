@@ -10,13 +10,13 @@ use Rattle.scope_script.specs.declared.session.run.Mode.TheVariants.{Quiet, Repl
 use Rattle.scope_script.specs.declared.session.run.ScriptFault.{ScriptFault}
 use Rattle.scope_script.specs.declared.session.run.ScriptFault.TheVariants as ended
 use Rattle.tree_dump.specs.Tree.{dump_text}
-use Rattle.scopectl.specs.CommandLine.{Says}
+use Rattle.command_line.specs.CommandLine.{Says}
 use Rattle.scopectl.specs.Naming.{CameFrom, NamesFault}
 use Rattle.scopectl.specs.Program.{AnswersPlan, DidAsSaid, DidJob, DidPart, DidPartly, FailedAtEnd, Made, Makes, ReadSome, WroteLate}
 use Rattle.scopectl.specs.Texts.{fault_of_run}
-use Rattle.scopectl.specs.declared.command_line.CommandLine.{CommandLine}
-use Rattle.scopectl.specs.declared.command_line.Job.{Job}
-use Rattle.scopectl.specs.declared.command_line.Job.TheVariants.{Dump, Quote, Replay}
+use Rattle.command_line.specs.declared.lines.CommandLine.{CommandLine}
+use Rattle.command_line.specs.declared.lines.Job.{Job}
+use Rattle.command_line.specs.declared.lines.Job.TheVariants.{Dump, Quote, Replay}
 use Rattle.scopectl.specs.declared.fault.ProgramFault.{ProgramFault}
 use Rattle.scopectl.specs.declared.fault.ProgramFault.TheVariants as program
 

@@ -1,13 +1,1 @@
-mod Answering
-mod Bare
-mod BuiltReplay
-mod Clearing
 mod Jobs
-mod Levels
-mod Numbers
-mod Parsed
-mod Passing
-mod Requests
-mod Saying
-mod TopLevel
-mod Walking

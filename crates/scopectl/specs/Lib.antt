@@ -1,7 +1,3 @@
-pub mod Application
-pub mod CommandLine
-pub mod Faults
-pub mod Settings
 pub mod Texts
 pub mod Program
 pub mod Naming

@@ -11,11 +11,11 @@ use Rattle.quote_plan.specs.declared.reading.PlanFault.TheVariants as plan_fault
 use Rattle.quote_gateway.specs.Requests.{Fails}
 use Rattle.quote_gateway.specs.declared.faults.GatewayFault.{GatewayFault}
 use Rattle.quote_gateway.specs.declared.faults.GatewayFault.TheVariants as service
-use Rattle.scopectl.specs.declared.command_line.CommandLine.{CommandLine}
-use Rattle.scopectl.specs.declared.command_line.Job.TheVariants.{Quote}
+use Rattle.command_line.specs.declared.lines.CommandLine.{CommandLine}
+use Rattle.command_line.specs.declared.lines.Job.TheVariants.{Quote}
 use Rattle.scopectl.specs.declared.fault.ProgramFault.{ProgramFault}
 use Rattle.scopectl.specs.declared.fault.ProgramFault.TheVariants as program
-use Rattle.scopectl.specs.CommandLine.{Says}
+use Rattle.command_line.specs.CommandLine.{Says}
 use Rattle.scopectl.specs.Program.{ReadAll}
 use Rattle.scopectl.specs.Texts.{line_of}
 

@@ -8,12 +8,12 @@ use Rattle.scope_script.specs.Streams.{AppendsPart}
 use Rattle.quote_plan.specs.Allowed.{AllowedText}
 use Rattle.quote_plan.specs.PlanReading.{SayPlan, lines_of}
 use Rattle.quote_plan.specs.Plans.{PlanValue}
-use Rattle.scopectl.specs.declared.command_line.CommandLine.{CommandLine}
-use Rattle.scopectl.specs.declared.command_line.Job.{Job}
-use Rattle.scopectl.specs.declared.command_line.Job.TheVariants.{Replay, Dump, Quote}
-use Rattle.scopectl.specs.CommandLine.{Says, SaysNone}
-use Rattle.scopectl.specs.Faults.{IsNoRequest}
-use Rattle.scopectl.specs.Texts.{AsksFor}
+use Rattle.command_line.specs.declared.lines.CommandLine.{CommandLine}
+use Rattle.command_line.specs.declared.lines.Job.{Job}
+use Rattle.command_line.specs.declared.lines.Job.TheVariants.{Replay, Dump, Quote}
+use Rattle.command_line.specs.CommandLine.{Says, SaysNone}
+use Rattle.command_line.specs.Faults.{IsNoRequest}
+use Rattle.command_line.specs.Texts.{AsksFor}
 
 -- the words say no command, and ask for neither help nor the version
 abbrev pub IsNotUnderstood : List (List ℕ) → Type 0

@@ -1,38 +1,14 @@
--- The texts that the program says: help, the version, and the lines that name a fault.
-use Rattle.std.specs.Prelude.{◌≡◌, ◌⊎◌, ◌++◌, ℕ, List, [], ◌∷◌, codes, slice_get, if◌then◌else◌}
+-- The lines that name a fault.
+use Rattle.std.specs.Prelude.{◌++◌, ℕ, List, [], ◌∷◌, codes}
 use Rattle.std.specs.Fmt.{decimal}
-use Rattle.std.specs.Option.{option_map_or}
-use Rattle.std.specs.Str.{bytes_eq}
 use Rattle.scope_script.specs.declared.session.run.ScriptFault.{ScriptFault}
 use Rattle.scope_script.specs.declared.session.run.ScriptFault.TheVariants as script
 use Rattle.quote_plan.specs.declared.reading.PlanFault.{PlanFault}
 use Rattle.quote_plan.specs.declared.reading.PlanFault.TheVariants as plan
 use Rattle.quote_gateway.specs.declared.faults.GatewayFault.{GatewayFault}
 use Rattle.quote_gateway.specs.declared.faults.GatewayFault.TheVariants as service
-use Rattle.scopectl.specs.declared.command_line.help.TheConstants.{HELP, REPLAY_HELP, DUMP_HELP, QUOTE_HELP}
 use Rattle.scopectl.specs.declared.fault.ProgramFault.{ProgramFault}
 use Rattle.scopectl.specs.declared.fault.ProgramFault.TheVariants.{Read, Write, Memory, PlanLine, Strange, Rejected, Cancelled, Lost}
-use Rattle.scopectl.specs.Faults.{AsksHelp, AsksVersion}
-
--- the help at a first word after the program's name: that of a job at its word
-abbrev pub help_at : List ℕ → List ℕ
-help_at command = if bytes_eq command (codes "replay") then REPLAY_HELP.now
-    else (if bytes_eq command (codes "dump") then DUMP_HELP.now
-    else (if bytes_eq command (codes "quote") then QUOTE_HELP.now else HELP.now))
-
--- the help that the words ask for
-abbrev pub help_of : List (List ℕ) → List ℕ
-help_of words = option_map_or help_at (slice_get words 1) HELP.now
-
-abbrev pub version_line : List ℕ
-version_line = codes "scopectl 0.1.0" ++ 10 ∷ []
-
--- the words ask for this text
-abbrev pub AsksFor : List (List ℕ) → List ℕ → Type 0
-AsksFor words text =
-    (AsksHelp words × (text ≡ help_of words)) ⊎ (AsksVersion words × (text ≡ version_line))
-
--- ---- faults
 
 abbrev pub fault_of_run : ScriptFault → ProgramFault
 fault_of_run script.Read = Read

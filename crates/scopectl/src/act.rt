@@ -9,9 +9,9 @@ ghost use Rattle.scopectl.specs.Naming.{CameFrom, IsOfPlan, IsSaid, NamesFault, 
 ghost use Rattle.scopectl.specs.Program.{DidAsSaid, DidJob, DidPart, DidPartly, GaveText, GaveTextPartly, IsNotUnderstood, Made, Makes, ReadSome};
 ghost use Rattle.scopectl.specs.Texts.{line_of};
 
-use crate::command_line::{Job, LineFault, VERSION_LINE, help_of, line};
 use crate::fault::ProgramFault;
 use crate::quoting::quoted;
+use command_line::{Job, LineFault, VERSION_LINE, help_of, line};
 use job_runner::JobWork;
 use quote_gateway::OfferJob;
 use realm_lock::{RealmName, Seed};

@@ -3,7 +3,6 @@
 #![tactic(auto)]
 
 mod act;
-mod command_line;
 mod fault;
 mod quoting;
 mod threads;

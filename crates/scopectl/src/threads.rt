@@ -2,7 +2,7 @@
 ghost use Rattle.std.specs.Prelude.{◌≡◌, false};
 
 use crate::act::{act, refuse_words};
-use crate::command_line::Job;
+use command_line::Job;
 use job_runner::JobWork;
 use quote_gateway::OfferJob;
 use realm_lock::{RealmName, Seed};

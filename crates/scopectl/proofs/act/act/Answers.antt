@@ -1,5 +1,5 @@
 use Rattle.std.proofs.Common.{inl, inr, refl, subst}
-use Rattle.scopectl.specs.Faults.{Answers}
+use Rattle.command_line.specs.Faults.{Answers}
 use Rattle.scopectl.specs.declared.fault.ProgramFault.TheVariants.{Write}
 use Rattle.scopectl.proofs.Jobs.{did, did_part, names_weaker}
 use Rattle.scopectl.proofs.act.act.Goals as goal

@@ -1,0 +1,12 @@
+mod Answering
+mod Bare
+mod BuiltReplay
+mod Clearing
+mod Levels
+mod Numbers
+mod Parsed
+mod Passing
+mod Requests
+mod Saying
+mod TopLevel
+mod Walking

@@ -1,0 +1,41 @@
+-- Which fault a command line gets.
+use Rattle.std.specs.Prelude.{◌≡◌, ◌≢◌, ⊤, ℕ, List, [], ◌∷◌}
+use Rattle.clap.specs.Faults.{fault_of}
+use Rattle.clap.specs.declared.error.kind.ErrorKind.{ErrorKind}
+use Rattle.clap.specs.declared.error.kind.ErrorKind.TheVariants as kind
+use Rattle.command_line.specs.Application.{scopectl}
+use Rattle.command_line.specs.declared.faults.LineFault.{LineFault}
+use Rattle.command_line.specs.declared.faults.LineFault.TheVariants.{Help, Version, Usage, Memory}
+
+-- the fault by which an error of a kind is told
+abbrev pub TellsKind : ErrorKind → LineFault → Type 0
+TellsKind k Help = k ≡ kind.DisplayHelp
+TellsKind k Version = k ≡ kind.DisplayVersion
+TellsKind k (Usage text) =
+    (k ≢ kind.DisplayHelp) × (k ≢ kind.DisplayVersion) × (k ≢ kind.OutOfMemory)
+TellsKind k Memory = ⊤
+
+-- the parse of the words answers help, and can answer nothing else
+abbrev pub AsksHelp : List (List ℕ) → Type 0
+AsksHelp words = fault_of scopectl words ≡ kind.DisplayHelp ∷ []
+
+-- the parse of the words answers the version, and can answer nothing else
+abbrev pub AsksVersion : List (List ℕ) → Type 0
+AsksVersion words = fault_of scopectl words ≡ kind.DisplayVersion ∷ []
+
+-- the words ask for neither
+abbrev pub IsNoRequest : List (List ℕ) → Type 0
+IsNoRequest words = (AsksHelp words → ⊥) × (AsksVersion words → ⊥)
+
+-- help comes where the words ask for it, and so does the version
+abbrev pub Answers : List (List ℕ) → LineFault → Type 0
+Answers words Help = AsksHelp words
+Answers words Version = AsksVersion words
+Answers words (Usage text) = IsNoRequest words
+Answers words Memory = ⊤
+
+-- the words are not understood, or memory was refused
+abbrev pub IsUsageOrMemory : LineFault → Type 0
+IsUsageOrMemory (Usage text) = ⊤
+IsUsageOrMemory Memory = ⊤
+IsUsageOrMemory _ = ⊥

@@ -1,0 +1,47 @@
+//! Why a command line gives no command.
+ghost use Rattle.std.specs.Prelude.{◌≡◌};
+ghost use Rattle.clap.specs.Words.{kind_of};
+ghost use Rattle.command_line.specs.Faults.{TellsKind};
+ghost use Rattle.command_line.specs.declared.faults.LineFault.TheVariants.{Memory};
+
+use clap::Error;
+use clap::error::ErrorKind;
+use std::alloc::{AllocError, Global};
+
+/// Why a command line gives no command. A text has its last line's end.
+#[derive(Drop)]
+pub enum LineFault {
+    /// The words ask for help.
+    Help,
+    /// The words ask for the version.
+    Version,
+    /// The words are not understood: the text for standard error.
+    Usage(String),
+    /// Memory was refused.
+    Memory,
+}
+
+impl LineFault {
+    /// The fault of a parse that failed.
+    pub(crate) fn of_parse(alloc: Global, error: &Error) -> LineFault
+        ensures { TellsKind (kind_of error.now) result }
+    {
+        match error.kind() {
+            ErrorKind::OutOfMemory => LineFault::Memory,
+            ErrorKind::DisplayHelp => LineFault::Help,
+            ErrorKind::DisplayVersion => LineFault::Version,
+            _ => match format!(in alloc; "{error}") {
+                Ok(text) => LineFault::Usage(text),
+                Err(_) => LineFault::Memory,
+            },
+        }
+    }
+}
+
+impl From<AllocError> for LineFault {
+    ghost from_gives = { λ _ fault. fault ≡ Memory };
+
+    fn from(_error: AllocError) -> LineFault {
+        LineFault::Memory
+    }
+}

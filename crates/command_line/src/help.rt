@@ -1,0 +1,149 @@
+//! The texts of the help and the version.
+ghost use Rattle.std.specs.Prelude.{◌≡◌, map};
+ghost use Rattle.command_line.specs.Texts.{help_at, help_of};
+
+/// The version, as `clap` is told it.
+pub const VERSION: &str = "0.1.0";
+
+/// What `scopectl --version` writes.
+pub const VERSION_LINE: &str = "scopectl 0.1.0\n";
+
+/// What `scopectl --help` writes.
+pub const HELP: &str = "Replays scripts of commands on task scopes, by proved rules.
+
+Usage: scopectl <COMMAND>
+
+Commands:
+  replay  Reads a script of commands from standard input, and writes the replies
+  dump    Reads a script of commands from standard input, and writes what it leaves as JSON
+  quote   Reads a plan of offers from standard input, asks them on threads, and writes the answer
+
+Options:
+  -h, --help     Print help
+  -V, --version  Print version
+
+Exit status:
+  0  the script was read to its end, also where commands were refused; or the plan has its answer
+  1  standard error has one line that names the fault, as scopectl: read
+  2  the command line is not understood
+
+Try 'scopectl replay --help', or that of another command, for an example.
+";
+
+/// What `scopectl replay --help` writes.
+pub const REPLAY_HELP: &str =
+    "Reads a script of commands from standard input, one a line, and writes one reply a line to
+standard output. A line that is empty or begins with # has no reply.
+
+Usage: scopectl replay [OPTIONS]
+
+Options:
+      --scopes <N>  How many scopes may be opened, from 1 to 4096 [default: 4096]
+      --tasks <N>   How many tasks may be forked, from 1 to 65536 [default: 65536]
+      --load <N>    How much load the realm takes, from 1 to 1048576 units [default: 1048576]
+  -h, --help        Print help
+
+Example: the script on the left has the replies on the right.
+
+  open 0 await    scope 1
+  fork 0 1 a      task 1 thread
+  start 1         started
+  ok 1 7          finished
+  join 0 1        outcome done
+  close 0 1       closing
+  closed 0 1      closed
+
+Exit status:
+  0  the script was read to its end, also where commands were refused
+  1  standard error has one line: scopectl: read, scopectl: write or scopectl: memory
+  2  the command line is not understood
+";
+
+/// What `scopectl dump --help` writes.
+pub const DUMP_HELP: &str =
+    "Reads a script of commands from standard input, one a line, and writes no replies, but in the end
+one line of JSON: the tree of the scopes that are not closed, each with its tasks, what lies inside
+it and inside them, and why it is cancelled.
+
+Usage: scopectl dump [OPTIONS]
+
+Options:
+      --scopes <N>  How many scopes may be opened, from 1 to 4096 [default: 4096]
+      --tasks <N>   How many tasks may be forked, from 1 to 65536 [default: 65536]
+      --load <N>    How much load the realm takes, from 1 to 1048576 units [default: 1048576]
+  -h, --help        Print help
+
+Example: the script
+
+  open 0 all deadline=100
+  fork 0 1 a
+
+has the dump (one line, which is broken here)
+
+  {\"moment\":0,\"root\":{\"cause\":null,\"deadline\":100,\"expiry\":\"fail\",\"id\":1,\"inner\":null,
+  \"joined\":false,\"joiner\":\"all\",\"owner\":0,\"shield\":false,\"stage\":\"open\",\"tasks\":[
+  {\"id\":1,\"inner\":null,\"name\":\"a\",\"stage\":\"waiting\",\"state\":\"unavailable\"}]}}
+
+Exit status:
+  0  the script was read to its end, also where commands were refused
+  1  standard error has one line: scopectl: read, scopectl: write or scopectl: memory
+  2  the command line is not understood
+";
+
+/// What `scopectl quote --help` writes.
+pub const QUOTE_HELP: &str =
+    "Reads a plan from standard input, to its end: a mode, and offers, each of a price or a fault. Asks
+each offer in a task of its own, on threads, in one scope, and writes the answer as one line.
+
+Usage: scopectl quote [OPTIONS]
+
+Options:
+  -h, --help  Print help
+
+A plan says one of these modes, and then up to 64 offers, whose names differ. A line that is empty
+or begins with # says nothing. A price is a number up to 999999999999.
+
+  mode best               the least price: best NAME PRICE; none where there is no price
+  mode all                all prices: all NAME=PRICE ..; or an offer that fails: failed NAME FAULT
+  mode first              any price: first NAME PRICE; where there is none, an offer that fails:
+                          failed NAME FAULT; empty where there are no offers
+  offer NAME PRICE
+  offer NAME fail FAULT
+
+Example: the plan on the left has the answer on the right.
+
+  mode best       best b 899
+  offer a 1200
+  offer b 899
+
+Exit status:
+  0  the plan was served, and its answer written
+  1  standard error has one line: scopectl: plan line N: bad-word where line N is the first that may
+     not stand there, and else scopectl: read, write, memory, rejected, cancelled or lost
+  2  the command line is not understood
+";
+
+/// The help that the words ask for, of which the first is the program's name.
+pub fn help_of(words: &[&str]) -> &'static str
+    ensures { result.now ≡ help_of (map (λ word. word.now) words.now) }
+{
+    match words.get(1) {
+        Some(command) => help_at(command),
+        None => HELP,
+    }
+}
+
+// The help at a first word after the program's name.
+fn help_at(command: &str) -> &'static str
+    ensures { result.now ≡ help_at command.now }
+{
+    if command == "replay" {
+        REPLAY_HELP
+    } else if command == "dump" {
+        DUMP_HELP
+    } else if command == "quote" {
+        QUOTE_HELP
+    } else {
+        HELP
+    }
+}
