@@ -1,7 +1,7 @@
 //! The application as `clap` knows it: its commands and their options. Help and the version are texts of
 //! our own (`help`).
 ghost use Rattle.std.specs.Prelude.{◌≡◌, IfOk, false};
-ghost use Rattle.clap.specs.Words.{app_of, rule_of};
+ghost use Rattle.clap.specs.Words.{app_of, rule_of, with_subcommand};
 ghost use Rattle.clap.specs.declared.builder.command.Command.TheViews.{out-Command as fields_of};
 ghost use Rattle.command_line.specs.Application.{command_of, option_rule, scopectl, with_options};
 
@@ -18,16 +18,21 @@ use std::alloc::{AllocError, Global};
 pub fn application<'a>(alloc: Global) -> Result<Command<'a>, AllocError>
     ensures { IfOk result (λ command. app_of command ≡ scopectl) }
 {
-    let replay = command(alloc, Job::Replay)?;
-    let dump = command(alloc, Job::Dump)?;
-    let quote = command(alloc, Job::Quote)?;
-    Command::new(alloc, "scopectl")
+    let program = Command::new(alloc, "scopectl")
         .version(help::VERSION)
         .subcommand_required(true)
-        .disable_help_subcommand(true)
-        .subcommand(replay)?
-        .subcommand(dump)?
-        .subcommand(quote)
+        .disable_help_subcommand(true);
+    let with_replay = with_job(alloc, program, Job::Replay)?;
+    let with_dump = with_job(alloc, with_replay, Job::Dump)?;
+    with_job(alloc, with_dump, Job::Quote)
+}
+
+// The program with the command of one job more.
+fn with_job<'a>(alloc: Global, program: Command<'a>, job: Job) -> Result<Command<'a>, AllocError>
+    ensures { IfOk result (λ command. app_of command ≡ with_subcommand (app_of program.entry) (command_of job).top) }
+{
+    let command = command(alloc, job)?;
+    program.subcommand(command)
 }
 
 // The command of the job, with its options, of which `quote` has none.
