@@ -61,17 +61,30 @@ try_edits_of() {
     note_tried
 }
 
+# test_program_of BASE NAME..: tests the program where one of these crates is scopectl, or what it is tested by
+# changed since the commit.
+test_program_of() {
+    local base=$1 program
+    shift
+    is_among scopectl "$@" || ! git diff --quiet "$base" -- crates/scopectl/rows crates/scopectl/test-program README.md docs/PLAN.md examples || return 0
+    program=$(program_of "$(digest_of_program_sources)")
+    ! is_among scopectl "$@" || program=crates/scopectl/out/scopectl
+    if [[ -z $program ]]; then
+        complain "no program of these sources is built, which the changed tests are of"
+    else
+        crates/scopectl/test-program "$program" || complain "the program is not as it should be"
+    fi
+}
+
 check_changed() {
-    local base=$1 name changed above=() program=crates/scopectl/out/scopectl edits=()
+    local base=$1 name changed above=() edits=()
     git rev-parse --verify --quiet "$base^{commit}" >/dev/null || { complain "there is no commit $base"; return; }
     remember_edits .
     read_tried gate/edits-tried
     mapfile -t changed < <(changed_since "$base" src specs proofs args stdin stdout status data)
     ((${#changed[@]} == 0)) || mapfile -t above < <(with_those_above "${changed[@]}")
     for name in "${above[@]}"; do check_crate "$name"; done
-    if is_among scopectl "${above[@]}" && ((failed == 0)); then
-        crates/scopectl/test-program "$program" || complain "the program is not as it should be"
-    fi
+    ((failed > 0)) || test_program_of "$base" "${above[@]}"
     for name in $(changed_since "$base" src specs proofs must-fail); do
         ((edit_count[$name] == 0)) || [[ -n ${tried_day[$name]:-} ]] || edits+=("$name")
     done
