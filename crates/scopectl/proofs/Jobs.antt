@@ -1,18 +1,17 @@
 -- What was read and written makes what a job did.
-use Rattle.std.proofs.Common.{◌≡◌, ◌∙◌, inl, inr, ℕ, Bool, true, refl, sym, ap, subst, List, [], ◌∷◌, ◌++◌, Option}
+use Rattle.std.proofs.Common.{◌≡◌, inl, inr, ℕ, Bool, true, refl, sym, subst, List, [], Option}
 use Rattle.std.proofs.KnownBytes.{Appends-nil, Appends-trans}
 use Rattle.std.specs.Io.KnownBytes.{Appends}
-use Rattle.scope_rules.specs.Replies.{Realm}
 use Rattle.scope_rules.specs.declared.types.capacity.Limits.{Limits}
-use Rattle.scope_script.specs.Running.{RunsPartly, RunsToEnd}
+use Rattle.scope_script.specs.Running.{RunsPartly}
 use Rattle.scope_script.specs.Streams.{AppendsPart}
-use Rattle.scope_script.specs.declared.session.run.Mode.TheVariants.{Quiet, Replies}
+use Rattle.scope_script.specs.declared.session.run.Mode.TheVariants.{Replies}
 use Rattle.scope_script.specs.declared.session.run.ScriptFault.{ScriptFault}
 use Rattle.scope_script.specs.declared.session.run.ScriptFault.TheVariants as ended
-use Rattle.tree_dump.specs.Tree.{dump_text}
+use Rattle.script_jobs.specs.Jobs.{Dumped, ReadSome, Replayed}
 use Rattle.command_line.specs.CommandLine.{Says}
 use Rattle.scopectl.specs.Naming.{CameFrom, NamesFault}
-use Rattle.scopectl.specs.Program.{AnswersPlan, DidAsSaid, DidJob, DidPart, DidPartly, FailedAtEnd, Made, Makes, ReadSome, WroteLate}
+use Rattle.scopectl.specs.Program.{AnswersPlan, DidAsSaid, DidJob, DidPart, DidPartly, FailedAtEnd, Made, Makes, WroteLate}
 use Rattle.scopectl.specs.Texts.{fault_of_run}
 use Rattle.command_line.specs.declared.lines.CommandLine.{CommandLine}
 use Rattle.command_line.specs.declared.lines.Job.{Job}
@@ -49,39 +48,21 @@ names_weaker said said_new failed ByReader ByWriter OfPlan Plan weaker names = r
   line = names.line;
 }
 
--- ---- one run of a script
+-- ---- a script's jobs
 
-no_part : (part rest : List ℕ) → [] ≡ part ++ rest → part ≡ []
-no_part [] rest e = refl
-no_part (b ∷ part) rest e = absurd cc
+module _ (limits : Limits) (unread unread_new written written_new : Option (List ℕ)) where
+  pub did_replay : Replayed unread unread_new written written_new limits → DidJob Replay limits unread unread_new written written_new
+  did_replay it = record { bytes = it.script; read = it.read; all = it.all; text = _; makes = refl; wrote = it.wrote }
 
-module _ (limits : Limits) (unread unread_new written mid : Option (List ℕ)) where
-  -- ---- a replay
-
-  pub replayed : (realm : Realm) → RunsToEnd unread unread_new written mid Replies limits realm → DidJob Replay limits unread unread_new written mid
-  replayed realm run = record { bytes = run.script; read = run.read; all = run.all; text = _; makes = refl; wrote = run.replied }
-
-  pub replayed_part : (failed : Bool) → RunsPartly unread unread_new written mid Replies limits → DidPart Replay limits unread unread_new written mid failed
+  pub replayed_part : (failed : Bool) → RunsPartly unread unread_new written written_new Replies limits → DidPart Replay limits unread unread_new written written_new failed
   replayed_part failed run = record { bytes = run.script; read = run.read; wrote = run.replied }
 
-  -- ---- a dump: the run writes nothing
-
-  pub dumped : (realm : Realm) (text : List ℕ) → RunsToEnd unread unread_new written mid Quiet limits realm → text ≡ dump_text realm.history ++ 10 ∷ []
-      → Made (Makes Dump limits) unread unread_new text
-  dumped realm text run is = record {
-    bytes = run.script;
-    whole = record { read = run.read; all = run.all };
-    makes = is ∙ ap (λ (r : Realm). dump_text r.history ++ 10 ∷ []) run.left;
-  }
-
-  pub read_all : (realm : Realm) → RunsToEnd unread unread_new written mid Quiet limits realm → ReadSome unread unread_new
-  read_all realm run = record { bytes = run.script; read = run.read }
-
-  pub read_part : RunsPartly unread unread_new written mid Quiet limits → ReadSome unread unread_new
-  read_part run = record { bytes = run.script; read = run.read }
-
-  pub unwritten : RunsPartly unread unread_new written mid Quiet limits → Appends written mid []
-  unwritten run = subst (Appends written mid) (no_part run.replied.part run.replied.rest run.replied.whole) run.replied.appended
+pub made : (limits : Limits) (unread unread_new : Option (List ℕ)) (text : List ℕ) → Dumped unread unread_new limits text → Made (Makes Dump limits) unread unread_new text
+made limits unread unread_new text dumped = record {
+  bytes = dumped.script;
+  whole = record { read = dumped.read; all = dumped.all };
+  makes = dumped.is;
+}
 
 -- ---- a text that is made of all that is read, and then written
 

@@ -106,11 +106,6 @@ pub record ReadAll (unread unread_new : Option (List ℕ)) (bytes : List ℕ) : 
   pub read : Consumes unread unread_new bytes
   pub all : IsAtEnd unread_new
 
--- some bytes were read
-pub record ReadSome (unread unread_new : Option (List ℕ)) : Type 0 where
-  pub bytes : List ℕ
-  pub read : Consumes unread unread_new bytes
-
 -- all bytes were read, and the text is such of them
 pub record Made (IsSuch : (bytes text : List ℕ) → Type 0) (unread unread_new : Option (List ℕ)) (text : List ℕ) : Type 0 where
   pub bytes : List ℕ

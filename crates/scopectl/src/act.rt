@@ -1,12 +1,10 @@
 //! All that the program does.
-ghost use Rattle.std.specs.Prelude.{◌≡◌, ◌≢◌, ◌≤◌, ◌⊎◌, ◌++◌, [], ◌∷◌, false, true, map, IfOk, IfErr, OnErr, string_bytes};
+ghost use Rattle.std.specs.Prelude.{◌≡◌, ◌≢◌, ◌≤◌, ◌⊎◌, false, true, map};
 ghost use Rattle.std.specs.Io.KnownBytes.{Appends};
-ghost use Rattle.scope_book.specs.Books.{history_of};
 ghost use Rattle.scope_rules.specs.declared.types.capacity.Limits.{Limits};
 ghost use Rattle.scope_script.specs.Streams.{AppendsPart};
-ghost use Rattle.tree_dump.specs.Tree.{dump_text};
-ghost use Rattle.scopectl.specs.Naming.{CameFrom, IsOfPlan, IsSaid, NamesFault, SaysQuote};
-ghost use Rattle.scopectl.specs.Program.{DidAsSaid, DidJob, DidPart, DidPartly, GaveText, GaveTextPartly, IsNotUnderstood, Made, Makes, ReadSome};
+ghost use Rattle.scopectl.specs.Naming.{IsOfPlan, IsSaid, NamesFault, SaysQuote};
+ghost use Rattle.scopectl.specs.Program.{DidAsSaid, DidJob, DidPart, DidPartly, GaveText, GaveTextPartly, IsNotUnderstood};
 ghost use Rattle.scopectl.specs.Texts.{line_of};
 
 use crate::fault::ProgramFault;
@@ -15,10 +13,10 @@ use command_line::{Job, LineFault, VERSION_LINE, help_of, line};
 use job_runner::JobWork;
 use quote_gateway::OfferJob;
 use realm_lock::{RealmName, Seed};
-use scope_book::BookState;
-use scope_rules::{AnyEnd, Due, Limits};
-use scope_script::{Mode, Watched, run};
-use std::alloc::{AllocError, Global};
+use scope_rules::{Due, Limits};
+use scope_script::Watched;
+use script_jobs::{dumped, replayed};
+use std::alloc::Global;
 use std::io::{ErrorKind, Read, Write};
 use std::sync::Wait;
 use thread_crew::Spawns;
@@ -138,8 +136,8 @@ fn replay<R: Read + Drop, W: Write + Drop, E: Write + Drop>(
     ensures fault { result ≡ 1 → DidPart Job.Replay limits (R.remaining reader.old.inner) (R.remaining reader.new.inner) (W.contents writer.old.inner) (W.contents writer.new.inner) writer.new.failed }
     ensures named { result ≡ 1 → NamesFault (E.contents errors.old.inner) (E.contents errors.new.inner) errors.new.failed ((reader.new.failed ≡ true) ⊎ (reader.new.reads ≡ u64.MAX)) (writer.new.failed ≡ true) (λ _. ⊥) }
 {
-    let fault = match run(alloc, reader, writer, limits, Mode::Replies) {
-        Ok(_) => return DONE,
+    let fault = match replayed(alloc, limits, reader, writer) {
+        Ok(()) => return DONE,
         Err(fault) => fault,
     };
     fail(ProgramFault::of_run(fault), errors)
@@ -163,40 +161,8 @@ fn dump<R: Read + Drop, W: Write + Drop, E: Write + Drop>(
 {
     match dumped(alloc, limits, reader, writer) {
         Ok(text) => tell(&text, writer, errors),
-        Err(fault) => fail(fault, errors),
+        Err(reason) => fail(ProgramFault::of_run(reason), errors),
     }
-}
-
-/// The dump of the realm that the script which is read leaves, and a line feed. Nothing is written.
-fn dumped<R: Read + Drop, W: Write + Drop>(
-    alloc: Global,
-    limits: Limits,
-    reader: &mut Watched<R>,
-    writer: &mut Watched<W>,
-) -> Result<String, ProgramFault>
-    requires reader { reader.old.failed ≡ false }
-    requires writer { writer.old.failed ≡ false }
-    ensures ok { IfOk result (λ text. Made (Makes Job.Dump limits) (R.remaining reader.old.inner) (R.remaining reader.new.inner) (string_bytes text)) }
-    ensures part { OnErr result (ReadSome (R.remaining reader.old.inner) (R.remaining reader.new.inner)) }
-    ensures unwritten { Appends (W.contents writer.old.inner) (W.contents writer.new.inner) [] }
-    ensures came { IfErr result (λ fault. CameFrom fault ((reader.new.failed ≡ true) ⊎ (reader.new.reads ≡ u64.MAX)) (writer.new.failed ≡ true) (λ _. ⊥)) }
-{
-    match run(alloc, reader, writer, limits, Mode::Quiet) {
-        Ok(book) => match dump_line(alloc, &book) {
-            Ok(text) => Ok(text),
-            Err(_) => Err(ProgramFault::Memory),
-        },
-        Err(fault) => Err(ProgramFault::of_run(fault)),
-    }
-}
-
-/// The dump of the book's realm, and a line feed.
-fn dump_line(alloc: Global, book: &BookState<AnyEnd>) -> Result<String, AllocError>
-    ensures { IfOk result (λ text. string_bytes text ≡ dump_text (history_of book.now) ++ 10 ∷ []) }
-{
-    let mut text = tree_dump::dump(alloc, book)?;
-    text.push('\n')?;
-    Ok(text)
 }
 
 /// Serves the plan that is read.

@@ -2,7 +2,8 @@
 ghost use Rattle.std.specs.Prelude.{◌≡◌, ◌⊎◌, ◌++◌, [], ◌∷◌, true, IfOk, IfErr, OnErr, string_bytes};
 ghost use Rattle.quote_plan.specs.AnswerText.{answer_text};
 ghost use Rattle.quote_plan.specs.PlanReading.{lines_of};
-ghost use Rattle.scopectl.specs.Program.{AnswersPlan, Made, ReadAll, ReadSome};
+ghost use Rattle.scopectl.specs.Program.{AnswersPlan, Made, ReadAll};
+ghost use Rattle.script_jobs.specs.Jobs.{ReadSome};
 ghost use Rattle.scopectl.specs.Naming.{CameFrom, IsInPlan, IsOfPlan};
 
 use crate::fault::ProgramFault;

@@ -1,16 +1,19 @@
-use Rattle.std.proofs.Common.{subst}
+use Rattle.std.proofs.Common.{◌≡◌, ◌∙◌, ◌⊎◌, true, sym, ap, subst, Err}
 use Rattle.std.specs.Io.KnownBytes.{Appends}
 use Rattle.scope_script.specs.Streams.{AppendsPart}
+use Rattle.scopectl.specs.Naming.{CameFrom}
+use Rattle.scopectl.specs.declared.fault.ProgramFault.{ProgramFault}
 use Rattle.scopectl.specs.declared.fault.ProgramFault.TheVariants.{Write}
-use Rattle.scopectl.proofs.Jobs.{dump_stopped, dump_told_part, told}
+use Rattle.scopectl.proofs.Jobs.{came_of, dump_stopped, dump_told_part, made, told}
 use Rattle.scopectl.proofs.act.dump.Goals as goal
 
 pub returns-in-Ok-clause-done : goal.returns-in-Ok-clause-done
-returns-in-Ok-clause-done g c = λ e. told _ _ _ _ _ _ _ _ c.in-Ok.ensures.ok c.dumped.ensures.unwritten (subst (Appends _ _) c.deref.ensures (c.tell.ensures.done e))
+returns-in-Ok-clause-done g c =
+    λ e. told _ _ _ _ _ _ _ _ (made _ _ _ _ c.in-Ok.ensures.ok) c.dumped.ensures.unwritten (subst (Appends _ _) c.deref.ensures (c.tell.ensures.done e))
 
 pub returns-in-Ok-clause-fault : goal.returns-in-Ok-clause-fault
 returns-in-Ok-clause-fault g c =
-    λ e. dump_told_part _ _ _ _ _ _ _ _ c.in-Ok.ensures.ok c.dumped.ensures.unwritten (subst (AppendsPart _ _) c.deref.ensures (c.tell.ensures.fault e)) (c.tell.ensures.failed e)
+    λ e. dump_told_part _ _ _ _ _ _ _ _ (made _ _ _ _ c.in-Ok.ensures.ok) c.dumped.ensures.unwritten (subst (AppendsPart _ _) c.deref.ensures (c.tell.ensures.fault e)) (c.tell.ensures.failed e)
 
 pub returns-in-Err-clause-fault : goal.returns-in-Err-clause-fault
 returns-in-Err-clause-fault g c = λ e. dump_stopped _ _ _ _ _ _ c.in-Err.ensures.part c.dumped.ensures.unwritten
@@ -21,7 +24,8 @@ returns-in-Ok-clause-named g c =
 
 pub returns-in-Err-clause-named : goal.returns-in-Err-clause-named
 returns-in-Err-clause-named g c = λ e. record {
-  fault = c.in-Err.fault;
-  came = c.in-Err.ensures.came;
+  fault = c.of_run.result;
+  came = subst (λ (f : ProgramFault). CameFrom f ((c.dumped.new.reader.failed ≡ true) ⊎ (c.dumped.new.reader.reads ≡ 18446744073709551615)) (c.dumped.new.writer.failed ≡ true) (λ _. ⊥)) (sym c.of_run.ensures)
+      (came_of c.in-Err.reason _ _ _ (λ is. c.dumped.ensures.read (c.in-Err.is ∙ ap Err is)) (λ is. c.dumped.ensures.write (c.in-Err.is ∙ ap Err is)));
   line = c.fail.ensures.named;
 }

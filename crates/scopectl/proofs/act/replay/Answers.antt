@@ -1,12 +1,11 @@
 use Rattle.std.proofs.Common.{◌≡◌, ◌∙◌, ◌⊎◌, true, sym, ap, subst, Err}
-use Rattle.scope_book.specs.Books.{realm_of}
 use Rattle.scopectl.specs.Naming.{CameFrom}
 use Rattle.scopectl.specs.declared.fault.ProgramFault.{ProgramFault}
-use Rattle.scopectl.proofs.Jobs.{came_of, replayed, replayed_part}
+use Rattle.scopectl.proofs.Jobs.{came_of, did_replay, replayed_part}
 use Rattle.scopectl.proofs.act.replay.Goals as goal
 
 pub returns-in-Ok-clause-done : goal.returns-in-Ok-clause-done
-returns-in-Ok-clause-done g c = λ e. replayed _ _ _ _ _ (realm_of c.in-Ok.field-0) c.in-Ok.ensures.ok
+returns-in-Ok-clause-done g c = λ e. did_replay _ _ _ _ _ c.in-Ok.ensures.ok
 
 pub returns-clause-fault : goal.returns-clause-fault
 returns-clause-fault g c = λ e. replayed_part _ _ _ _ _ _ c.in-Err.ensures.fault
@@ -14,7 +13,7 @@ returns-clause-fault g c = λ e. replayed_part _ _ _ _ _ _ c.in-Err.ensures.faul
 pub returns-clause-named : goal.returns-clause-named
 returns-clause-named g c = λ e. record {
   fault = c.of_run.result;
-  came = subst (λ (f : ProgramFault). CameFrom f ((c.run.new.reader.failed ≡ true) ⊎ (c.run.new.reader.reads ≡ 18446744073709551615)) (c.run.new.writer.failed ≡ true) (λ _. ⊥)) (sym c.of_run.ensures)
-      (came_of c.in-Err.fault _ _ _ (λ is. c.run.ensures.read (c.in-Err.is ∙ ap Err is)) (λ is. c.run.ensures.write (c.in-Err.is ∙ ap Err is)));
+  came = subst (λ (f : ProgramFault). CameFrom f ((c.replayed.new.reader.failed ≡ true) ⊎ (c.replayed.new.reader.reads ≡ 18446744073709551615)) (c.replayed.new.writer.failed ≡ true) (λ _. ⊥)) (sym c.of_run.ensures)
+      (came_of c.in-Err.fault _ _ _ (λ is. c.replayed.ensures.read (c.in-Err.is ∙ ap Err is)) (λ is. c.replayed.ensures.write (c.in-Err.is ∙ ap Err is)));
   line = c.fail.ensures.named;
 }

@@ -1,0 +1,14 @@
+use Rattle.std.proofs.lemmas.Result.{IfOk-weaker}
+use Rattle.scope_book.specs.Books.{realm_of}
+use Rattle.script_jobs.proofs.Runs.{dumped, read_all, read_part, unwritten}
+use Rattle.script_jobs.proofs.dumping.dumped.Goals as goal
+
+pub returns-in-Ok-clause-ok : goal.returns-in-Ok-clause-ok
+returns-in-Ok-clause-ok g c =
+    IfOk-weaker c.dump_of_book.result _ _ (λ text is. dumped _ _ _ _ _ (realm_of c.in-Ok.book) _ c.in-Ok.ensures.ok is) c.dump_of_book.ensures.ok
+
+pub returns-in-Err-clause-part : goal.returns-in-Err-clause-part
+returns-in-Err-clause-part g c = read_part _ _ _ _ _ c.in-Err.ensures.fault
+
+pub returns-in-Err-clause-unwritten : goal.returns-in-Err-clause-unwritten
+returns-in-Err-clause-unwritten g c = unwritten _ _ _ _ _ c.in-Err.ensures.fault

@@ -1,0 +1,34 @@
+//! The replies to a script.
+ghost use Rattle.std.specs.Prelude.{◌≡◌, ◌⊎◌, false, true, OnOk, OnErr, IsErrOf};
+ghost use Rattle.scope_script.specs.Running.{RunsPartly};
+ghost use Rattle.script_jobs.specs.Jobs.{Replayed};
+
+use scope_rules::Limits;
+use scope_script::{Mode, ScriptFault, Watched, run};
+use std::alloc::Global;
+use std::io::{Read, Write};
+
+/// Writes the replies to the script that is read, in a realm of these limits.
+///
+/// # Errors
+/// `Read` where the reader failed or was given up, `Write` where the writer failed, `Memory` where memory
+/// was refused. What was written is then a beginning of the replies to what was read.
+pub fn replayed<R: Read + Drop, W: Write + Drop>(
+    alloc: Global,
+    limits: Limits,
+    reader: &mut Watched<R>,
+    writer: &mut Watched<W>,
+) -> Result<(), ScriptFault>
+    requires reader { reader.old.failed ≡ false }
+    requires writer { writer.old.failed ≡ false }
+    ensures ok { OnOk result (Replayed (R.remaining reader.old.inner) (R.remaining reader.new.inner) (W.contents writer.old.inner) (W.contents writer.new.inner) limits) }
+    ensures fault { OnErr result (RunsPartly (R.remaining reader.old.inner) (R.remaining reader.new.inner) (W.contents writer.old.inner) (W.contents writer.new.inner) Mode.Replies limits) }
+    ensures read { IsErrOf result ScriptFault.Read → (reader.new.failed ≡ true) ⊎ (reader.new.reads ≡ u64.MAX) }
+    ensures write { IsErrOf result ScriptFault.Write → writer.new.failed ≡ true }
+{
+    let fault = match run(alloc, reader, writer, limits, Mode::Replies) {
+        Ok(_) => return Ok(()),
+        Err(fault) => fault,
+    };
+    Err(fault)
+}
