@@ -35,8 +35,9 @@ fn check(rt: &(impl Abort + AllocGlobal), row: &Row, expiry: Expiry) -> Result<(
     Ok(())
 }
 
-/// Each job that ends does so as its offer says, in an order by which the answer goes, or must not go.
-const ANSWERED: [Row; 11] = [
+/// Each job that ends does so as its offer says, in an order by which the answer goes, or must not go; and plans
+/// whose answer must be the same where the scope would move on at a deadline.
+const ANSWERED: [Row; 15] = [
     Row {
         plan: "mode best / offer a 905 / offer b 899 / offer c 899",
         steps: &[Ends(2), Ends(1), Ends(0)],
@@ -91,6 +92,26 @@ const ANSWERED: [Row; 11] = [
         plan: "mode best / offer a 5",
         steps: &[Tick(9), Ends(0)],
         wanted: Ok("best a 5"),
+    },
+    Row {
+        plan: "mode best / offer a fail x / offer b fail y",
+        steps: &[Ends(0), Ends(1)],
+        wanted: Ok("none"),
+    },
+    Row {
+        plan: "mode best",
+        steps: &[],
+        wanted: Ok("none"),
+    },
+    Row {
+        plan: "mode all",
+        steps: &[],
+        wanted: Ok("all"),
+    },
+    Row {
+        plan: "mode first",
+        steps: &[],
+        wanted: Ok("empty"),
     },
 ];
 
