@@ -87,6 +87,11 @@ sources_of_line() {
     [[ ! -f $1 ]] || awk '{ print $2; exit }' "$1"
 }
 
+# kit_of_line FILE: the toolchain that built the program.
+kit_of_line() {
+    cut -d ' ' -f 4- "$1"
+}
+
 # is_of_line PROGRAM FILE: whether the program is that of the line.
 is_of_line() {
     [[ -x $1 && -f $2 && $(sum <"$1") == "$(awk '{ print $1; exit }' "$2")" ]]

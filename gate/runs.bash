@@ -16,6 +16,18 @@ calls() {
     (cd "$folder" && "$@") </dev/null 2>&1 | tee "$log"
 }
 
+# keeps_work: whether the toolchain keeps what passed on this machine, and takes it at the next `rt ci`; then
+# `--anew` has it take nothing. A toolchain that doesn't know that word proves all from nothing each time.
+keeps_work() {
+    mkdir -p "$room/nothing"
+    ! (cd "$room/nothing" && rt ci --anew 2>&1 || true) </dev/null | grep -q '^usage:'
+}
+
+# words_of_ci KEPT: what `rt ci` is called with, so that it takes nothing of what is kept, unless KEPT is said.
+words_of_ci() {
+    [[ -n $1 ]] || ! keeps_work || echo --anew
+}
+
 # Whether the toolchain came to its end, by the log.
 has_ended() {
     grep -q '^[0-9]* passed, [0-9]* failed' "$1"
@@ -31,9 +43,21 @@ take_time() {
     }' "$room/times")
 }
 
-# The seconds that are left of the run's time.
-seconds_left() {
-    echo $((minutes * 60 - SECONDS))
+# compare_carried PROGRAM SOURCES: the carried program is the one that was built, where it is of the same sources;
+# but where another toolchain built it, other bytes are no fault.
+compare_carried() {
+    local program=$1 sources=$2
+    if [[ $(sources_of_line carried/line) != "$sources" ]]; then
+        echo "test: the carried program is of other sources than these; carried/renew takes this one"
+    elif ! is_of_line carried/scopectl carried/line; then
+        complain "the carried program is not that of its line"
+    elif cmp -s "$program" carried/scopectl; then
+        echo "test: the carried program is the one that was built, byte for byte"
+    elif [[ $(kit_of_line carried/line) != "$(kit)" ]]; then
+        echo "test: the carried program was built by another toolchain, $(kit_of_line carried/line), and this one builds other bytes; carried/renew takes these"
+    else
+        complain "the carried program is not the one that was built from the same sources"
+    fi
 }
 
 # Writes down which edits were tried, and what is owed.
