@@ -4,8 +4,8 @@ ghost use Rattle.realm_core.specs.Calls.{DoesOrMemory};
 use crate::contexts::TaskCtx;
 use named_jobs::Clock;
 use realm_lock::RealmName;
-use realm_steps::RealmStep;
-use scope_rules::{Catalog, Event, Refusal};
+use realm_steps::{Ask, RealmStep};
+use scope_rules::{Catalog, Refusal};
 use std::rt::Clock as SystemTime;
 use std::sync::Wait;
 use std::time::Instant;
@@ -20,7 +20,7 @@ pub fn pulse<C: Catalog, S: Spawner<N>, N: RealmName, K: Clock, R: Wait>(
 ) -> Result<u64, Refusal>
     ensures rest { ctx.new ≡ record ctx.old { token = record ctx.old.token { seen = ctx.new.token.seen } } }
     ensures read { IsSome (K.reading clock.new) }
-    ensures answer { IfSome (K.reading clock.new) (λ now. DoesOrMemory ctx.old.token ctx.new.token (RealmStep.Happened (Event.Tick now)) (λ _. now) result) }
+    ensures answer { IfSome (K.reading clock.new) (λ now. DoesOrMemory ctx.old.token ctx.new.token (RealmStep.Asked ctx.old.token.actor (Ask.Tick now)) (λ _. now) result) }
 {
     let now = clock.now();
     match ctx.tick(rt, now) {

@@ -4,7 +4,7 @@ ghost use Rattle.realm_core.specs.Calls.{DoesOrMemory, RecordsOrMemory, history_
 
 use crate::contexts::TaskCtx;
 use realm_lock::RealmName;
-use realm_steps::RealmStep;
+use realm_steps::{Ask, RealmStep};
 use scope_rules::{Base, Cancelling, Catalog, Event, Name, Refusal, ScopeId, Value};
 use std::sync::Wait;
 use thread_crew::Spawner;
@@ -43,7 +43,7 @@ impl<C: Catalog, S: Spawner<N>, N: RealmName> TaskCtx<C, S, N> {
     /// Sets the moment, in milliseconds. Refused as `Realm::tick` is.
     pub fn tick<R: Wait>(&mut self, rt: &R, now: u64) -> Result<(), Refusal>
         ensures rest { self.new ≡ record self.old { token = record self.old.token { seen = self.new.token.seen } } }
-        ensures answer { DoesOrMemory self.old.token self.new.token (RealmStep.Happened (Event.Tick now)) (λ _. tt) result }
+        ensures answer { DoesOrMemory self.old.token self.new.token (RealmStep.Asked self.old.token.actor (Ask.Tick now)) (λ _. tt) result }
     {
         let token = &mut self.token;
         self.realm.lent().tick(rt, &mut token.share, now)

@@ -3,10 +3,12 @@
 #![tactic(auto)]
 
 mod commands;
+mod fitting;
 mod following;
 mod logs;
 mod readings;
 mod realm;
 mod telling;
 
+pub use fitting::FittingRealm;
 pub use realm::KeptRealm;

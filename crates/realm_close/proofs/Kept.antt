@@ -23,10 +23,12 @@ use Rattle.scope_rules.proofs.OneEventMore.{closed_grows, closing_grows, closing
 use Rattle.scope_rules.proofs.PassedRows.{IsActor, ender_passed, owner_passed}
 use Rattle.scope_kept.proofs.Checked.{scope_passes}
 use Rattle.realm_steps.specs.declared.steps.RealmStep.{RealmStep}
-use Rattle.realm_steps.specs.declared.steps.RealmStep.TheVariants.{Happened, Retirement}
+use Rattle.realm_steps.specs.declared.steps.RealmStep.TheVariants.{Happened, Asked, Retirement}
+use Rattle.realm_steps.specs.declared.steps.Ask.{Ask}
+use Rattle.realm_steps.specs.declared.steps.Ask.TheVariants as ask
 use Rattle.realm_steps.specs.declared.steps.Holder.TheVariants.{TokenOf}
 use Rattle.realm_steps.specs.Holders.{is_own, Agrees, Looks}
-use Rattle.realm_steps.specs.Steps.{advance, advanced, history_of, Passes, LegalFrom, IsLegal}
+use Rattle.realm_steps.specs.Steps.{advance, advanced, asked, step_by, history_of, Passes, LegalFrom, IsLegal}
 use Rattle.realm_steps.proofs.Histories.{advanced-append, history-push, legal_advance, legal_beginning, beginning_legal, legal_history, retired_without_scopes}
 use Rattle.share_ledger.specs.Values.{OwnerValue, TicketValue}
 use Rattle.realm_core.specs.Calls.{history_seen, Looked, Added, Refused, FoundSo, Records}
@@ -56,20 +58,28 @@ not_ended L h a s e it ok other =
     let told = ap (λ (x : Event). is_own (TokenOf a) (Happened x)) row.1 in
     both_ways (is_own (TokenOf a) (Happened e)) other (told ∙ eq-eqb row.0 a actor))
 
-open_event : (L : Limits) (h : History) (a s : ℕ) (e : Event) → IsOpenOf h a s → Accepts L h e → is_own (TokenOf a) (Happened e) ≡ false → IsOpenOf (followed h e) a s
-open_event L h a s e it ok other = record {
+-- and nothing that is asked for does
+asks_no_end_close : (s : ℕ) (q : Ask) → ends s (asked q) ≡ false
+asks_no_end_close s (ask.Cancel scope) = refl
+asks_no_end_close s (ask.Move scope deadline) = refl
+asks_no_end_close s (ask.Tick now) = refl
+
+open_event : (h : History) (a s : ℕ) (e : Event) → IsOpenOf h a s → ends s e ≡ false → IsOpenOf (followed h e) a s
+open_event h a s e it other = record {
   opened = it.opened;
   is = opening_stays h e s it.opened it.is;
   by = it.by;
-  unclosed = closed_grows h e s ∙ or_from (closed h s) (ends s e) it.unclosed (not_ended L h a s e it ok other);
+  unclosed = closed_grows h e s ∙ or_from (closed h s) (ends s e) it.unclosed other;
 }
 
 open_step : (L : Limits) (h : History) (a s : ℕ) (x : RealmStep) → Legal L h → IsOpenOf h a s → Passes L h x → is_own (TokenOf a) x ≡ false → IsOpenOf (advance h x) a s
-open_step L h a s (Happened e) legal it ok other = open_event L h a s e it ok other
+open_step L h a s (Happened e) legal it ok other = open_event h a s e it (not_ended L h a s e it ok other)
+open_step L h a s (Asked actor q) legal it ok other = open_event h a s (asked q) it (asks_no_end_close s q)
 open_step L h a s Retirement legal it ok other = absurd (both_ways (closed h s) it.unclosed (nothing_open L h s it.opened legal (retired_without_scopes h ok) it.is))
 
 begun_step : (L : Limits) (h : History) (a s : ℕ) (x : RealmStep) → Legal L h → IsBegun h a s → Passes L h x → is_own (TokenOf a) x ≡ false → IsBegun (advance h x) a s
-begun_step L h a s (Happened e) legal it ok other = record { of = open_event L h a s e it.of ok other; begun = closing_stays h e s it.begun }
+begun_step L h a s (Happened e) legal it ok other = record { of = open_event h a s e it.of (not_ended L h a s e it.of ok other); begun = closing_stays h e s it.begun }
+begun_step L h a s (Asked actor q) legal it ok other = record { of = open_event h a s (asked q) it.of (asks_no_end_close s q); begun = closing_stays h (asked q) s it.begun }
 begun_step L h a s Retirement legal it ok other = absurd (both_ways (closed h s) it.of.unclosed (nothing_open L h s it.of.opened legal (retired_without_scopes h ok) it.of.is))
 
 -- ---- and any number of them
@@ -154,7 +164,7 @@ begun_recorded old new s it =
     subst (λ (h : History). IsBegun h old.actor s) (sym (ap history_of it.is ∙ history-push it.there x)) here
 
 -- which of the two a call did
-pub did_record : (old new : OwnerValue) (e : Event) (result : Result Cancelling Refusal) (how : Cancelling) → result ≡ Ok how → how ≡ Recorded → Records old new e result → Added old new (Happened e)
+pub did_record : (old new : OwnerValue) (e : Event) (result : Result Cancelling Refusal) (how : Cancelling) → result ≡ Ok how → how ≡ Recorded → Records old new e result → Added old new (step_by old.actor e)
 did_record old new e (Ok Recorded) how is same said = said
 did_record old new e (Ok Already) how is same said = absurd (cc (is, same))
 did_record old new e (Err r) how is same said = absurd (cc is)
@@ -164,10 +174,10 @@ did_find old new e (Ok Already) how is same said = said
 did_find old new e (Ok Recorded) how is same said = absurd (cc (is, same))
 did_find old new e (Err r) how is same said = absurd (cc is)
 
-pub did_refuse : (old new : OwnerValue) (e : Event) (result : Result Cancelling Refusal) (r : Refusal) → result ≡ Err r → Records old new e result → Refused old new (Happened e) r
+pub did_refuse : (old new : OwnerValue) (e : Event) (result : Result Cancelling Refusal) (r : Refusal) → result ≡ Err r → Records old new e result → Refused old new (step_by old.actor e) r
 did_refuse old new e (Ok Recorded) r is said = absurd (cc is)
 did_refuse old new e (Ok Already) r is said = absurd (cc is)
-did_refuse old new e (Err q) r is said = let same : q ≡ r = cc in subst (λ (x : Refusal). Refused old new (Happened e) x) same said
+did_refuse old new e (Err q) r is said = let same : q ≡ r = cc in subst (λ (x : Refusal). Refused old new (step_by old.actor e) x) same said
 
 -- where it was begun before, and isn't over, it is so too
 pub begun_already : (old new : OwnerValue) (s : ℕ) → FoundSo old new (BeginClose old.actor s) → closed (history_seen new) s ≡ false → IsBegun (history_seen new) old.actor s

@@ -1,6 +1,5 @@
 -- Where the close of a scope can end, nothing refuses it.
-use Rattle.std.proofs.Common.{◌≡◌, ℕ, ◌==◌, Bool, true, false, not, cond, Result, Ok, [], ◌∷◌, refl, subst, inl, inr}
-use Rattle.std.specs.Prelude.{IsOk}
+use Rattle.std.proofs.Common.{◌≡◌, ℕ, ◌==◌, Bool, true, false, not, cond, Ok, [], ◌∷◌, refl, subst, inl, inr}
 use Rattle.std.proofs.lemmas.Bool.{eq-eqb}
 use Rattle.scope_rules.specs.declared.types.capacity.Limits.{Limits}
 use Rattle.scope_rules.specs.declared.types.events.Event.TheVariants.{EndClose}
@@ -41,6 +40,3 @@ end_passes L h a s legal can =
     let owner : (can.opened.actor == a) ≡ true = eq-eqb can.opened.actor a can.by in
     let itself : (s == s) ≡ true = eq-eqb s s refl in
     rw (actor_passes h a acts, scope_passes h s can.opened can.is, can.is, owner, can.begun, can.unclosed, can.innermost, itself, can.settled) refl
-
-pub ok_is : {A E : Type 0} (result : Result A E) (x : A) → result ≡ Ok x → IsOk result
-ok_is result x is = rw is refl

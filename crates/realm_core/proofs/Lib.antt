@@ -3,10 +3,11 @@ pub mod Steps
 pub mod Performed
 pub mod Taken
 pub mod Started
-pub mod ForkedTasks
 pub mod Previewed
 pub mod Marks
 pub mod LaterClosing
 pub mod Ended
 pub mod Closes
 pub mod Readers
+mod Done
+pub mod ToldCalls

@@ -1,31 +1,38 @@
 -- What a command of the realm, and the keeper's step after it, come to.
-use Rattle.std.proofs.Common.{◌≡◌, ℕ, true, false, Bool, ◌⊎◌, inl, inr, Result, Ok, Err, is_ok, [], refl, sym, ap, ◌∙◌, subst}
+use Rattle.std.proofs.Common.{◌≡◌, ℕ, true, false, Bool, ◌⊎◌, inl, inr, Result, Ok, Err, is_ok, [], ◌∷◌, ◌++◌, refl, sym, ap, ◌∙◌, subst}
 use Rattle.std.specs.Prelude.{if◌then◌else◌, IfOk}
 use Rattle.scope_rules.specs.declared.types.capacity.Limits.{Limits}
 use Rattle.scope_rules.specs.declared.types.events.Event.{Event}
+use Rattle.scope_rules.specs.declared.types.events.Event.TheVariants.{Fork, Finish, Cancel, Move, Tick, BeginClose, EndClose}
 use Rattle.scope_rules.specs.declared.types.refusals.Refusal.{Refusal}
 use Rattle.scope_rules.specs.declared.types.refusals.Refusal.TheVariants.{Memory}
-use Rattle.scope_rules.specs.declared.types.answers.Cancelling.{Cancelling}
-use Rattle.scope_rules.specs.declared.types.answers.Cancelling.TheVariants.{Recorded, Already}
 use Rattle.scope_rules.specs.Ends.{LabelValue, EndValue}
-use Rattle.scope_rules.specs.History.{History}
+use Rattle.scope_rules.specs.History.{History, followed}
 use Rattle.scope_rules.specs.Checks.{Checked}
+use Rattle.scope_rules.specs.declared.types.answers.ForkReply.{ForkReply}
+use Rattle.scope_rules.specs.declared.types.answers.Verdict.{Verdict}
+use Rattle.scope_rules.specs.Verdicts.{verdict}
 use Rattle.scope_rules.specs.Table.{check_of, is_already, retire_check}
 use Rattle.scope_rules.proofs.Accepted.{checks_at, not_refused, not_not}
-use Rattle.std.proofs.lemmas.Bool.{eqb-true}
-use Rattle.scope_rules.specs.Replies.{Realm, Answers, AnswersOrMemory, recording, recorded, base_of}
+use Rattle.std.proofs.lemmas.Bool.{cases_Bool, eqb-true}
+use Rattle.scope_rules.specs.Legal.{Accepts}
+use Rattle.scope_rules.specs.Replies.{Realm, Answers, AnswersOrMemory, with_event, fork_reply, base_of}
+use Rattle.scope_checks.specs.declared.told.Told.{Told}
+use Rattle.scope_checks.specs.declared.told.Told.TheVariants as told
+use Rattle.scope_checks.specs.Telling.{noted, told_of, wants_memory, Performs, records, after_telling}
 use Rattle.scope_rules.specs.Origin.{Origin}
 use Rattle.realm_steps.specs.declared.steps.RealmStep.{RealmStep}
 use Rattle.realm_steps.specs.declared.steps.RealmStep.TheVariants.{Happened, Retirement}
 use Rattle.realm_steps.specs.declared.steps.Holder.TheVariants.{TokenOf}
-use Rattle.realm_steps.specs.Steps.{history_of, Passes}
+use Rattle.realm_steps.specs.Steps.{advance, history_of, step_by, Passes}
 use Rattle.realm_steps.proofs.Histories.{history-push}
 use Rattle.atomic_table.specs.Seated.{TableId}
-use Rattle.share_ledger.specs.Values.{KeeperValue, OwnerValue, OwnerAgrees}
+use Rattle.share_ledger.specs.Values.{KeeperValue, OwnerValue, OwnerAgrees, is_recorded_by}
+use Rattle.kept_realm.specs.Fits.{FitsEvent}
 use Rattle.realm_core.specs.Cores.{Tied}
-use Rattle.realm_core.specs.Calls.{history_seen, step_check, Refused, OutOfMemory, FoundSo, Does, DoesOrMemory, Records, RecordsOrMemory}
-use Rattle.realm_core.specs.Telling.{told}
-use Rattle.realm_core.proofs.Steps.{FitsStep, stepped, tied_next, same_limits, looks_now, passes_here, adds_now}
+use Rattle.realm_core.specs.Calls.{history_seen, step_check, Accepted, Refused, OutOfMemory, FoundSo, DoesOrMemory, Performed}
+use Rattle.realm_core.specs.Telling.{told as told_of_keeper}
+use Rattle.realm_core.proofs.Steps.{stepped, tied_next, same_limits, looks_now, passes_here, adds_now}
 
 -- an accepted command passed its check, and answers its value
 pub answered : {A : Type 0} (check : Checked) (value answer : A) → AnswersOrMemory check value (Ok answer) → (check ≡ Ok tt) × (answer ≡ value)
@@ -67,47 +74,102 @@ the_base b = record { base = b; events = [] }
 abbrev pub Passing : ℕ → RealmStep → Type 0
 Passing a x = (L : Limits) (h : History) → step_check L a x h ≡ Ok tt → Passes L h x
 
-already_or : (b : Bool) → Already ≡ (if b then Already else Recorded) → b ≡ true
-already_or true is = refl
-already_or false is = absurd cc
+-- the step by which an event is recorded passes where the event is accepted, leaves what the event leaves,
+-- and is refused what that is
+pub step_passes : (L : Limits) (h : History) (a : ℕ) (e : Event) → Accepts L h e → Passes L h (step_by a e)
+step_passes L h a (Cancel scope) ok = ok
+step_passes L h a (Move scope deadline) ok = ok
+step_passes L h a (Tick now) ok = ok
+step_passes L h a _ ok = ok
 
-not_already : (b : Bool) → Recorded ≡ (if b then Already else Recorded) → b ≡ false
-not_already true is = absurd cc
-not_already false is = refl
+step_advances : (h : History) (a : ℕ) (e : Event) → advance h (step_by a e) ≡ followed h e
+step_advances h a (Cancel scope) = refl
+step_advances h a (Move scope deadline) = refl
+step_advances h a (Tick now) = refl
+step_advances h a _ = refl
 
-module _ (fits : LabelValue → EndValue → Type 0) (name : TableId) (realm : Realm) (keeper : KeeperValue) (tied : Tied fits name realm keeper) where
-  -- what the command makes of the realm, with what the keeper is told, is tied again
-  pub tied_after : {A : Type 0} (a : ℕ) (x : RealmStep) (value : A) (result : Result A Refusal) (realm' : Realm) (keeper' : KeeperValue) → Passing a x → FitsStep fits realm.history x → AnswersOrMemory (step_check realm.limits a x realm.history) value result → realm' ≡ (if is_ok result then stepped realm x else realm) → keeper' ≡ told keeper x (is_ok result) → Tied fits name realm' keeper'
-  tied_after a x value (Ok answer) realm' keeper' passing fit said realm_is keeper_is =
+pub step_checks : (L : Limits) (a b : ℕ) (e : Event) (h : History) → step_check L a (step_by b e) h ≡ check_of L h e
+step_checks L a b (Cancel scope) h = refl
+step_checks L a b (Move scope deadline) h = refl
+step_checks L a b (Tick now) h = refl
+step_checks L a b _ h = refl
+
+noted_new : (already : Bool) (t : Told) → t ≡ noted already → records (Ok t) ≡ true → already ≡ false
+noted_new true t is so = absurd (cc (rw is at so))
+noted_new false t is so = refl
+
+-- what is recorded is not so already
+told_new : (h : History) (e : Event) (t : Told) → t ≡ told_of h e → records (Ok t) ≡ true → is_already h e ≡ false
+told_new h (Cancel scope) t is so = noted_new (is_already h (Cancel scope)) t is so
+told_new h (BeginClose actor scope) t is so = noted_new (is_already h (BeginClose actor scope)) t is so
+told_new h _ t is so = refl
+
+-- and what is not so already is recorded
+pub told_records : (h : History) (e : Event) (t : Told) → is_already h e ≡ false → t ≡ told_of h e → records (Ok t) ≡ true
+told_records h (Cancel scope) t new is = rw (is, new) refl
+told_records h (BeginClose actor scope) t new is = rw (is, new) refl
+told_records h _ t new is = rw is refl
+
+noted_already : (already : Bool) → told.Already ≡ noted already → already ≡ true
+noted_already true is = refl
+noted_already false is = absurd cc
+
+-- and what is said to be so already, is
+told_already : (h : History) (e : Event) → told.Already ≡ told_of h e → is_already h e ≡ true
+told_already h (Cancel scope) is = noted_already (is_already h (Cancel scope)) is
+told_already h (BeginClose actor scope) is = noted_already (is_already h (BeginClose actor scope)) is
+told_already h _ is = absurd cc
+
+-- what is recorded with a token is no end of a task
+pub recorded_fits : (fits : LabelValue → EndValue → Type 0) (h : History) (a : ℕ) (e : Event) → is_recorded_by a e ≡ true → FitsEvent fits h e
+recorded_fits fits h a (Finish task end) so = absurd cc
+recorded_fits fits h a _ so = tt
+
+-- where a command recorded its event, the event is accepted
+pub accepted_by : (L : Limits) (h : History) (e : Event) (result : Result Told Refusal) → Performs L h e result → records result ≡ true → Accepts L h e
+accepted_by L h e (Ok t) said so = record { passed = said.0; recorded = told_new h e t said.1 so }
+accepted_by L h e (Err r) said so = absurd cc
+
+module _ (name : TableId) (realm : Realm) (keeper : KeeperValue) (tied : Tied name realm keeper) where
+  -- what a retirement makes of the realm, with what the keeper is told, is tied again
+  pub tied_after : {A : Type 0} (a : ℕ) (x : RealmStep) (value : A) (result : Result A Refusal) (realm' : Realm) (keeper' : KeeperValue) → Passing a x → AnswersOrMemory (step_check realm.limits a x realm.history) value result → realm' ≡ (if is_ok result then stepped realm x else realm) → keeper' ≡ told_of_keeper keeper x (is_ok result) → Tied name realm' keeper'
+  tied_after a x value (Ok answer) realm' keeper' passing said realm_is keeper_is =
       let passed = (answered _ value answer said).0 in
-      rw (realm_is, keeper_is) (tied_next fits name realm keeper tied x (passing realm.limits realm.history passed) fit)
-  tied_after a x value (Err r) realm' keeper' passing fit said realm_is keeper_is = rw (realm_is, keeper_is) tied
+      rw (realm_is, keeper_is) (tied_next name realm keeper tied x (passing realm.limits realm.history passed))
+  tied_after a x value (Err r) realm' keeper' passing said realm_is keeper_is = rw (realm_is, keeper_is) tied
 
-  pub tied_recording : (a : ℕ) (e : Event) (result : Result Cancelling Refusal) (realm' : Realm) (keeper' : KeeperValue) → FitsStep fits realm.history (Happened e) → AnswersOrMemory (check_of realm.limits realm.history e) (recording realm.history e) result → realm' ≡ (if recorded result then stepped realm (Happened e) else realm) → keeper' ≡ told keeper (Happened e) (recorded result) → Tied fits name realm' keeper'
-  tied_recording a e (Ok Recorded) realm' keeper' fit said realm_is keeper_is =
-      let it = answered _ _ Recorded said in
-      rw (realm_is, keeper_is) (tied_next fits name realm keeper tied (Happened e) (record { passed = it.0; recorded = not_already _ it.1 }) fit)
-  tied_recording a e (Ok Already) realm' keeper' fit said realm_is keeper_is = rw (realm_is, keeper_is) tied
-  tied_recording a e (Err r) realm' keeper' fit said realm_is keeper_is = rw (realm_is, keeper_is) tied
+  -- and so is what an accepted event makes of them
+  pub tied_with : (a : ℕ) (e : Event) → Accepts realm.limits realm.history e → Tied name (with_event realm e) (record keeper { steps = keeper.steps ++ step_by a e ∷ [] })
+  tied_with a e ok =
+      let P : History → Type 0 = λ h. Tied name (record { limits = realm.limits; history = h }) (record keeper { steps = keeper.steps ++ step_by a e ∷ [] }) in
+      subst P (step_advances realm.history a e) (tied_next name realm keeper tied (step_by a e) (step_passes realm.limits realm.history a e ok))
+
+  -- and what a command does, whether it records its event or not
+  pub tied_performed : (a : ℕ) (e : Event) (result : Result Told Refusal) (realm' : Realm) (keeper' : KeeperValue) → Performs realm.limits realm.history e result → realm' ≡ after_telling realm e result → keeper' ≡ told_of_keeper keeper (step_by a e) (records result) → Tied name realm' keeper'
+  tied_performed a e result realm' keeper' said realm_is keeper_is =
+      elim (cases_Bool (records result)) [
+        | inl so ↦ rw (realm_is, keeper_is, so) (tied_with a e (accepted_by realm.limits realm.history e result said so))
+        | inr none ↦ rw (realm_is, keeper_is, none) tied
+      ]
 
   module _ (old : OwnerValue) (agrees : OwnerAgrees old keeper) where
     -- what the realm's check of the step is, is what the token's is
     pub check_here : (x : RealmStep) → step_check old.limits old.actor x (history_of keeper.steps) ≡ step_check realm.limits old.actor x realm.history
-    check_here x = rw (same_limits fits name realm keeper tied (TokenOf old.actor) old.limits old.seen agrees, tied.replay) refl
+    check_here x = rw (same_limits name realm keeper tied (TokenOf old.actor) old.limits old.seen agrees, tied.replay) refl
 
     pub refuses_now : (x : RealmStep) (r : Refusal) → step_check realm.limits old.actor x realm.history ≡ Err r → Refused old (record old { seen = keeper.steps }) x r
-    refuses_now x r is = record { looks = looks_now fits name realm keeper tied (TokenOf old.actor) old.limits old.seen agrees; by = check_here x ∙ is }
+    refuses_now x r is = record { looks = looks_now name realm keeper tied (TokenOf old.actor) old.limits old.seen agrees; by = check_here x ∙ is }
 
     pub no_memory_now : (x : RealmStep) (r : Refusal) → step_check realm.limits old.actor x realm.history ≡ Ok tt → r ≡ Memory → OutOfMemory old (record old { seen = keeper.steps }) x r
-    no_memory_now x r passed is = record { looks = looks_now fits name realm keeper tied (TokenOf old.actor) old.limits old.seen agrees; passed = check_here x ∙ passed; memory = is }
+    no_memory_now x r passed is = record { looks = looks_now name realm keeper tied (TokenOf old.actor) old.limits old.seen agrees; passed = check_here x ∙ passed; memory = is }
 
     -- what the token was shown is what the command did
-    pub does_now : {A : Type 0} (x : RealmStep) (reply : History → A) (result : Result A Refusal) (keeper' : KeeperValue) (new : OwnerValue) → Passing old.actor x → AnswersOrMemory (step_check realm.limits old.actor x realm.history) (reply realm.history) result → keeper' ≡ told keeper x (is_ok result) → new ≡ record old { seen = keeper'.steps } → DoesOrMemory old new x reply result
+    pub does_now : {A : Type 0} (x : RealmStep) (reply : History → A) (result : Result A Refusal) (keeper' : KeeperValue) (new : OwnerValue) → Passing old.actor x → AnswersOrMemory (step_check realm.limits old.actor x realm.history) (reply realm.history) result → keeper' ≡ told_of_keeper keeper x (is_ok result) → new ≡ record old { seen = keeper'.steps } → DoesOrMemory old new x reply result
     does_now x reply (Ok answer) keeper' new passing said keeper_is new_is =
         let it = answered _ (reply realm.history) answer said in
-        let added = adds_now fits name realm keeper tied (TokenOf old.actor) old.limits old.seen agrees x (passing realm.limits realm.history it.0) in
+        let added = adds_now name realm keeper tied (TokenOf old.actor) old.limits old.seen agrees x (passing realm.limits realm.history it.0) in
         rw (new_is, keeper_is) (record {
-          adds = record { there = keeper.steps; agrees = agrees.agrees; is = refl; accepted = passes_here fits name realm keeper tied (TokenOf old.actor) old.limits old.seen agrees x (passing realm.limits realm.history it.0); legal = added.legal };
+          adds = record { there = keeper.steps; agrees = agrees.agrees; is = refl; accepted = passes_here name realm keeper tied (TokenOf old.actor) old.limits old.seen agrees x (passing realm.limits realm.history it.0); legal = added.legal };
           replied = it.1 ∙ ap reply (sym tied.replay);
         })
     does_now x reply (Err r) keeper' new passing said keeper_is new_is =
@@ -117,38 +179,60 @@ module _ (fits : LabelValue → EndValue → Type 0) (name : TableId) (realm : R
           | inr memory ↦ inr (no_memory_now x r memory.0 memory.1)
         ])
 
-    -- the same of one that takes no memory
-    pub does_surely : {A : Type 0} (x : RealmStep) (reply : History → A) (result : Result A Refusal) (keeper' : KeeperValue) (new : OwnerValue) → Passing old.actor x → Answers (step_check realm.limits old.actor x realm.history) (reply realm.history) result → keeper' ≡ told keeper x (is_ok result) → new ≡ record old { seen = keeper'.steps } → Does old new x reply result
-    does_surely x reply (Ok answer) keeper' new passing said keeper_is new_is = does_now x reply (Ok answer) keeper' new passing (answers_so _ _ _ said) keeper_is new_is
-    does_surely x reply (Err r) keeper' new passing said keeper_is new_is = rw (new_is, keeper_is) (refuses_now x r (refused_by _ (reply realm.history) r said))
-
-    -- the same of a command that may find all so already
+    -- the command of an event that may find all so already
     found_now : (e : Event) → check_of realm.limits realm.history e ≡ Ok tt → is_already realm.history e ≡ true → FoundSo old (record old { seen = keeper.steps }) e
-    found_now e passed already = record { looks = looks_now fits name realm keeper tied (TokenOf old.actor) old.limits old.seen agrees; passed = check_here (Happened e) ∙ passed; already = rw tied.replay already }
+    found_now e passed already = record {
+      looks = looks_now name realm keeper tied (TokenOf old.actor) old.limits old.seen agrees;
+      passed = sym (step_checks old.limits old.actor old.actor e (history_of keeper.steps)) ∙ (check_here (step_by old.actor e) ∙ (step_checks realm.limits old.actor old.actor e realm.history ∙ passed));
+      already = rw tied.replay already;
+    }
 
-    pub records_now : (e : Event) (result : Result Cancelling Refusal) (keeper' : KeeperValue) (new : OwnerValue) → AnswersOrMemory (check_of realm.limits realm.history e) (recording realm.history e) result → keeper' ≡ told keeper (Happened e) (recorded result) → new ≡ record old { seen = keeper'.steps } → RecordsOrMemory old new e result
-    records_now e (Ok Recorded) keeper' new said keeper_is new_is =
-        let it = answered _ (recording realm.history e) Recorded said in
-        rw (new_is, keeper_is) (adds_now fits name realm keeper tied (TokenOf old.actor) old.limits old.seen agrees (Happened e) (record { passed = it.0; recorded = not_already _ it.1 }))
-    records_now e (Ok Already) keeper' new said keeper_is new_is =
-        let it = answered _ (recording realm.history e) Already said in
-        rw (new_is, keeper_is) (found_now e it.0 (already_or _ it.1))
-    records_now e (Err r) keeper' new said keeper_is new_is =
+    told_now : (e : Event) (t : Told) → Accepts realm.limits realm.history e → t ≡ told_of realm.history e → Accepted old (record old { seen = keeper.steps ++ step_by old.actor e ∷ [] }) (step_by old.actor e) (λ h. told_of h e) t
+    told_now e t ok is =
+        let x = step_by old.actor e in
+        let passes = step_passes realm.limits realm.history old.actor e ok in
+        let added = adds_now name realm keeper tied (TokenOf old.actor) old.limits old.seen agrees x passes in
+        record {
+          adds = record { there = keeper.steps; agrees = agrees.agrees; is = refl; accepted = passes_here name realm keeper tied (TokenOf old.actor) old.limits old.seen agrees x passes; legal = added.legal };
+          replied = is ∙ ap (λ (h : History). told_of h e) (sym tied.replay);
+        }
+
+    -- what the command of an event did with the token
+    pub performed_now : (e : Event) (result : Result Told Refusal) (keeper' : KeeperValue) (new : OwnerValue) → Performs realm.limits realm.history e result → keeper' ≡ told_of_keeper keeper (step_by old.actor e) (records result) → new ≡ record old { seen = keeper'.steps } → Performed old new e result
+    performed_now e (Ok told.Already) keeper' new said keeper_is new_is = rw (new_is, keeper_is) (found_now e said.0 (told_already realm.history e said.1))
+    performed_now e (Ok answer) keeper' new said keeper_is new_is =
+        rw (new_is, keeper_is) (told_now e answer (record { passed = said.0; recorded = told_new realm.history e answer said.1 refl }) said.1)
+    performed_now e (Err r) keeper' new said keeper_is new_is =
+        let x = step_by old.actor e in
+        let checks = step_checks realm.limits old.actor old.actor e realm.history in
         rw (new_is, keeper_is)
-        (elim (refused _ (recording realm.history e) r said) [
-          | inl by ↦ inl (refuses_now (Happened e) r by)
-          | inr memory ↦ inr (no_memory_now (Happened e) r memory.0 memory.1)
+        (elim said [
+          | inl by ↦ inl (refuses_now x r (checks ∙ by))
+          | inr memory ↦ inr (no_memory_now x r (checks ∙ memory.0) memory.1, rw tied.replay memory.2)
         ])
 
-    -- and of one that takes no memory
-    pub records_for_sure : (e : Event) (result : Result Cancelling Refusal) (keeper' : KeeperValue) (new : OwnerValue) → Answers (check_of realm.limits realm.history e) (recording realm.history e) result → keeper' ≡ told keeper (Happened e) (recorded result) → new ≡ record old { seen = keeper'.steps } → Records old new e result
-    records_for_sure e (Ok Recorded) keeper' new said keeper_is new_is = records_now e (Ok Recorded) keeper' new (answers_so _ _ _ said) keeper_is new_is
-    records_for_sure e (Ok Already) keeper' new said keeper_is new_is = records_now e (Ok Already) keeper' new (answers_so _ _ _ said) keeper_is new_is
-    records_for_sure e (Err r) keeper' new said keeper_is new_is = rw (new_is, keeper_is) (refuses_now (Happened e) r (refused_by _ _ r said))
-
     -- what a retirement answered is the base of the history that the token sees
-    pub base_seen : (result : Result Origin Refusal) (keeper' : KeeperValue) (new : OwnerValue) → AnswersOrMemory (retire_check realm.history old.actor) (base_of realm.history) result → keeper' ≡ told keeper Retirement (is_ok result) → new ≡ record old { seen = keeper'.steps } → IfOk result (λ base. history_seen new ≡ record { base = base; events = [] })
+    pub base_seen : (result : Result Origin Refusal) (keeper' : KeeperValue) (new : OwnerValue) → AnswersOrMemory (retire_check realm.history old.actor) (base_of realm.history) result → keeper' ≡ told_of_keeper keeper Retirement (is_ok result) → new ≡ record old { seen = keeper'.steps } → IfOk result (λ base. history_seen new ≡ record { base = base; events = [] })
     base_seen (Ok base) keeper' new said keeper_is new_is =
         let it = answered _ (base_of realm.history) base said in
         rw (new_is, keeper_is) (history-push keeper.steps Retirement ∙ ap (λ (b : Origin). the_base b) (ap base_of tied.replay ∙ sym it.1))
     base_seen (Err r) keeper' new said keeper_is new_is = tt
+
+-- a command that wants no memory is never refused any
+pub refused_surely : (old new : OwnerValue) (e : Event) (r : Refusal) → wants_memory (history_seen new) e ≡ false → Performed old new e (Err r) → Refused old new (step_by old.actor e) r
+refused_surely old new e r none (inl by) = by
+refused_surely old new e r none (inr memory) = absurd (cc (memory.1, none))
+
+-- what a fork is told is the task
+pub fork_told : (old new : OwnerValue) (a s : ℕ) (label : LabelValue) (x : RealmStep) (reply : ForkReply) → Accepted old new x (λ h. told_of h (Fork a s label)) (told.Task reply) → Accepted old new x (λ h. fork_reply h s) reply
+fork_told old new a s label x reply did = record { adds = did.adds; replied = the_same reply (fork_reply (history_of did.adds.there) s) did.replied }
+  where
+    the_same : (r q : ForkReply) → told.Task r ≡ told.Task q → r ≡ q
+    the_same r q is = cc
+
+-- what the end of a close is told is the verdict
+pub closed_told : (old new : OwnerValue) (a s : ℕ) (v : Verdict) → Performed old new (EndClose a s) (Ok (told.Closed v)) → Accepted old new (Happened (EndClose a s)) (λ h. verdict h s) v
+closed_told old new a s v did = record { adds = did.adds; replied = the_same v (verdict (history_of did.adds.there) s) did.replied }
+  where
+    the_same : (v w : Verdict) → told.Closed v ≡ told.Closed w → v ≡ w
+    the_same v w is = cc

@@ -9,7 +9,6 @@ use Rattle.scope_rules.specs.History.{History, followed}
 use Rattle.scope_rules.specs.Outcomes.{outcome}
 use Rattle.scope_rules.specs.Checks.{Checked}
 use Rattle.scope_rules.specs.Replies.{AnswersValue}
-use Rattle.scope_rules.specs.Ends.{LabelValue, EndValue}
 use Rattle.scope_rules.specs.Table.{check_of}
 use Rattle.scope_rules.specs.Legal.{Accepts}
 use Rattle.scope_rules.specs.Replies.{Realm, Answers}
@@ -48,7 +47,7 @@ pub previewed : (h : History) (a s : ℕ) (p : Preview) → preview h a s ≡ So
 unfolding preview
 previewed h a s p is = parts (outcome (followed h (Join a s)) s) (log (followed h (Join a s)) s) p is
 
-module _ (fits : LabelValue → EndValue → Type 0) (name : TableId) (realm : Realm) (keeper : KeeperValue) (tied : Tied fits name realm keeper) (old : OwnerValue) (agrees : OwnerAgrees old keeper) where
+module _ (name : TableId) (realm : Realm) (keeper : KeeperValue) (tied : Tied name realm keeper) (old : OwnerValue) (agrees : OwnerAgrees old keeper) where
   -- what was made before the join is what there is with it
   pub joins_now : (s : ℕ) (p : Preview) (result : Result (Unit {0}) Refusal) (keeper' : KeeperValue) (new : OwnerValue) → AnswersValue (check_of realm.limits realm.history (Join old.actor s)) (preview realm.history old.actor s) (Ok p) → Answers (check_of realm.limits realm.history (Join old.actor s)) tt result → keeper' ≡ told keeper (Happened (Join old.actor s)) (is_ok result) → new ≡ record old { seen = keeper'.steps } → Joins old new s (Ok (record { outcome = p.outcome; log = p.log }))
   joins_now s p result keeper' new made said keeper_is new_is =
@@ -58,4 +57,4 @@ module _ (fits : LabelValue → EndValue → Type 0) (name : TableId) (realm : R
       let ok : Accepts realm.limits realm.history (Join old.actor s) = record { passed = it.0; recorded = refl } in
       let history : history_of (keeper.steps ++ Happened (Join old.actor s) ∷ []) ≡ followed realm.history (Join old.actor s) = history-push keeper.steps (Happened (Join old.actor s)) ∙ ap (λ (h : History). followed h (Join old.actor s)) tied.replay in
       rw (new_is, keeper_is, accepted)
-      (adds_now fits name realm keeper tied (TokenOf old.actor) old.limits old.seen agrees (Happened (Join old.actor s)) ok, record { logged = rw history shown.1; decided = rw history shown.0 })
+      (adds_now name realm keeper tied (TokenOf old.actor) old.limits old.seen agrees (Happened (Join old.actor s)) ok, record { logged = rw history shown.1; decided = rw history shown.0 })

@@ -7,7 +7,7 @@ use Rattle.std.specs.Option.{option_or}
 use Rattle.scope_rules.specs.declared.types.events.Event.TheVariants.{Start}
 use Rattle.scope_rules.specs.declared.types.answers.Stage.TheVariants.{Never, Waiting, Finished}
 use Rattle.scope_rules.specs.declared.types.records.Forking.{Forking}
-use Rattle.scope_rules.specs.Ends.{LabelValue, EndValue}
+use Rattle.scope_rules.specs.Ends.{EndValue}
 use Rattle.scope_rules.specs.History.{History, forking}
 use Rattle.scope_rules.specs.Cancels.{cancelled_before}
 use Rattle.scope_rules.specs.Tasks.{stage, rejects, rejected, started, finished, ending}
@@ -54,7 +54,7 @@ end_push : (k : ℕ) (xs : List RealmStep) → end_in k xs ≡ None → end_in k
 unfolding end_in
 end_push k xs is = end_in-append k xs (Happened (Start k) ∷ []) ∙ ap (λ (o : Option EndValue). option_or o None) is
 
-module _ (fits : LabelValue → EndValue → Type 0) (name : TableId) (realm : Realm) (keeper : KeeperValue) (tied : Tied fits name realm keeper) (ticket : TicketValue) (agrees : TicketAgrees ticket keeper) where
+module _ (name : TableId) (realm : Realm) (keeper : KeeperValue) (tied : Tied name realm keeper) (ticket : TicketValue) (agrees : TicketAgrees ticket keeper) where
   -- a task that waits has no end
   unended_there : IsWaiting ticket → end_in ticket.task keeper.steps ≡ None
   unended_there waiting =

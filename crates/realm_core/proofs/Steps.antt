@@ -1,51 +1,37 @@
 -- One step of a realm and its keeper, and what a holder that agrees with the keeper's list knows of it.
 use Rattle.std.proofs.Common.{◌≡◌, List, [], ◌∷◌, ◌++◌, refl, sym, ap, ◌∙◌, subst}
 use Rattle.scope_rules.specs.declared.types.capacity.Limits.{Limits}
-use Rattle.scope_rules.specs.Ends.{LabelValue, EndValue}
 use Rattle.scope_rules.specs.History.{History}
 use Rattle.scope_rules.specs.Origin.{the_start}
-use Rattle.scope_rules.specs.Replies.{Realm, base_of, starting}
+use Rattle.scope_rules.specs.Replies.{Realm, starting}
 use Rattle.realm_steps.specs.declared.steps.RealmStep.{RealmStep}
-use Rattle.realm_steps.specs.declared.steps.RealmStep.TheVariants.{Happened, Retirement}
 use Rattle.realm_steps.specs.declared.steps.Holder.{Holder}
 use Rattle.realm_steps.specs.Holders.{Looks, Adds}
 use Rattle.realm_steps.specs.Steps.{advance, history_of, Passes, IsLegal}
 use Rattle.realm_steps.proofs.Histories.{goes_on}
 use Rattle.atomic_table.specs.Seated.{TableId}
 use Rattle.share_ledger.specs.Values.{KeeperValue, AgreesWith}
-use Rattle.scope_book.specs.Fits.{FitsEvent, Fitting}
-use Rattle.scope_book.proofs.Growing.{fitting_at_start, fitting_push}
 use Rattle.realm_core.specs.Cores.{Tied}
-
--- an end in the step fits its task's label
-abbrev pub FitsStep : (LabelValue → EndValue → Type 0) → History → RealmStep → Type 0
-FitsStep fits h (Happened e) = FitsEvent fits h e
-FitsStep fits h Retirement = Unit {0}
 
 -- the realm with one step more
 abbrev pub stepped : Realm → RealmStep → Realm
 stepped realm x = record { limits = realm.limits; history = advance realm.history x }
 
-fitting_next : (fits : LabelValue → EndValue → Type 0) (h : History) (x : RealmStep) → Fitting fits h → FitsStep fits h x → Fitting fits (advance h x)
-fitting_next fits h (Happened e) fitting ok = fitting_push fits h e fitting ok
-fitting_next fits h Retirement fitting ok = fitting_at_start fits (base_of h)
-
-module _ (fits : LabelValue → EndValue → Type 0) (name : TableId) (realm : Realm) (keeper : KeeperValue) (tied : Tied fits name realm keeper) where
+module _ (name : TableId) (realm : Realm) (keeper : KeeperValue) (tied : Tied name realm keeper) where
   -- what the realm accepts, the keeper's list accepts
   pub passes_there : (x : RealmStep) → Passes realm.limits realm.history x → Passes keeper.limits (history_of keeper.steps) x
   passes_there x ok =
       subst (λ (L : Limits). Passes L (history_of keeper.steps) x) (sym tied.limited) (subst (λ (h : History). Passes realm.limits h x) (sym tied.replay) ok)
 
   -- the realm and the keeper with one step more
-  pub tied_next : (x : RealmStep) → Passes realm.limits realm.history x → FitsStep fits realm.history x → Tied fits name (stepped realm x) (record keeper { steps = keeper.steps ++ x ∷ [] })
-  tied_next x ok fit =
+  pub tied_next : (x : RealmStep) → Passes realm.limits realm.history x → Tied name (stepped realm x) (record keeper { steps = keeper.steps ++ x ∷ [] })
+  tied_next x ok =
       let next = goes_on keeper.limits keeper.steps x tied.lawful (passes_there x ok) in
       record {
         named = tied.named;
         limited = tied.limited;
         replay = next.history ∙ ap (λ (h : History). advance h x) tied.replay;
         lawful = next.legal;
-        fitting = fitting_next fits realm.history x tied.fitting fit;
       }
 
   module _ (who : Holder) (L : Limits) (seen : List RealmStep) (agrees : AgreesWith who L seen keeper) where
@@ -71,12 +57,11 @@ module _ (fits : LabelValue → EndValue → Type 0) (name : TableId) (realm : R
     }
 
 -- a realm that begins
-pub tied_at_start : (fits : LabelValue → EndValue → Type 0) (L : Limits) (keeper : KeeperValue) → keeper.limits ≡ L → keeper.steps ≡ [] → Tied fits keeper.table (starting L the_start) keeper
+pub tied_at_start : (L : Limits) (keeper : KeeperValue) → keeper.limits ≡ L → keeper.steps ≡ [] → Tied keeper.table (starting L the_start) keeper
 unfolding history_of IsLegal
-tied_at_start fits L keeper limited begins = record {
+tied_at_start L keeper limited begins = record {
   named = refl;
   limited = limited;
   replay = rw begins refl;
   lawful = rw begins tt;
-  fitting = fitting_at_start fits the_start;
 }

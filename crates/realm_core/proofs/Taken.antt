@@ -30,7 +30,7 @@ use Rattle.realm_steps.proofs.Told.{seen_tells}
 use Rattle.realm_steps.proofs.Ends.{tells_history}
 use Rattle.atomic_table.specs.Seated.{TableId}
 use Rattle.share_ledger.specs.Values.{KeeperValue, TicketValue, TicketAgrees, IsWaiting}
-use Rattle.scope_book.specs.Fits.{FitsTask, FitsEvent}
+use Rattle.kept_realm.specs.Fits.{FitsTask}
 use Rattle.realm_core.specs.Cores.{Tied}
 use Rattle.realm_core.specs.Calls.{TicketAdded}
 use Rattle.realm_core.specs.Tasks.{IsRunning}
@@ -69,7 +69,7 @@ label_shown : (b : Bool) (scope : ℕ) (label : LabelValue) (f : Forking) → So
 label_shown true scope label f is = absurd cc
 label_shown false scope label f is = let same : record { scope = scope; label = label } ≡ record { scope = f.scope; label = f.label } = cc in ap (λ (g : Grant). g.label) same
 
-module _ (fits : LabelValue → EndValue → Type 0) (name : TableId) (realm : Realm) (keeper : KeeperValue) (tied : Tied fits name realm keeper) (ticket : TicketValue) (agrees : TicketAgrees ticket keeper) where
+module _ (name : TableId) (realm : Realm) (keeper : KeeperValue) (tied : Tied name realm keeper) (ticket : TicketValue) (agrees : TicketAgrees ticket keeper) where
   -- a ticket that is given and not started: its task waits
   pub waits_now : IsWaiting ticket → stage realm.history ticket.task ≡ Waiting
   waits_now waiting =
@@ -86,22 +86,22 @@ module _ (fits : LabelValue → EndValue → Type 0) (name : TableId) (realm : R
   pub reject_accepted : IsWaiting ticket → Accepts realm.limits realm.history (Reject ticket.task)
   reject_accepted waiting = record { passed = may_reject realm.limits realm.history ticket.task (waits_now waiting); recorded = refl }
 
-  fits_there : (label : LabelValue) (scope : ℕ) (end : EndValue) → grant_in ticket.task ticket.seen ≡ Some (record { scope = scope; label = label }) → fits label end → FitsTask fits (history_of keeper.steps) ticket.task end
-  fits_there label scope end granted fit f is =
+  fits_there : (fits : LabelValue → EndValue → Type 0) (label : LabelValue) (scope : ℕ) (end : EndValue) → grant_in ticket.task ticket.seen ≡ Some (record { scope = scope; label = label }) → fits label end → FitsTask fits (history_of keeper.steps) ticket.task end
+  fits_there fits label scope end granted fit f is =
       let number = forked_after (history_of keeper.steps) ticket.task f is in
       let told = tells_history keeper.limits keeper.steps ticket.task tied.lawful (omega (arith, number.1, number.2)) in
       let shown = sym ((seen_tells ticket.task ticket.seen keeper.steps agrees.agrees).grant (record { scope = scope; label = label }) granted) ∙ told.grant f is in
       subst (λ (l : LabelValue). fits l end) (label_shown (cancelled_before (history_of keeper.steps) f.scope f.place) scope label f shown) fit
 
   -- an end that fits the ticket's label fits its task
-  pub fits_now : (end : EndValue) → grant_in ticket.task ticket.seen ≡ Some (record { scope = ticket.scope; label = ticket.label }) → fits ticket.label end → FitsTask fits realm.history ticket.task end
-  fits_now end granted fit = subst (λ (h : History). FitsTask fits h ticket.task end) tied.replay (fits_there ticket.label ticket.scope end granted fit)
+  pub fits_now : (fits : LabelValue → EndValue → Type 0) (end : EndValue) → grant_in ticket.task ticket.seen ≡ Some (record { scope = ticket.scope; label = ticket.label }) → fits ticket.label end → FitsTask fits realm.history ticket.task end
+  fits_now fits end granted fit = subst (λ (h : History). FitsTask fits h ticket.task end) tied.replay (fits_there fits ticket.label ticket.scope end granted fit)
 
   -- the realm and the keeper after an accepted event
-  pub tied_taken : (e : Event) (result : Result (Unit {0}) Refusal) (realm' : Realm) (keeper' : KeeperValue) → Accepts realm.limits realm.history e → FitsEvent fits realm.history e → Answers (check_of realm.limits realm.history e) tt result → realm' ≡ (if is_ok result then stepped realm (Happened e) else realm) → keeper' ≡ record keeper { steps = keeper.steps ++ Happened e ∷ [] } → Tied fits name realm' keeper'
-  tied_taken e result realm' keeper' ok fit said realm_is keeper_is =
+  pub tied_taken : (e : Event) (result : Result (Unit {0}) Refusal) (realm' : Realm) (keeper' : KeeperValue) → Accepts realm.limits realm.history e → Answers (check_of realm.limits realm.history e) tt result → realm' ≡ (if is_ok result then stepped realm (Happened e) else realm) → keeper' ≡ record keeper { steps = keeper.steps ++ Happened e ∷ [] } → Tied name realm' keeper'
+  tied_taken e result realm' keeper' ok said realm_is keeper_is =
       let accepted = accepted_ok realm.limits realm.history e tt result ok.passed said in
-      rw (realm_is, accepted, keeper_is) (tied_next fits name realm keeper tied (Happened e) ok fit)
+      rw (realm_is, accepted, keeper_is) (tied_next name realm keeper tied (Happened e) ok)
 
   pub adds_taken : (e : Event) (new : TicketValue) → Accepts realm.limits realm.history e → new ≡ record ticket { seen = keeper.steps ++ Happened e ∷ [] } → TicketAdded ticket new (Happened e)
-  adds_taken e new ok new_is = rw new_is (adds_now fits name realm keeper tied (TicketOf ticket.task) ticket.limits ticket.seen agrees (Happened e) ok)
+  adds_taken e new ok new_is = rw new_is (adds_now name realm keeper tied (TicketOf ticket.task) ticket.limits ticket.seen agrees (Happened e) ok)

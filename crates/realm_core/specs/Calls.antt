@@ -11,10 +11,13 @@ use Rattle.scope_rules.specs.History.{History}
 use Rattle.scope_rules.specs.Checks.{Checked}
 use Rattle.scope_rules.specs.Table.{check_of, is_already, retire_check}
 use Rattle.realm_steps.specs.declared.steps.RealmStep.{RealmStep}
-use Rattle.realm_steps.specs.declared.steps.RealmStep.TheVariants.{Happened, Retirement}
+use Rattle.realm_steps.specs.declared.steps.RealmStep.TheVariants.{Happened, Asked, Retirement}
 use Rattle.realm_steps.specs.declared.steps.Holder.TheVariants.{TokenOf, TicketOf}
-use Rattle.realm_steps.specs.Steps.{history_of}
+use Rattle.realm_steps.specs.Steps.{asked, history_of, step_by}
 use Rattle.realm_steps.specs.Holders.{Adds, Looks}
+use Rattle.scope_checks.specs.declared.told.Told.{Told}
+use Rattle.scope_checks.specs.declared.told.Told.TheVariants as told
+use Rattle.scope_checks.specs.Telling.{told_of, wants_memory, noting}
 use Rattle.share_ledger.specs.Values.{OwnerValue, TicketValue}
 
 -- what was seen with a token, as the history that it leaves
@@ -39,6 +42,7 @@ TicketAdded old new x = Adds (TicketOf old.task) old.limits old.seen x new.seen
 -- what the rules refuse the step for, taken by the actor after h
 abbrev pub step_check : Limits → ℕ → RealmStep → History → Checked
 step_check L a (Happened e) h = check_of L h e
+step_check L a (Asked actor q) h = check_of L h (asked q)
 step_check L a Retirement h = retire_check h a
 
 -- the call added exactly the step, and answered what the rules reply on the steps before it
@@ -75,12 +79,28 @@ DoesOrMemory old new x reply (Err refusal) = Refused old new x refusal ⊎ OutOf
 
 -- what a command did that takes none, and may find that all is so already
 abbrev pub Records : OwnerValue → OwnerValue → Event → Result Cancelling Refusal → Type 0
-Records old new e (Ok Recorded) = Added old new (Happened e)
+Records old new e (Ok Recorded) = Added old new (step_by old.actor e)
 Records old new e (Ok Already) = FoundSo old new e
-Records old new e (Err refusal) = Refused old new (Happened e) refusal
+Records old new e (Err refusal) = Refused old new (step_by old.actor e) refusal
 
 -- the same of one that takes memory
 abbrev pub RecordsOrMemory : OwnerValue → OwnerValue → Event → Result Cancelling Refusal → Type 0
-RecordsOrMemory old new e (Ok Recorded) = Added old new (Happened e)
+RecordsOrMemory old new e (Ok Recorded) = Added old new (step_by old.actor e)
 RecordsOrMemory old new e (Ok Already) = FoundSo old new e
-RecordsOrMemory old new e (Err refusal) = Refused old new (Happened e) refusal ⊎ OutOfMemory old new (Happened e) refusal
+RecordsOrMemory old new e (Err refusal) = Refused old new (step_by old.actor e) refusal ⊎ OutOfMemory old new (step_by old.actor e) refusal
+
+-- what the command of the event did with the actor's token, and what it answered: said of every event at once
+abbrev pub Performed : OwnerValue → OwnerValue → Event → Result Told Refusal → Type 0
+Performed old new e (Ok told.Already) = FoundSo old new e
+Performed old new e (Ok answer) = Accepted old new (step_by old.actor e) (λ h. told_of h e) answer
+Performed old new e (Err refusal) = Refused old new (step_by old.actor e) refusal ⊎ (OutOfMemory old new (step_by old.actor e) refusal × (wants_memory (history_seen new) e ≡ true))
+
+-- what was answered, where there is no more to say than that it was done
+abbrev pub done : Result Told Refusal → Result (Unit {0}) Refusal
+done (Ok answer) = Ok tt
+done (Err refusal) = Err refusal
+
+-- what was answered to a cancel, or to the beginning of a close
+abbrev pub noted : Result Told Refusal → Result Cancelling Refusal
+noted (Ok answer) = Ok (noting answer)
+noted (Err refusal) = Err refusal

@@ -1,13 +1,11 @@
 -- What lies under a realm's lock, and what always holds of it.
 use Rattle.std.specs.Prelude.{◌≡◌, List}
 use Rattle.scope_rules.specs.declared.types.capacity.Limits.{Limits}
-use Rattle.scope_rules.specs.Ends.{LabelValue, EndValue}
 use Rattle.scope_rules.specs.Replies.{Realm}
 use Rattle.realm_steps.specs.declared.steps.RealmStep.{RealmStep}
 use Rattle.realm_steps.specs.Steps.{history_of, IsLegal}
 use Rattle.atomic_table.specs.Seated.{TableId}
 use Rattle.share_ledger.specs.Values.{KeeperValue}
-use Rattle.scope_book.specs.Fits.{Fitting}
 
 -- what lies under the lock: the realm's limits, and the list of its steps since it began
 pub record CoreValue : Type 0 where
@@ -15,10 +13,9 @@ pub record CoreValue : Type 0 where
   pub steps : List RealmStep
 
 -- the keeper is at the table of this name, and what is kept is the replay of its list: the limits are the
--- same, and the history is that of the list, which is legal and fitting
-pub record Tied (fits : LabelValue → EndValue → Type 0) (name : TableId) (realm : Realm) (keeper : KeeperValue) : Type 0 where
+-- same, and the history is that of the list, which is legal
+pub record Tied (name : TableId) (realm : Realm) (keeper : KeeperValue) : Type 0 where
   pub named : keeper.table ≡ name
   pub limited : keeper.limits ≡ realm.limits
   pub replay : history_of keeper.steps ≡ realm.history
   pub lawful : IsLegal keeper.limits keeper.steps
-  pub fitting : Fitting fits realm.history

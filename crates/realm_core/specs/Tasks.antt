@@ -11,7 +11,7 @@ use Rattle.realm_steps.specs.Tickets.{given_in, started_in, end_in, finished_in}
 use Rattle.share_ledger.specs.Values.{OwnerValue, TicketValue, IsWaiting}
 use Rattle.realm_core.specs.declared.forking.Forked.{Forked}
 use Rattle.realm_core.specs.declared.forking.Forked.TheVariants.{Thread, Never}
-use Rattle.realm_core.specs.Calls.{TicketLooked, TicketAdded, Refused}
+use Rattle.realm_core.specs.Calls.{TicketLooked, TicketAdded, Added, Refused}
 
 -- the task's number, and whether it gets a thread
 abbrev pub reply_of : Forked → ForkReply
@@ -41,8 +41,9 @@ pub record IsRunning (t : TicketValue) : Type 0 where
   pub started : started_in t.task t.seen ≡ true
   pub unfinished : finished_in t.task t.seen ≡ false
 
--- what the end of a ticket's task did: it is there; or it was refused since the task has a scope that is
+-- what the end of a ticket's task did: it is there, and is all that was added for the ticket and with the
+-- token; or it was refused since the task has a scope that is
 -- not closed, and then the token is handed back, and the ticket's task runs on
 abbrev pub Finishes : TicketValue → TicketValue → OwnerValue → EndValue → Result Unit (Refusal × OwnerValue) → Type 0
-Finishes old new token end (Ok done) = TicketAdded old new (Happened (Finish old.task end)) × (end_in old.task new.seen ≡ Some end)
+Finishes old new token end (Ok done) = TicketAdded old new (Happened (Finish old.task end)) × (end_in old.task new.seen ≡ Some end) × Added token (record token { seen = new.seen }) (Happened (Finish old.task end))
 Finishes old new token end (Err back) = TicketLooked old new × (back.1 ≡ record token { seen = new.seen }) × Refused token back.1 (Happened (Finish old.task end)) back.0 × (back.0 ≡ Structure) × IsRunning new

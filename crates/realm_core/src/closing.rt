@@ -1,4 +1,4 @@
-ghost use Rattle.std.specs.Prelude.{◌≡◌, ◌+◌, ◌<◌, ◌^◌, ◌++◌, ◌∷◌, [], IsOk, IsSome, IfOk, length};
+ghost use Rattle.std.specs.Prelude.{◌≡◌, ◌+◌, ◌<◌, ◌^◌, ◌++◌, ◌∷◌, [], is_ok, IsOk, IsSome, IfOk, length};
 ghost use Rattle.scope_rules.specs.History.{opening};
 ghost use Rattle.scope_rules.specs.Nests.{inner, tasks_of};
 ghost use Rattle.scope_rules.specs.Scopes.{innermost, closed};
@@ -10,12 +10,12 @@ ghost use Rattle.scope_log.specs.Log.{log};
 ghost use Rattle.realm_steps.specs.Steps.{history_of};
 ghost use Rattle.realm_core.specs.Calls.{Does, TicketLooked};
 ghost use Rattle.realm_core.specs.Endings.{CanEnd};
+ghost use Rattle.realm_core.specs.Telling.{stepping};
 
 use crate::RealmName;
 use crate::state::RealmCore;
-use crate::telling::tell;
 use realm_steps::RealmStep;
-use scope_checks::Readings;
+use scope_checks::{Readings, Told};
 use scope_log::ScopeLog;
 use scope_rules::{Actor, Catalog, Event, Refusal, ScopeId, Stage, TaskId, Verdict};
 use share_ledger::{OwnerShare, Ticket};
@@ -34,15 +34,16 @@ impl<C: Catalog, N: RealmName> RealmCore<C, N> {
         ensures token { share.new ≡ record share.old { seen = share.new.seen } }
         ensures core { self.new ≡ record self.old { steps = share.new.seen } }
         ensures answer { Does share.old share.new (RealmStep.Happened (Event.EndClose share.old.actor scope)) (λ h. verdict h scope) result }
+        ensures steps { self.new ≡ stepping self.old (RealmStep.Happened (Event.EndClose share.old.actor scope)) (is_ok result) }
         ensures sure { CanEnd (history_of self.old.steps) share.old.actor scope → IsOk result }
         ensures next { IsOk result → share.new.seen ≡ self.old.steps ++ RealmStep.Happened (Event.EndClose share.old.actor scope) ∷ [] }
     {
         let actor = share.actor();
-        let event = Event::EndClose { actor, scope };
         let _limits = self.realm.limits();
-        let result = self.realm.end_close(actor, scope);
-        tell(&mut self.keeper, share, &event, result.is_ok());
-        result
+        match self.perform(share, &Event::EndClose { actor, scope })? {
+            Told::Closed(verdict) => Ok(verdict),
+            _ => unreachable!(),
+        }
     }
 
     /// Lets the ticket see all that has happened: of its own task, that is nothing new.
@@ -61,7 +62,7 @@ impl<C: Catalog, N: RealmName> RealmCore<C, N> {
         ensures { result ≡ innermost (history_of self.now.steps) actor }
     {
         let _limits = self.realm.limits();
-        self.realm.innermost(actor)
+        self.realm.realm().innermost(actor)
     }
 
     /// The scope inside the scope: the next that its owner opened and has not closed.
@@ -69,7 +70,7 @@ impl<C: Catalog, N: RealmName> RealmCore<C, N> {
         ensures { result ≡ inner (history_of self.now.steps) scope }
     {
         let _limits = self.realm.limits();
-        match self.realm.kept().inner(scope) {
+        match self.realm.realm().kept().inner(scope) {
             Ok(found) => found,
             Err(_) => None,
         }
@@ -82,7 +83,7 @@ impl<C: Catalog, N: RealmName> RealmCore<C, N> {
         ensures { result ≡ verdict (history_of self.now.steps) scope }
     {
         let _limits = self.realm.limits();
-        self.realm.kept().verdict(scope)
+        self.realm.realm().kept().verdict(scope)
     }
 
     /// The tasks of the scope, in fork order, where it was opened since the last retirement.
@@ -91,7 +92,7 @@ impl<C: Catalog, N: RealmName> RealmCore<C, N> {
         ensures { result.now ≡ tasks_of (history_of self.now.steps) scope }
     {
         let _limits = self.realm.limits();
-        self.realm.kept().tasks_of(scope)
+        self.realm.realm().kept().tasks_of(scope)
     }
 
     /// How far the task has come.
@@ -99,7 +100,7 @@ impl<C: Catalog, N: RealmName> RealmCore<C, N> {
         ensures { result ≡ stage (history_of self.now.steps) task }
     {
         let _limits = self.realm.limits();
-        self.realm.kept().stage_of(task)
+        self.realm.realm().kept().stage_of(task)
     }
 
     /// Whether no task of the scope waits or runs.
@@ -107,7 +108,7 @@ impl<C: Catalog, N: RealmName> RealmCore<C, N> {
         ensures { result ≡ settled (history_of self.now.steps) scope }
     {
         let _limits = self.realm.limits();
-        self.realm.settled(scope)
+        self.realm.realm().settled(scope)
     }
 
     /// Whether the scope is closed.
@@ -115,7 +116,7 @@ impl<C: Catalog, N: RealmName> RealmCore<C, N> {
         ensures { result ≡ closed (history_of self.now.steps) scope }
     {
         let _limits = self.realm.limits();
-        self.realm.closed(scope)
+        self.realm.realm().closed(scope)
     }
 
     /// The log of the scope as it is, which has room for an entry more. Refused for an unknown scope (`NoScope`, `Retired`), and where
@@ -125,6 +126,6 @@ impl<C: Catalog, N: RealmName> RealmCore<C, N> {
         ensures small { IfOk result (λ l. length l.entries + 1 < 2 ^ 32) }
     {
         let _limits = self.realm.limits();
-        self.realm.project(scope)
+        self.realm.realm().project(scope)
     }
 }

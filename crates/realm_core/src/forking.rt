@@ -1,11 +1,13 @@
-ghost use Rattle.std.specs.Prelude.{◌≡◌};
+ghost use Rattle.std.specs.Prelude.{◌≡◌, is_ok};
 ghost use Rattle.scope_rules.specs.Replies.{fork_reply};
 ghost use Rattle.realm_core.specs.Calls.{DoesOrMemory};
+ghost use Rattle.realm_core.specs.Telling.{stepping};
 ghost use Rattle.realm_core.specs.Tasks.{ticket_aside, GivesTicket};
 
 use crate::RealmName;
 use crate::state::RealmCore;
 use realm_steps::RealmStep;
+use scope_checks::Told;
 use scope_rules::{Catalog, Event, ForkReply, Label, Refusal, ScopeId, TaskId};
 use share_ledger::{OwnerShare, Ticket};
 
@@ -33,18 +35,26 @@ impl<C: Catalog, N: RealmName> RealmCore<C, N> {
         requires named { share.old.table ≡ N.table }
         ensures token { share.new ≡ record share.old { seen = share.new.seen } }
         ensures core { self.new ≡ record self.old { steps = share.new.seen } }
+        ensures steps { self.new ≡ stepping self.old (RealmStep.Happened (Event.Fork share.old.actor scope label)) (is_ok result) }
         ensures answer { DoesOrMemory share.old share.new (RealmStep.Happened (Event.Fork share.old.actor scope label)) (λ h. fork_reply h scope) (ticket_aside result) }
         ensures ticket { GivesTicket share.new scope label result }
     {
-        match self.realm.fork(share.actor(), scope, label) {
-            Ok(ForkReply::Thread(task)) => {
+        let actor = share.actor();
+        let event = Event::Fork {
+            actor,
+            scope,
+            label,
+        };
+        match self.realm.perform(event, false, None) {
+            Ok(Told::Task(ForkReply::Thread(task))) => {
                 let ticket = self.keeper.fork(share, task, scope, &label);
                 Ok(Forked::Thread(ticket))
             }
-            Ok(ForkReply::Never(task)) => {
+            Ok(Told::Task(ForkReply::Never(task))) => {
                 self.keeper.fork_never(share, scope, &label);
                 Ok(Forked::Never(task))
             }
+            Ok(_) => unreachable!(),
             Err(refusal) => {
                 self.keeper.follow(share);
                 Err(refusal)

@@ -1,9 +1,12 @@
-ghost use Rattle.std.specs.Prelude.{◌≡◌};
+ghost use Rattle.std.specs.Prelude.{◌≡◌, is_ok};
+ghost use Rattle.realm_core.specs.Telling.{stepping};
 ghost use Rattle.realm_core.specs.Views.{Joins};
 
 use crate::RealmName;
+use crate::events::done;
 use crate::state::RealmCore;
 use crate::telling::tell;
+use realm_steps::RealmStep;
 use scope_log::ScopeLog;
 use scope_rules::{Catalog, Event, Outcome, Refusal, ScopeId};
 use share_ledger::OwnerShare;
@@ -27,13 +30,14 @@ impl<C: Catalog, N: RealmName> RealmCore<C, N> {
         requires named { share.old.table ≡ N.table }
         ensures token { share.new ≡ record share.old { seen = share.new.seen } }
         ensures core { self.new ≡ record self.old { steps = share.new.seen } }
+        ensures steps { self.new ≡ stepping self.old (RealmStep.Happened (Event.Join share.old.actor scope)) (is_ok result) }
         ensures answer { Joins share.old share.new scope result }
     {
         let actor = share.actor();
         let event = Event::Join { actor, scope };
-        match self.realm.join_preview(actor, scope) {
+        match self.realm.realm().join_preview(actor, scope) {
             Ok(preview) => {
-                let joined = self.realm.join_now(actor, scope);
+                let joined = done(&mut self.realm, event);
                 tell(&mut self.keeper, share, &event, joined.is_ok());
                 Ok(Joined {
                     outcome: preview.outcome,

@@ -4,8 +4,10 @@
 //! the waiting, are of the crate above.
 #![tactic(auto)]
 
+mod answers;
 mod closing;
 mod commands;
+mod events;
 mod forking;
 mod joins;
 pub mod laws;
@@ -15,6 +17,7 @@ mod task_calls;
 mod telling;
 mod views;
 
+pub use answers::{told_done, told_noted};
 pub use forking::Forked;
 pub use joins::Joined;
 pub use share_ledger::RealmName;

@@ -22,6 +22,7 @@ impl<C: Catalog, N: RealmName> RealmCore<C, N> {
         requires named { share.old.table ≡ N.table }
         ensures token { share.new ≡ record share.old { seen = share.new.seen } }
         ensures core { self.new ≡ record self.old { steps = share.new.seen } }
+        ensures steps { self.new ≡ self.old }
         ensures looks { Looked share.old share.new }
     {
         let _limits = self.realm.limits();
@@ -34,11 +35,12 @@ impl<C: Catalog, N: RealmName> RealmCore<C, N> {
         requires named { share.old.table ≡ N.table }
         ensures token { share.new ≡ record share.old { seen = share.new.seen } }
         ensures core { self.new ≡ record self.old { steps = share.new.seen } }
+        ensures steps { self.new ≡ self.old }
         ensures looks { Looked share.old share.new }
         ensures answer { (policy : Policy) (options : Options) → result ≡ check_of share.new.limits (history_seen share.new) (Event.Open share.new.actor policy options) }
     {
         self.keeper.follow(share);
-        self.realm.open_check(share.actor())
+        self.realm.realm().open_check(share.actor())
     }
 
     /// Whether the scope is there. Refused for an unknown one (`NoScope`, `Retired`).
@@ -46,11 +48,12 @@ impl<C: Catalog, N: RealmName> RealmCore<C, N> {
         requires named { share.old.table ≡ N.table }
         ensures token { share.new ≡ record share.old { seen = share.new.seen } }
         ensures core { self.new ≡ record self.old { steps = share.new.seen } }
+        ensures steps { self.new ≡ self.old }
         ensures looks { Looked share.old share.new }
         ensures answer { result ≡ scope_check (history_seen share.new) scope }
     {
         self.keeper.follow(share);
-        scope_check(&self.realm, scope)
+        scope_check(self.realm.realm(), scope)
     }
 
     /// What the token's actor sees the key bound to (JEP 506, `ScopedValue.get`). Refused where the actor
@@ -59,12 +62,13 @@ impl<C: Catalog, N: RealmName> RealmCore<C, N> {
         requires named { share.old.table ≡ N.table }
         ensures token { share.new ≡ record share.old { seen = share.new.seen } }
         ensures core { self.new ≡ record self.old { steps = share.new.seen } }
+        ensures steps { self.new ≡ self.old }
         ensures looks { Looked share.old share.new }
         ensures answer { result ≡ binding_reply (history_seen share.new) share.new.actor key.now }
     {
         self.keeper.follow(share);
         let _limits = self.realm.limits();
-        self.realm.kept().binding(share.actor(), key)
+        self.realm.realm().kept().binding(share.actor(), key)
     }
 
     /// The value of the task, read by the owner of its scope after the join (JEP 505, `Subtask.get`).
@@ -75,12 +79,13 @@ impl<C: Catalog, N: RealmName> RealmCore<C, N> {
         requires named { share.old.table ≡ N.table }
         ensures token { share.new ≡ record share.old { seen = share.new.seen } }
         ensures core { self.new ≡ record self.old { steps = share.new.seen } }
+        ensures steps { self.new ≡ self.old }
         ensures looks { Looked share.old share.new }
         ensures answer { result ≡ result_reply (history_seen share.new) share.new.actor task }
     {
         self.keeper.follow(share);
         let _limits = self.realm.limits();
-        self.realm.kept().result(share.actor(), task)
+        self.realm.realm().kept().result(share.actor(), task)
     }
 
     /// The fault of the task, read by the owner of its scope after the join (JEP 505,
@@ -89,12 +94,13 @@ impl<C: Catalog, N: RealmName> RealmCore<C, N> {
         requires named { share.old.table ≡ N.table }
         ensures token { share.new ≡ record share.old { seen = share.new.seen } }
         ensures core { self.new ≡ record self.old { steps = share.new.seen } }
+        ensures steps { self.new ≡ self.old }
         ensures looks { Looked share.old share.new }
         ensures answer { result ≡ fault_reply (history_seen share.new) share.new.actor task }
     {
         self.keeper.follow(share);
         let _limits = self.realm.limits();
-        self.realm.kept().fault(share.actor(), task)
+        self.realm.realm().kept().fault(share.actor(), task)
     }
 
     /// What can be read of the task, with any actor's token (JEP 505, `Subtask.state`). Refused for an
@@ -103,11 +109,12 @@ impl<C: Catalog, N: RealmName> RealmCore<C, N> {
         requires named { share.old.table ≡ N.table }
         ensures token { share.new ≡ record share.old { seen = share.new.seen } }
         ensures core { self.new ≡ record self.old { steps = share.new.seen } }
+        ensures steps { self.new ≡ self.old }
         ensures looks { Looked share.old share.new }
         ensures answer { result ≡ answering (task_check (history_seen share.new) task) (state (history_seen share.new) task) }
     {
         self.keeper.follow(share);
-        self.realm.kept().state(task)
+        self.realm.realm().kept().state(task)
     }
 
     /// The earliest deadline in effect for the scope, in milliseconds, with any actor's token (Trio,
@@ -121,11 +128,12 @@ impl<C: Catalog, N: RealmName> RealmCore<C, N> {
         requires named { share.old.table ≡ N.table }
         ensures token { share.new ≡ record share.old { seen = share.new.seen } }
         ensures core { self.new ≡ record self.old { steps = share.new.seen } }
+        ensures steps { self.new ≡ self.old }
         ensures looks { Looked share.old share.new }
         ensures answer { result ≡ answering (until_check (history_seen share.new) scope) (effective (history_seen share.new) scope) }
     {
         self.keeper.follow(share);
         let _limits = self.realm.limits();
-        self.realm.kept().effective_deadline(scope)
+        self.realm.realm().kept().effective_deadline(scope)
     }
 }

@@ -2,11 +2,11 @@ ghost use Rattle.std.specs.Prelude.{◌≡◌, ℕ, [], Ok, List, slice_get};
 ghost use Rattle.scope_rules.specs.Checks.{scope_check};
 ghost use Rattle.scope_cuts.specs.CutsOf.{IsCancelOrderOf};
 ghost use Rattle.realm_steps.specs.Steps.{history_of, IsLegal};
-ghost use Rattle.scope_book.specs.Fits.{Fitting};
+ghost use Rattle.kept_realm.specs.Fits.{Fitting};
 ghost use Rattle.realm_core.specs.Views.{cancellation_of};
 
 use crate::RealmName;
-use kept_realm::KeptRealm;
+use kept_realm::{FittingRealm, KeptRealm};
 use scope_checks::checks::scope_check;
 use scope_rules::types::values::MAIN;
 use scope_rules::{Catalog, Cause, Limits, ScopeId};
@@ -19,9 +19,8 @@ use std::marker::{Model, PhantomData};
 /// legal, and each end in it fits its task's label by the catalog `C`. `N` is the realm's name.
 #[derive(Drop)]
 pub struct RealmCore<C: Catalog, N: RealmName> {
-    pub(crate) realm: KeptRealm,
+    pub(crate) realm: FittingRealm<C>,
     pub(crate) keeper: Keeper,
-    pub(crate) catalog: PhantomData<C>,
     pub(crate) name: PhantomData<N>,
 }
 
@@ -32,7 +31,7 @@ impl<C: Catalog, N: RealmName> Model for RealmCore<C, N> {
 
     ghost view = { λ c. record { limits = c.keeper.limits; steps = c.keeper.steps } };
 
-    ghost invariant = { λ c. Tied C.fitting N.table c.realm c.keeper };
+    ghost invariant = { λ c. Tied N.table c.realm c.keeper };
 }
 
 impl<C: Catalog, N: RealmName> RealmCore<C, N> {
@@ -44,9 +43,8 @@ impl<C: Catalog, N: RealmName> RealmCore<C, N> {
     {
         let (keeper, share) = seed.begin(limits);
         let core = RealmCore {
-            realm: KeptRealm::new(alloc, limits),
+            realm: FittingRealm::new(alloc, limits),
             keeper,
-            catalog: PhantomData,
             name: PhantomData,
         };
         (core, share)
@@ -65,7 +63,7 @@ impl<C: Catalog, N: RealmName> RealmCore<C, N> {
     pub fn scopes_before(&self) -> u32
         ensures { result ≡ (history_of self.now.steps).base.scopes }
     {
-        self.realm.kept().scopes_before()
+        self.realm.realm().kept().scopes_before()
     }
 
     /// The n-th scope to be cancelled since the last retirement, from 0, if so many are: those that one
@@ -75,7 +73,7 @@ impl<C: Catalog, N: RealmName> RealmCore<C, N> {
         ensures kept { self.new ≡ self.old }
         ensures order { (list : List ℕ) × IsCancelOrderOf (history_of self.old.steps) list × (result ≡ slice_get list n) }
     {
-        self.realm.cancelled_since(n).get(0)
+        self.realm.nth_cancelled(n)
     }
 
     /// Why the scope is cancelled, and the place of the event by which it became so since the last
@@ -83,8 +81,8 @@ impl<C: Catalog, N: RealmName> RealmCore<C, N> {
     pub fn cancellation(&self, scope: ScopeId) -> Option<(Cause, usize)>
         ensures { result ≡ cancellation_of (history_of self.now.steps) scope }
     {
-        match scope_check(&self.realm, scope) {
-            Ok(()) => cancellation_of(&self.realm, scope),
+        match scope_check(self.realm.realm(), scope) {
+            Ok(()) => cancellation_of(self.realm.realm(), scope),
             Err(_) => None,
         }
     }

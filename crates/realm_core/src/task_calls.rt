@@ -5,8 +5,8 @@ ghost use Rattle.realm_core.specs.Calls.{TicketAdded};
 ghost use Rattle.realm_core.specs.Tasks.{IsRunning, Finishes};
 
 use crate::RealmName;
+use crate::events::done;
 use crate::state::RealmCore;
-use join_rules::StoredTest;
 use realm_steps::RealmStep;
 use scope_rules::{Catalog, End, Event, Refusal};
 use share_ledger::{OwnerShare, Ticket};
@@ -25,7 +25,7 @@ impl<C: Catalog, N: RealmName> RealmCore<C, N> {
     {
         let task = ticket.task();
         self.keeper.reject(ticket);
-        let rejected = self.realm.reject(task);
+        let rejected = done(&mut self.realm, Event::Reject { task });
         prove!(rejected.is_ok());
     }
 
@@ -42,20 +42,19 @@ impl<C: Catalog, N: RealmName> RealmCore<C, N> {
     {
         let task = ticket.task();
         let token = self.keeper.start(ticket);
-        let started = self.realm.start(task);
+        let started = done(&mut self.realm, Event::Start { task });
         prove!(started.is_ok());
         token
     }
 
-    /// Records the end of the ticket's task, which runs, and takes the task's token. `test` is the
-    /// caller's closure, if the scope's joiner has one. Refused only while the task has a scope that is
-    /// not closed (`Structure`); then the token is handed back, and the task runs on.
+    /// Records the end of the ticket's task, which runs, and takes the task's token, with which nothing else
+    /// is added. Refused only while the task has a scope that is not closed (`Structure`); then the token is
+    /// handed back, and the task runs on.
     pub fn finish(
         &mut self,
         ticket: &mut Ticket,
         mut share: OwnerShare,
         end: End,
-        test: Option<&StoredTest>,
     ) -> Result<(), (Refusal, OwnerShare)>
         requires named { (ticket.old.table ≡ N.table) × (share.table ≡ N.table) }
         requires actor { share.actor ≡ ticket.old.task }
@@ -66,13 +65,14 @@ impl<C: Catalog, N: RealmName> RealmCore<C, N> {
         ensures answer { Finishes ticket.old ticket.new share end result }
     {
         let _label = ticket.label();
-        match self.realm.finish(ticket.task(), end, test) {
+        self.keeper.follow_ticket(ticket);
+        let task = ticket.task();
+        match done(&mut self.realm, Event::Finish { task, end }) {
             Ok(()) => {
                 self.keeper.finish(ticket, share, end);
                 Ok(())
             }
             Err(refusal) => {
-                self.keeper.follow_ticket(ticket);
                 self.keeper.follow(&mut share);
                 Err((refusal, share))
             }

@@ -1,5 +1,6 @@
 ghost use Rattle.std.specs.Prelude.{◌≡◌, true};
 ghost use Rattle.share_ledger.specs.Values.{OwnerAgrees, is_recorded_by};
+ghost use Rattle.realm_steps.specs.Steps.{step_by};
 ghost use Rattle.realm_core.specs.Telling.{told};
 
 use realm_steps::RealmStep;
@@ -10,7 +11,7 @@ use share_ledger::{Keeper, OwnerShare};
 pub(crate) fn tell(keeper: &mut Keeper, share: &mut OwnerShare, event: &Event, recorded: bool)
     requires table { share.old.table ≡ keeper.old.table }
     requires event { is_recorded_by share.old.actor event.now ≡ true }
-    ensures keeper { keeper.new ≡ told keeper.old (RealmStep.Happened event.now) recorded }
+    ensures keeper { keeper.new ≡ told keeper.old (step_by share.old.actor event.now) recorded }
     ensures share { share.new ≡ record share.old { seen = keeper.new.steps } }
     ensures agreed { OwnerAgrees share.old keeper.old }
 {

@@ -31,11 +31,12 @@ impl<C: Catalog, N: RealmName> RealmCore<C, N> {
         requires named { share.old.table ≡ N.table }
         ensures token { share.new ≡ record share.old { seen = share.new.seen } }
         ensures core { self.new ≡ record self.old { steps = share.new.seen } }
+        ensures steps { self.new ≡ self.old }
         ensures looks { Looked share.old share.new }
         ensures answer { ViewAnswers (history_seen share.new) scope result }
     {
         self.keeper.follow(share);
-        view_of(&self.realm, scope)
+        view_of(self.realm.realm(), scope)
     }
 
     /// The same, where the scope became cancelled for this cause, by the event at this place since the
@@ -50,14 +51,15 @@ impl<C: Catalog, N: RealmName> RealmCore<C, N> {
         requires named { share.old.table ≡ N.table }
         ensures token { share.new ≡ record share.old { seen = share.new.seen } }
         ensures core { self.new ≡ record self.old { steps = share.new.seen } }
+        ensures steps { self.new ≡ self.old }
         ensures looks { Looked share.old share.new }
         ensures answer { MarkedViewAnswers (history_seen share.new) scope cause number result }
     {
         self.keeper.follow(share);
-        if !is_marked(&self.realm, scope, cause, number)? {
+        if !is_marked(self.realm.realm(), scope, cause, number)? {
             return Err(Refusal::Unavailable);
         }
-        view_of(&self.realm, scope)
+        view_of(self.realm.realm(), scope)
     }
 
     /// All events since the last retirement, in order, with any actor's token. Refused where memory is
@@ -66,12 +68,13 @@ impl<C: Catalog, N: RealmName> RealmCore<C, N> {
         requires named { share.old.table ≡ N.table }
         ensures token { share.new ≡ record share.old { seen = share.new.seen } }
         ensures core { self.new ≡ record self.old { steps = share.new.seen } }
+        ensures steps { self.new ≡ self.old }
         ensures looks { Looked share.old share.new }
         ensures answer { MatchResult result (λ events. events.items ≡ (history_seen share.new).events) (λ refusal. refusal ≡ Refusal.Memory) }
     {
         self.keeper.follow(share);
         let _limits = self.realm.limits();
-        match Vec::from_slice(alloc, self.realm.events()) {
+        match Vec::from_slice(alloc, self.realm.realm().events()) {
             Ok(events) => Ok(events),
             Err(_) => Err(Refusal::Memory),
         }

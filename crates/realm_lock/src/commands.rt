@@ -4,15 +4,18 @@ ghost use Rattle.realm_core.specs.Calls.{DoesOrMemory, Records, RecordsOrMemory,
 ghost use Rattle.realm_core.specs.Tasks.{ticket_aside, GivesTicket};
 
 use crate::realm::Realm;
-use realm_core::{Forked, RealmName};
-use realm_steps::RealmStep;
-use scope_rules::{Base, Cancelling, Catalog, Event, Label, Name, Refusal, ScopeId, Value};
+use realm_core::{Forked, RealmName, told_done, told_noted};
+use realm_steps::{Ask, RealmStep};
+use scope_rules::{
+    Base, Binding, Cancelling, Catalog, Event, Label, Name, Refusal, ScopeId, Value,
+};
 use share_ledger::OwnerShare;
 use std::sync::Wait;
 
 /// The commands with a token, each one hold of the lock. Where one is accepted, what the token has seen
-/// then ends with exactly its event, and the reply is the rules' on the steps before; else nothing is
+/// then ends with exactly its step, and the reply is the rules' on the steps before; else nothing is
 /// added, and the refusal, or that all is so already, is the rules' on what the token has seen by then.
+/// A cancel, a move and a tick are steps of the token that asked for them: no other call adds one.
 /// `Memory` is answered only where the command would be accepted there.
 impl<C: Catalog, N: RealmName> Realm<C, N> {
     /// Forks the next task in the actor's scope (JEP 505, `fork`), and gives its ticket, unless the scope
@@ -49,8 +52,10 @@ impl<C: Catalog, N: RealmName> Realm<C, N> {
         ensures token { token.new ≡ record token.old { seen = token.new.seen } }
         ensures answer { DoesOrMemory token.old token.new (RealmStep.Happened (Event.Bind token.old.actor (record { key = key; value = value }))) (λ _. tt) result }
     {
+        let actor = token.actor();
+        let binding = Binding { key, value };
         let mut locked = self.room.locked.lock(rt);
-        locked.core.bind(token, key, value)
+        told_done(locked.core.perform(token, &Event::Bind { actor, binding }))
     }
 
     /// Takes away the actor's last own binding. Refused where the actor is no running task or main, has
@@ -61,8 +66,9 @@ impl<C: Catalog, N: RealmName> Realm<C, N> {
         ensures token { token.new ≡ record token.old { seen = token.new.seen } }
         ensures answer { DoesOrMemory token.old token.new (RealmStep.Happened (Event.Unbind token.old.actor)) (λ _. tt) result }
     {
+        let actor = token.actor();
         let mut locked = self.room.locked.lock(rt);
-        locked.core.unbind(token)
+        told_done(locked.core.perform(token, &Event::Unbind { actor }))
     }
 
     /// Begins to close the actor's scope, and with it each scope that the actor opened later and has not
@@ -100,10 +106,10 @@ impl<C: Catalog, N: RealmName> Realm<C, N> {
         ensures answer { RecordsOrMemory token.old token.new (Event.Cancel scope) result }
     {
         let mut locked = self.room.locked.lock(rt);
-        let answer = locked.core.cancel(token, scope);
+        let told = locked.core.perform(token, &Event::Cancel { scope });
         locked.set_marks();
         self.room.changed.notify_all();
-        answer
+        told_noted(told)
     }
 
     /// Sets the deadline of the scope anew, in milliseconds, or takes it away, with any actor's token
@@ -119,13 +125,13 @@ impl<C: Catalog, N: RealmName> Realm<C, N> {
     ) -> Result<(), Refusal>
         requires named { token.old.table ≡ N.table }
         ensures token { token.new ≡ record token.old { seen = token.new.seen } }
-        ensures answer { DoesOrMemory token.old token.new (RealmStep.Happened (Event.Move scope deadline)) (λ _. tt) result }
+        ensures answer { DoesOrMemory token.old token.new (RealmStep.Asked token.old.actor (Ask.Move scope deadline)) (λ _. tt) result }
     {
         let mut locked = self.room.locked.lock(rt);
-        let answer = locked.core.move_deadline(token, scope, deadline);
+        let told = locked.core.perform(token, &Event::Move { scope, deadline });
         locked.set_marks();
         self.room.changed.notify_all();
-        answer
+        told_done(told)
     }
 
     /// Sets the moment, in milliseconds, with any actor's token. Refused for a moment before the present
@@ -133,13 +139,13 @@ impl<C: Catalog, N: RealmName> Realm<C, N> {
     pub fn tick<R: Wait>(&self, rt: &R, token: &mut OwnerShare, now: u64) -> Result<(), Refusal>
         requires named { token.old.table ≡ N.table }
         ensures token { token.new ≡ record token.old { seen = token.new.seen } }
-        ensures answer { DoesOrMemory token.old token.new (RealmStep.Happened (Event.Tick now)) (λ _. tt) result }
+        ensures answer { DoesOrMemory token.old token.new (RealmStep.Asked token.old.actor (Ask.Tick now)) (λ _. tt) result }
     {
         let mut locked = self.room.locked.lock(rt);
-        let answer = locked.core.tick(token, now);
+        let told = locked.core.perform(token, &Event::Tick { now });
         locked.set_marks();
         self.room.changed.notify_all();
-        answer
+        told_done(told)
     }
 
     /// Takes the events out and leaves a base, once main's outermost scope is closed; what is left goes

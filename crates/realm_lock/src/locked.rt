@@ -11,6 +11,7 @@ use cancel_marks::{MarkCell, MarkSetter};
 use join_rules::Joiner;
 use realm_core::{RealmCore, RealmName};
 use realm_steps::RealmStep;
+use scope_checks::Told;
 use scope_rules::{Catalog, End, Event, Options, Refusal, ScopeId};
 use share_ledger::{OwnerShare, Ticket};
 use std::alloc::Global;
@@ -46,11 +47,17 @@ impl<C: Catalog, N: RealmName> Locked<RealmCore<C, N>> {
         let Some((setter, cell)) = self.room_for_a_scope() else {
             return Err((self.refusal_without_room(token), joiner));
         };
-        match self.core.open(token, joiner.policy(), options, false) {
-            Ok(scope) => {
+        let event = Event::Open {
+            actor: token.actor(),
+            policy: joiner.policy(),
+            options,
+        };
+        match self.core.perform(token, &event) {
+            Ok(Told::Scope(scope)) => {
                 self.add(setter);
                 Ok((scope, cell))
             }
+            Ok(_) => unreachable!(),
             Err(refusal) => Err((refusal, joiner)),
         }
     }
@@ -97,7 +104,7 @@ impl<C: Catalog, N: RealmName> Locked<RealmCore<C, N>> {
         ensures ticket { ticket.new ≡ record ticket.old { seen = ticket.new.seen } }
         ensures answer { Finishes ticket.old ticket.new token end result }
     {
-        let result = self.core.finish(ticket, token, end, None);
+        let result = self.core.finish(ticket, token, end);
         self.set_marks();
         result
     }

@@ -1,7 +1,7 @@
 -- Of a task that was forked since the last retirement, the list says how it ended and what its fork
 -- gave, as the history does.
 use Rattle.std.proofs.Common.{◌≡◌, ℕ, ◌+◌, ◌-◌, ◌≤◌, ◌<◌, ◌==◌, Bool, true, false, cond, Option, Some, None, List, [], ◌∷◌, length, refl, sym, ap, ◌∙◌, arith, subst, inl, inr}
-use Rattle.std.proofs.lemmas.Bool.{cases_Bool, eqb-true, eqb-false}
+use Rattle.std.proofs.lemmas.Bool.{both_ways, cases_Bool, eqb-true, eqb-false}
 use Rattle.std.specs.Option.{option_or}
 use Rattle.scope_rules.specs.declared.types.capacity.Limits.{Limits}
 use Rattle.scope_rules.specs.declared.types.events.Event.{Event}
@@ -10,7 +10,7 @@ use Rattle.scope_rules.specs.declared.types.records.Forking.{Forking}
 use Rattle.scope_rules.specs.declared.types.records.Ending.{Ending}
 use Rattle.scope_rules.specs.Ends.{EndValue}
 use Rattle.scope_rules.specs.Origin.{Origin}
-use Rattle.scope_rules.specs.History.{History, tasks, forking, is_fork}
+use Rattle.scope_rules.specs.History.{History, followed, tasks, forking, is_fork}
 use Rattle.scope_rules.specs.Cancels.{cancelled_before}
 use Rattle.scope_rules.specs.Tasks.{finishes, finished, ending_of, ending}
 use Rattle.scope_rules.specs.Legal.{Legal}
@@ -24,10 +24,11 @@ use Rattle.scope_rules.proofs.Prefixes.{option_or-none, option_or-assoc}
 use Rattle.scope_rules.proofs.StageSteps.{next_forking}
 use Rattle.scope_rules.proofs.StateSteps.{ending_grows, no_ending}
 use Rattle.realm_steps.specs.declared.steps.RealmStep.{RealmStep}
-use Rattle.realm_steps.specs.declared.steps.RealmStep.TheVariants.{Happened, Retirement}
-use Rattle.realm_steps.specs.Steps.{fresh, advance, advanced, history_of, Passes, LegalFrom, IsLegal}
+use Rattle.realm_steps.specs.declared.steps.RealmStep.TheVariants.{Happened, Asked, Retirement}
+use Rattle.realm_steps.specs.Steps.{asked, fresh, advance, advanced, history_of, Passes, LegalFrom, IsLegal}
 use Rattle.realm_steps.specs.Tickets.{is_event, grant_of, granted, grant_in, end_of, end_in}
 use Rattle.realm_steps.specs.StepLaws.{end_shown, grant_shown, TellsHistory}
+use Rattle.realm_steps.proofs.Asks.{asks_no_fork, asks_no_end}
 use Rattle.realm_steps.proofs.Histories.{legal_empty, legal_advance, tasks_advance, base_advanced}
 use Rattle.realm_steps.proofs.Ties.{base_after, none_before, finished_found, rejected_told, started_told}
 
@@ -59,6 +60,11 @@ end_tied L k h (Happened e ∷ xs) legal lawful above =
     ∙ (ap (λ (o : Option Ending). option_or (end_shown o) (end_in k xs)) (ending_grows h e k)
     ∙ (ap (λ (o : Option EndValue). option_or o (end_in k xs)) (shown_or (ending h k) (ending_of k (length h.events) e) ∙ ap (option_or (end_shown (ending h k))) (end_said k (length h.events) e))
     ∙ option_or-assoc (end_shown (ending h k)) (end_of k (Happened e)) (end_in k xs)))
+end_tied L k h (Asked actor q ∷ xs) legal lawful above =
+    end_tied L k (followed h (asked q)) xs (legal_advance L h (Asked actor q) legal lawful.0) lawful.1 above
+    ∙ (ap (λ (o : Option Ending). option_or (end_shown o) (end_in k xs)) (ending_grows h (asked q) k)
+    ∙ (ap (λ (o : Option Ending). option_or (end_shown (option_or (ending h k) o)) (end_in k xs)) (asks_no_end k (length h.events) q)
+    ∙ ap (λ (o : Option Ending). option_or (end_shown o) (end_in k xs)) (option_or-none (ending h k))))
 end_tied L k h (Retirement ∷ xs) legal lawful above =
     end_tied L k (advance h Retirement) xs (legal_advance L h Retirement legal lawful.0) lawful.1 above
     ∙ (ap (λ (o : Option Ending). option_or (end_shown o) (end_in k xs)) (unfinished_start (advance h Retirement).base k)
@@ -81,6 +87,10 @@ forked_on L k h (Happened e ∷ xs) f legal lawful above is =
     let within = forking_within h k f is in
     let rest = forked_on L k (advance h (Happened e)) xs f (legal_advance L h (Happened e) legal lawful.0) lawful.1 above (forking_stays h e k f is) in
     record { forked = rest.forked; cancelled = rest.cancelled ∙ cancelled_before_stays L h e f.scope f.place legal (forked_opened L h k f legal is) (omega arith) }
+forked_on L k h (Asked actor q ∷ xs) f legal lawful above is =
+    let within = forking_within h k f is in
+    let rest = forked_on L k (followed h (asked q)) xs f (legal_advance L h (Asked actor q) legal lawful.0) lawful.1 above (forking_stays h (asked q) k f is) in
+    record { forked = rest.forked; cancelled = rest.cancelled ∙ cancelled_before_stays L h (asked q) f.scope f.place legal (forked_opened L h k f legal is) (omega arith) }
 forked_on L k h (Retirement ∷ xs) f legal lawful above is =
     let number = forked_after h k f is in
     absurd (omega (arith, number.1, number.2, base_after h, base_advanced (advance h Retirement) xs))
@@ -98,6 +108,7 @@ fork_made L h (Happened (Fork a s label)) legal ok so =
     let f : Forking = record { place = length h.events; actor = a; scope = s; label = label } in
     let now = cancelled_before_stays L h (Fork a s label) s (length h.events) legal opened (omega arith) ∙ cancelled_by_now h s opened in
     record { new = f; forked = next_forking h a s label; gives = sym (ap (λ b. grant_shown b f) now) }
+fork_made L h (Asked actor q) legal ok so = absurd (both_ways (is_fork (asked q)) (asks_no_fork q) so)
 fork_made L h _ legal ok so = absurd cc
 
 same_forking : (f g : Forking) (o : Option Forking) → o ≡ Some f → o ≡ Some g → f ≡ g

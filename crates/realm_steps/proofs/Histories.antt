@@ -12,10 +12,10 @@ use Rattle.scope_rules.proofs.Completions.{count_by-cons}
 use Rattle.scope_rules.proofs.Owing.{count_push}
 use Rattle.scope_rules.proofs.Pushing.{legal_push}
 use Rattle.realm_steps.specs.declared.steps.RealmStep.{RealmStep}
-use Rattle.realm_steps.specs.declared.steps.RealmStep.TheVariants.{Happened, Retirement}
+use Rattle.realm_steps.specs.declared.steps.RealmStep.TheVariants.{Happened, Asked, Retirement}
 use Rattle.realm_steps.specs.declared.steps.Holder.{Holder}
 use Rattle.realm_steps.specs.Holders.{Agrees, Adds}
-use Rattle.realm_steps.specs.Steps.{fresh, advance, advanced, history_of, Passes, LegalFrom, IsLegal}
+use Rattle.realm_steps.specs.Steps.{asked, fresh, advance, advanced, history_of, Passes, LegalFrom, IsLegal}
 use Rattle.realm_steps.specs.Tickets.{is_event, forks}
 use Rattle.realm_steps.specs.StepLaws.{GoesOn}
 
@@ -43,6 +43,7 @@ legal_empty L b = λ i e at. absurd cc
 
 pub legal_advance : (L : Limits) (h : History) (x : RealmStep) → Legal L h → Passes L h x → Legal L (advance h x)
 legal_advance L h (Happened e) legal ok = legal_push L h e legal ok
+legal_advance L h (Asked actor q) legal ok = legal_push L h (asked q) legal ok
 legal_advance L h Retirement legal ok = legal_empty L (base_of h)
 
 pub legal_advanced : (L : Limits) (h : History) (xs : List RealmStep) → Legal L h → LegalFrom L h xs → Legal L (advanced h xs)
@@ -68,6 +69,7 @@ goes_on L xs x lawful ok = record { legal = legal_more L fresh xs x lawful ok; h
 pub tasks_advance : (h : History) (x : RealmStep) → tasks (advance h x) ≡ tasks h + cond (is_event is_fork x) 1 0
 unfolding base_of
 tasks_advance h (Happened e) = omega (arith, count_push is_fork h.events e)
+tasks_advance h (Asked actor q) = omega (arith, count_push is_fork h.events (asked q))
 tasks_advance h Retirement = omega arith
 
 pub tasks_advanced : (h : History) (xs : List RealmStep) → tasks (advanced h xs) ≡ tasks h + forks xs
@@ -82,6 +84,7 @@ tasks_forks xs = omega (arith, tasks_advanced fresh xs)
 base_advance : (h : History) (x : RealmStep) → h.base.tasks ≤ (advance h x).base.tasks
 unfolding base_of
 base_advance h (Happened e) = omega arith
+base_advance h (Asked actor q) = omega arith
 base_advance h Retirement = omega arith
 
 -- the numbers before the base never fall

@@ -1,4 +1,5 @@
 pub mod Lists
+pub mod Asks
 pub mod Histories
 pub mod Waits
 pub mod Told

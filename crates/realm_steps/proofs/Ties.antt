@@ -5,7 +5,7 @@ use Rattle.std.proofs.Math.Bool.{or-false, or_assoc}
 use Rattle.std.specs.List.{list_any}
 use Rattle.scope_rules.specs.declared.types.capacity.Limits.{Limits}
 use Rattle.scope_rules.specs.declared.types.events.Event.{Event}
-use Rattle.scope_rules.specs.History.{History, tasks}
+use Rattle.scope_rules.specs.History.{History, followed, tasks}
 use Rattle.scope_rules.specs.Tasks.{rejects, rejected, starts, started, finishes, finished}
 use Rattle.scope_rules.specs.Replies.{base_of}
 use Rattle.scope_rules.specs.Legal.{Legal}
@@ -13,8 +13,8 @@ use Rattle.scope_rules.proofs.Forkings.{IsForked, forked_after}
 use Rattle.scope_rules.proofs.Numbers.{list_any-push}
 use Rattle.scope_rules.proofs.StageSteps.{rejected_forked, started_forked, finished_forked}
 use Rattle.realm_steps.specs.declared.steps.RealmStep.{RealmStep}
-use Rattle.realm_steps.specs.declared.steps.RealmStep.TheVariants.{Happened, Retirement}
-use Rattle.realm_steps.specs.Steps.{fresh, advance, advanced, history_of, LegalFrom, IsLegal}
+use Rattle.realm_steps.specs.declared.steps.RealmStep.TheVariants.{Happened, Asked, Retirement}
+use Rattle.realm_steps.specs.Steps.{asked, fresh, advance, advanced, history_of, LegalFrom, IsLegal}
 use Rattle.realm_steps.specs.Tickets.{is_event, rejected_in, started_in}
 use Rattle.realm_steps.proofs.Histories.{legal_empty, legal_advance, base_advanced}
 
@@ -38,6 +38,9 @@ module _ (L : Limits) (k : ℕ) (test : Event → Bool) (forked : (h : History) 
   search_tied h (Happened e ∷ xs) legal lawful above =
       search_tied (advance h (Happened e)) xs (legal_advance L h (Happened e) legal lawful.0) lawful.1 above
       ∙ (ap (λ b. b || list_any (is_event test) xs) (list_any-push test h.events e) ∙ or_assoc (list_any test h.events) (test e) (list_any (is_event test) xs))
+  search_tied h (Asked actor q ∷ xs) legal lawful above =
+      search_tied (followed h (asked q)) xs (legal_advance L h (Asked actor q) legal lawful.0) lawful.1 above
+      ∙ (ap (λ b. b || list_any (is_event test) xs) (list_any-push test h.events (asked q)) ∙ or_assoc (list_any test h.events) (test (asked q)) (list_any (is_event test) xs))
   search_tied h (Retirement ∷ xs) legal lawful above =
       search_tied (advance h Retirement) xs (legal_advance L h Retirement legal lawful.0) lawful.1 above
       ∙ sym (ap (λ b. b || list_any (is_event test) xs) (none_before h xs legal above))

@@ -1,6 +1,6 @@
 -- What a ticket's own steps say in a beginning of the list is what they say in the whole.
 use Rattle.std.proofs.Common.{◌≡◌, ℕ, ◌+◌, ◌-◌, arith, ◌==◌, ◌||◌, Bool, true, false, cond, Option, Some, None, is_some, List, [], ◌∷◌, ◌++◌, refl, sym, ap, ◌∙◌, inl, inr}
-use Rattle.std.proofs.lemmas.Bool.{cases_Bool, eq-eqb, ne_eqb}
+use Rattle.std.proofs.lemmas.Bool.{both_ways, cases_Bool, eq-eqb, ne_eqb}
 use Rattle.std.proofs.lemmas.List.Folds.{list_any-append}
 use Rattle.std.proofs.Math.Bool.{or-false}
 use Rattle.std.specs.Option.{option_or}
@@ -12,12 +12,13 @@ use Rattle.scope_rules.specs.Tasks.{rejects, starts, finishes}
 use Rattle.scope_rules.proofs.Completions.{count_by-cons}
 use Rattle.scope_rules.proofs.Prefixes.{option_or-assoc, option_or-none}
 use Rattle.realm_steps.specs.declared.steps.RealmStep.{RealmStep}
-use Rattle.realm_steps.specs.declared.steps.RealmStep.TheVariants.{Happened}
+use Rattle.realm_steps.specs.declared.steps.RealmStep.TheVariants.{Happened, Asked}
 use Rattle.realm_steps.specs.declared.steps.Holder.TheVariants.{TicketOf}
-use Rattle.realm_steps.specs.Steps.{fresh, advance, advanced, history_of}
+use Rattle.realm_steps.specs.Steps.{asked, fresh, advance, advanced, history_of}
 use Rattle.realm_steps.specs.Holders.{is_own, Agrees}
 use Rattle.realm_steps.specs.Tickets.{Grant, is_event, forks, grant_of, granted, grant_in, rejected_in, started_in, end_of, end_in, finished_in}
 use Rattle.realm_steps.specs.StepLaws.{TellsAlike}
+use Rattle.realm_steps.proofs.Asks.{asks_no_reject, asks_no_start, asks_no_finish}
 use Rattle.realm_steps.proofs.Lists.{none_narrower}
 
 finish_found : (b : Bool) (end : EndValue) (o : Option EndValue) → is_some (option_or (cond b (Some end) None) o) ≡ (b || is_some o)
@@ -26,6 +27,7 @@ finish_found false end o = refl
 
 finished_first : (k : ℕ) (x : RealmStep) (o : Option EndValue) → is_some (option_or (end_of k x) o) ≡ (is_event (finishes k) x || is_some o)
 finished_first k (Happened (Finish task end)) o = finish_found (task == k) end o
+finished_first k (Asked actor q) o = rw (asks_no_finish k q) refl
 finished_first k _ o = refl
 
 -- a task has an end where its end stands in the list
@@ -58,14 +60,17 @@ grant-append k xs ys g at = granted-append fresh k xs ys g at
 
 reject_own : (k : ℕ) (x : RealmStep) → is_event (rejects k) x ≡ true → is_own (TicketOf k) x ≡ true
 reject_own k (Happened (Reject task)) so = so
+reject_own k (Asked actor q) so = absurd (both_ways (rejects k (asked q)) (asks_no_reject k q) so)
 reject_own k _ so = absurd cc
 
 start_own : (k : ℕ) (x : RealmStep) → is_event (starts k) x ≡ true → is_own (TicketOf k) x ≡ true
 start_own k (Happened (Start task)) so = so
+start_own k (Asked actor q) so = absurd (both_ways (starts k (asked q)) (asks_no_start k q) so)
 start_own k _ so = absurd cc
 
 finish_own : (k : ℕ) (x : RealmStep) → is_event (finishes k) x ≡ true → is_own (TicketOf k) x ≡ true
 finish_own k (Happened (Finish task end)) so = so
+finish_own k (Asked actor q) so = absurd (both_ways (finishes k (asked q)) (asks_no_finish k q) so)
 finish_own k _ so = absurd cc
 
 none_later : {A : Type 0} (p : A → Bool) (xs ys : List A) → list_any p ys ≡ false → list_any p (xs ++ ys) ≡ list_any p xs

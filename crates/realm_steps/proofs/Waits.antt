@@ -17,12 +17,13 @@ use Rattle.scope_rules.proofs.Stages.{waiting_unsettled, running_unsettled, runn
 use Rattle.scope_rules.proofs.StageSteps.{stage_same, stage_started, stage_forked}
 use Rattle.scope_rules.proofs.ClosingScopes.{nothing_runs}
 use Rattle.realm_steps.specs.declared.steps.RealmStep.{RealmStep}
-use Rattle.realm_steps.specs.declared.steps.RealmStep.TheVariants.{Happened, Retirement}
-use Rattle.realm_steps.specs.Steps.{fresh, advance, advanced, history_of, Passes, LegalFrom, IsLegal}
+use Rattle.realm_steps.specs.declared.steps.RealmStep.TheVariants.{Happened, Asked, Retirement}
+use Rattle.realm_steps.specs.Steps.{asked, fresh, advance, advanced, history_of, Passes, LegalFrom, IsLegal}
 use Rattle.realm_steps.specs.Tickets.{Grant, is_event, grant_of, granted, grant_in, rejected_in, started_in, finished_in, given_in}
 use Rattle.realm_steps.specs.StepLaws.{TellsAlike}
 use Rattle.realm_steps.specs.Holders.{Agrees}
 use Rattle.realm_steps.specs.declared.steps.Holder.TheVariants.{TicketOf}
+use Rattle.realm_steps.proofs.Asks.{asks_no_start, asks_no_finish}
 use Rattle.realm_steps.proofs.Histories.{legal_empty, legal_advance, tasks_advance, retired_without_scopes}
 use Rattle.realm_steps.proofs.Told.{finished_is, seen_tells}
 
@@ -36,6 +37,9 @@ waits_step L h k (Happened e) legal ok waits unrejected unstarted =
     let it = waiting_forked h k waits in
     let unfinished = false_from_ne_true (finishes k e) (λ so. both_ways (is_waiting (stage h k)) (running_not_waiting (stage h k) (finisher_passed L h e k so ok).runs) waits) in
     rw (stage_same L h e k it.forked legal it.is unrejected unstarted unfinished) waits
+waits_step L h k (Asked actor q) legal ok waits unrejected unstarted =
+    let it = waiting_forked h k waits in
+    rw (stage_same L h (asked q) k it.forked legal it.is unrejected unstarted (asks_no_finish k q)) waits
 waits_step L h k Retirement legal ok waits unrejected unstarted = absurd (both_ways (is_settled (stage h k)) (waiting_unsettled (stage h k) waits) (retired_settled L h k legal ok))
 
 waits_on : (L : Limits) (h : History) (k : ℕ) (xs : List RealmStep) → Legal L h → LegalFrom L h xs → is_waiting (stage h k) ≡ true → list_any (is_event (rejects k)) xs ≡ false → list_any (is_event (starts k)) xs ≡ false → is_waiting (stage (advanced h xs) k) ≡ true
@@ -48,6 +52,7 @@ waits_on L h k (x ∷ xs) legal lawful waits unrejected unstarted =
 -- one step leaves a task running, unless it is its end
 runs_step : (L : Limits) (h : History) (k : ℕ) (x : RealmStep) → Legal L h → Passes L h x → is_running (stage h k) ≡ true → is_event (finishes k) x ≡ false → is_running (stage (advance h x) k) ≡ true
 runs_step L h k (Happened e) legal ok runs unfinished = running_stays L h e k legal ok runs unfinished
+runs_step L h k (Asked actor q) legal ok runs unfinished = running_stays L h (asked q) k legal ok runs unfinished
 runs_step L h k Retirement legal ok runs unfinished = absurd (both_ways (is_settled (stage h k)) (running_unsettled (stage h k) runs) (retired_settled L h k legal ok))
 
 runs_on : (L : Limits) (h : History) (k : ℕ) (xs : List RealmStep) → Legal L h → LegalFrom L h xs → is_running (stage h k) ≡ true → list_any (is_event (finishes k)) xs ≡ false → is_running (stage (advanced h xs) k) ≡ true
@@ -64,6 +69,7 @@ start_step : (L : Limits) (h : History) (k : ℕ) (x : RealmStep) → Legal L h 
 start_step L h k (Happened (Start task)) legal ok so =
     let P : ℕ → Type 0 = λ n. is_running (stage (advance h (Happened (Start task))) n) ≡ true in
     subst P (eqb-true task k so) (running_where _ (stage_started L h task legal ok))
+start_step L h k (Asked actor q) legal ok so = absurd (both_ways (starts k (asked q)) (asks_no_start k q) so)
 start_step L h k _ legal ok so = absurd cc
 
 -- a task that waits and is started runs until its end
@@ -110,6 +116,7 @@ unstarted_before L h k (Happened e) ok before_it =
     let it = waiting_forked h k (starter_passed L h e k so ok) in
     let number = forked_after h k it.forked it.is in
     absurd (omega (arith, number.1, number.2)))
+unstarted_before L h k (Asked actor q) ok before_it = asks_no_start k q
 unstarted_before L h k Retirement ok before_it = refl
 
 -- a task that was given a thread after h waits, where it has no reject and no start

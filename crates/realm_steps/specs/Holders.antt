@@ -1,21 +1,25 @@
 -- Whose own a step is, and what a holder that has seen a beginning of the list knows of the rest.
-use Rattle.std.specs.Prelude.{◌≡◌, ℕ, ◌==◌, Bool, false, List, [], ◌∷◌, ◌++◌}
+use Rattle.std.specs.Prelude.{◌≡◌, ℕ, ◌==◌, Bool, true, false, List, [], ◌∷◌, ◌++◌}
 use Rattle.std.specs.List.{list_any}
 use Rattle.scope_rules.specs.declared.types.capacity.Limits.{Limits}
 use Rattle.scope_rules.specs.declared.types.events.Event.{Event}
-use Rattle.scope_rules.specs.declared.types.events.Event.TheVariants.{Open, Fork, Reject, Start, Finish, Bind, Unbind, Join, BeginClose, EndClose}
+use Rattle.scope_rules.specs.declared.types.events.Event.TheVariants.{Open, Fork, Reject, Start, Finish, Cancel, Move, Tick, Bind, Unbind, Join, BeginClose, EndClose}
 use Rattle.realm_steps.specs.declared.steps.RealmStep.{RealmStep}
-use Rattle.realm_steps.specs.declared.steps.RealmStep.TheVariants.{Happened, Retirement}
+use Rattle.realm_steps.specs.declared.steps.RealmStep.TheVariants.{Happened, Asked, Retirement}
 use Rattle.realm_steps.specs.declared.steps.Holder.{Holder}
 use Rattle.realm_steps.specs.declared.steps.Holder.TheVariants.{TokenOf, TicketOf}
 use Rattle.realm_steps.specs.Steps.{history_of, Passes, IsLegal}
 
--- the event is of the actor: it acted, or it is the task that started or ended
+-- the event is of the actor: it acted, or it is the task that started or ended. A cancel, a move and a tick
+-- that don't say who asked are of every actor: so nobody can take them, and they stand in no list.
 abbrev pub is_of_actor : ℕ → Event → Bool
 is_of_actor a (Open actor policy options) = actor == a
 is_of_actor a (Fork actor scope label) = actor == a
 is_of_actor a (Start task) = task == a
 is_of_actor a (Finish task end) = task == a
+is_of_actor a (Cancel scope) = true
+is_of_actor a (Move scope deadline) = true
+is_of_actor a (Tick now) = true
 is_of_actor a (Bind actor pair) = actor == a
 is_of_actor a (Unbind actor) = actor == a
 is_of_actor a (Join actor scope) = actor == a
@@ -33,8 +37,10 @@ is_of_task k _ = false
 -- the step is the holder's own: without it, nobody takes that step. A retirement is main's.
 abbrev pub is_own : Holder → RealmStep → Bool
 is_own (TokenOf a) (Happened e) = is_of_actor a e
+is_own (TokenOf a) (Asked actor q) = actor == a
 is_own (TokenOf a) Retirement = a == 0
 is_own (TicketOf k) (Happened e) = is_of_task k e
+is_own (TicketOf k) (Asked actor q) = false
 is_own (TicketOf k) Retirement = false
 
 -- what was seen is a beginning of the whole list, and no later step is the holder's own

@@ -11,12 +11,13 @@ use Rattle.scope_rules.specs.History.{History, is_fork}
 use Rattle.scope_rules.specs.Cancels.{is_cancelled}
 use Rattle.scope_rules.specs.Tasks.{rejects, starts}
 use Rattle.realm_steps.specs.declared.steps.RealmStep.{RealmStep}
-use Rattle.realm_steps.specs.declared.steps.RealmStep.TheVariants.{Happened, Retirement}
-use Rattle.realm_steps.specs.Steps.{fresh, advance}
+use Rattle.realm_steps.specs.declared.steps.RealmStep.TheVariants.{Happened, Asked, Retirement}
+use Rattle.realm_steps.specs.Steps.{asked, fresh, advance}
 
 -- the step is an event that passes the test
 abbrev pub is_event : (Event → Bool) → RealmStep → Bool
 is_event test (Happened e) = test e
+is_event test (Asked actor q) = test (asked q)
 is_event test Retirement = false
 
 -- how many tasks were forked, and the number of the last

@@ -5,4 +5,4 @@
 pub mod laws;
 pub mod steps;
 
-pub use steps::{Holder, RealmStep};
+pub use steps::{Ask, Holder, RealmStep};

@@ -2,6 +2,5 @@
 
 pub mod book;
 pub mod commands;
-pub mod fitting;
 pub mod queries;
 pub mod readers;

@@ -7,5 +7,7 @@ pub mod load;
 pub mod questions;
 pub mod readings;
 pub mod table;
+pub mod told;
 
 pub use readings::Readings;
+pub use told::{Told, records};

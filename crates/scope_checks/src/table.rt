@@ -22,6 +22,26 @@ use scope_rules::types::events::Event;
 use scope_rules::types::refusals::Refusal;
 use scope_rules::types::values::{Actor, MAIN, ScopeId, TaskId};
 
+/// What the event is refused for: the first check of its row that doesn't pass.
+pub fn row<R: Readings>(readings: &R, limits: &Limits, event: &Event) -> Result<(), Refusal>
+    ensures { result ≡ check_of limits.now (R.history readings.now) event.now }
+{
+    match *event {
+        Event::Open { actor, .. } => open_row(readings, limits, actor),
+        Event::Fork { actor, scope, .. } => fork_row(readings, limits, actor, scope),
+        Event::Reject { task } | Event::Start { task } => waiting_row(readings, task),
+        Event::Finish { task, .. } => finish_row(readings, task),
+        Event::Cancel { scope } => cancel_row(readings, limits, scope),
+        Event::Move { scope, .. } => move_row(readings, limits, scope),
+        Event::Tick { now } => tick_row(readings, limits, now),
+        Event::Bind { actor, .. } => bind_row(readings, limits, actor),
+        Event::Unbind { actor } => unbind_row(readings, limits, actor),
+        Event::Join { actor, scope } => join_row(readings, actor, scope),
+        Event::BeginClose { actor, scope } => begin_close_row(readings, actor, scope),
+        Event::EndClose { actor, scope } => end_close_row(readings, actor, scope),
+    }
+}
+
 /// What an open is refused for, whatever its joiner and options.
 #[tactic(auto, unfolding(scope_rules::specs::Table::check_of, scope_rules::specs::Checks::checks, scope_rules::specs::Checks::then_check))]
 pub fn open_row<R: Readings>(readings: &R, limits: &Limits, actor: Actor) -> Result<(), Refusal>

@@ -47,8 +47,8 @@ OwnerAgrees share keeper = AgreesWith (TokenOf share.actor) share.limits share.s
 abbrev pub TicketAgrees : TicketValue → KeeperValue → Type 0
 TicketAgrees ticket keeper = AgreesWith (TicketOf ticket.task) ticket.limits ticket.seen keeper
 
--- the event can be recorded with the token of the actor: it is the actor's own and no other's, and names
--- nobody; or it is nobody's own
+-- the event can be recorded with the token of the actor: it is the actor's own and no other's, or what any
+-- actor may ask for; and it names nobody
 abbrev pub is_recorded_by : ℕ → Event → Bool
 is_recorded_by a (Open actor policy options) = actor == a
 is_recorded_by a (Cancel scope) = true

@@ -1,5 +1,5 @@
 ghost use Rattle.std.specs.Prelude.{◌≡◌, [], ◌++◌, ◌∷◌, true, false, None, ◌+◌, Some};
-ghost use Rattle.realm_steps.specs.Steps.{history_of};
+ghost use Rattle.realm_steps.specs.Steps.{history_of, step_by};
 ghost use Rattle.realm_steps.specs.Tickets.{given_in, started_in, end_in, finished_in};
 ghost use Rattle.scope_rules.specs.Cancels.{is_cancelled};
 ghost use Rattle.scope_rules.specs.History.{tasks};
@@ -45,17 +45,18 @@ impl Keeper {
         Keeper { desk }
     }
 
-    /// Appends the event, which is of the token's actor or of nobody. The token has then seen the whole
-    /// list. What it had seen before agreed with the list.
+    /// Appends the event, which is the token's actor's own, or what it asks for. The token has then seen the
+    /// whole list. What it had seen before agreed with the list.
     pub fn record(&mut self, share: &mut OwnerShare, event: &Event)
         requires table { share.old.table ≡ self.old.table }
         requires event { is_recorded_by share.old.actor event.now ≡ true }
-        ensures keeper { self.new ≡ record self.old { steps = self.old.steps ++ RealmStep.Happened event.now ∷ [] } }
+        ensures keeper { self.new ≡ record self.old { steps = self.old.steps ++ step_by share.old.actor event.now ∷ [] } }
         ensures share { share.new ≡ record share.old { seen = self.new.steps } }
         ensures agreed { OwnerAgrees share.old self.old }
     {
         let badge = mem::replace(&mut share.badge, Badge::blank());
-        share.badge = self.desk.step_alone(badge, RealmStep::Happened(*event));
+        let step = RealmStep::by(share.actor, event);
+        share.badge = self.desk.step_alone(badge, step);
     }
 
     /// Appends a retirement, which is main's.

@@ -4,15 +4,13 @@ ghost use Rattle.scope_rules.specs.Origin.{the_start};
 ghost use Rattle.scope_rules.specs.Replies.{starting, base_check, AnswersOrMemory};
 ghost use Rattle.scope_cuts.specs.CutsOf.{IsCancelOrderOf};
 ghost use Rattle.scope_kept.specs.KeptTables.{IsKeptOf};
-ghost use Rattle.scope_book.specs.Fits.{Fitting};
+ghost use Rattle.kept_realm.specs.Fits.{Fitting};
 
-use crate::state::fitting::FittingRealm;
 use join_rules::StoredTest;
-use kept_realm::KeptRealm;
+use kept_realm::FittingRealm;
 use scope_kept::Kept;
 use scope_rules::{Base, Catalog, Limits, Refusal, ScopeId};
 use std::alloc::Global;
-use std::marker::PhantomData;
 
 /// The book of a realm: it is told each command, and answers each question by the rules. It is the
 /// replay of its history, which is legal, within the limits, and fitting by the catalog `C`.
@@ -38,34 +36,22 @@ impl<C: Catalog> BookState<C> {
     /// The same, with the list that the callers' closures come to lie in, which is empty. A crate
     /// above that gives out books makes them by this call: the check on calls that may give out a
     /// stored closure wants that such a maker takes one, and has a condition.
-    #[tactic(auto, using(crate::proofs::Growing::fitting_at_start))]
     pub fn over(alloc: Global, limits: Limits, tests: Vec<Option<StoredTest>>) -> BookState<C>
         requires { vec_len tests ≡ 0 }
         ensures { realm_of result ≡ starting limits the_start }
     {
-        BookState {
-            realm: FittingRealm {
-                kept: KeptRealm::new(alloc, limits),
-                catalog: PhantomData,
-            },
-            tests,
-        }
+        let realm = FittingRealm::new(alloc, limits);
+        BookState { realm, tests }
     }
 
     /// The book of a realm that begins with the base, as a retirement leaves it. Refused where the base
     /// has more pairs than the limit of load (`TooMany`), and where memory is refused (`Memory`).
-    #[tactic(auto, using(crate::proofs::Growing::fitting_at_start))]
     pub fn with_base(alloc: Global, limits: Limits, base: Base) -> Result<BookState<C>, Refusal>
         ensures { AnswersOrMemory (base_check limits base) (starting limits base) (realm_given result) }
     {
-        let kept = KeptRealm::with_base(alloc, limits, base)?;
-        Ok(BookState {
-            realm: FittingRealm {
-                kept,
-                catalog: PhantomData,
-            },
-            tests: Vec::new(alloc),
-        })
+        let realm = FittingRealm::with_base(alloc, limits, base)?;
+        let tests = Vec::new(alloc);
+        Ok(BookState { realm, tests })
     }
 
     /// The realm's limits. It also says of the history that it is legal, within the limits (the load and
@@ -76,7 +62,7 @@ impl<C: Catalog> BookState<C> {
         ensures within { IsWithin (limits_of self.now) (history_of self.now) }
         ensures fitting { Fitting C.fitting (history_of self.now) }
     {
-        self.realm.kept.limits()
+        self.realm.limits()
     }
 
     /// What is kept of the history, which answers the queries without a look at the events.
@@ -84,8 +70,8 @@ impl<C: Catalog> BookState<C> {
         ensures kept { IsKeptOf (history_of self.now) result.now }
         ensures legal { Legal (limits_of self.now) (history_of self.now) }
     {
-        let _limits = self.realm.kept.limits();
-        self.realm.kept.kept()
+        let _limits = self.realm.limits();
+        self.realm.realm().kept()
     }
 
     /// The n-th scope to be cancelled, from 0, if so many are: those that one event cancelled come in
@@ -95,6 +81,6 @@ impl<C: Catalog> BookState<C> {
         ensures kept { realm_of self.new ≡ realm_of self.old }
         ensures order { (list : List ℕ) × IsCancelOrderOf (history_of self.old) list × (result ≡ slice_get list n) }
     {
-        self.realm.kept.cancelled_since(n).get(0)
+        self.realm.nth_cancelled(n)
     }
 }

@@ -5,14 +5,16 @@ ghost use Rattle.scope_rules.specs.ClosingLaws.{IsWhole};
 ghost use Rattle.scope_rules.specs.Replies.{Answers, AnswersOrMemory, after, after_recording, after_retiring, next_scope, fork_reply, recording, base_of};
 ghost use Rattle.join_rules.specs.Joiners.{policy_of};
 ghost use Rattle.scope_book.specs.Books.{realm_of, limits_of, history_of, refusal_alone};
-ghost use Rattle.scope_book.specs.Fits.{FitsTask};
+ghost use Rattle.scope_checks.specs.Telling.{Performs, after_telling};
+ghost use Rattle.kept_realm.specs.Fits.{FitsTask, FitsEvent};
 
 use crate::state::book::BookState;
 use join_rules::{Joiner, StoredTest};
+use scope_checks::Told;
 use scope_kept::Kept;
 use scope_rules::{
-    Actor, Base, Cancelling, Catalog, End, Event, ForkReply, Label, Name, Options, Refusal,
-    ScopeId, TaskId, Value, Verdict,
+    Actor, Base, Binding, Cancelling, Catalog, End, Event, ForkReply, Label, Name, Options,
+    Refusal, ScopeId, TaskId, Value, Verdict,
 };
 
 /// The commands. Each tries its checks in their order, and answers the first refusal; an accepted one
@@ -32,19 +34,21 @@ impl<C: Catalog> BookState<C> {
         ensures history { realm_of self.new ≡ after (realm_of self.old) (Event.Open actor (policy_of joiner) options) (refusal_alone result) }
         ensures handed_back { IfErr result (λ e. e.1 ≡ joiner) }
     {
-        if let Err(refusal) = self.realm.kept.open_check(actor) {
+        if let Err(refusal) = self.realm.realm().open_check(actor) {
             return Err((refusal, joiner));
         }
         if self.tests.reserve(1).is_err() {
             return Err((Refusal::Memory, joiner));
         }
         let listed = joiner.asks_closure();
-        match self
-            .realm
-            .kept
-            .open(actor, joiner.policy(), options, listed)
-        {
-            Ok(scope) => {
+        let policy = joiner.policy();
+        let event = Event::Open {
+            actor,
+            policy,
+            options,
+        };
+        match self.realm.perform(event, listed, None) {
+            Ok(Told::Scope(scope)) => {
                 self.tests.push_reserved(if listed {
                     Some(joiner.into_test())
                 } else {
@@ -52,6 +56,7 @@ impl<C: Catalog> BookState<C> {
                 });
                 Ok(scope)
             }
+            Ok(_) => unreachable!(),
             Err(refusal) => Err((refusal, joiner)),
         }
     }
@@ -65,7 +70,15 @@ impl<C: Catalog> BookState<C> {
         ensures answer { AnswersOrMemory (check_of (limits_of self.old) (history_of self.old) (Event.Fork actor scope label)) (fork_reply (history_of self.old) scope) result }
         ensures history { realm_of self.new ≡ after (realm_of self.old) (Event.Fork actor scope label) result }
     {
-        self.realm.kept.fork(actor, scope, label)
+        let event = Event::Fork {
+            actor,
+            scope,
+            label,
+        };
+        match self.perform(event)? {
+            Told::Task(reply) => Ok(reply),
+            _ => unreachable!(),
+        }
     }
 
     /// Records that no thread was had for a task. Refused where the task does not wait (`WrongStage`),
@@ -74,7 +87,8 @@ impl<C: Catalog> BookState<C> {
         ensures answer { Answers (check_of (limits_of self.old) (history_of self.old) (Event.Reject task)) tt result }
         ensures history { realm_of self.new ≡ after (realm_of self.old) (Event.Reject task) result }
     {
-        self.realm.kept.reject(task)
+        self.perform(Event::Reject { task })?;
+        Ok(())
     }
 
     /// Starts a task whose thread has come. Refused where the task does not wait (`WrongStage`), or is
@@ -83,7 +97,8 @@ impl<C: Catalog> BookState<C> {
         ensures answer { Answers (check_of (limits_of self.old) (history_of self.old) (Event.Start task)) tt result }
         ensures history { realm_of self.new ≡ after (realm_of self.old) (Event.Start task) result }
     {
-        self.realm.kept.start(task)
+        self.perform(Event::Start { task })?;
+        Ok(())
     }
 
     /// Records the end of a running task. Refused where the task does not run (`WrongStage`), is
@@ -93,8 +108,10 @@ impl<C: Catalog> BookState<C> {
         ensures answer { Answers (check_of (limits_of self.old) (history_of self.old) (Event.Finish task end)) tt result }
         ensures history { realm_of self.new ≡ after (realm_of self.old) (Event.Finish task end) result }
     {
-        let test = test_of(&self.tests, self.realm.kept.kept(), task);
-        self.realm.kept.finish(task, end, test)
+        let test = test_of(&self.tests, self.realm.realm().kept(), task);
+        self.realm
+            .perform(Event::Finish { task, end }, false, test)?;
+        Ok(())
     }
 
     /// Cancels the scope and all that it reaches (Trio, `cancel`). A scope that is cancelled already
@@ -105,7 +122,7 @@ impl<C: Catalog> BookState<C> {
         ensures already { is_already (history_of self.old) (Event.Cancel scope) ≡ true → Answers (check_of (limits_of self.old) (history_of self.old) (Event.Cancel scope)) Cancelling.Already result }
         ensures history { realm_of self.new ≡ after_recording (realm_of self.old) (Event.Cancel scope) result }
     {
-        self.realm.kept.cancel(scope)
+        Ok(self.perform(Event::Cancel { scope })?.noting())
     }
 
     /// Sets the deadline of the scope anew, in milliseconds, or takes it away (Trio: a cancel scope's
@@ -115,7 +132,8 @@ impl<C: Catalog> BookState<C> {
         ensures answer { AnswersOrMemory (check_of (limits_of self.old) (history_of self.old) (Event.Move scope deadline)) tt result }
         ensures history { realm_of self.new ≡ after (realm_of self.old) (Event.Move scope deadline) result }
     {
-        self.realm.kept.move_deadline(scope, deadline)
+        self.perform(Event::Move { scope, deadline })?;
+        Ok(())
     }
 
     /// Sets the moment, in milliseconds. Refused for a moment before the present one (`ClockBack`), and
@@ -124,7 +142,8 @@ impl<C: Catalog> BookState<C> {
         ensures answer { AnswersOrMemory (check_of (limits_of self.old) (history_of self.old) (Event.Tick now)) tt result }
         ensures history { realm_of self.new ≡ after (realm_of self.old) (Event.Tick now) result }
     {
-        self.realm.kept.tick(now)
+        self.perform(Event::Tick { now })?;
+        Ok(())
     }
 
     /// Binds the key above the actor's other bindings (JEP 506, `where`). Refused where the actor is no
@@ -133,7 +152,9 @@ impl<C: Catalog> BookState<C> {
         ensures answer { AnswersOrMemory (check_of (limits_of self.old) (history_of self.old) (Event.Bind actor (record { key = key; value = value }))) tt result }
         ensures history { realm_of self.new ≡ after (realm_of self.old) (Event.Bind actor (record { key = key; value = value })) result }
     {
-        self.realm.kept.bind(actor, key, value)
+        let binding = Binding { key, value };
+        self.perform(Event::Bind { actor, binding })?;
+        Ok(())
     }
 
     /// Takes away the actor's last own binding. Refused where the actor is no running task or main, has
@@ -143,7 +164,8 @@ impl<C: Catalog> BookState<C> {
         ensures answer { AnswersOrMemory (check_of (limits_of self.old) (history_of self.old) (Event.Unbind actor)) tt result }
         ensures history { realm_of self.new ≡ after (realm_of self.old) (Event.Unbind actor) result }
     {
-        self.realm.kept.unbind(actor)
+        self.perform(Event::Unbind { actor })?;
+        Ok(())
     }
 
     /// Joins the actor's scope (JEP 505, `join`); what it answers is read by `outcome`. Refused where
@@ -154,7 +176,8 @@ impl<C: Catalog> BookState<C> {
         ensures answer { Answers (check_of (limits_of self.old) (history_of self.old) (Event.Join actor scope)) tt result }
         ensures history { realm_of self.new ≡ after (realm_of self.old) (Event.Join actor scope) result }
     {
-        self.realm.kept.join_now(actor, scope)
+        self.perform(Event::Join { actor, scope })?;
+        Ok(())
     }
 
     /// Begins to close the actor's scope, and with it each scope that the actor opened later and has not
@@ -165,7 +188,7 @@ impl<C: Catalog> BookState<C> {
         ensures answer { Answers (check_of (limits_of self.old) (history_of self.old) (Event.BeginClose actor scope)) (recording (history_of self.old) (Event.BeginClose actor scope)) result }
         ensures history { realm_of self.new ≡ after_recording (realm_of self.old) (Event.BeginClose actor scope) result }
     {
-        self.realm.kept.begin_close(actor, scope)
+        Ok(self.perform(Event::BeginClose { actor, scope })?.noting())
     }
 
     /// Closes the actor's scope. Refused where the actor is no running task or main, for a scope that is
@@ -178,19 +201,32 @@ impl<C: Catalog> BookState<C> {
         ensures history { realm_of self.new ≡ after (realm_of self.old) (Event.EndClose actor scope) result }
         ensures whole { OnOk result (IsWhole (history_of self.new) scope) }
     {
-        self.realm.kept.end_close(actor, scope)
+        let told = self.perform(Event::EndClose { actor, scope })?;
+        let _legal = self.limits();
+        match told {
+            Told::Closed(verdict) => Ok(verdict),
+            _ => unreachable!(),
+        }
+    }
+
+    /// Performs a command to which no closure of a caller's belongs.
+    fn perform(&mut self, event: Event) -> Result<Told, Refusal>
+        requires fits { FitsEvent C.fitting (history_of self.old) event }
+        ensures answer { Performs (limits_of self.old) (history_of self.old) event result }
+        ensures history { realm_of self.new ≡ after_telling (realm_of self.old) event result }
+    {
+        self.realm.perform(event, false, None)
     }
 
     /// Takes the events out and leaves a base, once main's outermost scope is closed; what is left goes
     /// on, with numbers after the base's. It is no event. Refused where the actor is no running task or
     /// main, is not main (`NotOwner`), while main has a scope that is not closed (`Structure`), and where
     /// memory is refused (`Memory`).
-    #[tactic(auto, using(crate::proofs::Growing::fitting_after_retiring))]
     pub fn retire(&mut self, actor: Actor) -> Result<Base, Refusal>
         ensures answer { AnswersOrMemory (retire_check (history_of self.old) actor) (base_of (history_of self.old)) result }
         ensures history { realm_of self.new ≡ after_retiring (realm_of self.old) result }
     {
-        let base = self.realm.kept.retire(actor)?;
+        let base = self.realm.retire(actor)?;
         self.tests.clear();
         Ok(base)
     }

@@ -112,7 +112,7 @@ impl<C: Catalog> BookState<C> {
     pub fn project(&self, scope: ScopeId) -> Result<ScopeLog, Refusal>
         ensures { AnswersValue (scope_check (history_of self.now) scope) (log (history_of self.now) scope) result }
     {
-        self.realm.kept.project(scope)
+        self.realm.realm().project(scope)
     }
 
     /// What a join of the actor's scope would give next: what it would answer, and the scope's log with
@@ -120,6 +120,6 @@ impl<C: Catalog> BookState<C> {
     pub fn join_preview(&self, actor: Actor, scope: ScopeId) -> Result<Preview, Refusal>
         ensures { AnswersValue (check_of (limits_of self.now) (history_of self.now) (Event.Join actor scope)) (preview (history_of self.now) actor scope) result }
     {
-        self.realm.kept.join_preview(actor, scope)
+        self.realm.realm().join_preview(actor, scope)
     }
 }

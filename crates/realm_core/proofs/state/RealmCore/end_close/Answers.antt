@@ -1,34 +1,33 @@
-use Rattle.std.proofs.Common.{refl, subst}
+-- Where the close can end, it does, and nothing refuses it.
+use Rattle.std.proofs.Common.{◌≡◌, ℕ, refl, sym, ap, subst, ◌∙◌, List, Ok}
 use Rattle.scope_rules.specs.declared.types.events.Event.TheVariants.{EndClose}
-use Rattle.scope_rules.specs.Verdicts.{verdict}
-use Rattle.realm_steps.specs.declared.steps.RealmStep.TheVariants.{Happened}
-use Rattle.scope_rules.specs.History.{History}
+use Rattle.realm_steps.specs.declared.steps.RealmStep.{RealmStep}
 use Rattle.realm_steps.specs.Steps.{history_of}
+use Rattle.realm_steps.proofs.Histories.{legal_history}
+use Rattle.scope_checks.specs.declared.told.Told.{Told}
+use Rattle.realm_core.specs.Calls.{Performed}
+use Rattle.realm_core.specs.Cores.{CoreValue}
 use Rattle.realm_core.specs.Endings.{CanEnd}
-use Rattle.realm_core.proofs.Ended.{end_passes, ok_is}
-use Rattle.realm_core.proofs.Taken.{accepted_ok}
-use Rattle.realm_core.proofs.Performed.{answers_so, tied_after, does_surely}
+use Rattle.realm_core.proofs.Ended.{end_passes}
+use Rattle.realm_core.proofs.Performed.{refused_surely, closed_told}
 use Rattle.realm_core.proofs.state.RealmCore.end_close.Goals as goal
 
-pub invariant_of-self : goal.invariant_of-self
-invariant_of-self g c =
-    let x = Happened (EndClose c.actor-actor.result c.args.scope) in
-    let told_so = rw c.is_ok.ensures.value at c.tell.ensures.keeper in
-    tied_after g.C.Catalog.fitting g.N.RealmName.table c.self.inside.realm c.self.inside.keeper c.self.invariant c.actor-actor.result x _ c.end_close-result.result _ _ (λ L h ok. record { passed = ok; recorded = refl }) tt (answers_so _ _ _ c.end_close-result.ensures.answer) c.end_close-result.ensures.history told_so
+pub returns-in_err-verdict-clause-sure : goal.returns-in_err-verdict-clause-sure
+returns-in_err-verdict-clause-sure g c =
+    λ can.
+    let old = c.args.share.now in
+    let new = c.perform.new.share in
+    let did = rw c.actor-actor.ensures at c.in_err-verdict.ensures.answer in
+    let refused = refused_surely old new (EndClose old.actor c.args.scope) _ refl did in
+    let same : c.args.self.now.steps ≡ new.seen = ap (λ (k : CoreValue). k.steps) (sym c.in_err-verdict.ensures.steps ∙ c.in_err-verdict.ensures.core) in
+    let here = subst (λ (xs : List RealmStep). CanEnd (history_of xs) old.actor c.args.scope) same can in
+    absurd (cc (end_passes old.limits (history_of new.seen) old.actor c.args.scope (legal_history old.limits new.seen refused.looks.legal) here, refused.by))
 
 pub returns-clause-answer : goal.returns-clause-answer
 returns-clause-answer g c =
-    let x = Happened (EndClose c.args.share.now.actor c.args.scope) in
-    let answer = rw c.actor-actor.ensures at c.end_close-result.ensures.answer in
-    let told_so = rw (c.is_ok.ensures.value, c.actor-actor.ensures) at c.tell.ensures.keeper in
-    does_surely g.C.Catalog.fitting g.N.RealmName.table c.self.inside.realm c.self.inside.keeper c.self.invariant c.args.share.now c.tell.ensures.agreed x (λ h. verdict h c.args.scope) c.end_close-result.result _ c.tell.new.share (λ L h ok. record { passed = ok; recorded = refl }) answer told_so c.tell.ensures.share
-
-pub returns-clause-sure : goal.returns-clause-sure
-returns-clause-sure g c =
-    λ can.
-    let said = rw c.actor-actor.ensures at c.end_close-result.ensures.answer in
-    let there : CanEnd (history_of c.self.inside.keeper.steps) c.args.share.now.actor c.args.scope = rw (← c.self.view_is) at can in
-    let here = subst (λ (h : History). CanEnd h c.args.share.now.actor c.args.scope) c.self.invariant.replay there in
-    let passed = end_passes c.self.inside.realm.limits c.self.inside.realm.history c.args.share.now.actor c.args.scope c.limits-limits.ensures.legal here in
-    let accepted = accepted_ok c.self.inside.realm.limits c.self.inside.realm.history (EndClose c.args.share.now.actor c.args.scope) (verdict c.self.inside.realm.history c.args.scope) c.end_close-result.result passed said in
-    ok_is c.end_close-result.result _ accepted
+    let old = c.args.share.now in
+    let new = c.perform.new.share in
+    let Q : ℕ → Type 0 = λ a. Performed old new (EndClose a c.args.scope) (Ok c.in_ok-verdict.field-0) in
+    let did = subst Q c.actor-actor.ensures c.in_ok-verdict.ensures.answer in
+    let P : Told → Type 0 = λ t. Performed old new (EndClose old.actor c.args.scope) (Ok t) in
+    closed_told old new old.actor c.args.scope c.in-Closed.verdict (subst P c.in-Closed.is did)

@@ -1,14 +1,21 @@
-use Rattle.std.proofs.Common.{subst}
+-- An accepted open gives the next scope.
+use Rattle.std.proofs.Common.{ℕ, Ok, subst}
 use Rattle.scope_rules.specs.declared.types.events.Event.TheVariants.{Open}
 use Rattle.scope_rules.specs.declared.types.joiners.Policy.{Policy}
-use Rattle.scope_rules.specs.Replies.{next_scope}
-use Rattle.realm_steps.specs.declared.steps.RealmStep.TheVariants.{Happened}
-use Rattle.realm_core.specs.Calls.{Accepted}
+use Rattle.scope_checks.specs.declared.told.Told.{Told}
+use Rattle.realm_core.specs.Calls.{Performed}
+use Rattle.join_rules.specs.Joiners.{policy_of}
+use Rattle.realm_core.proofs.ToldCalls.{open_told}
 use Rattle.realm_lock.proofs.locked.Locked+RealmCore+C+N.open.Goals as goal
 
-pub returns-in-Ok-clause-answer : goal.returns-in-Ok-clause-answer
-returns-in-Ok-clause-answer g c =
-    subst
-    (λ (p : Policy). Accepted c.args.token.now c.open.new.share (Happened (Open c.args.token.now.actor p c.args.options)) next_scope c.in-Ok.scope)
-    c.policy.ensures
-    c.in-Ok.ensures.answer
+pub returns-in-Ok-Scope-clause-answer : goal.returns-in-Ok-Scope-clause-answer
+returns-in-Ok-Scope-clause-answer g c =
+    let old = c.args.token.now in
+    let new = c.perform.new.share in
+    let told = c.in-Ok-Scope.field-0 in
+    let policy = policy_of c.args.joiner in
+    let Q : ℕ → Type 0 = λ a. Performed old new (Open a c.policy.result c.args.options) (Ok told) in
+    let P : Policy → Type 0 = λ p. Performed old new (Open old.actor p c.args.options) (Ok told) in
+    let R : Told → Type 0 = λ t. Performed old new (Open old.actor policy c.args.options) (Ok t) in
+    let did = subst P c.policy.ensures (subst Q c.actor.ensures c.in-Ok-Scope.ensures.answer) in
+    open_told old new old.actor policy c.args.options c.in-Ok-Scope.scope (subst R c.in-Ok-Scope.field-0-is did)

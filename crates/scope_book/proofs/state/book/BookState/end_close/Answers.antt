@@ -1,6 +1,10 @@
-use Rattle.scope_rules.specs.declared.types.events.Event.TheVariants.{EndClose}
-use Rattle.scope_book.proofs.Growing.{fitting_after}
+-- What was closed is whole.
+use Rattle.std.proofs.Common.{ap}
+use Rattle.scope_rules.specs.Replies.{Realm}
+use Rattle.scope_rules.proofs.ClosingScopes.{end_closes_whole}
 use Rattle.scope_book.proofs.state.book.BookState.end_close.Goals as goal
 
-pub invariant_of-self : goal.invariant_of-self
-invariant_of-self g c = fitting_after g.C.Catalog.fitting c.self.inside.0.0.kept c.end_close.new.self (EndClose c.args.actor c.args.scope) c.end_close.result c.self.invariant tt c.end_close.ensures.history
+pub returns-clause-whole : goal.returns-clause-whole
+returns-clause-whole g c =
+    let ended = rw c.in-Closed.is at c.in_ok-told.ensures.history in
+    end_closes_whole _ _ _ c.args.actor c.args.scope c.limits-legal.ensures.legal (ap (λ (r : Realm). r.history) ended)

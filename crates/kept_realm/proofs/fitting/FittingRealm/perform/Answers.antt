@@ -1,0 +1,11 @@
+-- A fitting history goes on by an event that fits.
+use Rattle.std.proofs.Common.{sym, subst}
+use Rattle.scope_rules.specs.Replies.{Realm}
+use Rattle.kept_realm.specs.Fits.{FitsEvent}
+use Rattle.kept_realm.proofs.Growing.{fitting_after}
+use Rattle.kept_realm.proofs.fitting.FittingRealm.perform.Goals as goal
+
+pub invariant_of-self : goal.invariant_of-self
+invariant_of-self g c =
+    let fits = subst (λ (r : Realm). FitsEvent g.C.Catalog.fitting r.history c.args.event) (sym c.self.view_is) c.requires.fits in
+    fitting_after g.C.Catalog.fitting c.self.inside.kept c.perform.new.self c.args.event c.perform.result c.self.invariant fits c.perform.ensures.history

@@ -1,0 +1,27 @@
+//! What was told of a command, in the form of the call that asked for it.
+
+ghost use Rattle.std.specs.Prelude.{◌≡◌};
+ghost use Rattle.realm_core.specs.Calls.{done, noted};
+
+use scope_checks::Told;
+use scope_rules::{Cancelling, Refusal};
+
+/// That it was done, where there is no more to say.
+pub fn told_done(performed: Result<Told, Refusal>) -> Result<(), Refusal>
+    ensures { result ≡ done performed }
+{
+    match performed {
+        Ok(_) => Ok(()),
+        Err(refusal) => Err(refusal),
+    }
+}
+
+/// What a cancel, or the beginning of a close, did.
+pub fn told_noted(performed: Result<Told, Refusal>) -> Result<Cancelling, Refusal>
+    ensures { result ≡ noted performed }
+{
+    match performed {
+        Ok(told) => Ok(told.noting()),
+        Err(refusal) => Err(refusal),
+    }
+}

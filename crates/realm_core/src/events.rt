@@ -1,0 +1,22 @@
+ghost use Rattle.std.specs.Prelude.{◌≡◌, false};
+ghost use Rattle.scope_rules.specs.History.{History};
+ghost use Rattle.scope_rules.specs.Load.{weight};
+ghost use Rattle.scope_rules.specs.Table.{check_of, is_already};
+ghost use Rattle.scope_rules.specs.Replies.{Answers, after};
+ghost use Rattle.kept_realm.specs.Fits.{FitsEvent};
+
+use kept_realm::FittingRealm;
+use scope_rules::{Catalog, Event, Refusal};
+
+/// Performs the command of an event that costs no load, and of which there is no more to say than that it was
+/// done. It takes no memory.
+pub(crate) fn done<C: Catalog>(realm: &mut FittingRealm<C>, event: Event) -> Result<(), Refusal>
+    requires fits { FitsEvent C.fitting realm.old.history event }
+    requires free { weight event ≡ 0 }
+    requires new { (h : History) → is_already h event ≡ false }
+    ensures answer { Answers (check_of realm.old.limits realm.old.history event) tt result }
+    ensures history { realm.new ≡ after realm.old event result }
+{
+    realm.perform(event, false, None)?;
+    Ok(())
+}
