@@ -1,10 +1,10 @@
 -- The tasks in the entries of a scope, in order, and what is counted and listed of them.
-use Rattle.std.proofs.Common.{◌≡◌, ℕ, zero, suc, ◌+◌, ◌<◌, ◌==◌, ◌&&◌, ◌||◌, Bool, true, false, not, cond, Option, Some, None, List, [], ◌∷◌, ◌++◌, map, count_by, refl, ap, sym, ◌∙◌, arith, zero-add}
+use Rattle.std.proofs.Common.{◌≡◌, ℕ, zero, suc, ◌+◌, ◌<◌, ◌==◌, ◌&&◌, ◌||◌, Bool, true, false, not, cond, Option, Some, None, List, [], ◌∷◌, ◌++◌, count_by, refl, ap, sym, ◌∙◌, arith, zero-add}
 use Rattle.std.proofs.lemmas.Bool.{ne_eqb}
 use Rattle.std.proofs.lemmas.List.{append-nil}
 use Rattle.std.proofs.lemmas.List.Elements.{filter-append}
 use Rattle.std.specs.Option.{option_and_then, option_map_or}
-use Rattle.std.specs.List.{list_any, filter, filter_map, cons_option, range_with_len}
+use Rattle.std.specs.List.{list_any, filter, cons_option, range_with_len}
 use Rattle.scope_rules.specs.declared.types.capacity.Limits.{Limits}
 use Rattle.scope_rules.specs.declared.types.answers.Stage.{Stage}
 use Rattle.scope_rules.specs.declared.types.answers.Stage.TheVariants.{Never, Waiting, Running, Finished}
@@ -15,15 +15,17 @@ use Rattle.scope_rules.specs.History.{History, followed, tasks, forked_count, ta
 use Rattle.scope_rules.specs.Cancels.{is_cancelled}
 use Rattle.scope_rules.specs.Completions.{is_task_of}
 use Rattle.scope_rules.specs.Tasks.{stage, state, is_stage, is_settled, is_at, counts, settled, ready}
-use Rattle.scope_rules.specs.Outcomes.{value_in, values, listing}
+use Rattle.scope_rules.specs.Answers.{values_by, listing_by}
+use Rattle.scope_rules.specs.Nests.{tasks_of}
 use Rattle.scope_rules.specs.Legal.{Legal}
 use Rattle.scope_rules.proofs.Completions.{count_by-cons}
 use Rattle.scope_rules.proofs.Numbers.{range_push}
 use Rattle.scope_rules.proofs.OneEventMore.{along}
 use Rattle.scope_rules.proofs.Owing.{count_push}
 use Rattle.scope_rules.proofs.StageSteps.{next_forking}
+use Rattle.scope_rules.proofs.TaskLists.{values_same, listing_same}
 use Rattle.scope_log.specs.Log.{is_of, said, entry_of, entries}
-use Rattle.scope_log.specs.LocalForms.{task_forked, tasks_in, is_at_in, is_unsettled_in, counts_in, settled_in, ready_in, value_said, state_said, values_in, listing_in}
+use Rattle.scope_log.specs.LocalForms.{task_forked, tasks_in, is_at_in, is_unsettled_in, counts_in, settled_in, ready_in, state_in}
 use Rattle.scope_log.proofs.CountSteps.{same_counts}
 use Rattle.scope_log.proofs.LogMarks.{gives_by, cond_none, and_false, marked, picks_grow}
 use Rattle.scope_log.proofs.LogStates.{state_told}
@@ -120,22 +122,6 @@ module _ (q : ℕ → Bool) where
       by true is so = rw (same n is) (ap (λ b. r n || b) so)
       by false is so = so
 
-  picked : {B : Type 0} (f g : ℕ → Option B) → ((k : ℕ) → q k ≡ true → f k ≡ g k) → (ns : List ℕ) → filter_map f (filter q ns) ≡ filter_map (λ k. cond (q k) (g k) None) ns
-  picked f g same [] = refl
-  picked f g same (n ∷ ns) = by (q n) refl (picked f g same ns)
-    where
-      by : (b : Bool) → q n ≡ b → filter_map f (filter q ns) ≡ filter_map (λ k. cond (q k) (g k) None) ns → filter_map f (cond b (n ∷ filter q ns) (filter q ns)) ≡ cons_option (cond b (g n) None) (filter_map (λ k. cond (q k) (g k) None) ns)
-      by true is so = rw (same n is) (ap (cons_option (g n)) so)
-      by false is so = so
-
-  mapped : {B : Type 0} (f g : ℕ → B) → ((k : ℕ) → q k ≡ true → f k ≡ g k) → (ns : List ℕ) → map f (filter q ns) ≡ filter_map (λ k. cond (q k) (Some (g k)) None) ns
-  mapped f g same [] = refl
-  mapped f g same (n ∷ ns) = by (q n) refl (mapped f g same ns)
-    where
-      by : (b : Bool) → q n ≡ b → map f (filter q ns) ≡ filter_map (λ k. cond (q k) (Some (g k)) None) ns → map f (cond b (n ∷ filter q ns) (filter q ns)) ≡ cons_option (cond b (Some (g n)) None) (filter_map (λ k. cond (q k) (Some (g k)) None) ns)
-      by true is so = rw (same n is) (ap (λ xs. g n ∷ xs) so)
-      by false is so = so
-
 -- ---- counts, and what waits or runs
 
 tally_told : (L : Limits) (h : History) (s : ℕ) (x : Stage) → Legal L h → count_by (is_at_in (entries h s) x) (tasks_in (entries h s)) ≡ count_by (is_at h s x) (task_numbers h)
@@ -163,15 +149,13 @@ ready_told L h s legal = ap (λ b. b || settled_in (entries h s)) (marked L h s 
 -- ---- lists of values and states
 
 -- the entries tell the values of a scope's tasks
-pub values_told : (L : Limits) (h : History) (s : ℕ) → Legal L h → values_in (entries h s) ≡ values h s
-unfolding values_in values
+pub values_told : (L : Limits) (h : History) (s : ℕ) → Legal L h → values_by (state_in (entries h s)) (tasks_in (entries h s)) ≡ values_by (state h) (tasks_of h s)
+unfolding tasks_of
 values_told L h s legal =
-    ap (filter_map (value_said (entries h s))) (tasks_told L h s legal)
-    ∙ picked (is_task_of h s) (value_said (entries h s)) (λ k. value_in k (state h k)) (λ k in_it. ap (value_in k) (state_told L h s k legal in_it)) (task_numbers h)
+    ap (values_by (state_in (entries h s))) (tasks_told L h s legal) ∙ values_same (is_task_of h s) (state_in (entries h s)) (state h) (λ k in_it. state_told L h s k legal in_it) (task_numbers h)
 
 -- and the states of them all
-pub listing_told : (L : Limits) (h : History) (s : ℕ) → Legal L h → listing_in (entries h s) ≡ listing h s
-unfolding listing_in listing
+pub listing_told : (L : Limits) (h : History) (s : ℕ) → Legal L h → listing_by (state_in (entries h s)) (tasks_in (entries h s)) ≡ listing_by (state h) (tasks_of h s)
+unfolding tasks_of
 listing_told L h s legal =
-    ap (map (state_said (entries h s))) (tasks_told L h s legal)
-    ∙ mapped (is_task_of h s) (state_said (entries h s)) (λ k. record { task = k; state = state h k }) (λ k in_it. ap (λ x. record { task = k; state = x }) (state_told L h s k legal in_it)) (task_numbers h)
+    ap (listing_by (state_in (entries h s))) (tasks_told L h s legal) ∙ listing_same (is_task_of h s) (state_in (entries h s)) (state h) (λ k in_it. state_told L h s k legal in_it) (task_numbers h)

@@ -16,7 +16,8 @@ use Rattle.scope_rules.specs.History.{History, followed}
 use Rattle.scope_rules.specs.Cancels.{is_cancelled}
 use Rattle.scope_rules.specs.Completions.{is_task_of, completion_of, completions}
 use Rattle.scope_rules.specs.Tasks.{finishes, finished, state, state_by_end}
-use Rattle.scope_rules.specs.Outcomes.{is_available, readable, readable_at}
+use Rattle.scope_rules.specs.Answers.{is_available}
+use Rattle.scope_rules.specs.Outcomes.{readable, first_read}
 use Rattle.scope_rules.specs.Legal.{Accepts, Legal}
 use Rattle.scope_rules.proofs.Accepted.{entry_at, running_task}
 use Rattle.scope_rules.proofs.CompletionSteps.{completions_grow}
@@ -64,10 +65,6 @@ first_passing c p (e ∷ es) = rw (first_passing c p es) (by (c e))
 -- the completion passes, and can be read
 abbrev reads : (Completion → Bool) → History → Completion → Bool
 reads test h d = test d && is_available (state h d.task)
-
--- the first completion of scope s that passes the test, of those that can be read
-abbrev pub first_read : (Completion → Bool) → History → ℕ → Option Completion
-first_read test h s = earliest (readable_at test h s) (length h.events)
 
 first_is : (test : Completion → Bool) (h : History) (s : ℕ) → first_read test h s ≡ find (reads test h) (completions h s)
 unfolding completions

@@ -5,16 +5,8 @@ use Rattle.std.proofs.lemmas.List.{append-nil}
 use Rattle.std.specs.Option.{option_or, option_map_or, option_and_then}
 use Rattle.std.specs.List.{list_any, cons_option, before_first}
 use Rattle.scope_rules.specs.declared.types.capacity.Limits.{Limits}
-use Rattle.scope_rules.specs.declared.types.answers.Cause.{Cause}
-use Rattle.scope_rules.specs.declared.types.answers.CauseKind.{CauseKind}
-use Rattle.scope_rules.specs.declared.types.answers.CauseKind.TheVariants.{Call, Close, Joiner, Deadline}
 use Rattle.scope_rules.specs.declared.types.events.Event.{Event}
 use Rattle.scope_rules.specs.declared.types.events.Event.TheVariants.{Join}
-use Rattle.scope_rules.specs.declared.types.events.Expiry.{Expiry}
-use Rattle.scope_rules.specs.declared.types.events.Expiry.TheVariants.{Fail, MoveOn}
-use Rattle.scope_rules.specs.declared.types.joiners.Policy.{Policy}
-use Rattle.scope_rules.specs.declared.types.joiners.Policy.TheVariants as policy
-use Rattle.scope_rules.specs.declared.types.outcomes.Outcome.TheVariants as outcome_is
 use Rattle.scope_rules.specs.declared.types.records.Opening.{Opening}
 use Rattle.scope_rules.specs.Origin.{Origin}
 use Rattle.scope_rules.specs.Search.{earliest}
@@ -22,7 +14,8 @@ use Rattle.scope_rules.specs.Joining.{has_failed, has_succeeded}
 use Rattle.scope_rules.specs.History.{History, before, followed, opening}
 use Rattle.scope_rules.specs.Scopes.{joins, joined}
 use Rattle.scope_rules.specs.Cancels.{cause}
-use Rattle.scope_rules.specs.Outcomes.{first_failure, first_success, outcome_by, expired_outcome, outcome_by_kind, outcome_of, joining_at, joining, outcome}
+use Rattle.scope_rules.specs.Answers.{answer_of}
+use Rattle.scope_rules.specs.Outcomes.{readable_of, outcome_of, joining_at, joining, outcome}
 use Rattle.scope_rules.specs.Legal.{Legal}
 use Rattle.scope_rules.proofs.Answered.{joining_inside, joining_stays}
 use Rattle.scope_rules.proofs.Nesting.{legal_before}
@@ -32,7 +25,7 @@ use Rattle.scope_rules.proofs.Pushing.{before_push, before_last}
 use Rattle.scope_rules.proofs.Searching.{earliest_same}
 use Rattle.scope_log.specs.declared.entries.LogEntry.TheVariants as entry
 use Rattle.scope_log.specs.Log.{LogValue, is_of, said, entries, mark_next, entries_next}
-use Rattle.scope_log.specs.LocalForms.{is_join, before_join, outcome_in, answer_by, answer_at_expiry, answer_by_kind, answer_by_cause, answer_in}
+use Rattle.scope_log.specs.LocalForms.{is_join, before_join, outcome_in, readings_in, answer_in}
 use Rattle.scope_log.proofs.FirstParts.{before_first-append}
 use Rattle.scope_log.proofs.LogCounts.{values_told, listing_told}
 use Rattle.scope_log.proofs.LogFirsts.{first_told}
@@ -145,37 +138,18 @@ joined_told L h s legal = along L (λ g. list_any is_join (entries g s) ≡ join
 
 -- ---- what it answered
 
--- what the joiner answers
-answer_told : (L : Limits) (h : History) (s : ℕ) (p : Policy) → Legal L h → answer_by (entries h s) p ≡ outcome_by h s p
-unfolding answer_by outcome_by first_failure first_success
-answer_told L h s policy.All legal = rw (first_told L has_failed h s legal) (rw (values_told L h s legal) refl)
-answer_told L h s policy.Any legal = rw (first_told L has_failed h s legal) (rw (first_told L has_succeeded h s legal) refl)
-answer_told L h s policy.AwaitAll legal = refl
-answer_told L h s policy.AwaitOk legal = rw (first_told L has_failed h s legal) refl
-answer_told L h s (policy.Until rule) legal = ap outcome_is.List (listing_told L h s legal)
-
-expiry_told : (L : Limits) (h : History) (s : ℕ) (x : Expiry) → Legal L h → answer_at_expiry (entries h s) x ≡ expired_outcome h s x
-expiry_told L h s Fail legal = refl
-expiry_told L h s MoveOn legal = ap outcome_is.Partial (listing_told L h s legal)
-
 -- the log of scope s, opened so
 abbrev pub log_of : History → ℕ → Opening → LogValue
 log_of h s o = record { scope = s; policy = o.policy; expiry = o.options.expiry; entries = entries h s }
 
-kind_told : (L : Limits) (h : History) (s : ℕ) (o : Opening) (k : CauseKind) → Legal L h → answer_by_kind (log_of h s o) k ≡ outcome_by_kind h s o k
-kind_told L h s o Call legal = refl
-kind_told L h s o Deadline legal = expiry_told L h s o.options.expiry legal
-kind_told L h s o Joiner legal = answer_told L h s o.policy legal
-kind_told L h s o Close legal = answer_told L h s o.policy legal
+-- the entries tell what can be read
+readings_told : (L : Limits) (h : History) (s : ℕ) → Legal L h → readings_in (entries h s) ≡ readable_of h s
+readings_told L h s legal = rw (first_told L has_failed h s legal) (rw (first_told L has_succeeded h s legal) (rw (values_told L h s legal) (rw (listing_told L h s legal) refl)))
 
 -- what a join answers next
 pub next_told : (L : Limits) (h : History) (s : ℕ) (o : Opening) → Legal L h → answer_in (log_of h s o) ≡ outcome_of h s o
 unfolding answer_in outcome_of
-next_told L h s o legal = rw (cause_told L h s legal) (by (cause h s))
-  where
-    by : (c : Option Cause) → option_map_or (answer_by_cause (log_of h s o)) c (answer_by (entries h s) o.policy) ≡ option_map_or (λ (x : Cause). cond (x.scope == s) (outcome_by_kind h s o x.kind) (outcome_is.Cancelled x.scope)) c (outcome_by h s o.policy)
-    by None = answer_told L h s o.policy legal
-    by (Some c) = ap (λ x. cond (c.scope == s) x (outcome_is.Cancelled c.scope)) (kind_told L h s o c.kind legal)
+next_told L h s o legal = rw (cause_told L h s legal) (ap (λ r. answer_of r s o.policy o.options.expiry (cause h s)) (readings_told L h s legal))
 
 -- the log tells what the join answered
 pub outcome_told : (L : Limits) (h : History) (s : ℕ) (o : Opening) → Legal L h → opening h s ≡ Some o → outcome_in (log_of h s o) ≡ outcome h s

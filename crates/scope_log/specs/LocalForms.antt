@@ -1,28 +1,19 @@
 -- What can be told from the entries of a log alone: each answer of a scope, by its own events and the
 -- mark of its cancellation.
-use Rattle.std.specs.Prelude.{ℕ, ◌==◌, ◌||◌, Bool, true, false, not, Option, Some, None, List, [], ◌∷◌, ◌++◌, map, count_by, if◌then◌else◌}
+use Rattle.std.specs.Prelude.{ℕ, ◌==◌, ◌||◌, Bool, true, false, not, Option, Some, None, List, [], ◌∷◌, ◌++◌, count_by, if◌then◌else◌}
 use Rattle.std.specs.Option.{option_and_then, option_map_or}
 use Rattle.std.specs.List.{list_any, filter_map, find, before_first, after_first}
 use Rattle.scope_rules.specs.declared.types.answers.Cause.{Cause}
-use Rattle.scope_rules.specs.declared.types.answers.CauseKind.{CauseKind}
-use Rattle.scope_rules.specs.declared.types.answers.CauseKind.TheVariants.{Call, Close, Joiner, Deadline}
 use Rattle.scope_rules.specs.declared.types.answers.Counts.{Counts}
 use Rattle.scope_rules.specs.declared.types.answers.Stage.{Stage}
 use Rattle.scope_rules.specs.declared.types.answers.Stage.TheVariants.{Never, Waiting, Running, Finished}
 use Rattle.scope_rules.specs.declared.types.answers.State.{State}
 use Rattle.scope_rules.specs.declared.types.answers.State.TheVariants.{Unavailable}
-use Rattle.scope_rules.specs.declared.types.events.Expiry.{Expiry}
-use Rattle.scope_rules.specs.declared.types.events.Expiry.TheVariants.{Fail, MoveOn}
-use Rattle.scope_rules.specs.declared.types.joiners.Policy.{Policy}
-use Rattle.scope_rules.specs.declared.types.joiners.Policy.TheVariants as policy
 use Rattle.scope_rules.specs.declared.types.outcomes.Outcome.{Outcome}
-use Rattle.scope_rules.specs.declared.types.outcomes.Outcome.TheVariants as outcome_is
-use Rattle.scope_rules.specs.declared.types.outcomes.TaskState.{TaskState}
-use Rattle.scope_rules.specs.declared.types.outcomes.TaskValue.{TaskValue}
 use Rattle.scope_rules.specs.declared.types.values.Completion.{Completion}
+use Rattle.scope_rules.specs.Answers.{Readable, values_by, listing_by, answer_of}
 use Rattle.scope_rules.specs.Joining.{has_failed, has_succeeded}
 use Rattle.scope_rules.specs.Tasks.{is_settled, is_stage, state_by_end}
-use Rattle.scope_rules.specs.Outcomes.{value_in, outcome_or}
 use Rattle.scope_log.specs.declared.entries.LogEntry.{LogEntry}
 use Rattle.scope_log.specs.declared.entries.LogEntry.TheVariants as entry
 use Rattle.scope_log.specs.declared.previews.Preview.{Preview}
@@ -132,54 +123,18 @@ ready_in es = list_any is_mark es || settled_in es
 
 -- ---- the outcome
 
-abbrev pub value_said : List LogEntry → ℕ → Option TaskValue
-value_said es k = value_in k (state_in es k)
+-- what can be read of the tasks, those in fork order
+abbrev pub readings_in : List LogEntry → Readable
+readings_in es = record {
+  failure = find has_failed (readable_in es);
+  success = find has_succeeded (readable_in es);
+  values = values_by (state_in es) (tasks_in es);
+  listing = listing_by (state_in es) (tasks_in es);
+}
 
--- the values of the tasks that succeeded, in fork order
-unfoldable pub values_in : List LogEntry → List TaskValue
-values_in es = filter_map (value_said es) (tasks_in es)
-
-abbrev pub state_said : List LogEntry → ℕ → TaskState
-state_said es k = record { task = k; state = state_in es k }
-
--- the tasks with their states, in fork order
-unfoldable pub listing_in : List LogEntry → List TaskState
-listing_in es = map (state_said es) (tasks_in es)
-
--- the first failure that can be read
-abbrev pub failure_in : List LogEntry → Option Completion
-failure_in es = find has_failed (readable_in es)
-
--- the first success that can be read
-abbrev pub success_in : List LogEntry → Option Completion
-success_in es = find has_succeeded (readable_in es)
-
--- what the joiner answers
-unfoldable pub answer_by : List LogEntry → Policy → Outcome
-answer_by es policy.All = outcome_or (failure_in es) (outcome_is.All (values_in es))
-answer_by es policy.Any = outcome_or (success_in es) (outcome_or (failure_in es) outcome_is.Empty)
-answer_by es policy.AwaitAll = outcome_is.Done
-answer_by es policy.AwaitOk = outcome_or (failure_in es) outcome_is.Done
-answer_by es (policy.Until rule) = outcome_is.List (listing_in es)
-
--- what the scope's own deadline answers
-abbrev pub answer_at_expiry : List LogEntry → Expiry → Outcome
-answer_at_expiry es Fail = outcome_is.Timeout
-answer_at_expiry es MoveOn = outcome_is.Partial (listing_in es)
-
--- what a cancel of the scope's own answers
-abbrev pub answer_by_kind : LogValue → CauseKind → Outcome
-answer_by_kind l Call = outcome_is.Cancelled l.scope
-answer_by_kind l Deadline = answer_at_expiry l.entries l.expiry
-answer_by_kind l Joiner = answer_by l.entries l.policy
-answer_by_kind l Close = answer_by l.entries l.policy
-
-abbrev pub answer_by_cause : LogValue → Cause → Outcome
-answer_by_cause l c = if c.scope == l.scope then answer_by_kind l c.kind else outcome_is.Cancelled c.scope
-
--- what a join answers next: by the cause, if the scope is cancelled, and else by the joiner
+-- what a join answers next
 unfoldable pub answer_in : LogValue → Outcome
-answer_in l = option_map_or (answer_by_cause l) (cause_in l.entries) (answer_by l.entries l.policy)
+answer_in l = answer_of (readings_in l.entries) l.scope l.policy l.expiry (cause_in l.entries)
 
 abbrev pub is_join : LogEntry → Bool
 is_join (entry.Join actor) = true

@@ -15,6 +15,7 @@ pub use Rattle.scope_rules.specs.Scopes
 pub use Rattle.scope_rules.specs.Completions
 pub use Rattle.scope_rules.specs.Cancels
 pub use Rattle.scope_rules.specs.Tasks
+pub use Rattle.scope_rules.specs.Answers
 pub use Rattle.scope_rules.specs.Outcomes
 pub use Rattle.scope_rules.specs.Bindings
 pub use Rattle.scope_rules.specs.StackSteps

@@ -8,7 +8,7 @@ use Rattle.scope_rules.specs.declared.types.events.Event.TheVariants.{Fork, Join
 use Rattle.scope_rules.specs.declared.types.values.Completion.{Completion}
 use Rattle.scope_rules.specs.History.{History, before, followed, tasks}
 use Rattle.scope_rules.specs.Scopes.{joins, joined}
-use Rattle.scope_rules.specs.Outcomes.{joining_at, joining}
+use Rattle.scope_rules.specs.Outcomes.{first_read, joining_at, joining}
 use Rattle.scope_rules.specs.Tasks.{state, ready}
 use Rattle.scope_rules.specs.Table.{check_of}
 use Rattle.scope_rules.specs.Legal.{Accepts, Legal}
@@ -23,7 +23,7 @@ use Rattle.scope_rules.specs.Nests.{tasks_of}
 use Rattle.scope_outcomes.proofs.Since.{since}
 use Rattle.scope_outcomes.proofs.TaskLists.{if_one, tasks_kept, tasks_forked}
 use Rattle.scope_outcomes.proofs.Over.{IsOver, forks_for, over_ready, over_stays, over_states, task_before}
-use Rattle.scope_outcomes.proofs.Readings.{IsTask, first_read, first_over}
+use Rattle.scope_outcomes.proofs.Readings.{IsTask, first_over}
 
 -- the later history h says of scope s what g says
 pub record IsLike (g : History) (s : ℕ) (h : History) : Type 0 where

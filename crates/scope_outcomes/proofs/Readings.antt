@@ -11,7 +11,8 @@ use Rattle.scope_rules.specs.declared.types.values.Completion.{Completion}
 use Rattle.scope_rules.specs.Search.{earliest}
 use Rattle.scope_rules.specs.History.{History, before, followed, forking}
 use Rattle.scope_rules.specs.Completions.{is_task_of, completion_of}
-use Rattle.scope_rules.specs.Outcomes.{is_available, readable, readable_at}
+use Rattle.scope_rules.specs.Answers.{is_available}
+use Rattle.scope_rules.specs.Outcomes.{readable, readable_at, first_read}
 use Rattle.scope_rules.specs.Tasks.{finishes, finished, ending_of, state}
 use Rattle.scope_rules.specs.Legal.{Accepts, Legal}
 use Rattle.scope_rules.proofs.Accepted.{entry_at, running_task}
@@ -24,10 +25,6 @@ use Rattle.scope_rules.proofs.Searching.{earliest_same}
 use Rattle.scope_rules.proofs.Stages.{running_forked}
 use Rattle.scope_rules.proofs.StateSteps.{state_stays}
 use Rattle.scope_outcomes.proofs.Over.{IsOver, over_ended}
-
--- the first completion of scope s that passes the test, of those that can be read
-abbrev pub first_read : (Completion → Bool) → History → ℕ → Option Completion
-first_read test h s = earliest (readable_at test h s) (length h.events)
 
 any_at : (p : Event → Bool) (es : List Event) (i : ℕ) (e : Event) → slice_get es i ≡ Some e → p e ≡ true → list_any p es ≡ true
 any_at p [] i e at so = absurd cc

@@ -1,32 +1,24 @@
 -- What is kept of a joined scope says what its join answered.
-use Rattle.std.proofs.Common.{◌≡◌, ℕ, ◌+◌, ◌-◌, ◌==◌, Bool, true, false, cond, Option, Some, None, Result, Ok, Err, option_map, List, [], ◌∷◌, map, refl, ap, sym, subst, ◌∙◌, arith}
+use Rattle.std.proofs.Common.{◌≡◌, ℕ, ◌+◌, ◌-◌, true, cond, Option, Some, None, Result, Ok, Err, option_map, List, refl, ap, sym, subst, ◌∙◌, arith}
 use Rattle.std.specs.Option.{option_and_then, option_map_or}
 use Rattle.std.specs.Result.{IfOk}
-use Rattle.std.specs.List.{filter, filter_map, find, cons_option}
+use Rattle.std.specs.List.{find}
 use Rattle.scope_rules.specs.declared.types.capacity.Limits.{Limits}
 use Rattle.scope_rules.specs.declared.types.answers.Cause.{Cause}
-use Rattle.scope_rules.specs.declared.types.answers.CauseKind.{CauseKind}
-use Rattle.scope_rules.specs.declared.types.answers.CauseKind.TheVariants.{Call, Close, Joiner, Deadline}
-use Rattle.scope_rules.specs.declared.types.answers.State.{State}
 use Rattle.scope_rules.specs.declared.types.answers.State.TheVariants.{Unavailable}
-use Rattle.scope_rules.specs.declared.types.events.Expiry.{Expiry}
-use Rattle.scope_rules.specs.declared.types.events.Expiry.TheVariants.{Fail, MoveOn}
-use Rattle.scope_rules.specs.declared.types.joiners.Policy.{Policy}
-use Rattle.scope_rules.specs.declared.types.joiners.Policy.TheVariants as policy
 use Rattle.scope_rules.specs.declared.types.outcomes.Outcome.{Outcome}
-use Rattle.scope_rules.specs.declared.types.outcomes.Outcome.TheVariants as outcome_is
-use Rattle.scope_rules.specs.declared.types.outcomes.TaskState.{TaskState}
 use Rattle.scope_rules.specs.declared.types.records.Cut.{Cut}
-use Rattle.scope_rules.specs.declared.types.records.Opening.{Opening}
 use Rattle.scope_rules.specs.declared.types.values.Completion.{Completion}
 use Rattle.scope_rules.specs.History.{History, before, opening, forking, task_numbers}
 use Rattle.scope_rules.specs.Cancels.{cut, cause}
 use Rattle.scope_rules.specs.Completions.{is_task_of, completions}
 use Rattle.scope_rules.specs.Joining.{has_failed, has_succeeded}
-use Rattle.scope_rules.specs.Outcomes.{is_available, value_in, first_failure, first_success, values, listing, outcome_by, expired_outcome, outcome_by_kind, outcome_of, joining, outcome}
+use Rattle.scope_rules.specs.Answers.{is_available, values_by, listing_by, answer_of}
+use Rattle.scope_rules.specs.Outcomes.{first_read, readable_of, outcome_of, joining, outcome}
 use Rattle.scope_rules.specs.Tasks.{state}
 use Rattle.scope_rules.specs.Legal.{Legal}
 use Rattle.scope_rules.proofs.OneEventMore.{forking_later}
+use Rattle.scope_rules.proofs.TaskLists.{values_same, listing_same}
 use Rattle.scope_rows.specs.declared.records.ScopeRow.{ScopeRow}
 use Rattle.scope_rows.specs.declared.records.TaskRow.{TaskRow}
 use Rattle.scope_rows.specs.Table.{RowTable, scope_row, task_row}
@@ -39,40 +31,11 @@ use Rattle.scope_cuts.specs.CutsOf.{AreCutsOf, IsAccountOf}
 use Rattle.scope_outcomes.specs.ForkTable.{ForkTable}
 use Rattle.scope_outcomes.specs.ForksOf.{AreForksOf}
 use Rattle.scope_rules.specs.Nests.{tasks_of}
-use Rattle.scope_outcomes.specs.Answers.{answer_by, answer_at_expiry, answer_by_kind, answer_of, readable_of, cause_before, state_in, readable_in, values_in, listing_in, readable_by}
+use Rattle.scope_outcomes.specs.Answers.{cause_before, state_in, readable_in, readable_by}
 use Rattle.scope_outcomes.proofs.AtJoin.{IsLike, join_at, join_wants, like_at_join}
 use Rattle.scope_outcomes.proofs.CutsBefore.{cause_at}
 use Rattle.scope_outcomes.proofs.FirstCompletions.{where_read, first_by_completions}
 use Rattle.scope_outcomes.proofs.Readings.{task_there}
-
--- ---- the definition, by what can be read
-
-by_policy : (h : History) (s : ℕ) (p : Policy) → outcome_by h s p ≡ answer_by (readable_of h s) p
-unfolding outcome_by
-by_policy h s policy.All = refl
-by_policy h s policy.Any = refl
-by_policy h s policy.AwaitAll = refl
-by_policy h s policy.AwaitOk = refl
-by_policy h s (policy.Until rule) = refl
-
-by_expiry : (h : History) (s : ℕ) (x : Expiry) → expired_outcome h s x ≡ answer_at_expiry (listing h s) x
-by_expiry h s Fail = refl
-by_expiry h s MoveOn = refl
-
-by_kind : (h : History) (s : ℕ) (o : Opening) (k : CauseKind) → outcome_by_kind h s o k ≡ answer_by_kind (readable_of h s) s o k
-by_kind h s o Call = refl
-by_kind h s o Deadline = by_expiry h s o.options.expiry
-by_kind h s o Joiner = by_policy h s o.policy
-by_kind h s o Close = by_policy h s o.policy
-
--- what a join answers, by what can be read of the scope's tasks
-pub answered_by : (h : History) (s : ℕ) (o : Opening) → outcome_of h s o ≡ answer_of (readable_of h s) s o (cause h s)
-unfolding outcome_of
-answered_by h s o = by (cause h s)
-  where
-    by : (c : Option Cause) → option_map_or (λ (x : Cause). cond (x.scope == s) (outcome_by_kind h s o x.kind) (outcome_is.Cancelled x.scope)) c (outcome_by h s o.policy) ≡ answer_of (readable_of h s) s o c
-    by None = by_policy h s o.policy
-    by (Some c) = ap (λ x. cond (c.scope == s) x (outcome_is.Cancelled c.scope)) (by_kind h s o c.kind)
 
 -- ---- the rows' states
 
@@ -87,31 +50,6 @@ state_by h t k (Some r) are is = sym (task_row_says h t k r are is).state
 -- the state that a row has is the task's
 pub state_there : (h : History) (t : RowTable) (k : ℕ) → AreRowsOf h t → state_in t k ≡ state h k
 state_there h t k are = state_by h t k (task_row t k) are refl
-
--- a task with its state
-abbrev entry : ℕ → State → TaskState
-entry k x = record { task = k; state = x }
-
-module _ (p : ℕ → Bool) (x y : ℕ → State) (same : (k : ℕ) → p k ≡ true → x k ≡ y k) where
-  -- values, by another account of the states
-  values_same : (ks : List ℕ) → filter_map (λ k. cond (p k) (value_in k (x k)) None) ks ≡ filter_map (λ k. value_in k (y k)) (filter p ks)
-  values_same [] = refl
-  values_same (k ∷ ks) = by (p k) refl (values_same ks)
-    where
-      by : (b : Bool) → p k ≡ b → filter_map (λ n. cond (p n) (value_in n (x n)) None) ks ≡ filter_map (λ n. value_in n (y n)) (filter p ks)
-          → cons_option (cond b (value_in k (x k)) None) (filter_map (λ n. cond (p n) (value_in n (x n)) None) ks) ≡ filter_map (λ n. value_in n (y n)) (cond b (k ∷ filter p ks) (filter p ks))
-      by true is rest = ap (λ st. cons_option (value_in k st) (filter_map (λ n. cond (p n) (value_in n (x n)) None) ks)) (same k is) ∙ ap (cons_option (value_in k (y k))) rest
-      by false is rest = rest
-
-  -- and listings
-  listing_same : (ks : List ℕ) → filter_map (λ k. cond (p k) (Some (entry k (x k))) None) ks ≡ map (λ k. entry k (y k)) (filter p ks)
-  listing_same [] = refl
-  listing_same (k ∷ ks) = by (p k) refl (listing_same ks)
-    where
-      by : (b : Bool) → p k ≡ b → filter_map (λ n. cond (p n) (Some (entry n (x n))) None) ks ≡ map (λ n. entry n (y n)) (filter p ks)
-          → cons_option (cond b (Some (entry k (x k))) None) (filter_map (λ n. cond (p n) (Some (entry n (x n))) None) ks) ≡ map (λ n. entry n (y n)) (cond b (k ∷ filter p ks) (filter p ks))
-      by true is rest = ap (λ (st : State). entry k st ∷ filter_map (λ n. cond (p n) (Some (entry n (x n))) None) ks) (same k is) ∙ ap (λ xs. entry k (y k) ∷ xs) rest
-      by false is rest = rest
 
 -- ---- what can be read
 
@@ -129,31 +67,27 @@ module _ (L : Limits) (h : History) (s i : ℕ) (t : RowTable) (a : JoinerStandi
       let it = task_there (before h i) s k so in
       sym (like.states k (record { forked = it.forked; is = forking_later h i k it.forked it.is; of = it.of })) ∙ sym (state_there h t k are)
 
-  failure_told : first_failure (before h i) s ≡ option_and_then (readable_in t) a.totals.first_failure
-  unfolding first_failure
+  failure_told : first_read has_failed (before h i) s ≡ option_and_then (readable_in t) a.totals.first_failure
   failure_told =
       sym (like.reads has_failed)
       ∙ (first_by_completions L has_failed h s legal
       ∙ (same_read h t (find has_failed (completions h s)) are
       ∙ ap (option_and_then (readable_in t)) (sym (first_failure_listed a (completions h s) stands))))
 
-  success_told : first_success (before h i) s ≡ option_and_then (readable_in t) a.totals.first_success
-  unfolding first_success
+  success_told : first_read has_succeeded (before h i) s ≡ option_and_then (readable_in t) a.totals.first_success
   success_told =
       sym (like.reads has_succeeded)
       ∙ (first_by_completions L has_succeeded h s legal
       ∙ (same_read h t (find has_succeeded (completions h s)) are
       ∙ ap (option_and_then (readable_in t)) (sym (first_success_listed a (completions h s) stands))))
 
-  values_told : values (before h i) s ≡ values_in t ks
-  unfolding values tasks_of
-  values_told =
-      values_same (is_task_of (before h i) s) (state (before h i)) (state_in t) states_kept (task_numbers (before h i)) ∙ ap (values_in t) (sym like.tasks ∙ sym of)
+  values_told : values_by (state (before h i)) (tasks_of (before h i) s) ≡ values_by (state_in t) ks
+  unfolding tasks_of
+  values_told = values_same (is_task_of (before h i) s) (state (before h i)) (state_in t) states_kept (task_numbers (before h i)) ∙ ap (values_by (state_in t)) (sym like.tasks ∙ sym of)
 
-  listing_told : listing (before h i) s ≡ listing_in t ks
-  unfolding listing tasks_of
-  listing_told =
-      listing_same (is_task_of (before h i) s) (state (before h i)) (state_in t) states_kept (task_numbers (before h i)) ∙ ap (listing_in t) (sym like.tasks ∙ sym of)
+  listing_told : listing_by (state (before h i)) (tasks_of (before h i) s) ≡ listing_by (state_in t) ks
+  unfolding tasks_of
+  listing_told = listing_same (is_task_of (before h i) s) (state (before h i)) (state_in t) states_kept (task_numbers (before h i)) ∙ ap (listing_by (state_in t)) (sym like.tasks ∙ sym of)
 
   -- what could be read at the join is what is kept
   pub readable_told : readable_of (before h i) s ≡ readable_by t a.totals ks
@@ -175,8 +109,8 @@ account_of h t s a are has at =
 
 -- what the parts that are kept of one history say is what the join answered
 pub outcome_told : (L : Limits) (h : History) (t : RowTable) (u : CutTable) (s i : ℕ) (row : ScopeRow) (a : JoinerStanding) (c : Option Cut) (why : Option Cause) (ks : List ℕ) → Legal L h → AreRowsOf h t → AreCutsOf h u
-    → scope_row t s ≡ Some row → row.joined ≡ Some i → HasRow u s → account_at u s ≡ Some a → c ≡ cut h s → why ≡ cause_before c i → ks ≡ tasks_of h s → outcome h s ≡ Some (answer_of (readable_by t a.totals ks) s row.opening why)
-unfolding outcome Legal
+    → scope_row t s ≡ Some row → row.joined ≡ Some i → HasRow u s → account_at u s ≡ Some a → c ≡ cut h s → why ≡ cause_before c i → ks ≡ tasks_of h s → outcome h s ≡ Some (answer_of (readable_by t a.totals ks) s row.opening.policy row.opening.options.expiry why)
+unfolding outcome outcome_of Legal
 outcome_told L h t u s i row a c why ks legal rows cuts at joined has account cut_is cause_is of =
     let g = before h i in
     let says = scope_row_says h t s row rows at in
@@ -185,5 +119,5 @@ outcome_told L h t u s i row a c why ks legal rows cuts at joined has account cu
     let wants = join_wants L g it.actor s (legal i _ it.at) in
     let readable = readable_told L h s i t a ks legal is rows (account_of h u s a cuts has account).stands of in
     let cause_there : cause g s ≡ why = cause_at L h s i legal (omega (arith, it.within)) wants.0 ∙ (ap (λ x. cause_before x i) (sym cut_is) ∙ sym cause_is) in
-    let told = answered_by g s row.opening ∙ (ap (λ r. answer_of r s row.opening (cause g s)) readable ∙ ap (answer_of (readable_by t a.totals ks) s row.opening) cause_there) in
+    let told = ap (λ r. answer_of r s row.opening.policy row.opening.options.expiry (cause g s)) readable ∙ ap (answer_of (readable_by t a.totals ks) s row.opening.policy row.opening.options.expiry) cause_there in
     ap (option_and_then (λ (n : ℕ). option_map (outcome_of (before h n) s) (opening h s))) is ∙ (ap (option_map (outcome_of g s)) says.opening ∙ ap Some told)

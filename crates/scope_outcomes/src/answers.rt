@@ -1,131 +1,52 @@
-//! What a join answers, by what can be read of the scope's tasks.
+//! What can be read of the tasks of a scope, by what is kept of them.
 
-ghost use Rattle.std.specs.Prelude.{◌≡◌, ◌≤◌, ◌<◌, ◌+◌, ◌++◌, IfOk, [], vec_len, vec_capacity};
+ghost use Rattle.std.specs.Prelude.{◌≡◌, ◌≤◌, ◌<◌, ◌+◌, ◌++◌, [], vec_len, vec_capacity};
 ghost use Rattle.std.specs.Option.{option_and_then};
 ghost use Rattle.std.specs.List.{cons_option};
-ghost use Rattle.scope_rules.specs.Outcomes.{is_available, value_in, outcome_of_end, outcome_or};
-ghost use Rattle.scope_outcomes.specs.Answers.{answer_by, answer_at_expiry, answer_of, readable_by, state_in, readable_in, values_in, listing_in};
+ghost use Rattle.scope_outcomes.specs.Answers.{readable_by, state_in, readable_in};
 
 use join_rules::Account;
 use scope_rows::Rows;
-use scope_rules::types::records::Opening;
-use scope_rules::{
-    Cause, CauseKind, Completion, Expiry, Outcome, Policy, ScopeId, State, TaskId, TaskState,
-    TaskStates, TaskValue, TaskValues,
-};
+use scope_rules::joins::{TaskReadings, is_available, value_in};
+use scope_rules::{Completion, State, TaskId, TaskState, TaskStates, TaskValue, TaskValues};
 use std::alloc::{AllocError, Global};
 
-/// What the join of the scope, opened so, answers, where it was cancelled by this cause.
-pub(crate) fn answer_of(
-    alloc: Global,
-    rows: &Rows,
-    account: &Account,
-    tasks: &[TaskId],
-    scope: ScopeId,
-    opening: &Opening,
-    cause: Option<Cause>,
-) -> Result<Outcome, AllocError>
-    ensures { IfOk result (λ o. o ≡ answer_of (readable_by rows.now account.now.totals tasks.now) scope opening.now cause) }
-{
-    let Some(cause) = cause else {
-        return answer_by(alloc, rows, account, tasks, opening.policy);
-    };
-    if cause.scope != scope {
-        return Ok(Outcome::Cancelled(cause.scope));
-    }
-    match cause.kind {
-        CauseKind::Call => Ok(Outcome::Cancelled(scope)),
-        CauseKind::Deadline => answer_at_expiry(alloc, rows, tasks, opening.options.expiry),
-        CauseKind::Joiner => answer_by(alloc, rows, account, tasks, opening.policy),
-        CauseKind::Close => answer_by(alloc, rows, account, tasks, opening.policy),
-    }
+/// The tasks of a scope: their rows, what their completions came to, and their numbers.
+#[derive(Drop)]
+pub(crate) struct KeptTasks<'a> {
+    pub(crate) rows: &'a Rows,
+    pub(crate) account: &'a Account,
+    pub(crate) tasks: &'a [TaskId],
 }
 
-/// What the scope's own deadline answers (Trio, `fail_after` and `move_on_after`).
-fn answer_at_expiry(
-    alloc: Global,
-    rows: &Rows,
-    tasks: &[TaskId],
-    expiry: Expiry,
-) -> Result<Outcome, AllocError>
-    ensures { IfOk result (λ o. o ≡ answer_at_expiry (listing_in rows.now tasks.now) expiry) }
-{
-    match expiry {
-        Expiry::Fail => Ok(Outcome::Timeout),
-        Expiry::MoveOn => Ok(Outcome::Partial(listing(alloc, rows, tasks)?)),
-    }
-}
+impl<'a> TaskReadings for KeptTasks<'a> {
+    ghost readable = { λ t. readable_by t.rows.now t.account.now.totals t.tasks.now };
 
-/// What the joiner answers (JEP 505, the joiners' `result`).
-fn answer_by(
-    alloc: Global,
-    rows: &Rows,
-    account: &Account,
-    tasks: &[TaskId],
-    policy: Policy,
-) -> Result<Outcome, AllocError>
-    ensures { IfOk result (λ o. o ≡ answer_by (readable_by rows.now account.now.totals tasks.now) policy) }
-{
-    match policy {
-        Policy::All => match readable(rows, account.first_failure()) {
-            Some(done) => Ok(outcome_of_end(done)),
-            None => Ok(Outcome::All(values(alloc, rows, tasks)?)),
-        },
-        Policy::Any => Ok(any_answer(rows, account)),
-        Policy::AwaitAll => Ok(Outcome::Done),
-        Policy::AwaitOk => match readable(rows, account.first_failure()) {
-            Some(done) => Ok(outcome_of_end(done)),
-            None => Ok(Outcome::Done),
-        },
-        Policy::Until(_) => Ok(Outcome::List(listing(alloc, rows, tasks)?)),
+    fn failure(&self) -> Option<Completion> {
+        readable(self.rows, self.account.first_failure())
     }
-}
 
-/// What the joiner that wants one success answers.
-fn any_answer(rows: &Rows, account: &Account) -> Outcome
-    ensures { result ≡ outcome_or (option_and_then (readable_in rows.now) account.now.totals.first_success) (outcome_or (option_and_then (readable_in rows.now) account.now.totals.first_failure) Outcome.Empty) }
-{
-    match readable(rows, account.first_success()) {
-        Some(done) => outcome_of_end(done),
-        None => match readable(rows, account.first_failure()) {
-            Some(done) => outcome_of_end(done),
-            None => Outcome::Empty,
-        },
+    fn success(&self) -> Option<Completion> {
+        readable(self.rows, self.account.first_success())
     }
-}
 
-/// The values of the tasks, of those that succeeded.
-fn values(alloc: Global, rows: &Rows, tasks: &[TaskId]) -> Result<TaskValues, AllocError>
-    ensures { IfOk result (λ v. v ≡ values_in rows.now tasks.now) }
-{
-    let mut values = Vec::new(alloc);
-    values.reserve(tasks.len())?;
-    for task in tasks {
-        push_value(&mut values, value_at(rows, *task));
+    fn values(&self, alloc: Global) -> Result<TaskValues, AllocError> {
+        let mut values = Vec::new(alloc);
+        values.reserve(self.tasks.len())?;
+        for task in self.tasks {
+            push_value(&mut values, value_in(*task, state_of(self.rows, *task)));
+        }
+        Ok(TaskValues::new(values))
     }
-    Ok(TaskValues::new(values))
-}
 
-/// The tasks with their states.
-fn listing(alloc: Global, rows: &Rows, tasks: &[TaskId]) -> Result<TaskStates, AllocError>
-    ensures { IfOk result (λ v. v ≡ listing_in rows.now tasks.now) }
-{
-    let mut states = Vec::new(alloc);
-    states.reserve(tasks.len())?;
-    for task in tasks {
-        let state = state_of(rows, *task);
-        states.push_reserved(TaskState { task: *task, state });
-    }
-    Ok(TaskStates::new(states))
-}
-
-/// The task with its value, if it succeeded.
-fn value_at(rows: &Rows, task: TaskId) -> Option<TaskValue>
-    ensures { result ≡ value_in task (state_in rows.now task) }
-{
-    match state_of(rows, task) {
-        State::Success(value) => Some(TaskValue { task, value }),
-        _ => None,
+    fn listing(&self, alloc: Global) -> Result<TaskStates, AllocError> {
+        let mut states = Vec::new(alloc);
+        states.reserve(self.tasks.len())?;
+        for task in self.tasks {
+            let state = state_of(self.rows, *task);
+            states.push_reserved(TaskState { task: *task, state });
+        }
+        Ok(TaskStates::new(states))
     }
 }
 
@@ -160,28 +81,5 @@ fn state_of(rows: &Rows, task: TaskId) -> State
     match rows.task(task) {
         Some(row) => row.state,
         None => State::Unavailable,
-    }
-}
-
-/// Whether the state can be read.
-fn is_available(state: State) -> bool
-    ensures { result ≡ is_available state }
-{
-    !matches!(state, State::Unavailable)
-}
-
-/// The outcome that the completion is.
-fn outcome_of_end(done: Completion) -> Outcome
-    ensures { result ≡ outcome_of_end done.task done.end }
-{
-    match done.end {
-        Ok(value) => Outcome::Any {
-            task: done.task,
-            value,
-        },
-        Err(fault) => Outcome::Failed {
-            task: done.task,
-            fault,
-        },
     }
 }

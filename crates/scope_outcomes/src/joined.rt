@@ -12,12 +12,12 @@ ghost use Rattle.scope_outcomes.specs.Answers.{HasJoined, cause_before};
 ghost use Rattle.scope_outcomes.specs.ForkTable.{HasForks};
 ghost use Rattle.scope_outcomes.specs.ForksOf.{AreForksOf};
 
-use crate::answers::answer_of;
+use crate::answers::KeptTasks;
 use crate::forks::Forks;
 use scope_cuts::Cuts;
 use scope_rows::Rows;
 use scope_rules::types::records::Cut;
-use scope_rules::{Cause, Outcome, ScopeId};
+use scope_rules::{Cause, Outcome, ScopeId, joins};
 use std::alloc::{AllocError, Global};
 
 /// What the join of the scope answered (JEP 505, `join` and the joiners' `result`), in time by how many
@@ -38,13 +38,18 @@ pub fn outcome(
     let row = rows.scope(scope).unwrap();
     let place = row.joined.unwrap();
     let cause = cause_before(cuts.cut(scope), place);
-    answer_of(
-        alloc,
+    let opening = &row.opening;
+    let tasks = KeptTasks {
         rows,
-        cuts.account(scope),
-        forks.of(scope),
+        account: cuts.account(scope),
+        tasks: forks.of(scope),
+    };
+    joins::answer_of(
+        &tasks,
+        alloc,
         scope,
-        &row.opening,
+        opening.policy,
+        opening.options.expiry,
         cause,
     )
 }

@@ -14,6 +14,7 @@ pub mod Staying
 pub mod Joined
 pub mod Stacks
 pub mod Numbers
+pub mod TaskLists
 pub mod Completions
 pub mod StoredNames
 pub mod Earlier

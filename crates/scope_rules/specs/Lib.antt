@@ -15,6 +15,7 @@ pub mod Scopes
 pub mod Completions
 pub mod Cancels
 pub mod Tasks
+pub mod Answers
 pub mod Outcomes
 pub mod Bindings
 pub mod StackSteps

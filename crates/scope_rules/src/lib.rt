@@ -2,6 +2,7 @@
 //! definitions over a list of events (`specs/`), and the laws that hold of every history.
 #![tactic(auto)]
 
+pub mod joins;
 pub mod laws;
 pub mod types;
 

@@ -1,9 +1,0 @@
--- Nothing was found so far.
-use Rattle.std.proofs.Common.{◌≡◌, None}
-use Rattle.scope_rules.specs.Search.{earliest}
-use Rattle.scope_rules.specs.Joining.{has_succeeded}
-use Rattle.scope_rules.specs.Outcomes.{readable_at}
-use Rattle.scope_model.proofs.scan.view.HistoryView.first_success.Given as goal
-
-abbrev pub invariant-loop-place : goal.invariant-loop-place
-invariant-loop-place l = earliest (readable_at has_succeeded l.self l.scope) l.place ≡ None
