@@ -1,5 +1,5 @@
 -- What is kept of a joined scope says what its join answered.
-use Rattle.std.proofs.Common.{◌≡◌, ℕ, ◌+◌, ◌-◌, true, cond, Option, Some, None, Result, Ok, Err, option_map, List, refl, ap, sym, subst, ◌∙◌, arith}
+use Rattle.std.proofs.Common.{◌≡◌, ℕ, ◌+◌, ◌-◌, Bool, true, cond, Option, Some, None, Result, Ok, Err, option_map, List, refl, ap, sym, subst, ◌∙◌, arith}
 use Rattle.std.specs.Option.{option_and_then, option_map_or}
 use Rattle.std.specs.Result.{IfOk}
 use Rattle.std.specs.List.{find}
@@ -67,19 +67,13 @@ module _ (L : Limits) (h : History) (s i : ℕ) (t : RowTable) (a : JoinerStandi
       let it = task_there (before h i) s k so in
       sym (like.states k (record { forked = it.forked; is = forking_later h i k it.forked it.is; of = it.of })) ∙ sym (state_there h t k are)
 
-  failure_told : first_read has_failed (before h i) s ≡ option_and_then (readable_in t) a.totals.first_failure
-  failure_told =
-      sym (like.reads has_failed)
-      ∙ (first_by_completions L has_failed h s legal
-      ∙ (same_read h t (find has_failed (completions h s)) are
-      ∙ ap (option_and_then (readable_in t)) (sym (first_failure_listed a (completions h s) stands))))
-
-  success_told : first_read has_succeeded (before h i) s ≡ option_and_then (readable_in t) a.totals.first_success
-  success_told =
-      sym (like.reads has_succeeded)
-      ∙ (first_by_completions L has_succeeded h s legal
-      ∙ (same_read h t (find has_succeeded (completions h s)) are
-      ∙ ap (option_and_then (readable_in t)) (sym (first_success_listed a (completions h s) stands))))
+  -- the first completion that could be read at the join is the one that is kept, where it can be read now
+  first_told : (test : Completion → Bool) (o : Option Completion) → o ≡ find test (completions h s) → first_read test (before h i) s ≡ option_and_then (readable_in t) o
+  first_told test o first =
+      sym (like.reads test)
+      ∙ (first_by_completions L test h s legal
+      ∙ (same_read h t (find test (completions h s)) are
+      ∙ ap (option_and_then (readable_in t)) (sym first)))
 
   values_told : values_by (state (before h i)) (tasks_of (before h i) s) ≡ values_by (state_in t) ks
   unfolding tasks_of
@@ -91,7 +85,10 @@ module _ (L : Limits) (h : History) (s i : ℕ) (t : RowTable) (a : JoinerStandi
 
   -- what could be read at the join is what is kept
   pub readable_told : readable_of (before h i) s ≡ readable_by t a.totals ks
-  readable_told = rw failure_told (rw success_told (rw values_told (rw listing_told refl)))
+  readable_told =
+      rw (first_told has_failed a.totals.first_failure (first_failure_listed a (completions h s) stands))
+      (rw (first_told has_succeeded a.totals.first_success (first_success_listed a (completions h s) stands))
+      (rw values_told (rw listing_told refl)))
 
 -- ---- the outcome
 
