@@ -4,9 +4,9 @@ ghost use Rattle.realm_close.specs.Waiting.{IsOpenOf};
 ghost use Rattle.realm_close.specs.Closes.{ClosesBare};
 
 use crate::contexts::{Returned, TaskCtx, Thread};
-use crate::held::HeldTicket;
-use realm_lock::RealmName;
+use realm_lock::{RealmName, Ticket};
 use scope_rules::{Catalog, Refusal, ScopeId, Verdict};
+use share_ledger::OfRealm;
 use std::sync::Wait;
 use thread_crew::Spawner;
 
@@ -22,12 +22,12 @@ impl<C: Catalog, S: Spawner<N>, N: RealmName> TaskCtx<C, S, N> {
         ensures fewer { vec_len self.new.opened ≤ vec_len self.old.opened }
     {
         let token = &mut self.token;
-        if let Err(refusal) = self.realm.lent().begin_closing(rt, &mut token.share, scope) {
+        if let Err(refusal) = self.realm.lent().begin_closing(rt, &mut token.held, scope) {
             return Err(refusal);
         }
         self.join_threads(rt, scope);
         let token = &mut self.token;
-        let verdict = self.realm.lent().end_closing(rt, &mut token.share, scope);
+        let verdict = self.realm.lent().end_closing(rt, &mut token.held, scope);
         self.forget(scope);
         Ok(verdict)
     }
@@ -40,12 +40,12 @@ impl<C: Catalog, S: Spawner<N>, N: RealmName> TaskCtx<C, S, N> {
         while let Some(place) = last_from(self.threads.as_slice(), scope) {
             let Thread { scope: of, handle } = self.threads.swap_remove(place);
             let ticket = self.spawner.join(rt, handle);
-            self.keep(of, HeldTicket::new(ticket));
+            self.keep(of, OfRealm::new(ticket));
         }
     }
 
     /// Keeps the ticket of a task of the scope, for which room was made at its fork.
-    pub(crate) fn keep(&mut self, scope: ScopeId, ticket: HeldTicket<N>)
+    pub(crate) fn keep(&mut self, scope: ScopeId, ticket: OfRealm<N, Ticket>)
         ensures token { self.new.token ≡ self.old.token }
         ensures opened { self.new.opened ≡ self.old.opened }
         ensures threads { vec_len self.new.threads ≡ vec_len self.old.threads }

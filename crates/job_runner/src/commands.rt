@@ -18,7 +18,7 @@ impl<C: Catalog, S: Spawner<N>, N: RealmName> TaskCtx<C, S, N> {
         ensures answer { DoesOrMemory self.old.token self.new.token (RealmStep.Happened (Event.Bind self.old.token.actor (record { key = key; value = value }))) (λ _. tt) result }
     {
         let token = &mut self.token;
-        self.realm.lent().bind(rt, &mut token.share, key, value)
+        self.realm.lent().bind(rt, &mut token.held, key, value)
     }
 
     /// Takes away the actor's last own binding. Refused as `Realm::unbind` is.
@@ -27,7 +27,7 @@ impl<C: Catalog, S: Spawner<N>, N: RealmName> TaskCtx<C, S, N> {
         ensures answer { DoesOrMemory self.old.token self.new.token (RealmStep.Happened (Event.Unbind self.old.token.actor)) (λ _. tt) result }
     {
         let token = &mut self.token;
-        self.realm.lent().unbind(rt, &mut token.share)
+        self.realm.lent().unbind(rt, &mut token.held)
     }
 
     /// Cancels the scope and all that it reaches, whoever's it is (Trio, `cancel`). Refused as
@@ -37,7 +37,7 @@ impl<C: Catalog, S: Spawner<N>, N: RealmName> TaskCtx<C, S, N> {
         ensures answer { RecordsOrMemory self.old.token self.new.token (Event.Cancel scope) result }
     {
         let token = &mut self.token;
-        self.realm.lent().cancel(rt, &mut token.share, scope)
+        self.realm.lent().cancel(rt, &mut token.held, scope)
     }
 
     /// Sets the moment, in milliseconds. Refused as `Realm::tick` is.
@@ -46,7 +46,7 @@ impl<C: Catalog, S: Spawner<N>, N: RealmName> TaskCtx<C, S, N> {
         ensures answer { DoesOrMemory self.old.token self.new.token (RealmStep.Asked self.old.token.actor (Ask.Tick now)) (λ _. tt) result }
     {
         let token = &mut self.token;
-        self.realm.lent().tick(rt, &mut token.share, now)
+        self.realm.lent().tick(rt, &mut token.held, now)
     }
 
     /// Takes the events out and leaves a base, once main's outermost scope is closed. Refused as
@@ -57,6 +57,6 @@ impl<C: Catalog, S: Spawner<N>, N: RealmName> TaskCtx<C, S, N> {
         ensures base { IfOk result (λ base. history_seen self.new.token ≡ record { base = base; events = [] }) }
     {
         let token = &mut self.token;
-        self.realm.lent().retire(rt, &mut token.share)
+        self.realm.lent().retire(rt, &mut token.held)
     }
 }

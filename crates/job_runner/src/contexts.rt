@@ -1,9 +1,10 @@
 ghost use Rattle.std.specs.Prelude.{◌≡◌};
 
-use crate::held::{HeldRealm, HeldTicket, HeldToken};
+use crate::held::HeldRealm;
 use crate::markers::Marker;
-use realm_lock::{ActorToken, Realm, RealmName};
+use realm_lock::{ActorToken, Realm, RealmName, Ticket};
 use scope_rules::{Catalog, ScopeId};
+use share_ledger::OfRealm;
 use std::alloc::Global;
 use thread_crew::Spawner;
 
@@ -25,7 +26,7 @@ pub(crate) struct Thread<N: RealmName, S: Spawner<N>> {
 #[derive(Drop)]
 pub(crate) struct Returned<N: RealmName> {
     pub(crate) scope: ScopeId,
-    pub(crate) ticket: HeldTicket<N>,
+    pub(crate) ticket: OfRealm<N, Ticket>,
 }
 
 /// What an actor of a realm acts by: main, or the job of a task (JEP 505 ties such calls to the thread
@@ -35,7 +36,7 @@ pub(crate) struct Returned<N: RealmName> {
 pub struct TaskCtx<C: Catalog, S: Spawner<N>, N: RealmName> {
     pub(crate) alloc: Global,
     pub(crate) realm: HeldRealm<C, N>,
-    pub(crate) token: HeldToken<N>,
+    pub(crate) token: OfRealm<N, ActorToken>,
     pub(crate) spawner: S,
     /// Of the scope in which the context's task was forked; main has none.
     pub(crate) around: Option<Marker>,
@@ -75,7 +76,7 @@ impl<C: Catalog, S: Spawner<N>, N: RealmName> TaskCtx<C, S, N> {
         TaskCtx {
             alloc,
             realm,
-            token: HeldToken::new(token),
+            token: OfRealm::new(token),
             spawner,
             around,
             opened: Vec::new(alloc),

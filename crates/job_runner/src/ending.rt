@@ -7,9 +7,9 @@ ghost use Rattle.thread_crew.specs.Returns.{Returns};
 ghost use Rattle.job_runner.specs.Endings.{Ended};
 
 use crate::contexts::TaskCtx;
-use crate::held::HeldToken;
 use realm_lock::{ActorToken, Realm, RealmName, Ticket};
 use scope_rules::{Catalog, End, Fault, Name};
+use share_ledger::OfRealm;
 use std::sync::Wait;
 use thread_crew::Spawner;
 
@@ -31,7 +31,7 @@ impl<C: Catalog, S: Spawner<N>, N: RealmName> TaskCtx<C, S, N> {
             threads: _,
             returned: _,
         } = left;
-        (token.into_share(), spawner)
+        (token.into_held(), spawner)
     }
 
     /// Ends the context's task, whose job has come to this end: closes what the job left open, the latest
@@ -95,7 +95,7 @@ fn record_end<C: Catalog, N: RealmName, R: Wait>(
     rt: &R,
     realm: &Realm<C, N>,
     ticket: Ticket,
-    token: HeldToken<N>,
+    token: OfRealm<N, ActorToken>,
     end: End,
 ) -> Ticket
     requires named { ticket.table ≡ N.table }
@@ -106,7 +106,7 @@ fn record_end<C: Catalog, N: RealmName, R: Wait>(
     ensures ended { end_in result.task result.seen ≡ Some end }
 {
     let mut ticket = ticket;
-    let mut token = token.into_share();
+    let mut token = token.into_held();
     for _ in rt.forever() {
         match realm.finish(rt, ticket, token, end) {
             Ok(ended) => return ended,

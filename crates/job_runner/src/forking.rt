@@ -57,7 +57,7 @@ impl<C: Catalog, S: Spawner<N>, N: RealmName> TaskCtx<C, S, N> {
         };
         let label = job.label();
         let token = &mut self.token;
-        match self.realm.lent().fork(rt, &mut token.share, scope, label) {
+        match self.realm.lent().fork(rt, &mut token.held, scope, label) {
             Ok(Forked::Thread(ticket)) => {
                 let work = JobWork {
                     alloc: self.alloc,

@@ -34,7 +34,7 @@ impl<C: Catalog, S: Spawner<N>, N: RealmName> TaskCtx<C, S, N> {
         match self
             .realm
             .lent()
-            .open_marked(rt, &mut token.share, joiner, options)
+            .open_marked(rt, &mut token.held, joiner, options)
         {
             Ok((scope, cell, seat)) => {
                 let marker = Marker::new(cell, seat);

@@ -24,7 +24,7 @@ impl<C: Catalog, S: Spawner<N>, N: RealmName> TaskCtx<C, S, N> {
         ensures waited { result ≡ Err Refusal.NotReady → ⊥ }
     {
         let token = &mut self.token;
-        self.realm.lent().join(rt, &mut token.share, scope)
+        self.realm.lent().join(rt, &mut token.held, scope)
     }
 
     /// The value of the task, read by the owner of its scope after the join (JEP 505, `Subtask.get`).
@@ -35,7 +35,7 @@ impl<C: Catalog, S: Spawner<N>, N: RealmName> TaskCtx<C, S, N> {
         ensures answer { result ≡ result_reply (history_seen self.new.token) self.new.token.actor task }
     {
         let token = &mut self.token;
-        self.realm.lent().result(rt, &mut token.share, task)
+        self.realm.lent().result(rt, &mut token.held, task)
     }
 
     /// The fault of the task, read by the owner of its scope after the join (JEP 505,
@@ -46,7 +46,7 @@ impl<C: Catalog, S: Spawner<N>, N: RealmName> TaskCtx<C, S, N> {
         ensures answer { result ≡ fault_reply (history_seen self.new.token) self.new.token.actor task }
     {
         let token = &mut self.token;
-        self.realm.lent().fault(rt, &mut token.share, task)
+        self.realm.lent().fault(rt, &mut token.held, task)
     }
 
     /// What can be read of the task, whoever's it is (JEP 505, `Subtask.state`). Refused as
@@ -57,7 +57,7 @@ impl<C: Catalog, S: Spawner<N>, N: RealmName> TaskCtx<C, S, N> {
         ensures answer { result ≡ answering (task_check (history_seen self.new.token) task) (state (history_seen self.new.token) task) }
     {
         let token = &mut self.token;
-        self.realm.lent().state(rt, &mut token.share, task)
+        self.realm.lent().state(rt, &mut token.held, task)
     }
 
     /// What the actor sees the key bound to (JEP 506, `ScopedValue.get`). Refused as `Realm::get` is.
@@ -67,7 +67,7 @@ impl<C: Catalog, S: Spawner<N>, N: RealmName> TaskCtx<C, S, N> {
         ensures answer { result ≡ binding_reply (history_seen self.new.token) self.new.token.actor key.now }
     {
         let token = &mut self.token;
-        self.realm.lent().get(rt, &mut token.share, key)
+        self.realm.lent().get(rt, &mut token.held, key)
     }
 
     /// What there is to see of the scope, whoever's it is. Refused as `Realm::view` is.
@@ -77,6 +77,6 @@ impl<C: Catalog, S: Spawner<N>, N: RealmName> TaskCtx<C, S, N> {
         ensures answer { ViewAnswers (history_seen self.new.token) scope result }
     {
         let token = &mut self.token;
-        self.realm.lent().view(rt, &mut token.share, scope)
+        self.realm.lent().view(rt, &mut token.held, scope)
     }
 }

@@ -8,9 +8,9 @@ ghost use Rattle.realm_close.specs.Closes.{IsBegun, EndsReported};
 ghost use Rattle.job_runner.specs.Reports.{ClosesHere, StaysHere, Held};
 
 use crate::contexts::{Returned, TaskCtx};
-use crate::held::HeldTicket;
 use realm_lock::{CloseReport, RealmName, Ticket};
 use scope_rules::{Catalog, Refusal, ScopeId};
+use share_ledger::OfRealm;
 use std::sync::Wait;
 use thread_crew::Spawner;
 
@@ -28,7 +28,7 @@ impl<C: Catalog, S: Spawner<N>, N: RealmName> TaskCtx<C, S, N> {
         ensures sure { IsOpenOf (history_seen self.old.token) self.old.token.actor scope → IfErr result (λ refusal. (refusal ≡ NotReady) ⊎ (refusal ≡ Memory)) }
     {
         let token = &mut self.token;
-        if let Err(refusal) = self.realm.lent().begin_closing(rt, &mut token.share, scope) {
+        if let Err(refusal) = self.realm.lent().begin_closing(rt, &mut token.held, scope) {
             return Err(refusal);
         }
         self.join_threads(rt, scope);
@@ -49,7 +49,7 @@ impl<C: Catalog, S: Spawner<N>, N: RealmName> TaskCtx<C, S, N> {
         match self
             .realm
             .lent()
-            .end_reporting(rt, &mut token.share, scope, &mut tickets)
+            .end_reporting(rt, &mut token.held, scope, &mut tickets)
         {
             Ok(report) => {
                 self.forget(scope);
@@ -72,7 +72,7 @@ impl<C: Catalog, S: Spawner<N>, N: RealmName> TaskCtx<C, S, N> {
         tickets.reserve(self.returned.len()).ok()?;
         while let Some(place) = last_returned(self.returned.as_slice(), scope) {
             let Returned { scope: _, ticket } = self.returned.swap_remove(place);
-            tickets.push(ticket.into_ticket()).ok()?;
+            tickets.push(ticket.into_held()).ok()?;
         }
         Some(tickets)
     }
@@ -85,7 +85,7 @@ impl<C: Catalog, S: Spawner<N>, N: RealmName> TaskCtx<C, S, N> {
         let mut tickets = tickets;
         while let Some(ticket) = tickets.pop() {
             let scope = ticket.scope();
-            self.keep(scope, HeldTicket::new(ticket));
+            self.keep(scope, OfRealm::new(ticket));
         }
     }
 }

@@ -6,6 +6,7 @@
 mod desk;
 mod keeper;
 mod moves;
+mod named;
 mod names;
 mod rule;
 mod seed;
@@ -14,6 +15,7 @@ mod tickets;
 mod views;
 
 pub use keeper::Keeper;
+pub use named::{Named, OfRealm};
 pub use names::RealmName;
 pub use seed::Seed;
 pub use shares::OwnerShare;

@@ -63,9 +63,9 @@ impl<N: RealmName> CrewHandle<N> {
     {
         for _ in rt.forever() {
             if let Some(Finished { ticket, .. }) = self.way_back.wait(rt)
-                && self.is_of(&ticket)
+                && self.is_of(&ticket.held)
             {
-                return ticket;
+                return ticket.into_held();
             }
         }
         unreachable!()

@@ -2,8 +2,7 @@ ghost use Rattle.std.specs.Prelude.{◌≡◌};
 ghost use Rattle.thread_crew.specs.Returns.{Returns};
 
 use crate::spawning::{Ready, Spawner, Spawns, Work};
-use share_ledger::{RealmName, Ticket};
-use std::marker::PhantomData;
+use share_ledger::{OfRealm, RealmName, Ticket};
 use std::snapshot::Snapshot;
 use std::sync::Wait;
 
@@ -26,8 +25,7 @@ impl<L> Inline<L> {
 /// What is kept of a work that has ended.
 #[derive(Drop)]
 pub struct Ended<N: RealmName> {
-    ticket: Ticket,
-    of: PhantomData<N>,
+    ticket: OfRealm<N, Ticket>,
     first: Snapshot<Ticket>,
     ghost returns: { Returns N.table first.value ticket },
 }
@@ -39,8 +37,7 @@ impl<N: RealmName> Ended<N> {
         ensures { result.first.value ≡ first.value }
     {
         Ended {
-            ticket,
-            of: PhantomData,
+            ticket: OfRealm::new(ticket),
             first,
         }
     }
@@ -49,7 +46,7 @@ impl<N: RealmName> Ended<N> {
     pub(crate) fn into_ticket(self) -> Ticket
         ensures { Returns N.table self.first.value result }
     {
-        self.ticket
+        self.ticket.into_held()
     }
 }
 

@@ -4,18 +4,15 @@ ghost use Rattle.thread_crew.specs.Returns.{Returns};
 
 use crate::spawning::{Ready, Work};
 use crate::trays::Tray;
-use share_ledger::{RealmName, Ticket};
+use share_ledger::{OfRealm, RealmName, Ticket};
 use std::alloc::Global;
-use std::marker::PhantomData;
 use std::sync::{Arc, Wait};
 
 /// The ticket of a task that has ended, in the realm that is named `N`.
 #[derive(Drop)]
 pub(crate) struct Finished<N: RealmName> {
-    pub(crate) ticket: Ticket,
-    of: PhantomData<N>,
+    pub(crate) ticket: OfRealm<N, Ticket>,
     ghost ended: { finished_in ticket.task ticket.seen ≡ true },
-    ghost named: { ticket.table ≡ N.table },
 }
 
 impl<N: RealmName> Finished<N> {
@@ -26,8 +23,7 @@ impl<N: RealmName> Finished<N> {
         ensures { result.ticket ≡ ticket }
     {
         Finished {
-            ticket,
-            of: PhantomData,
+            ticket: OfRealm::new(ticket),
         }
     }
 }
