@@ -28,6 +28,16 @@ fn may_call(command: Command, said: &Reply) -> bool {
     }
 }
 
+/// Whether the two replies have one line.
+fn is_same(alloc: Global, one: &Reply, other: &Reply) -> Result<bool, Fail> {
+    let mut lines = Vec::new(alloc);
+    append_line(&mut lines, one)?;
+    let first = lines.len();
+    append_line(&mut lines, other)?;
+    let (one, other) = lines.as_slice().split_at(first);
+    Ok(one == other)
+}
+
 /// A realm that one thread drives, and the book of a program.
 #[derive(Drop)]
 pub struct Beside<N: RealmName> {
@@ -59,37 +69,48 @@ impl<N: RealmName> Beside<N> {
         self.accepted
     }
 
-    /// The line of the reply.
-    fn line_of(&self, reply: &Reply) -> Result<Vec<u8>, Fail> {
-        let mut text = Vec::new(self.alloc);
-        append_line(&mut text, reply)?;
-        Ok(text)
-    }
-
-    /// Gives the command to both, and compares their answers. Where the realm cannot be called, the program
-    /// was to change nothing.
+    /// Gives the command to both, and compares their answers.
     pub fn give<R: Wait>(&mut self, rt: &R, command: Command) -> Result<(), Fail> {
         let said = perform(&mut self.book, command)?;
-        let is_refused = matches!(said, Reply::Refused(_));
         let answer = if may_call(command, &said) {
             driven(rt, &self.realm, &mut self.hands, command)?
         } else {
             None
         };
-        match (answer, command) {
-            (Some(reply), _) => {
-                if self.line_of(&reply)?.as_slice() != self.line_of(&said)?.as_slice() {
-                    return Err("the realm answers otherwise")?;
-                }
-                if !is_refused {
-                    self.accepted = self.accepted.wrapping_add(1);
-                }
-                Ok(())
-            }
-            (None, Command::Ask(_)) => Ok(()),
-            (None, _) if is_refused => Ok(()),
-            _ => Err("nobody held what a call needs that the program accepts")?,
+        self.compare(command, &said, answer.as_ref())
+    }
+
+    /// Gives the command to the program alone, which accepts it: the realm does the same within a later call.
+    pub fn foretell(&mut self, command: Command) -> Result<(), Fail> {
+        match perform(&mut self.book, command)? {
+            Reply::Refused(_) => Err("the program refuses a part of a call")?,
+            _ => Ok(()),
         }
+    }
+
+    /// Compares what the program said to the command with what the realm answered. Where the realm cannot be
+    /// called, the program was to change nothing.
+    fn compare(
+        &mut self,
+        command: Command,
+        said: &Reply,
+        answer: Option<&Reply>,
+    ) -> Result<(), Fail> {
+        let is_refused = matches!(said, Reply::Refused(_));
+        let Some(reply) = answer else {
+            return match command {
+                Command::Ask(_) => Ok(()),
+                _ if is_refused => Ok(()),
+                _ => Err("nobody held what a call needs that the program accepts")?,
+            };
+        };
+        if !is_same(self.alloc, reply, said)? {
+            return Err("the realm answers otherwise")?;
+        }
+        if !is_refused {
+            self.accepted = self.accepted.wrapping_add(1);
+        }
+        Ok(())
     }
 
     /// Whether main's view of the scope shows what the book tells.

@@ -15,13 +15,9 @@ pub const PLAIN: Options = Options {
     shield: false,
 };
 
-pub fn name(text: &[u8]) -> Result<Name, Fail> {
-    Ok(Name::new(text).ok_or("a name")?)
-}
-
-pub fn label(text: &[u8]) -> Result<Label, Fail> {
+fn label() -> Result<Label, Fail> {
     Ok(Label {
-        name: name(text)?,
+        name: Name::new(b"work").ok_or("a name")?,
         due: None,
     })
 }
@@ -53,10 +49,26 @@ pub fn fork<N: RealmName, R: Wait>(
     ensures token { token.new ≡ record token.old { seen = token.new.seen } }
     ensures ticket { IfOk result (λ ticket. (ticket.table ≡ N.table) × IsWaiting ticket) }
 {
-    match realm.fork(rt, token, scope, label(b"work")?)? {
+    match realm.fork(rt, token, scope, label()?)? {
         Forked::Thread(ticket) => Ok(ticket),
         Forked::Never(_) => Err("no thread")?,
     }
+}
+
+/// Forks two tasks that get threads.
+pub fn fork_two<N: RealmName, R: Wait>(
+    rt: &R,
+    realm: &Realm<AnyEnd, N>,
+    token: &mut ActorToken,
+    scope: ScopeId,
+) -> Result<(Ticket, Ticket), Fail>
+    requires { token.old.table ≡ N.table }
+    ensures token { token.new ≡ record token.old { seen = token.new.seen } }
+    ensures one { IfOk result (λ two. (two.0.table ≡ N.table) × IsWaiting two.0) }
+    ensures other { IfOk result (λ two. (two.1.table ≡ N.table) × IsWaiting two.1) }
+{
+    let one = fork(rt, realm, token, scope)?;
+    Ok((one, fork(rt, realm, token, scope)?))
 }
 
 /// Ends the ticket's task, if it runs.

@@ -1,14 +1,17 @@
 //! A command of a script as a call of a realm, by one thread that plays all actors.
-ghost use Rattle.std.specs.Prelude.{◌≡◌};
+ghost use Rattle.std.specs.Prelude.{◌≡◌, IfOk, IfErr, IfSome};
+ghost use Rattle.share_ledger.specs.Values.{IsWaiting};
+ghost use Rattle.realm_core.specs.Tasks.{IsRunning};
 
 use crate::hands::Hands;
 use join_rules::{Joiner, UntilTest};
-use realm_lock::{ActorToken, Forked, Realm, RealmName};
+use realm_lock::{ActorToken, Forked, Realm, RealmName, Ticket};
 use scope_rules::{
     Actor, AnyEnd, Base, Cancelling, End, Event, ForkReply, Label, Options, Policy, Refusal,
     ScopeId, TaskId,
 };
-use scope_script::{Command, Question, Reply};
+use scope_script::{Command, Line, Question, Reply, append_line, read_line};
+use std::alloc::{AllocError, Global};
 use std::sync::Wait;
 use std::test::Fail;
 
@@ -22,11 +25,19 @@ fn joiner_of(policy: Policy) -> Joiner {
     }
 }
 
+/// What is told of the value that was answered.
 fn told<T, F: FnOnce(T) -> Reply + Drop>(answer: Result<T, Refusal>, tell: F) -> Reply
     requires { F.IsAlwaysCallable tell }
 {
     match answer {
         Ok(value) => tell(value),
+        Err(refusal) => Reply::Refused(refusal),
+    }
+}
+
+fn done(answer: Result<(), Refusal>, said: Reply) -> Reply {
+    match answer {
+        Ok(()) => said,
         Err(refusal) => Reply::Refused(refusal),
     }
 }
@@ -59,16 +70,16 @@ fn acted<N: RealmName, R: Wait>(
             Err((refusal, _)) => Reply::Refused(refusal),
         }),
         Event::Cancel { scope } => Some(recorded(realm.cancel(rt, token, scope), Reply::Cancelled)),
-        Event::Move { scope, deadline } => Some(told(
+        Event::Move { scope, deadline } => Some(done(
             realm.move_deadline(rt, token, scope, deadline),
-            |()| Reply::Moved,
+            Reply::Moved,
         )),
-        Event::Tick { now } => Some(told(realm.tick(rt, token, now), |()| Reply::Moment(now))),
-        Event::Bind { binding, .. } => Some(told(
+        Event::Tick { now } => Some(done(realm.tick(rt, token, now), Reply::Moment(now))),
+        Event::Bind { binding, .. } => Some(done(
             realm.bind(rt, token, binding.key, binding.value),
-            |()| Reply::Bound,
+            Reply::Bound,
         )),
-        Event::Unbind { .. } => Some(told(realm.unbind(rt, token), |()| Reply::Unbound)),
+        Event::Unbind { .. } => Some(done(realm.unbind(rt, token), Reply::Unbound)),
         Event::Join { scope, .. } => Some(match realm.join(rt, token, scope) {
             Ok(joined) => Reply::Outcome(joined.outcome),
             Err(refusal) => Reply::Refused(refusal),
@@ -160,7 +171,25 @@ fn forked<N: RealmName, R: Wait>(
     }
 }
 
-/// Rejects or starts the task, where its ticket waits.
+/// Starts the ticket's task, and gives its token, or rejects it.
+fn stepped<N: RealmName, R: Wait>(
+    rt: &R,
+    realm: &Realm<AnyEnd, N>,
+    ticket: Ticket,
+    starts: bool,
+) -> (Ticket, Option<ActorToken>)
+    requires { (ticket.table ≡ N.table) × IsWaiting ticket }
+    ensures ticket { result.0.table ≡ N.table }
+    ensures token { IfSome result.1 (λ token. token.table ≡ N.table) }
+{
+    if !starts {
+        return (realm.reject(rt, ticket), None);
+    }
+    let (ticket, token) = realm.start(rt, ticket);
+    (ticket, Some(token))
+}
+
+/// Rejects or starts the task, where its ticket waits. The ticket then counts so.
 fn begun<N: RealmName, R: Wait>(
     rt: &R,
     realm: &Realm<AnyEnd, N>,
@@ -175,26 +204,26 @@ fn begun<N: RealmName, R: Wait>(
         hands.keep_ticket(task, ticket)?;
         return Ok(None);
     }
-    if starts {
-        let (ticket, token) = realm.start(rt, ticket);
+    let (ticket, token) = stepped(rt, realm, ticket, starts);
+    let counted = (ticket.given(), ticket.started());
+    hands.keep_ticket(task, ticket)?;
+    if let Some(token) = token {
         hands.keep_token(task, token)?;
-        hands.keep_ticket(task, ticket)?;
-        Ok(Some(Reply::Started))
-    } else {
-        let ticket = realm.reject(rt, ticket);
-        hands.keep_ticket(task, ticket)?;
-        Ok(Some(Reply::Rejected))
     }
+    if counted != (u64::from(starts), u64::from(starts)) {
+        return Err("the ticket counts otherwise")?;
+    }
+    Ok(Some(if starts {
+        Reply::Started
+    } else {
+        Reply::Rejected
+    }))
 }
 
-/// Ends the task, where it runs.
-fn ended<N: RealmName, R: Wait>(
-    rt: &R,
-    realm: &Realm<AnyEnd, N>,
-    hands: &mut Hands<N>,
-    task: TaskId,
-    end: End,
-) -> Result<Option<Reply>, Fail> {
+/// Takes out the ticket of the task, if it runs.
+fn running<N: RealmName>(hands: &mut Hands<N>, task: TaskId) -> Result<Option<Ticket>, AllocError>
+    ensures { IfOk result (λ found. IfSome found (λ ticket. (ticket.table ≡ N.table) × IsRunning ticket × (ticket.task ≡ task))) }
+{
     let Some(ticket) = hands.ticket(task) else {
         return Ok(None);
     };
@@ -206,6 +235,39 @@ fn ended<N: RealmName, R: Wait>(
         hands.keep_ticket(task, ticket)?;
         return Ok(None);
     }
+    Ok(Some(ticket))
+}
+
+/// Ends the ticket's task. The token comes back where that is refused.
+fn finished<N: RealmName, R: Wait>(
+    rt: &R,
+    realm: &Realm<AnyEnd, N>,
+    ticket: Ticket,
+    token: ActorToken,
+    end: End,
+) -> (Ticket, Result<(), (Refusal, ActorToken)>)
+    requires ticket { (ticket.table ≡ N.table) × IsRunning ticket }
+    requires token { (token.table ≡ N.table) × (token.actor ≡ ticket.task) }
+    ensures ticket { result.0.table ≡ N.table }
+    ensures token { IfErr result.1 (λ back. back.1.table ≡ N.table) }
+{
+    match realm.finish(rt, ticket, token, end) {
+        Ok(ticket) => (ticket, Ok(())),
+        Err((refusal, ticket, token)) => (ticket, Err((refusal, token))),
+    }
+}
+
+/// Ends the task, where it runs. The ticket then tells that end.
+fn ended<N: RealmName, R: Wait>(
+    rt: &R,
+    realm: &Realm<AnyEnd, N>,
+    hands: &mut Hands<N>,
+    task: TaskId,
+    end: End,
+) -> Result<Option<Reply>, Fail> {
+    let Some(ticket) = running(hands, task)? else {
+        return Ok(None);
+    };
     let Some(token) = hands.token(task) else {
         hands.keep_ticket(task, ticket)?;
         return Ok(None);
@@ -213,17 +275,44 @@ fn ended<N: RealmName, R: Wait>(
     if token.actor() != task {
         return Err("another's token")?;
     }
-    match realm.finish(rt, ticket, token, end) {
-        Ok(ticket) => {
-            hands.keep_ticket(task, ticket)?;
-            Ok(Some(Reply::Finished))
-        }
-        Err((refusal, ticket, token)) => {
-            hands.keep_ticket(task, ticket)?;
+    let (ticket, answer) = finished(rt, realm, ticket, token, end);
+    let told = ticket.end();
+    hands.keep_ticket(task, ticket)?;
+    match answer {
+        Ok(()) if told == Some(end) => Ok(Some(Reply::Finished)),
+        Ok(()) => Err("the ticket tells another end")?,
+        Err((refusal, token)) => {
             hands.keep_token(task, token)?;
             Ok(Some(Reply::Refused(refusal)))
         }
     }
+}
+
+/// What the realm answers to the actor's command, with its token. None where no call makes it.
+fn answered<N: RealmName, R: Wait>(
+    rt: &R,
+    realm: &Realm<AnyEnd, N>,
+    hands: &mut Hands<N>,
+    token: &mut ActorToken,
+    command: Command,
+) -> Result<Option<Reply>, Fail>
+    requires { token.old.table ≡ N.table }
+    ensures { token.new ≡ record token.old { seen = token.new.seen } }
+{
+    Ok(match command {
+        Command::Do(Event::Fork { scope, label, .. }) => {
+            Some(forked(rt, realm, hands, token, scope, label)?)
+        }
+        Command::Do(event) => acted(rt, realm, token, event),
+        Command::Ask(question) => asked(rt, realm, token, question),
+        Command::Retire { .. } => Some(match realm.retire(rt, token) {
+            Ok(base) => Reply::Retired {
+                scopes: base.scopes(),
+                tasks: base.tasks(),
+            },
+            Err(refusal) => Reply::Refused(refusal),
+        }),
+    })
 }
 
 /// What the realm answers to the command. None where nobody holds what its call needs.
@@ -243,20 +332,48 @@ pub fn driven<N: RealmName, R: Wait>(
     let Some(mut token) = hands.token(actor) else {
         return Ok(None);
     };
-    let reply = match command {
-        Command::Do(Event::Fork { scope, label, .. }) => {
-            Some(forked(rt, realm, hands, &mut token, scope, label)?)
-        }
-        Command::Do(event) => acted(rt, realm, &mut token, event),
-        Command::Ask(question) => asked(rt, realm, &mut token, question),
-        Command::Retire { .. } => Some(match realm.retire(rt, &mut token) {
-            Ok(base) => Reply::Retired {
-                scopes: base.scopes(),
-                tasks: base.tasks(),
-            },
-            Err(refusal) => Reply::Refused(refusal),
-        }),
-    };
+    let reply = answered(rt, realm, hands, &mut token, command)?;
     hands.keep_token(actor, token)?;
     Ok(reply)
+}
+
+/// The command of the line.
+pub fn command_of(line: &str) -> Result<Command, Fail> {
+    match read_line(line.as_bytes()) {
+        Line::Command(command) => Ok(command),
+        _ => Err("a command")?,
+    }
+}
+
+/// Whether the realm answers the line so.
+fn is_answered<N: RealmName, R: Wait>(
+    rt: &R,
+    alloc: Global,
+    realm: &Realm<AnyEnd, N>,
+    hands: &mut Hands<N>,
+    line: &str,
+    wanted: &str,
+) -> Result<bool, Fail> {
+    let Some(reply) = driven(rt, realm, hands, command_of(line)?)? else {
+        return Ok(false);
+    };
+    let mut said = Vec::new(alloc);
+    append_line(&mut said, &reply)?;
+    Ok(said.as_slice().strip_suffix(b"\n") == Some(wanted.as_bytes()))
+}
+
+/// Drives the realm by lines, each of which it is to answer as is said beside it.
+pub fn play<N: RealmName, R: Wait>(
+    rt: &R,
+    alloc: Global,
+    realm: &Realm<AnyEnd, N>,
+    hands: &mut Hands<N>,
+    lines: &[(&str, &str)],
+) -> Result<(), Fail> {
+    for (line, wanted) in lines {
+        if !is_answered(rt, alloc, realm, hands, line, wanted)? {
+            return Err("the realm answers a line otherwise")?;
+        }
+    }
+    Ok(())
 }

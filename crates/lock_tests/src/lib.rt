@@ -4,13 +4,13 @@
 #[cfg(test)]
 mod beside;
 #[cfg(test)]
-mod closing;
-#[cfg(test)]
 mod common;
 #[cfg(test)]
 mod driven;
 #[cfg(test)]
 mod hands;
+#[cfg(test)]
+mod marks;
 #[cfg(test)]
 mod random;
 #[cfg(test)]

@@ -1,35 +1,16 @@
 //! The close with a report, and what it is refused for, by one thread.
-ghost use Rattle.std.specs.Prelude.{◌≡◌, IfOk, IfSome};
+ghost use Rattle.std.specs.Prelude.{◌≡◌, IfOk, All};
+ghost use Rattle.share_ledger.specs.Values.{TicketValue};
 
-use crate::common::{PLAIN, finish, fork, label, name, open};
-use realm_lock::{ActorToken, Realm, RealmName, Seed, Ticket};
+use crate::driven::play;
+use crate::hands::Hands;
+use realm_lock::{CloseReport, Realm, RealmName, Ticket};
 use scope_log::LogEntry;
-use scope_rules::{AnyEnd, End, Fault, Limits, Refusal, ScopeId, TaskId, Value, Verdict};
+use scope_rules::{Actor, AnyEnd, End, Fault, Name, Refusal, ScopeId, TaskId, Value, Verdict};
 use std::alloc::Global;
-use std::marker::Brand;
 use std::process::Abort;
 use std::sync::Wait;
 use std::test::Fail;
-
-/// A task of the scope, from its fork to its end.
-fn ended<N: RealmName, R: Wait>(
-    rt: &R,
-    realm: &Realm<AnyEnd, N>,
-    main: &mut ActorToken,
-    scope: ScopeId,
-    end: End,
-) -> Result<Ticket, Fail>
-    requires { main.old.table ≡ N.table }
-    ensures token { main.new ≡ record main.old { seen = main.new.seen } }
-    ensures ticket { IfOk result (λ ticket. ticket.table ≡ N.table) }
-{
-    let ticket = fork(rt, realm, main, scope)?;
-    let (ticket, token) = realm.start(rt, ticket);
-    match finish(rt, realm, ticket, token, end) {
-        Some(ticket) => Ok(ticket),
-        None => Err("the task did not end")?,
-    }
-}
 
 /// Whether the entries have one start and one finish of the task, with that end.
 fn shows_run(entries: &[LogEntry], task: TaskId, end: End) -> bool {
@@ -58,128 +39,146 @@ fn shows_run(entries: &[LogEntry], task: TaskId, end: End) -> bool {
     started && finished
 }
 
-/// The report of a scope with one inside it shows both logs, with one start and one finish of each task,
-/// whatever the order of the tickets.
-fn a_report_shows_each_run<N: RealmName, R: Wait + Abort>(
+/// Takes out the tickets of the tasks.
+fn tickets_of<N: RealmName>(
+    alloc: Global,
+    hands: &mut Hands<N>,
+    tasks: &[TaskId],
+) -> Result<Vec<Ticket>, Fail>
+    ensures { IfOk result (λ tickets. All (λ (t : TicketValue). t.table ≡ N.table) tickets.items) }
+{
+    let mut tickets = Vec::new(alloc);
+    for task in tasks {
+        tickets.push(hands.ticket(*task).ok_or("a ticket")?)?;
+    }
+    Ok(tickets)
+}
+
+/// What the close of the scope by the actor, with the tickets of these tasks, gives, or is refused for, with how
+/// many it then hands back.
+fn closed<N: RealmName, R: Wait>(
     rt: &R,
     alloc: Global,
     realm: &Realm<AnyEnd, N>,
-    main: &mut ActorToken,
-) -> Result<(), Fail>
-    requires { main.old.table ≡ N.table }
-{
-    let failed = Err(Fault(name(b"late")?));
-    let outer = open(rt, realm, main, PLAIN)?;
-    let first = ended(rt, realm, main, outer, Ok(Value::Num(1)))?;
-    let inner = open(rt, realm, main, PLAIN)?;
-    let second = ended(rt, realm, main, inner, failed)?;
-    let mut tickets = Vec::new(alloc);
-    tickets.push(second)?;
-    tickets.push(first)?;
-    match realm.close(rt, main, outer, tickets) {
-        Ok(report) => {
-            assert!(rt; report.verdict == Verdict::Violated);
-            assert!(rt; shows_run(report.log.entries(), 1, Ok(Value::Num(1))));
-            assert!(rt;
-                match report.nested.first() {
-                    Some((scope, verdict, log)) => {
-                        *scope == inner
-                            && *verdict == Verdict::NotJoined
-                            && shows_run(log.entries(), 2, failed)
-                    }
-                    None => false,
-                }
-            );
-            assert!(rt; report.nested.len() == 1);
-        }
+    hands: &mut Hands<N>,
+    closes: (Actor, ScopeId),
+    tasks: &[TaskId],
+) -> Result<Result<CloseReport, (Refusal, usize)>, Fail> {
+    let tickets = tickets_of(alloc, hands, tasks)?;
+    let mut token = hands.token(closes.0).ok_or("a token")?;
+    let answer = realm.close(rt, &mut token, closes.1, tickets);
+    hands.keep_token(closes.0, token)?;
+    match answer {
+        Ok(report) => Ok(Ok(report)),
+        Err((refusal, back)) => Ok(Err((refusal, back.len()))),
+    }
+}
+
+/// Main's two scopes, in each of which a task has ended.
+const TWO_SCOPES: [(&str, &str); 8] = [
+    ("open 0 await", "scope 1"),
+    ("fork 0 1 work", "task 1 thread"),
+    ("start 1", "started"),
+    ("ok 1 1", "finished"),
+    ("open 0 await", "scope 2"),
+    ("fork 0 2 work", "task 2 thread"),
+    ("start 2", "started"),
+    ("fail 2 late", "finished"),
+];
+
+/// Whether the report shows the logs of the two scopes, with each task's run.
+fn shows_both(report: &CloseReport, failed: End) -> bool {
+    let Some((scope, verdict, log)) = report.nested.first() else {
+        return false;
+    };
+    report.verdict == Verdict::Violated
+        && shows_run(report.log.entries(), 1, Ok(Value::Num(1)))
+        && report.nested.len() == 1
+        && (*scope, *verdict) == (2, Verdict::NotJoined)
+        && shows_run(log.entries(), 2, failed)
+}
+
+/// The report of a scope with one inside it shows both logs, with one start and one finish of each task,
+/// whatever the order of the tickets.
+pub fn a_report_shows_each_run<N: RealmName, R: Wait + Abort>(
+    rt: &R,
+    alloc: Global,
+    realm: &Realm<AnyEnd, N>,
+    hands: &mut Hands<N>,
+) -> Result<(), Fail> {
+    let failed = Err(Fault(Name::new(b"late").ok_or("a name")?));
+    play(rt, alloc, realm, hands, &TWO_SCOPES)?;
+    match closed(rt, alloc, realm, hands, (0, 1), &[2, 1])? {
+        Ok(report) => assert!(rt; shows_both(&report, failed)),
         Err(_) => Err("the close was refused")?,
     }
     Ok(())
 }
 
-/// What the close is refused for with the ticket alone, or with none, and how many it hands back.
-fn refused<N: RealmName, R: Wait + Abort>(
-    rt: &R,
-    alloc: Global,
-    realm: &Realm<AnyEnd, N>,
-    token: &mut ActorToken,
-    scope: ScopeId,
-    only: Option<Ticket>,
-) -> Result<(Refusal, usize), Fail>
-    requires named { token.old.table ≡ N.table }
-    requires ticket { IfSome only (λ ticket. ticket.table ≡ N.table) }
-    ensures { token.new ≡ record token.old { seen = token.new.seen } }
-{
-    let mut tickets = Vec::new(alloc);
-    if let Some(ticket) = only {
-        tickets.push(ticket)?;
-    }
-    match realm.close(rt, token, scope, tickets) {
-        Ok(_) => Err("it was closed")?,
-        Err((refusal, back)) => Ok((refusal, back.len())),
-    }
-}
+/// A close that is refused: the lines before it, who closes what, with the ticket of which task, if any, and
+/// what for.
+type Refused = (
+    &'static [(&'static str, &'static str)],
+    (Actor, ScopeId),
+    Option<TaskId>,
+    Refusal,
+);
 
 /// A close is refused where a ticket is missing, and where it is another scope's, and hands it back. It
-/// has begun by then, and can be ended without a report; a closed scope, another's and an unknown one
+/// has begun by then, and can be ended without a report; a closed scope, an unknown one and another's
 /// are not closed.
-fn a_close_wants_its_tickets<N: RealmName, R: Wait + Abort>(
+const REFUSED: [Refused; 5] = [
+    (
+        &[
+            ("open 0 await", "scope 1"),
+            ("fork 0 1 work", "task 1 thread"),
+            ("start 1", "started"),
+            ("ok 1 1", "finished"),
+            ("closed 0 1", "closed not-joined"),
+            ("open 0 await", "scope 2"),
+            ("fork 0 2 work", "task 2 thread"),
+            ("start 2", "started"),
+            ("ok 2 2", "finished"),
+        ],
+        (0, 2),
+        None,
+        Refusal::NotReady,
+    ),
+    (&[], (0, 2), Some(1), Refusal::NotReady),
+    (
+        &[
+            ("fork 0 2 late", "refused 3 closed"),
+            ("closed 0 2", "closed not-joined"),
+        ],
+        (0, 2),
+        Some(2),
+        Refusal::Closed,
+    ),
+    (&[], (0, 9), None, Refusal::NoScope),
+    (
+        &[
+            ("open 0 await", "scope 3"),
+            ("fork 0 3 work", "task 3 thread"),
+            ("start 3", "started"),
+        ],
+        (3, 3),
+        None,
+        Refusal::NotOwner,
+    ),
+];
+
+/// Each of those closes in turn.
+pub fn closes_are_refused<N: RealmName, R: Wait + Abort>(
     rt: &R,
     alloc: Global,
     realm: &Realm<AnyEnd, N>,
-    main: &mut ActorToken,
-) -> Result<(), Fail>
-    requires { main.old.table ≡ N.table }
-{
-    let earlier = open(rt, realm, main, PLAIN)?;
-    let other = ended(rt, realm, main, earlier, Ok(Value::Num(1)))?;
-    assert!(rt; realm.close_bare(rt, main, earlier)? == Verdict::NotJoined);
-    let scope = open(rt, realm, main, PLAIN)?;
-    let own = ended(rt, realm, main, scope, Ok(Value::Num(2)))?;
-    assert!(rt; refused(rt, alloc, realm, main, scope, None)? == (Refusal::NotReady, 0));
-    assert!(rt; refused(rt, alloc, realm, main, scope, Some(other))? == (Refusal::NotReady, 1));
-    match realm.fork(rt, main, scope, label(b"late")?) {
-        Err(refusal) => assert!(rt; refusal == Refusal::Closed),
-        Ok(_) => Err("a fork in a closing scope")?,
-    }
-    assert!(rt; realm.close_bare(rt, main, scope)? == Verdict::NotJoined);
-    assert!(rt; refused(rt, alloc, realm, main, scope, Some(own))? == (Refusal::Closed, 1));
-    assert!(rt; refused(rt, alloc, realm, main, 9, None)? == (Refusal::NoScope, 0));
-    let last = open(rt, realm, main, PLAIN)?;
-    let ticket = fork(rt, realm, main, last)?;
-    let (_ticket, mut token) = realm.start(rt, ticket);
-    assert!(rt; refused(rt, alloc, realm, &mut token, last, None)? == (Refusal::NotOwner, 0));
-    Ok(())
-}
-
-/// Which row.
-#[derive(Clone, Copy)]
-enum Row {
-    Shown,
-    Refused,
-}
-
-fn check<N: RealmName, R: Wait + Abort>(
-    rt: &R,
-    alloc: Global,
-    seed: Seed,
-    row: Row,
-) -> Result<(), Fail>
-    requires { seed ≡ N.table }
-{
-    let limits = Limits::new(4, 4, 60).ok_or("limits")?;
-    let (realm, mut main) = Realm::<AnyEnd, N>::new(alloc, seed, limits)?;
-    match row {
-        Row::Shown => a_report_shows_each_run(rt, alloc, &realm, &mut main),
-        Row::Refused => a_close_wants_its_tickets(rt, alloc, &realm, &mut main),
-    }
-}
-
-#[test]
-fn reports_over_a_realm(rt: HostRuntime) -> Result<(), Fail> {
-    for row in [Row::Shown, Row::Refused] {
-        let seed = Seed::new(rt.alloc())?;
-        check::<Brand, _>(&rt, rt.alloc(), seed, row)?;
+    hands: &mut Hands<N>,
+) -> Result<(), Fail> {
+    for (lines, closes, ticket, refusal) in REFUSED {
+        play(rt, alloc, realm, hands, lines)?;
+        let tasks = ticket.as_slice();
+        let answer = closed(rt, alloc, realm, hands, closes, tasks)?;
+        assert!(rt; answer.err() == Some((refusal, tasks.len())));
     }
     Ok(())
 }

@@ -2,157 +2,202 @@
 ghost use Rattle.std.specs.Prelude.{◌≡◌};
 
 use crate::beside::Beside;
+use crate::driven::command_of;
 use crate::random::Commands;
 use realm_lock::{RealmName, Seed};
-use scope_rules::{AnyEnd, Event, Limits, Value};
-use scope_script::{Command, Line, read_line};
+use scope_rules::{Event, Limits, Value};
+use scope_script::Command;
 use std::alloc::Global;
 use std::marker::Brand;
-use std::process::Abort;
 use std::sync::Wait;
 use std::test::Fail;
 
-/// The greatest load.
-const LOAD: u32 = 1_048_576;
+/// Limits of scopes, of tasks and of the load.
+type Room = (u32, u32, u32);
 
-/// Rows of joiners, cancels, deadlines, shields, bindings, closes and retirements: the load that the realm
-/// takes, how many of the lines are accepted, and the lines, which ` / ` parts.
-const ROWS: [(u32, u32, &str); 27] = [
-    (LOAD, 2, "open 0 await / join 0 1"),
-    (LOAD, 2, "open 0 any / join 0 1"),
+/// The greatest.
+const ROOM: Room = (4096, 65_536, 1_048_576);
+
+/// Room for two scopes and one task.
+const TWO_AND_ONE: Room = (2, 1, 14);
+
+/// Rows of joiners, cancels, deadlines, shields, bindings, closes and retirements: the room that the realm
+/// has, how many of the lines are accepted, and the lines, which ` / ` parts. Of a line with ` + ` the realm
+/// is given the last command alone, which does what the program is told in all of them.
+const ROWS: [(Room, u32, &str); 33] = [
+    (ROOM, 2, "open 0 await / join 0 1"),
+    (ROOM, 2, "open 0 any / join 0 1"),
     (
-        LOAD,
+        ROOM,
         8,
         "open 0 all / fork 0 1 a / fork 0 1 b / start 1 / start 2 / ok 2 20 / ok 1 10 / join 0 1",
     ),
     (
-        LOAD,
+        ROOM,
         10,
         "open 0 all / fork 0 1 a / fork 0 1 b / start 1 / start 2 / fail 1 boom / ok 2 5 / join 0 1 / state 2 / result 0 1 / result 0 2 / fault 0 1",
     ),
     (
-        LOAD,
+        ROOM,
         10,
         "open 0 any / fork 0 1 a / fork 0 1 b / start 1 / start 2 / ok 2 7 / ok 1 9 / join 0 1 / state 2 / state 1",
     ),
     (
-        LOAD,
+        ROOM,
         8,
         "open 0 any / fork 0 1 a / fork 0 1 b / start 1 / start 2 / fail 2 x / fail 1 y / join 0 1",
     ),
     (
-        LOAD,
+        ROOM,
         5,
         "open 0 await / cancel 1 / cancel 1 / fork 0 1 a / start 1 / join 0 1",
     ),
-    (LOAD, 2, "open 0 await / join 0 1 / fork 0 1 a / join 0 1"),
+    (ROOM, 2, "open 0 await / join 0 1 / fork 0 1 a / join 0 1"),
     (
-        LOAD,
+        ROOM,
         8,
         "open 0 await deadline=100 / fork 0 1 a / start 1 / tick 99 / until 1 / tick 100 / until 1 / join 0 1 / tick 50",
     ),
     (
-        LOAD,
+        ROOM,
         9,
         "open 0 await / fork 0 1 a / start 1 / open 1 all shield / fork 1 2 b / start 2 / cancel 1 / ok 2 5 / join 1 2",
     ),
     (
-        LOAD,
+        ROOM,
         10,
         "open 0 await / fork 0 1 a / start 1 / open 1 all / fork 1 2 b / start 2 / cancel 1 / ok 2 5 / join 1 2 / state 2",
     ),
     (
-        LOAD,
+        ROOM,
         5,
         "open 0 await / open 0 await / close 0 1 / closed 0 1 / closed 0 2 / closed 0 1",
     ),
     (
-        LOAD,
+        ROOM,
         7,
         "open 0 await / fork 0 1 a / start 1 / ok 1 1 / close 0 1 / closed 0 1 / close 0 1",
     ),
     (
-        LOAD,
+        ROOM,
         4,
         "open 0 / bind 0 user ann / fork 0 1 a / unbind 0 / fork 0 1 a",
     ),
     (
-        LOAD,
+        ROOM,
         13,
         "open 0 until:fail:2 / fork 0 1 a / fork 0 1 b / fork 0 1 c / fork 0 1 d / start 1 / start 2 / start 3 / start 4 / fail 3 a / ok 1 4 / fail 2 b / join 0 1",
     ),
     (
-        7,
+        (4096, 65_536, 7),
         7,
         "open 0 await / fork 0 1 a / cancel 1 / fork 0 1 b / start 1 / ok 1 1 / join 0 1 / close 0 1 / closed 0 1",
     ),
     (
-        LOAD,
+        ROOM,
         8,
         "bind 0 user ann / open 0 / unbind 0 / fork 0 1 a / start 1 / get 1 user / bind 1 user bob / get 1 user / unbind 1 / unbind 1 / get 1 city",
     ),
     (
-        LOAD,
+        ROOM,
         6,
         "open 0 await deadline=100 / open 0 await deadline=100 / tick 100 / cause 1 / cause 2 / join 0 2",
     ),
     (
-        LOAD,
+        ROOM,
         5,
         "open 0 await / cancel 1 / open 0 await deadline=0 / cause 2 / until 2",
     ),
     (
-        LOAD,
+        ROOM,
         7,
         "open 0 await / fork 0 1 a / join 0 1 / result 0 1 / close 0 1 / closed 0 1 / start 1 / ok 1 4 / closed 0 1 / state 1",
     ),
     (
-        LOAD,
+        ROOM,
         9,
         "open 0 / fork 0 1 a / start 1 / open 1 / ok 1 3 / close 1 2 / closed 1 2 / ok 1 3 / join 0 1 / result 0 1 / fault 0 1",
     ),
     (
-        LOAD,
+        ROOM,
         16,
         "open 0 / open 0 / open 0 / open 0 / open 0 / open 0 / open 0 / open 0 / open 0 / open 0 / open 0 / open 0 / open 0 / open 0 / open 0 / open 0 / open 0",
     ),
     (
-        LOAD,
+        ROOM,
         10,
         "open 0 until:sum:10 / fork 0 1 a / fork 0 1 b / fork 0 1 c / start 1 / start 2 / start 3 / ok 1 -3 / ok 2 13 / join 0 1",
     ),
     (
-        LOAD,
+        ROOM,
         8,
         "open 0 await deadline=10 / move 1 never / tick 20 / until 1 / move 1 20 / cause 1 / move 1 30 / join 0 1",
     ),
     (
-        LOAD,
+        ROOM,
         5,
         "bind 0 k 1 / bind 0 k 2 / open 0 await / get 0 k / close 0 1 / unbind 0",
     ),
     (
-        8,
+        (4096, 65_536, 8),
         12,
         "bind 0 user ann / open 0 await / fork 0 1 a / start 1 / ok 1 1 / join 0 1 / retire 0 / close 0 1 / closed 0 1 / open 0 await / retire 0 / open 0 await / fork 0 2 b / state 1 / cause 1 / state 3 / get 0 user",
     ),
-    (LOAD, 3, "retire 0 / retire 1 / tick 9 / retire 0 / tick 8"),
+    (ROOM, 3, "retire 0 / retire 1 / tick 9 / retire 0 / tick 8"),
+    (
+        ROOM,
+        9,
+        "bind 0 user 1 / open 0 await / fork 0 1 work / start 1 / get 1 user / bind 1 user 2 / get 1 user / get 0 user / unbind 1 / unbind 1 / unbind 0",
+    ),
+    (
+        ROOM,
+        10,
+        "open 0 await / fork 0 1 work / move 1 100 / tick 99 / until 1 / tick 100 / until 1 / reject 1 / join 0 1 / state 1 / result 0 1 / fault 0 1 / tick 50",
+    ),
+    (
+        ROOM,
+        10,
+        "open 0 await / fork 0 1 work / start 1 / open 1 await shield / fork 1 2 work / start 2 / cancel 1 / ok 2 5 / fork 0 1 late / close 0 1",
+    ),
+    (
+        TWO_AND_ONE,
+        6,
+        "open 0 await / open 0 await / fork 0 2 work / start 1 / ok 1 1 / close 0 1 + closed 0 2 + closed 0 1 / closed 0 2 / closed 0 1 / closed 0 3",
+    ),
+    (
+        TWO_AND_ONE,
+        6,
+        "open 0 await / fork 0 1 work / start 1 / closed 1 1 / close 0 1 / ok 1 1 / closed 0 1",
+    ),
+    (
+        TWO_AND_ONE,
+        29,
+        "open 0 await / fork 0 1 work / start 1 / ok 1 1 / join 0 1 / close 0 1 + closed 0 1 / retire 0 / open 0 await / fork 0 2 work / start 2 / ok 2 1 / join 0 2 / close 0 2 + closed 0 2 / retire 0 / open 0 await / fork 0 3 work / start 3 / ok 3 1 / join 0 3 / close 0 3 + closed 0 3 / retire 0 / open 0 await / fork 0 4 work / start 4 / ok 4 1 / join 0 4 / close 0 4 + closed 0 4 / retire 0 / retire 0",
+    ),
 ];
 
 /// How many scripts of commands at random there are.
 const SCRIPTS: u32 = 300;
 
+/// Gives the line to both.
+fn give_line<N: RealmName, R: Wait>(rt: &R, both: &mut Beside<N>, line: &str) -> Result<(), Fail> {
+    let Some((parts, last)) = line.rsplit_once(" + ") else {
+        return both.give(rt, command_of(line)?);
+    };
+    for part in parts.split(" + ") {
+        both.foretell(command_of(part)?)?;
+    }
+    both.give(rt, command_of(last)?)
+}
+
 /// Gives each line of the script to both, and compares main's views after each.
 fn row_is_alike<N: RealmName, R: Wait>(
     rt: &R,
     both: &mut Beside<N>,
-    script: &str,
+    lines: &str,
 ) -> Result<u32, Fail> {
-    for line in script.split(" / ") {
-        let Line::Command(command) = read_line(line.as_bytes()) else {
-            return Err("a command")?;
-        };
-        both.give(rt, command)?;
+    for line in lines.split(" / ") {
+        give_line(rt, both, line)?;
         both.compare_views(rt, 3)?;
     }
     Ok(both.accepted())
@@ -196,40 +241,38 @@ fn random_is_alike<N: RealmName, R: Wait>(
     Ok(both.accepted())
 }
 
-fn check_row<N: RealmName, R: Wait + Abort>(
-    rt: &R,
-    alloc: Global,
-    seed: Seed,
-    row: (u32, u32, &str),
-) -> Result<(), Fail>
-    requires { seed ≡ N.table }
-{
-    let (load, accepted, script) = row;
-    let limits = Limits::new(4096, 65536, load).ok_or("limits")?;
-    let mut both = Beside::<N>::new(alloc, seed, limits)?;
-    assert_eq!(rt; row_is_alike(rt, &mut both, script)?, accepted, "{script}");
-    Ok(())
+/// What both are given.
+#[derive(Clone, Copy)]
+enum Script {
+    Lines(&'static str),
+    /// Commands at random, by this seed.
+    Random(u64),
 }
 
-/// How many calls of a script at random were accepted.
-fn check_random<N: RealmName, R: Wait>(
+/// How many calls of the script were accepted.
+fn check<N: RealmName, R: Wait>(
     rt: &R,
     alloc: Global,
     seed: Seed,
-    number: u32,
+    room: Room,
+    script: Script,
 ) -> Result<u32, Fail>
     requires { seed ≡ N.table }
 {
-    let limits = Limits::new(3 + number % 5, 3 + number % 7, 40 + number % 80).ok_or("limits")?;
+    let limits = Limits::new(room.0, room.1, room.2).ok_or("limits")?;
     let mut both = Beside::<N>::new(alloc, seed, limits)?;
-    random_is_alike(rt, &mut both, u64::from(number))
+    match script {
+        Script::Lines(lines) => row_is_alike(rt, &mut both, lines),
+        Script::Random(number) => random_is_alike(rt, &mut both, number),
+    }
 }
 
 #[test]
 fn rows_beside_the_program(rt: HostRuntime) -> Result<(), Fail> {
-    for row in ROWS {
+    for (room, accepted, lines) in ROWS {
         let seed = Seed::new(rt.alloc())?;
-        check_row::<Brand, _>(&rt, rt.alloc(), seed, row)?;
+        let calls = check::<Brand, _>(&rt, rt.alloc(), seed, room, Script::Lines(lines))?;
+        assert_eq!(rt; calls, accepted, "{lines}");
     }
     Ok(())
 }
@@ -239,7 +282,9 @@ fn random_scripts_beside_the_program(rt: HostRuntime) -> Result<(), Fail> {
     let mut accepted: u64 = 0;
     for number in 0..SCRIPTS {
         let seed = Seed::new(rt.alloc())?;
-        let calls = check_random::<Brand, _>(&rt, rt.alloc(), seed, number)?;
+        let room = (3 + number % 5, 3 + number % 7, 40 + number % 80);
+        let script = Script::Random(u64::from(number));
+        let calls = check::<Brand, _>(&rt, rt.alloc(), seed, room, script)?;
         accepted = accepted.wrapping_add(u64::from(calls));
     }
     assert!(rt; accepted >= 10_000);

@@ -3,16 +3,15 @@
 ghost use Rattle.std.specs.Prelude.{◌≡◌};
 ghost use Rattle.share_ledger.specs.Values.{IsWaiting};
 
-use crate::common::{PLAIN, finish, fork, open};
+use crate::common::{PLAIN, finish, fork_two, open};
 use crate::replay::Replay;
 use crate::throws::Throws;
 use crate::views::is_seen_alike;
 use join_rules::Joiner;
-use realm_lock::{ActorToken, Forked, Realm, RealmName, Seed, Ticket};
-use scope_rules::{AnyEnd, Cancelling, Counts, ForkReply, Label, Limits, Name, ScopeId, Value};
+use realm_lock::{ActorToken, Forked, Realm, RealmName, Ticket};
+use scope_rules::{AnyEnd, Cancelling, Counts, ForkReply, Label, Name, ScopeId, TaskId, Value};
 use scope_script::{Reply, append_line};
 use std::alloc::Global;
-use std::marker::Brand;
 use std::process::Abort;
 use std::sync::Wait;
 use std::test::Fail;
@@ -167,6 +166,36 @@ fn play_once<N: RealmName, R: Wait>(
     Some(())
 }
 
+/// All rounds of a thread, in a scope of its own.
+fn play_all<N: RealmName, R: Wait>(
+    rt: &R,
+    realm: &Realm<AnyEnd, N>,
+    token: &mut ActorToken,
+    player: &mut Player,
+) -> Option<()>
+    requires { token.old.table ≡ N.table }
+    ensures { token.new ≡ record token.old { seen = token.new.seen } }
+{
+    open_own(rt, realm, token, player)?;
+    for _ in 0..ROUNDS {
+        play_once(rt, realm, token, player)?;
+    }
+    close_own(rt, realm, token, player)
+}
+
+/// One that has played nothing.
+fn new_player(alloc: Global, task: TaskId) -> Option<Player> {
+    let name = Name::new(b"work")?;
+    Some(Player {
+        throws: Throws::new(u64::from(task)),
+        label: Label { name, due: None },
+        scope: 0,
+        counts: NONE,
+        lines: Vec::new(alloc),
+        cancels: 0,
+    })
+}
+
 /// What one thread does with its task. None where a call was refused, or a view counted otherwise.
 fn play<N: RealmName, R: Wait>(
     rt: &R,
@@ -176,26 +205,11 @@ fn play<N: RealmName, R: Wait>(
 ) -> Option<Player>
     requires { (ticket.table ≡ N.table) × IsWaiting ticket }
 {
-    let label = Label {
-        name: Name::new(b"work")?,
-        due: None,
-    };
-    let mut player = Player {
-        throws: Throws::new(u64::from(ticket.task())),
-        label,
-        scope: 0,
-        counts: NONE,
-        lines: Vec::new(alloc),
-        cancels: 0,
-    };
+    let mut player = new_player(alloc, ticket.task())?;
     let (ticket, mut token) = realm.start(rt, ticket);
-    open_own(rt, realm, &mut token, &mut player)?;
-    for _ in 0..ROUNDS {
-        play_once(rt, realm, &mut token, &mut player)?;
-    }
-    close_own(rt, realm, &mut token, &mut player)?;
-    finish(rt, realm, ticket, token, Ok(Value::Num(0)))?;
-    Some(player)
+    let played = play_all(rt, realm, &mut token, &mut player);
+    let ended = finish(rt, realm, ticket, token, Ok(Value::Num(0)));
+    (played.is_some() && ended.is_some()).then_some(player)
 }
 
 /// What two of the threads did.
@@ -221,8 +235,37 @@ fn two_play<N: RealmName + Send + Sync, R: Threads + Wait + Sync>(
     Some((first?, second?))
 }
 
-/// What the four threads did.
+/// What the four threads did. None where a call was refused, or a count was another.
 fn four_play<N: RealmName + Send + Sync, R: Threads + Wait + Sync>(
+    rt: &R,
+    alloc: Global,
+    realm: &Realm<AnyEnd, N>,
+    left: (Ticket, Ticket),
+    right: (Ticket, Ticket),
+) -> Option<[Player; 4]>
+    requires one { (left.0.table ≡ N.table) × IsWaiting left.0 }
+    requires two { (left.1.table ≡ N.table) × IsWaiting left.1 }
+    requires three { (right.0.table ≡ N.table) × IsWaiting right.0 }
+    requires four { (right.1.table ≡ N.table) × IsWaiting right.1 }
+{
+    let (left, right) = thread::join(
+        rt,
+        move ||
+            requires one { (left.0.table ≡ N.table) × IsWaiting left.0 }
+            requires two { (left.1.table ≡ N.table) × IsWaiting left.1 }
+        { two_play(rt, alloc, realm, left.0, left.1) },
+        move ||
+            requires three { (right.0.table ≡ N.table) × IsWaiting right.0 }
+            requires four { (right.1.table ≡ N.table) × IsWaiting right.1 }
+        { two_play(rt, alloc, realm, right.0, right.1) },
+    );
+    let (one, two) = left?;
+    let (three, four) = right?;
+    Some([one, two, three, four])
+}
+
+/// Forks a task for each of the threads in main's scope, and joins that when they have played.
+fn played<N: RealmName + Send + Sync, R: Threads + Wait + Abort + Sync>(
     rt: &R,
     alloc: Global,
     realm: &Realm<AnyEnd, N>,
@@ -232,24 +275,12 @@ fn four_play<N: RealmName + Send + Sync, R: Threads + Wait + Sync>(
     ensures { main.new ≡ record main.old { seen = main.new.seen } }
 {
     let scope = open(rt, realm, main, PLAIN)?;
-    let one = fork(rt, realm, main, scope)?;
-    let two = fork(rt, realm, main, scope)?;
-    let three = fork(rt, realm, main, scope)?;
-    let four = fork(rt, realm, main, scope)?;
-    let (first, second) = thread::join(
-        rt,
-        move ||
-            requires one { (one.table ≡ N.table) × IsWaiting one }
-            requires two { (two.table ≡ N.table) × IsWaiting two }
-        { two_play(rt, alloc, realm, one, two) },
-        move ||
-            requires three { (three.table ≡ N.table) × IsWaiting three }
-            requires four { (four.table ≡ N.table) × IsWaiting four }
-        { two_play(rt, alloc, realm, three, four) },
-    );
-    let (one, two) = first.ok_or("a call was refused, or a count was another")?;
-    let (three, four) = second.ok_or("a call was refused, or a count was another")?;
-    Ok([one, two, three, four])
+    let left = fork_two(rt, realm, main, scope)?;
+    let right = fork_two(rt, realm, main, scope)?;
+    let players = four_play(rt, alloc, realm, left, right);
+    let joined = realm.join(rt, main, scope);
+    assert!(rt; joined.is_ok_and(|joined| joined.log.counts().finished == 4));
+    Ok(players.ok_or("a call was refused, or a count was another")?)
 }
 
 /// Compares what each thread was answered with what the book answered to the same history.
@@ -265,31 +296,50 @@ fn compare<R: Abort>(rt: &R, replay: &Replay, players: &[Player]) {
     assert_eq!(rt; replay.cancels, cancels);
 }
 
-fn check<N: RealmName + Send + Sync, R: Threads + Wait + Abort + Sync>(
+/// The realm's history, performed anew.
+fn replayed<N: RealmName, R: Wait>(
     rt: &R,
     alloc: Global,
-    seed: Seed,
-) -> Result<(), Fail>
-    requires { seed ≡ N.table }
+    realm: &Realm<AnyEnd, N>,
+    main: &mut ActorToken,
+) -> Result<Replay, Fail>
+    requires { main.old.table ≡ N.table }
+    ensures { main.new ≡ record main.old { seen = main.new.seen } }
 {
-    let (realm, mut main) = Realm::<AnyEnd, N>::new(alloc, seed, Limits::GREATEST)?;
-    let players = four_play(rt, alloc, &realm, &mut main)?;
-    let joined = realm.join(rt, &mut main, 1)?;
-    assert!(rt; joined.log.counts().finished == 4);
-    let history = realm.history(rt, &mut main)?;
-    let replay = Replay::of(alloc, &history)?;
-    compare(rt, &replay, &players);
+    let history = realm.history(rt, main)?;
+    Replay::of(alloc, &history)
+}
+
+/// Compares main's views of all scopes with what the book tells.
+fn compare_views<N: RealmName, R: Wait + Abort>(
+    rt: &R,
+    realm: &Realm<AnyEnd, N>,
+    main: &mut ActorToken,
+    replay: &Replay,
+)
+    requires { main.old.table ≡ N.table }
+{
     for scope in 0..=replay.scopes {
         assert!(rt;
-            is_seen_alike(rt, &realm, &mut main, &replay.book, scope),
+            is_seen_alike(rt, realm, main, &replay.book, scope),
             "scope {scope}"
         );
     }
-    Ok(())
 }
 
-#[test]
-fn ten_thousand_rounds_by_four_threads(rt: HostRuntime) -> Result<(), Fail> {
-    let seed = Seed::new(rt.alloc())?;
-    check::<Brand, _>(&rt, rt.alloc(), seed)
+/// What four threads were answered in 2,500 rounds each is what a book answers to the same history, and
+/// main's views of all scopes show what it tells.
+pub fn ten_thousand_rounds<N: RealmName + Send + Sync, R: Threads + Wait + Abort + Sync>(
+    rt: &R,
+    alloc: Global,
+    realm: &Realm<AnyEnd, N>,
+    main: &mut ActorToken,
+) -> Result<(), Fail>
+    requires { main.old.table ≡ N.table }
+{
+    let players = played(rt, alloc, realm, main)?;
+    let replay = replayed(rt, alloc, realm, main)?;
+    compare(rt, &replay, &players);
+    compare_views(rt, realm, main, &replay);
+    Ok(())
 }

@@ -2,12 +2,10 @@
 ghost use Rattle.std.specs.Prelude.{◌≡◌, IfOk};
 ghost use Rattle.share_ledger.specs.Values.{IsWaiting};
 
-use crate::common::{PLAIN, finish, fork, open};
-use realm_lock::{ActorToken, Joined, Realm, RealmName, Seed, Ticket};
-use scope_rules::{AnyEnd, Limits, Outcome, Refusal, ScopeId, Value, Verdict};
+use crate::common::{PLAIN, finish, fork, fork_two, open};
+use realm_lock::{ActorToken, Joined, Realm, RealmName, Ticket};
+use scope_rules::{AnyEnd, Outcome, Refusal, ScopeId, Value, Verdict};
 use share_ledger::{Totals, gather};
-use std::alloc::Global;
-use std::marker::Brand;
 use std::process::Abort;
 use std::sync::Wait;
 use std::test::Fail;
@@ -23,17 +21,32 @@ fn serve<N: RealmName, R: Wait>(rt: &R, realm: &Realm<AnyEnd, N>, ticket: Ticket
     finish(rt, realm, ticket, token, Ok(Value::Num(number)))
 }
 
-/// Two threads take a ticket each through its start and its end.
-fn two_served<N: RealmName + Send + Sync, R: Threads + Wait + Abort + Sync>(
+/// Whether the join of the scope answers that all its tasks are done.
+fn is_done<N: RealmName, R: Wait>(
     rt: &R,
     realm: &Realm<AnyEnd, N>,
     main: &mut ActorToken,
-) -> Result<Totals, Fail>
+    scope: ScopeId,
+) -> bool
     requires { main.old.table ≡ N.table }
+    ensures { main.new ≡ record main.old { seen = main.new.seen } }
 {
-    let scope = open(rt, realm, main, PLAIN)?;
-    let one = fork(rt, realm, main, scope)?;
-    let two = fork(rt, realm, main, scope)?;
+    match realm.join(rt, main, scope) {
+        Ok(joined) => matches!(joined.outcome, Outcome::Done),
+        Err(_) => false,
+    }
+}
+
+/// Two threads take a ticket each through its start and its end. What the tickets sum up to then.
+fn served_by_two<N: RealmName + Send + Sync, R: Threads + Wait + Sync>(
+    rt: &R,
+    realm: &Realm<AnyEnd, N>,
+    one: Ticket,
+    two: Ticket,
+) -> Option<Totals>
+    requires one { (one.table ≡ N.table) × IsWaiting one }
+    requires two { (two.table ≡ N.table) × IsWaiting two }
+{
     let (one, two) = thread::join(
         rt,
         move ||
@@ -43,15 +56,23 @@ fn two_served<N: RealmName + Send + Sync, R: Threads + Wait + Abort + Sync>(
             requires { (two.table ≡ N.table) × IsWaiting two }
         { serve(rt, realm, two) },
     );
-    let (Some(one), Some(two)) = (one, two) else {
-        return Err("a task did not run")?;
-    };
-    let totals = gather(&[one, two]);
-    let joined = realm.join(rt, main, scope)?;
-    match joined.outcome {
-        Outcome::Done => Ok(totals),
-        _ => Err("another outcome")?,
-    }
+    Some(gather(&[one?, two?]))
+}
+
+/// Two tasks of a scope are served by two threads, and it is joined then.
+pub fn two_served<N: RealmName + Send + Sync, R: Threads + Wait + Abort + Sync>(
+    rt: &R,
+    realm: &Realm<AnyEnd, N>,
+    main: &mut ActorToken,
+) -> Result<(), Fail>
+    requires { main.old.table ≡ N.table }
+{
+    let scope = open(rt, realm, main, PLAIN)?;
+    let (one, two) = fork_two(rt, realm, main, scope)?;
+    let totals = served_by_two(rt, realm, one, two).ok_or("a task did not run")?;
+    assert_eq!(rt; (totals.given, totals.started, totals.finished), (2, 2, 2));
+    assert!(rt; is_done(rt, realm, main, scope));
+    Ok(())
 }
 
 /// Ends two tasks in turn, with a pause before each.
@@ -76,7 +97,7 @@ fn serve_slowly<N: RealmName, R: Wait>(
 
 /// The join of a scope waits until both its tasks have ended in another thread: its log has both ends
 /// before the join.
-fn waited<N: RealmName + Send + Sync, R: Threads + Wait + Abort + Sync>(
+pub fn waited<N: RealmName + Send + Sync, R: Threads + Wait + Abort + Sync>(
     rt: &R,
     realm: &Realm<AnyEnd, N>,
     main: &mut ActorToken,
@@ -84,8 +105,7 @@ fn waited<N: RealmName + Send + Sync, R: Threads + Wait + Abort + Sync>(
     requires { main.old.table ≡ N.table }
 {
     let scope = open(rt, realm, main, PLAIN)?;
-    let one = fork(rt, realm, main, scope)?;
-    let two = fork(rt, realm, main, scope)?;
+    let (one, two) = fork_two(rt, realm, main, scope)?;
     let (served, joined) = thread::join(
         rt,
         move ||
@@ -96,9 +116,8 @@ fn waited<N: RealmName + Send + Sync, R: Threads + Wait + Abort + Sync>(
             requires { main.now.table ≡ N.table }
         { realm.join(rt, main, scope) },
     );
-    let joined = joined?;
-    assert!(rt; served && joined.log.counts().finished == 2);
-    assert!(rt; joined.log.entries().len() == 8);
+    let log = joined?.log;
+    assert!(rt; served && log.counts().finished == 2 && log.entries().len() == 8);
     Ok(())
 }
 
@@ -147,7 +166,7 @@ fn one_round<N: RealmName + Send + Sync, R: Threads + Wait + Abort + Sync>(
 }
 
 /// A realm with room for one scope and one task serves ten of them, one after the other.
-fn ten_rounds<N: RealmName + Send + Sync, R: Threads + Wait + Abort + Sync>(
+pub fn ten_rounds<N: RealmName + Send + Sync, R: Threads + Wait + Abort + Sync>(
     rt: &R,
     realm: &Realm<AnyEnd, N>,
     mut main: ActorToken,
@@ -156,51 +175,6 @@ fn ten_rounds<N: RealmName + Send + Sync, R: Threads + Wait + Abort + Sync>(
 {
     for round in 1..=10u32 {
         main = one_round(rt, realm, main, round)?;
-    }
-    Ok(())
-}
-
-/// Which row.
-#[derive(Clone, Copy)]
-enum Row {
-    TwoServed,
-    Waited,
-    TenRounds,
-}
-
-fn check<N: RealmName + Send + Sync, R: Threads + Wait + Abort + Sync>(
-    rt: &R,
-    alloc: Global,
-    seed: Seed,
-    row: Row,
-) -> Result<(), Fail>
-    requires { seed ≡ N.table }
-{
-    let limits = match row {
-        Row::TenRounds => Limits::new(1, 1, 7).ok_or("limits")?,
-        _ => Limits::GREATEST,
-    };
-    let (realm, mut main) = Realm::<AnyEnd, N>::new(alloc, seed, limits)?;
-    match row {
-        Row::TwoServed => {
-            let totals = two_served(rt, &realm, &mut main)?;
-            assert_eq!(rt; (totals.given, totals.started, totals.finished), (2, 2, 2));
-            Ok(())
-        }
-        Row::Waited => waited(rt, &realm, &mut main),
-        Row::TenRounds => ten_rounds(rt, &realm, main),
-    }
-}
-
-#[test]
-fn tickets_through_threads(rt: HostRuntime) -> Result<(), Fail> {
-    for row in [Row::TwoServed, Row::TenRounds] {
-        let seed = Seed::new(rt.alloc())?;
-        check::<Brand, _>(&rt, rt.alloc(), seed, row)?;
-    }
-    for _ in 0..20u32 {
-        let seed = Seed::new(rt.alloc())?;
-        check::<Brand, _>(&rt, rt.alloc(), seed, Row::Waited)?;
     }
     Ok(())
 }
