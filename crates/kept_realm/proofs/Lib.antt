@@ -1,5 +1,7 @@
-pub mod ActorsThere
+pub mod There
 pub mod Ready
 pub mod Told
 pub mod Said
 pub mod Growing
+pub mod NeverOpened
+pub mod Closed

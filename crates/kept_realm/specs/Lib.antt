@@ -1,3 +1,4 @@
 pub mod Lending
 pub mod Telling
 pub mod Fits
+pub mod Readings

@@ -1,7 +1,5 @@
-ghost use Rattle.std.specs.Prelude.{◌≡◌, ◌+◌, Ok, IsSome};
-ghost use Rattle.scope_rules.specs.History.{opening};
+ghost use Rattle.std.specs.Prelude.{◌≡◌, Ok};
 ghost use Rattle.scope_rules.specs.Table.{check_of, retire_check};
-ghost use Rattle.scope_rules.specs.Verdicts.{verdict};
 ghost use Rattle.scope_rules.specs.declared.types.events.Options.{Options};
 ghost use Rattle.scope_rules.specs.declared.types.joiners.Policy.{Policy};
 ghost use Rattle.scope_rules.specs.Replies.{AnswersOrMemory, after_retiring, base_of};
@@ -12,11 +10,11 @@ use join_rules::StoredTest;
 use scope_checks::{Readings, Told, table};
 use scope_journal::weight;
 use scope_kept::Kept;
-use scope_rules::types::answers::{ForkReply, Verdict};
+use scope_rules::types::answers::ForkReply;
 use scope_rules::types::bases::Base;
 use scope_rules::types::events::Event;
 use scope_rules::types::refusals::Refusal;
-use scope_rules::types::values::{Actor, ScopeId};
+use scope_rules::types::values::Actor;
 
 /// The commands. All come in by one call; a retirement, which is no event, has its own.
 impl KeptRealm {
@@ -76,14 +74,6 @@ impl KeptRealm {
         ensures { (policy : Policy) (options : Options) → result ≡ check_of self.now.limits self.now.history (Event.Open actor policy options) }
     {
         table::open_row(self, &self.limits(), actor)
-    }
-
-    /// How the scope was closed, which was opened since the base.
-    fn verdict(&self, scope: ScopeId) -> Verdict
-        ensures { IsSome (opening self.now.history scope) → result ≡ verdict self.now.history scope }
-    {
-        let _limits = self.limits();
-        self.kept().verdict(scope)
     }
 
     /// Takes the events out and leaves a base, once main's outermost scope is closed; what is left goes

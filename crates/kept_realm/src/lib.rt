@@ -4,7 +4,6 @@
 
 mod commands;
 mod fitting;
-mod following;
 mod logs;
 mod readings;
 mod realm;

@@ -10,10 +10,11 @@ ghost use Rattle.scope_log.specs.Log.{said_with, entry_at, entries, log};
 ghost use Rattle.scope_log.specs.LocalForms.{task_forked};
 ghost use Rattle.scope_log.specs.Previews.{preview};
 ghost use Rattle.scope_trails.specs.Places.{places_of};
-ghost use Rattle.scope_trails.specs.Marks.{cancel_of, up_to, marked};
+ghost use Rattle.scope_trails.specs.Marks.{up_to, marked};
 
 use crate::realm::KeptRealm;
-use scope_checks::{Readings, table};
+use scope_checks::checks::scope_check;
+use scope_checks::{Readings, questions, table};
 use scope_log::{LogEntry, Preview, ScopeLog};
 use scope_rules::types::records::Opening;
 use scope_rules::{Actor, Cause, Event, Refusal, ScopeId, TaskId};
@@ -22,13 +23,13 @@ use std::alloc::AllocError;
 /// The logs. Each costs what the log is long, not what the history is.
 impl KeptRealm {
     /// The log of the scope: its own events since the base, in order, with the mark of its cancellation
-    /// among them. Refused for an unknown scope (`NoScope`, `Retired`), and where memory is refused
-    /// (`Memory`).
+    /// among them; it has room for an entry more. Refused for an unknown scope (`NoScope`, `Retired`), and
+    /// where memory is refused (`Memory`).
     pub fn project(&self, scope: ScopeId) -> Result<ScopeLog, Refusal>
-        ensures { AnswersValue (scope_check self.now.history scope) (log self.now.history scope) result }
+        ensures log { AnswersValue (scope_check self.now.history scope) (log self.now.history scope) result }
+        ensures small { IfOk result (λ l. length l.entries + 1 < 2 ^ 32) }
     {
-        let _limits = self.limits();
-        self.kept.cause(scope)?;
+        scope_check(self, scope)?;
         self.log(scope)
     }
 
@@ -82,18 +83,7 @@ impl KeptRealm {
         let _limits = self.limits();
         let places = self.trails.places(self.allocator(), scope)?;
         let said = self.said_at(scope, &places)?;
-        with_mark(said, &places, self.cancel_of(scope))
-    }
-
-    /// The place of the event by which the scope became cancelled, and why, if it is.
-    fn cancel_of(&self, scope: ScopeId) -> Option<(usize, Cause)>
-        requires { scope_check self.now.history scope ≡ Ok tt }
-        ensures { result ≡ cancel_of self.now.history scope }
-    {
-        let _limits = self.limits();
-        let at = self.kept.cancelled_at(scope).ok()??;
-        let cause = self.kept.cause(scope).ok()??;
-        Some((at, cause))
+        with_mark(said, &places, questions::cancellation(self, scope))
     }
 
     /// What the events at the places say, which are those of the scope, which is there.
@@ -104,7 +94,7 @@ impl KeptRealm {
     {
         let _limits = self.limits();
         let events = self.journal.events();
-        let tasks = self.kept.tasks_of(scope);
+        let tasks = self.tasks_of(scope);
         let mut entries = Vec::new(self.allocator());
         let mut forked = 0;
         for place in places {

@@ -1,30 +1,139 @@
-//! What the table of checks asks of a realm, read off what is kept.
+//! What checks and questions ask of a realm, read off what is kept. Of a scope or task without a row it says
+//! what the rules say of one that was never opened or forked.
+
+ghost use Rattle.std.specs.Prelude.{◌≡◌, ◌==◌, ◌&&◌, ◌<◌, ◌^◌, Some, IsSome, is_some, not, if◌then◌else◌, MatchOption};
+ghost use Rattle.scope_rules.specs.History.{opening, forking};
+ghost use Rattle.scope_rules.specs.Checks.{actor_check};
+ghost use Rattle.scope_rules.specs.Legal.{Legal};
+ghost use Rattle.scope_rules.specs.Nests.{tasks_of};
+ghost use Rattle.scope_rules.specs.Scopes.{forked_in, surrounding, level};
+ghost use Rattle.scope_rows.specs.Agreement.{AreRowsOf, IsScopeRow, IsTaskRow};
+ghost use Rattle.scope_checks.specs.Passes.{Passes};
+ghost use Rattle.scope_cuts.specs.CutsOf.{AreCutsOf};
+ghost use Rattle.scope_envs.specs.Agreement.{AreEnvsOf};
+ghost use Rattle.kept_realm.specs.Readings.{counts_some, opened_as_high};
 
 use crate::realm::KeptRealm;
 use scope_checks::Readings;
-use scope_rules::types::answers::Stage;
-use scope_rules::types::records::{Forking, Opening};
-use scope_rules::types::values::{Actor, ScopeId, TaskId};
+use scope_cuts::Cuts;
+use scope_envs::Envs;
+use scope_rows::{Rows, ScopeRow, TaskRow};
+use scope_rules::types::answers::{Counts, Effective, Stage, State, Verdict};
+use scope_rules::types::names::Name;
+use scope_rules::types::outcomes::Outcome;
+use scope_rules::types::records::{Cut, Forking, Opening};
+use scope_rules::types::values::{Actor, ScopeId, TaskId, Value};
+use std::alloc::{AllocError, Global};
+
+/// The parts, as those of the realm's history, which is legal.
+impl KeptRealm {
+    /// The rows of scopes and tasks.
+    fn rows(&self) -> &Rows
+        ensures agrees { AreRowsOf self.now.history result.now }
+        ensures legal { Legal self.now.limits self.now.history }
+    {
+        let _limits = self.journal.limits();
+        self.kept.rows()
+    }
+
+    /// What is cancelled, and the moment.
+    fn cuts(&self) -> &Cuts
+        ensures agrees { AreCutsOf self.now.history result.now }
+        ensures legal { Legal self.now.limits self.now.history }
+    {
+        let _limits = self.journal.limits();
+        self.kept.cuts()
+    }
+
+    /// What the actors see bound.
+    fn envs(&self) -> &Envs
+        ensures agrees { AreEnvsOf self.now.history result.now }
+        ensures legal { Legal self.now.limits self.now.history }
+    {
+        let _limits = self.journal.limits();
+        self.kept.envs()
+    }
+
+    /// The row of the scope, if it was opened since the base.
+    fn scope_row(&self, scope: ScopeId) -> Option<&ScopeRow>
+        ensures agrees { MatchOption result (opening self.now.history scope ≡ None) (λ row. IsScopeRow self.now.history scope row.now) }
+        ensures legal { Legal self.now.limits self.now.history }
+    {
+        self.rows().scope(scope)
+    }
+
+    /// The row of the task, if it was forked since the base.
+    fn task_row(&self, task: TaskId) -> Option<&TaskRow>
+        ensures agrees { MatchOption result (forking self.now.history task ≡ None) (λ row. IsTaskRow self.now.history task row.now) }
+        ensures legal { Legal self.now.limits self.now.history }
+    {
+        self.rows().task(task)
+    }
+
+    /// The tasks of the scope, which was opened since the base, in fork order.
+    #[tactic(auto, using(crate::proofs::There::forks_there))]
+    pub fn tasks_of(&self, scope: ScopeId) -> &[TaskId]
+        requires { IsSome (opening self.now.history scope) }
+        ensures { result.now ≡ tasks_of self.now.history scope }
+    {
+        self.kept.forks().of(scope)
+    }
+
+    /// The scope that lies around whatever the actor opens next.
+    #[tactic(auto, unfolding(scope_rules::specs::Scopes::surrounding))]
+    fn surrounding(&self, actor: Actor) -> Option<ScopeId>
+        ensures agrees { result ≡ surrounding self.now.history actor }
+        ensures legal { Legal self.now.limits self.now.history }
+    {
+        match self.rows().innermost(actor) {
+            Some(scope) => Some(scope),
+            None => self.forked_in(actor),
+        }
+    }
+
+    /// The scope that the actor was forked in, if it is a task.
+    #[tactic(auto, unfolding(scope_rules::specs::Scopes::forked_in))]
+    fn forked_in(&self, actor: Actor) -> Option<ScopeId>
+        ensures { result ≡ forked_in self.now.history actor }
+    {
+        match self.task_row(actor) {
+            Some(row) => Some(row.forking.scope),
+            None => None,
+        }
+    }
+
+    /// Whether the actor has at most as many own pairs as at the opening of the scope.
+    #[tactic(auto, using(crate::proofs::There::env_there))]
+    fn is_as_high(&self, actor: Actor, scope: ScopeId) -> bool
+        requires { Passes (actor_check self.now.history actor) }
+        ensures { result ≡ opened_as_high self.now.history actor scope }
+    {
+        match self.scope_row(scope) {
+            Some(row) => self.envs().stack_len(actor) <= row.height,
+            None => false,
+        }
+    }
+}
 
 impl Readings for KeptRealm {
     ghost history = { λ r. r.history };
 
     fn retired_scopes(&self) -> u32 {
-        self.kept.scopes_before()
+        self.rows().scopes_before()
     }
 
     fn retired_tasks(&self) -> u32 {
-        self.kept.tasks_before()
+        self.rows().tasks_before()
     }
 
     fn scopes(&self) -> u32 {
         let _events = self.journal.events();
-        self.kept.last_scope()
+        self.rows().last_scope()
     }
 
     fn tasks(&self) -> u32 {
         let _events = self.journal.events();
-        self.kept.last_task()
+        self.rows().last_task()
     }
 
     fn load(&self) -> u64 {
@@ -32,70 +141,195 @@ impl Readings for KeptRealm {
     }
 
     fn moment(&self) -> u64 {
-        self.kept.moment()
+        self.cuts().moment()
     }
 
     fn opening(&self, scope: ScopeId) -> Option<Opening> {
-        self.kept.opening(scope)
+        match self.scope_row(scope) {
+            Some(row) => Some(row.opening),
+            None => None,
+        }
     }
 
     fn forking(&self, task: TaskId) -> Option<Forking> {
-        self.kept.forking(task)
+        match self.task_row(task) {
+            Some(row) => Some(row.forking),
+            None => None,
+        }
     }
 
+    #[tactic(auto, using(scope_rows::proofs::Joinings::joined_is_some, crate::proofs::NeverOpened::unjoined))]
     fn joined(&self, scope: ScopeId) -> bool {
-        let _limits = self.journal.limits();
-        self.kept.joined(scope)
+        match self.scope_row(scope) {
+            Some(row) => row.joined.is_some(),
+            None => false,
+        }
     }
 
+    #[tactic(auto, using(crate::proofs::NeverOpened::not_closing))]
     fn closing(&self, scope: ScopeId) -> bool {
-        let _limits = self.journal.limits();
-        self.kept.closing(scope)
+        match self.scope_row(scope) {
+            Some(row) => row.closing,
+            None => false,
+        }
     }
 
+    #[tactic(auto, using(crate::proofs::NeverOpened::unclosed))]
     fn closed(&self, scope: ScopeId) -> bool {
-        let _limits = self.journal.limits();
-        self.kept.closed(scope)
+        match self.scope_row(scope) {
+            Some(row) => row.closed,
+            None => false,
+        }
     }
 
+    #[tactic(auto, using(crate::proofs::There::row_there, scope_kept::proofs::NeverOpened::uncancelled))]
     fn is_cancelled(&self, scope: ScopeId) -> bool {
-        let _limits = self.journal.limits();
-        self.kept.is_cancelled(scope)
+        match self.scope_row(scope) {
+            Some(_) => self.cuts().is_cancelled(scope),
+            None => false,
+        }
     }
 
+    #[tactic(auto, using(crate::proofs::NeverOpened::settled_where, crate::proofs::NeverOpened::settled_alone))]
     fn settled(&self, scope: ScopeId) -> bool {
-        let _limits = self.journal.limits();
-        self.kept.settled(scope)
+        match self.scope_row(scope) {
+            Some(row) => is_settled(row.counts),
+            None => true,
+        }
     }
 
+    #[tactic(auto, using(crate::proofs::NeverOpened::never_staged))]
     fn stage(&self, task: TaskId) -> Stage {
-        self.kept.stage_of(task)
+        match self.task_row(task) {
+            Some(row) => row.stage,
+            None => Stage::Never,
+        }
     }
 
     fn innermost(&self, actor: Actor) -> Option<ScopeId> {
-        let _limits = self.journal.limits();
-        self.kept.innermost(actor)
+        self.rows().innermost(actor)
     }
 
+    #[tactic(auto, using(crate::proofs::There::around_there, crate::proofs::NeverOpened::next_level_in), unfolding(scope_rules::specs::Scopes::next_level))]
     fn next_level(&self, actor: Actor) -> u64 {
-        let _limits = self.journal.limits();
-        self.kept.next_level(actor)
+        match self.surrounding(actor) {
+            Some(scope) => u64::from(self.cuts().level(scope)) + 1,
+            None => 1,
+        }
     }
 
-    #[tactic(auto, using(crate::proofs::ActorsThere::actor_there))]
+    #[tactic(auto, using(crate::proofs::There::env_there))]
     fn stack_len(&self, actor: Actor) -> u64 {
-        self.kept.stack_len(actor) as u64
+        self.envs().stack_len(actor) as u64
     }
 
-    #[tactic(auto, using(crate::proofs::ActorsThere::actor_there))]
+    #[tactic(auto, using(crate::proofs::There::env_there))]
     fn bound_as_opened(&self, actor: Actor, scope: ScopeId) -> bool {
-        let _limits = self.journal.limits();
-        self.kept.bound_as_opened(actor, scope)
+        match self.scope_row(scope) {
+            Some(row) => self.envs().stack_len(actor) == row.height,
+            None => false,
+        }
     }
 
-    #[tactic(auto, using(crate::proofs::ActorsThere::actor_there))]
+    #[tactic(auto, using(crate::proofs::NeverOpened::held_where, crate::proofs::NeverOpened::held_by_none))]
     fn holds_last(&self, actor: Actor) -> bool {
-        let _limits = self.journal.limits();
-        self.kept.holds_last(actor)
+        match self.rows().innermost(actor) {
+            Some(scope) => self.is_as_high(actor, scope),
+            None => false,
+        }
     }
+
+    #[tactic(auto, using(crate::proofs::There::env_there))]
+    fn bound(&self, actor: Actor, key: Name) -> Option<Value> {
+        self.envs().get(actor, key)
+    }
+
+    #[tactic(auto, using(crate::proofs::There::task_there))]
+    fn state(&self, task: TaskId) -> State {
+        match self.task_row(task) {
+            Some(row) => row.state,
+            None => unreachable!(),
+        }
+    }
+
+    #[tactic(auto, using(crate::proofs::There::scope_there))]
+    fn counts(&self, scope: ScopeId) -> Counts {
+        match self.scope_row(scope) {
+            Some(row) => row.counts,
+            None => unreachable!(),
+        }
+    }
+
+    #[tactic(auto, using(crate::proofs::There::row_there, scope_kept::proofs::NeverOpened::uncut))]
+    fn cut(&self, scope: ScopeId) -> Option<Cut> {
+        match self.scope_row(scope) {
+            Some(_) => self.cuts().cut(scope),
+            None => None,
+        }
+    }
+
+    #[tactic(auto, using(crate::proofs::There::deadline_there))]
+    fn deadline(&self, scope: ScopeId) -> Option<u64> {
+        self.kept.deadlines().of(scope)
+    }
+
+    #[tactic(auto, using(crate::proofs::There::row_passed))]
+    fn effective(&self, scope: ScopeId) -> Effective {
+        self.cuts().effective_deadline(scope)
+    }
+
+    #[tactic(auto, using(crate::proofs::Closed::verdict_where))]
+    fn verdict(&self, scope: ScopeId) -> Verdict {
+        match self.scope_row(scope) {
+            Some(row) => verdict_of(row),
+            None => unreachable!(),
+        }
+    }
+
+    #[tactic(auto, using(crate::proofs::There::joined_there, crate::proofs::There::joined_row, crate::proofs::There::joined_forks))]
+    fn outcome(&self, alloc: Global, scope: ScopeId) -> Result<Outcome, AllocError> {
+        scope_outcomes::outcome(alloc, self.rows(), self.cuts(), self.kept.forks(), scope)
+    }
+
+    #[tactic(auto, using(crate::proofs::There::opened_there))]
+    fn task_at(&self, scope: ScopeId, index: usize) -> Option<TaskId> {
+        self.tasks_of(scope).get(index).copied()
+    }
+
+    fn outermost(&self, actor: Actor) -> Option<ScopeId> {
+        scope_nests::outermost(self.rows(), actor)
+    }
+
+    fn inner(&self, scope: ScopeId) -> Option<ScopeId> {
+        scope_nests::inner(self.rows(), scope)
+    }
+}
+
+/// Whether none of the tasks waits, and none runs.
+fn is_settled(counts: Counts) -> bool
+    ensures { result ≡ ((counts.waiting == 0) && (counts.running == 0)) }
+{
+    counts.waiting == 0 && counts.running == 0
+}
+
+/// How the scope of the row was closed.
+fn verdict_of(row: &ScopeRow) -> Verdict
+    ensures { result ≡ (if row.now.violated then Verdict.Violated else (if counts_some row.now.counts && not (is_some row.now.joined) then Verdict.NotJoined else Verdict.Plain)) }
+{
+    if row.violated {
+        return Verdict::Violated;
+    }
+    if has_tasks(row.counts) && row.joined.is_none() {
+        return Verdict::NotJoined;
+    }
+    Verdict::Plain
+}
+
+/// Whether a task is counted at any stage.
+fn has_tasks(counts: Counts) -> bool
+    ensures { result ≡ counts_some counts }
+{
+    let ended = u64::from(counts.never) + u64::from(counts.finished);
+    let unended = u64::from(counts.waiting) + u64::from(counts.running);
+    0 < ended + unended
 }

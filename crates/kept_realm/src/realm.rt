@@ -8,12 +8,11 @@ ghost use Rattle.scope_cuts.specs.Lent.{scopes_of};
 ghost use Rattle.scope_kept.specs.KeptTables.{IsKeptOf};
 ghost use Rattle.kept_realm.specs.Lending.{KeepsRealm};
 
-use crate::following::follow;
 use crate::telling::{make_room, scope_of_event, tell};
 use join_rules::StoredTest;
 use scope_checks::Readings;
 use scope_journal::{Journal, weight};
-use scope_kept::{CancelledScopes, Kept};
+use scope_kept::{CancelledScopes, Kept, follow};
 use scope_rules::{Base, Event, Limits, Refusal};
 use scope_trails::Trails;
 use std::alloc::{AllocError, Global};
@@ -72,7 +71,7 @@ impl KeptRealm {
     }
 
     /// The allocator that the realm grows by.
-    pub(crate) fn allocator(&self) -> Global {
+    pub fn allocator(&self) -> Global {
         self.journal.allocator()
     }
 
@@ -91,13 +90,6 @@ impl KeptRealm {
         ensures { result.now ≡ self.now.history.events }
     {
         self.journal.events()
-    }
-
-    /// What is kept of the history.
-    pub fn kept(&self) -> &Kept
-        ensures { IsKeptOf self.now.history result.now }
-    {
-        &self.kept
     }
 }
 
@@ -133,7 +125,7 @@ impl KeptRealm {
         if make_room(&mut self.trails, &event, self.journal.load() + cost).is_err() {
             return Err(Refusal::Memory);
         }
-        let scope = scope_of_event(&self.kept, &event);
+        let scope = scope_of_event(self.kept.rows(), &event);
         if follow(&mut self.kept, &event, listed, None, place).is_err() {
             return Err(Refusal::Memory);
         }
@@ -152,7 +144,7 @@ impl KeptRealm {
     {
         let _limits = self.journal.limits();
         let place = self.journal.events().len();
-        let scope = scope_of_event(&self.kept, &event);
+        let scope = scope_of_event(self.kept.rows(), &event);
         match follow(&mut self.kept, &event, false, test, place) {
             Ok(()) => {
                 tell(&mut self.trails, &event, scope, place as u32);
@@ -178,7 +170,7 @@ impl KeptRealm {
     pub(crate) fn base_after(&self, alloc: Global) -> Result<Base, AllocError>
         ensures { IfOk result (λ base. base ≡ base_of self.now.history) }
     {
-        let binds = Vec::from_slice(alloc, self.kept.main_stack())?;
+        let binds = Vec::from_slice(alloc, self.kept.envs().main_stack())?;
         Ok(Base::new(self.moment(), self.scopes(), self.tasks(), binds))
     }
 }

@@ -2,12 +2,12 @@
 
 ghost use Rattle.std.specs.Prelude.{◌≡◌, false, OnOk};
 ghost use Rattle.scope_rules.specs.History.{History, is_open};
-ghost use Rattle.scope_kept.specs.KeptTables.{IsKeptOf};
+ghost use Rattle.scope_rows.specs.Agreement.{AreRowsOf};
 ghost use Rattle.scope_trails.specs.Places.{scope_of_task, scope_of_event};
 ghost use Rattle.scope_trails.specs.TrailsOf.{AreTrailsOf};
 ghost use Rattle.kept_realm.specs.Telling.{HasRoomFor, CanBeTold, HasTold};
 
-use scope_kept::Kept;
+use scope_rows::Rows;
 use scope_rules::{Event, ScopeId, TaskId};
 use scope_trails::Trails;
 use std::alloc::AllocError;
@@ -24,13 +24,13 @@ fn opens(event: &Event) -> bool
 
 /// The scope that the event is of, which opens none: the one that it names, or that its task was forked
 /// in.
-pub(crate) fn scope_of_event(kept: &Kept, event: &Event) -> Option<ScopeId>
-    ensures { (h : History) → IsKeptOf h kept.now → is_open event.now ≡ false → result ≡ scope_of_event h event.now }
+pub(crate) fn scope_of_event(rows: &Rows, event: &Event) -> Option<ScopeId>
+    ensures { (h : History) → AreRowsOf h rows.now → is_open event.now ≡ false → result ≡ scope_of_event h event.now }
 {
     match *event {
-        Event::Reject { task } => scope_of_task(kept, task),
-        Event::Start { task } => scope_of_task(kept, task),
-        Event::Finish { task, end: _ } => scope_of_task(kept, task),
+        Event::Reject { task } => scope_of_task(rows, task),
+        Event::Start { task } => scope_of_task(rows, task),
+        Event::Finish { task, end: _ } => scope_of_task(rows, task),
         Event::Fork { scope, .. }
         | Event::Cancel { scope }
         | Event::Move { scope, .. }
@@ -42,11 +42,11 @@ pub(crate) fn scope_of_event(kept: &Kept, event: &Event) -> Option<ScopeId>
 }
 
 /// The scope in which the task was forked, if it was since the base.
-fn scope_of_task(kept: &Kept, task: TaskId) -> Option<ScopeId>
-    ensures { (h : History) → IsKeptOf h kept.now → result ≡ scope_of_task h task }
+fn scope_of_task(rows: &Rows, task: TaskId) -> Option<ScopeId>
+    ensures { (h : History) → AreRowsOf h rows.now → result ≡ scope_of_task h task }
 {
-    match kept.forking(task) {
-        Some(forking) => Some(forking.scope),
+    match rows.task(task) {
+        Some(row) => Some(row.forking.scope),
         None => None,
     }
 }

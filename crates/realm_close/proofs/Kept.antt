@@ -21,7 +21,7 @@ use Rattle.scope_rules.proofs.ClosingScopes.{nothing_open}
 use Rattle.scope_rules.proofs.Growing.{opening_stays}
 use Rattle.scope_rules.proofs.OneEventMore.{closed_grows, closing_grows, closing_stays}
 use Rattle.scope_rules.proofs.PassedRows.{IsActor, ender_passed, owner_passed}
-use Rattle.scope_kept.proofs.Checked.{scope_passes}
+use Rattle.scope_checks.proofs.Checked.{scope_passes}
 use Rattle.realm_steps.specs.declared.steps.RealmStep.{RealmStep}
 use Rattle.realm_steps.specs.declared.steps.RealmStep.TheVariants.{Happened, Asked, Retirement}
 use Rattle.realm_steps.specs.declared.steps.Ask.{Ask}

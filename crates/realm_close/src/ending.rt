@@ -5,6 +5,7 @@ ghost use Rattle.realm_core.specs.Endings.{CanClose};
 ghost use Rattle.realm_close.specs.Ends.{Ends, EndsInnermost};
 
 use realm_core::{RealmCore, RealmName};
+use scope_checks::Readings;
 use scope_rules::{Catalog, ScopeId, Verdict};
 use share_ledger::OwnerShare;
 
@@ -30,7 +31,7 @@ pub fn end_innermost<C: Catalog, N: RealmName>(
     ensures verdict { result.verdict ≡ verdict (history_of token.new.seen) result.scope }
 {
     let _limits = core.limits();
-    let Some(innermost) = core.innermost(token.actor()) else {
+    let Some(innermost) = core.realm().innermost(token.actor()) else {
         unreachable!()
     };
     let Ok(verdict) = core.end_close(token, innermost) else {

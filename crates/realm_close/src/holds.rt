@@ -11,6 +11,7 @@ use crate::reports::{CloseReport, close_with_report};
 use crate::tickets::{are_tickets_of, take_back};
 use crate::waiting::unsettled;
 use realm_core::{RealmCore, RealmName};
+use scope_checks::Readings;
 use scope_rules::{Cancelling, Catalog, Refusal, ScopeId, Verdict};
 use share_ledger::{OwnerShare, Ticket};
 use std::alloc::Global;
@@ -33,7 +34,7 @@ pub fn begin<C: Catalog, N: RealmName>(
     match core.begin_close(token, scope) {
         Ok(Cancelling::Recorded) => Ok(Cancelling::Recorded),
         Ok(Cancelling::Already) => {
-            if core.is_closed(scope) {
+            if core.realm().closed(scope) {
                 Err(Refusal::Closed)
             } else {
                 Ok(Cancelling::Already)
@@ -57,7 +58,7 @@ pub fn end_if_settled<C: Catalog, N: RealmName>(
     ensures answer { MayEnd token.old token.new scope result }
 {
     core.look(token);
-    match unsettled(core, scope) {
+    match unsettled(core.realm(), scope) {
         Some(_) => None,
         None => Some(end_all(core, token, scope)),
     }
@@ -82,7 +83,7 @@ pub fn report_if_settled<C: Catalog, N: RealmName>(
     ensures answer { MayReport token.old token.new scope tickets.old.items tickets.new.items result }
 {
     core.look(token);
-    match unsettled(core, scope) {
+    match unsettled(core.realm(), scope) {
         Some(_) => None,
         None => Some(end_with_tickets(core, alloc, token, scope, tickets)),
     }
@@ -105,7 +106,7 @@ fn end_with_tickets<C: Catalog, N: RealmName>(
     ensures done { IfOk result (λ report. IsDone token.old token.new scope tickets.old.items report) }
     ensures not { MatchResult result (λ _. Unit {0}) (λ refusal. IsLeft token.old token.new scope tickets.old.items tickets.new.items refusal) }
 {
-    if !are_tickets_of(core, scope, tickets) {
+    if !are_tickets_of(core.realm(), scope, tickets) {
         return Err(Refusal::NotReady);
     }
     let report = close_with_report(core, alloc, token, scope)?;

@@ -8,7 +8,9 @@ ghost use Rattle.realm_close.specs.Ends.{InEndOrder, Ends};
 ghost use Rattle.realm_close.specs.Reports.{numbers, with_end, IsPrepared, ArePrepared, IsReported, AreReported};
 
 use crate::ending::end_all;
+use kept_realm::KeptRealm;
 use realm_core::{RealmCore, RealmName};
+use scope_checks::Readings;
 use scope_log::{LogEntry, ScopeLog};
 use scope_rules::{Actor, Catalog, Refusal, ScopeId, Verdict};
 use share_ledger::OwnerShare;
@@ -42,7 +44,7 @@ pub fn close_with_report<C: Catalog, N: RealmName>(
     ensures refused { MatchResult result (λ _. Unit {0}) (λ refusal. (refusal ≡ Memory) × (token.new ≡ token.old)) }
 {
     let actor = token.actor();
-    let (log, nested) = prepared(core, alloc, actor, scope)?;
+    let (log, nested) = prepared(core.realm(), alloc, actor, scope)?;
     let verdict = end_all(core, token, scope);
     Ok(CloseReport {
         verdict,
@@ -52,61 +54,61 @@ pub fn close_with_report<C: Catalog, N: RealmName>(
 }
 
 /// What will be shown of the scope, and of those that are closed with it.
-fn prepared<C: Catalog, N: RealmName>(
-    core: &RealmCore<C, N>,
+fn prepared(
+    realm: &KeptRealm,
     alloc: Global,
     actor: Actor,
     scope: ScopeId,
 ) -> Result<(ScopeLog, Vec<(ScopeId, Verdict, ScopeLog)>), Refusal>
-    requires can { CanClose (history_of core.now.steps) actor scope }
-    ensures own { IfOk result (λ made. option_map (with_end actor) (log (history_of core.now.steps) scope) ≡ Some made.0) }
-    ensures nested { IfOk result (λ made. InEndOrder (history_of core.now.steps) actor scope (numbers made.1.items) × ArePrepared (history_of core.now.steps) actor made.1.items) }
+    requires can { CanClose realm.now.history actor scope }
+    ensures own { IfOk result (λ made. option_map (with_end actor) (log realm.now.history scope) ≡ Some made.0) }
+    ensures nested { IfOk result (λ made. InEndOrder realm.now.history actor scope (numbers made.1.items) × ArePrepared realm.now.history actor made.1.items) }
     ensures refused { MatchResult result (λ _. Unit {0}) (λ refusal. refusal ≡ Memory) }
 {
-    let log = closing_log(core, alloc, actor, scope)?;
-    let nested = nested_logs(core, alloc, actor, scope)?;
+    let log = closing_log(realm, alloc, actor, scope)?;
+    let nested = nested_logs(realm, alloc, actor, scope)?;
     Ok((log, nested))
 }
 
 /// What will be shown of the scopes inside the scope, the latest first.
-fn nested_logs<C: Catalog, N: RealmName>(
-    core: &RealmCore<C, N>,
+fn nested_logs(
+    realm: &KeptRealm,
     alloc: Global,
     actor: Actor,
     scope: ScopeId,
 ) -> Result<Vec<(ScopeId, Verdict, ScopeLog)>, Refusal>
-    requires can { CanClose (history_of core.now.steps) actor scope }
-    ensures order { IfOk result (λ v. InEndOrder (history_of core.now.steps) actor scope (numbers v.items)) }
-    ensures prepared { IfOk result (λ v. ArePrepared (history_of core.now.steps) actor v.items) }
+    requires can { CanClose realm.now.history actor scope }
+    ensures order { IfOk result (λ v. InEndOrder realm.now.history actor scope (numbers v.items)) }
+    ensures prepared { IfOk result (λ v. ArePrepared realm.now.history actor v.items) }
     ensures refused { MatchResult result (λ _. Unit {0}) (λ refusal. refusal ≡ Memory) }
 {
-    let _limits = core.limits();
+    let _limits = realm.limits();
     let mut shown = Vec::new(alloc);
-    let mut next = core.inner(scope);
+    let mut next = realm.inner(scope);
     while let Some(here) = next {
-        let log = closing_log(core, alloc, actor, here)?;
-        let Ok(()) = shown.push((here, core.verdict(here), log)) else {
+        let log = closing_log(realm, alloc, actor, here)?;
+        let Ok(()) = shown.push((here, realm.verdict(here), log)) else {
             return Err(Refusal::Memory);
         };
-        next = core.inner(here);
+        next = realm.inner(here);
     }
     shown.reverse();
     Ok(shown)
 }
 
 /// The log that the scope, whose close has begun, has once the actor's end of it is added.
-fn closing_log<C: Catalog, N: RealmName>(
-    core: &RealmCore<C, N>,
+fn closing_log(
+    realm: &KeptRealm,
     alloc: Global,
     actor: Actor,
     scope: ScopeId,
 ) -> Result<ScopeLog, Refusal>
-    requires begun { closing (history_of core.now.steps) scope ≡ true }
-    ensures log { IfOk result (λ l. option_map (with_end actor) (log (history_of core.now.steps) scope) ≡ Some l) }
+    requires begun { closing realm.now.history scope ≡ true }
+    ensures log { IfOk result (λ l. option_map (with_end actor) (log realm.now.history scope) ≡ Some l) }
     ensures refused { MatchResult result (λ _. Unit {0}) (λ refusal. refusal ≡ Memory) }
 {
-    let _limits = core.limits();
-    let Ok(log) = core.log(scope) else {
+    let _limits = realm.limits();
+    let Ok(log) = realm.project(scope) else {
         return Err(Refusal::Memory);
     };
     match with_one_more(alloc, log.entries(), LogEntry::EndClose { actor }) {

@@ -3,11 +3,12 @@ ghost use Rattle.std.specs.List.{All};
 ghost use Rattle.std.specs.List.Sorted.{IsPermutation};
 ghost use Rattle.scope_rules.specs.History.{opening};
 ghost use Rattle.scope_rules.specs.Scopes.{closed};
-ghost use Rattle.realm_steps.specs.Steps.{history_of};
 ghost use Rattle.share_ledger.specs.Values.{TicketValue};
 ghost use Rattle.realm_close.specs.Tickets.{AreTicketsOf, BearsOut, is_ended_ticket_of, IsFoundFrom, IsBrought, MayPlaceOne, MayPlace};
 
+use kept_realm::KeptRealm;
 use realm_core::{RealmCore, RealmName};
+use scope_checks::Readings;
 use scope_rules::{Catalog, ScopeId, Stage, TaskId};
 use share_ledger::Ticket;
 
@@ -16,47 +17,43 @@ use share_ledger::Ticket;
 /// each has ended. It brings them into the order of scopes and tasks, and takes no memory. Where they
 /// come in that order, it takes time by how many there are; else, for each that stands later, by how many
 /// stand before it.
-pub fn are_tickets_of<C: Catalog, N: RealmName>(
-    core: &RealmCore<C, N>,
-    scope: ScopeId,
-    tickets: &mut Vec<Ticket>,
-) -> bool
-    requires opened { IsSome (opening (history_of core.now.steps) scope) }
-    requires unclosed { closed (history_of core.now.steps) scope ≡ false }
+pub fn are_tickets_of(realm: &KeptRealm, scope: ScopeId, tickets: &mut Vec<Ticket>) -> bool
+    requires opened { IsSome (opening realm.now.history scope) }
+    requires unclosed { closed realm.now.history scope ≡ false }
     ensures same { IsPermutation tickets.old.items tickets.new.items }
-    ensures yes { result ≡ true → AreTicketsOf (history_of core.now.steps) scope tickets.old.items }
-    ensures no { result ≡ false → AreTicketsOf (history_of core.now.steps) scope tickets.old.items → ⊥ }
+    ensures yes { result ≡ true → AreTicketsOf realm.now.history scope tickets.old.items }
+    ensures no { result ≡ false → AreTicketsOf realm.now.history scope tickets.old.items → ⊥ }
 {
-    let _limits = core.limits();
+    let _limits = realm.limits();
     let mut placed = 0;
     let mut next = Some(scope);
     while let Some(here) = next {
-        let Some(more) = place_all(core, here, tickets, placed) else {
+        let Some(more) = place_all(realm, here, tickets, placed) else {
             return false;
         };
         placed = more;
-        next = core.inner(here);
+        next = realm.inner(here);
     }
     placed == tickets.len()
 }
 
 /// Brings the tickets of the scope's tasks that got a thread to the place and those after it, in fork
 /// order, and says which place follows; or none, where one of them isn't there, or hasn't ended.
-fn place_all<C: Catalog, N: RealmName>(
-    core: &RealmCore<C, N>,
+fn place_all(
+    realm: &KeptRealm,
     scope: ScopeId,
     tickets: &mut Vec<Ticket>,
     first: usize,
 ) -> Option<usize>
-    requires opened { IsSome (opening (history_of core.now.steps) scope) }
+    requires opened { IsSome (opening realm.now.history scope) }
     requires within { first ≤ length tickets.old.items }
     ensures same { IsPermutation tickets.old.items tickets.new.items }
-    ensures placed { MayPlace (history_of core.now.steps) scope first tickets.old.items tickets.new.items result }
+    ensures placed { MayPlace realm.now.history scope first tickets.old.items tickets.new.items result }
 {
-    let tasks = core.tasks_of(scope);
+    let tasks = realm.tasks_of(scope);
     let mut place = first;
     for task in tasks {
-        let Some(next) = place_one(core, tickets, place, *task) else {
+        let Some(next) = place_one(realm, tickets, place, *task) else {
             return None;
         };
         place = next;
@@ -66,17 +63,17 @@ fn place_all<C: Catalog, N: RealmName>(
 
 /// Brings the task's ticket to the place, if the task got a thread, and says which place follows; or
 /// none, where it isn't there or later, or hasn't ended.
-fn place_one<C: Catalog, N: RealmName>(
-    core: &RealmCore<C, N>,
+fn place_one(
+    realm: &KeptRealm,
     tickets: &mut Vec<Ticket>,
     place: usize,
     task: TaskId,
 ) -> Option<usize>
     ensures same { IsPermutation tickets.old.items tickets.new.items }
     ensures before { take place tickets.new.items ≡ take place tickets.old.items }
-    ensures placed { MayPlaceOne (history_of core.now.steps) place task tickets.new.items result }
+    ensures placed { MayPlaceOne realm.now.history place task tickets.new.items result }
 {
-    match core.stage_of(task) {
+    match realm.stage(task) {
         Stage::Never => Some(place),
         _ => {
             if bring(tickets, place, task) {

@@ -12,7 +12,7 @@ use Rattle.scope_rules.specs.Legal.{Legal}
 use Rattle.scope_rules.proofs.PassedRows.{IsActor}
 use Rattle.scope_rules.proofs.Stages.{running_forked}
 use Rattle.scope_rules.proofs.ClosingOwners.{owners_act}
-use Rattle.scope_kept.proofs.Checked.{scope_passes, task_passes}
+use Rattle.scope_checks.proofs.Checked.{scope_passes, task_passes}
 use Rattle.realm_core.specs.Endings.{CanEnd}
 
 task_acts : (h : History) (a : ℕ) → is_running (stage h a) ≡ true → checks (task_check h a ∷ refuse_if (not (is_running (stage h a))) WrongStage ∷ []) ≡ Ok tt

@@ -4,10 +4,8 @@ pub mod Performed
 pub mod Taken
 pub mod Started
 pub mod Previewed
-pub mod Marks
 pub mod LaterClosing
 pub mod Ended
 pub mod Closes
-pub mod Readers
 mod Done
 pub mod ToldCalls

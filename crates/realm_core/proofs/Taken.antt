@@ -19,7 +19,7 @@ use Rattle.scope_rules.specs.Legal.{Accepts}
 use Rattle.scope_rules.specs.Replies.{Realm, Answers}
 use Rattle.scope_rules.proofs.Forkings.{forked_after}
 use Rattle.scope_rules.proofs.Stages.{waiting_forked, running_forked}
-use Rattle.scope_kept.proofs.Checked.{task_passes}
+use Rattle.scope_checks.proofs.Checked.{task_passes}
 use Rattle.realm_steps.specs.declared.steps.RealmStep.TheVariants.{Happened}
 use Rattle.realm_steps.specs.declared.steps.Holder.TheVariants.{TicketOf}
 use Rattle.realm_steps.specs.Steps.{history_of}

@@ -1,6 +1,5 @@
 -- What views and joins show.
-use Rattle.std.specs.Prelude.{◌≡◌, ℕ, ◌⊎◌, Option, Some, option_map, Result, Ok, Err}
-use Rattle.std.specs.Option.{option_and_then}
+use Rattle.std.specs.Prelude.{◌≡◌, ℕ, ◌⊎◌, Some, Result, Ok, Err}
 use Rattle.scope_rules.specs.declared.types.answers.Cause.{Cause}
 use Rattle.scope_rules.specs.declared.types.events.Event.TheVariants.{Join}
 use Rattle.scope_rules.specs.declared.types.refusals.Refusal.{Refusal}
@@ -28,10 +27,6 @@ pub record IsViewOf (h : History) (s : ℕ) (view : View) : Type 0 where
 pub record IsMarkOf (h : History) (s : ℕ) (because : Cause) (number : ℕ) : Type 0 where
   pub caused : cause h s ≡ Some because
   pub placed : cancelled_at h s ≡ Some number
-
--- why scope s is cancelled, and the place of the event by which it became so, if it is
-abbrev pub cancellation_of : History → ℕ → Option (Cause × ℕ)
-cancellation_of h s = option_and_then (λ at. option_map (λ c. (c, at)) (cause h s)) (cancelled_at h s)
 
 -- what a view of scope s answers after h: it is refused for an unknown scope, and where memory is
 abbrev pub ViewAnswers : History → ℕ → Result View Refusal → Type 0

@@ -1,15 +1,12 @@
-ghost use Rattle.std.specs.Prelude.{◌≡◌, ℕ, [], Ok, List, slice_get};
-ghost use Rattle.scope_rules.specs.Checks.{scope_check};
+ghost use Rattle.std.specs.Prelude.{◌≡◌, ℕ, [], List, slice_get};
 ghost use Rattle.scope_cuts.specs.CutsOf.{IsCancelOrderOf};
 ghost use Rattle.realm_steps.specs.Steps.{history_of, IsLegal};
 ghost use Rattle.kept_realm.specs.Fits.{Fitting};
-ghost use Rattle.realm_core.specs.Views.{cancellation_of};
 
 use crate::RealmName;
 use kept_realm::{FittingRealm, KeptRealm};
-use scope_checks::checks::scope_check;
 use scope_rules::types::values::MAIN;
-use scope_rules::{Catalog, Cause, Limits, ScopeId};
+use scope_rules::{Catalog, Limits, ScopeId};
 use share_ledger::{Keeper, OwnerShare, Seed};
 use std::alloc::Global;
 use std::marker::{Model, PhantomData};
@@ -59,11 +56,11 @@ impl<C: Catalog, N: RealmName> RealmCore<C, N> {
         self.realm.limits()
     }
 
-    /// How many scopes were numbered before the last retirement.
-    pub fn scopes_before(&self) -> u32
-        ensures { result ≡ (history_of self.now.steps).base.scopes }
+    /// The realm as it is, of which questions are asked without a token.
+    pub fn realm(&self) -> &KeptRealm
+        ensures { result.now ≡ record { limits = self.now.limits; history = history_of self.now.steps } }
     {
-        self.realm.realm().kept().scopes_before()
+        self.realm.realm()
     }
 
     /// The n-th scope to be cancelled since the last retirement, from 0, if so many are: those that one
@@ -75,26 +72,4 @@ impl<C: Catalog, N: RealmName> RealmCore<C, N> {
     {
         self.realm.nth_cancelled(n)
     }
-
-    /// Why the scope is cancelled, and the place of the event by which it became so since the last
-    /// retirement, if it is there and cancelled. It takes no memory.
-    pub fn cancellation(&self, scope: ScopeId) -> Option<(Cause, usize)>
-        ensures { result ≡ cancellation_of (history_of self.now.steps) scope }
-    {
-        match scope_check(self.realm.realm(), scope) {
-            Ok(()) => cancellation_of(self.realm.realm(), scope),
-            Err(_) => None,
-        }
-    }
-}
-
-/// Why the scope, which is there, is cancelled, and the place of the event by which it became so.
-fn cancellation_of(realm: &KeptRealm, scope: ScopeId) -> Option<(Cause, usize)>
-    requires { scope_check realm.now.history scope ≡ Ok tt }
-    ensures { result ≡ cancellation_of realm.now.history scope }
-{
-    let _limits = realm.limits();
-    let place = realm.kept().cancelled_at(scope).ok()??;
-    let cause = realm.kept().cause(scope).ok()??;
-    Some((cause, place))
 }

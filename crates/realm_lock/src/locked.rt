@@ -11,7 +11,7 @@ use cancel_marks::{MarkCell, MarkSetter};
 use join_rules::Joiner;
 use realm_core::{RealmCore, RealmName};
 use realm_steps::RealmStep;
-use scope_checks::Told;
+use scope_checks::{Readings, Told, questions};
 use scope_rules::{Catalog, End, Event, Options, Refusal, ScopeId};
 use share_ledger::{OwnerShare, Ticket};
 use std::alloc::Global;
@@ -112,7 +112,7 @@ impl<C: Catalog, N: RealmName> Locked<RealmCore<C, N>> {
     /// The place of what is kept of the scope.
     pub(crate) fn place_of(&self, scope: ScopeId) -> Option<usize> {
         let place = scope
-            .checked_sub(self.core.scopes_before())?
+            .checked_sub(self.core.realm().retired_scopes())?
             .checked_sub(1)?;
         Some(place as usize)
     }
@@ -131,7 +131,7 @@ impl<C: Catalog, N: RealmName> Locked<RealmCore<C, N>> {
                 return;
             };
             self.marked = self.marked.wrapping_add(1);
-            if let Some((cause, number)) = self.core.cancellation(scope)
+            if let Some((number, cause)) = questions::cancellation(self.core.realm(), scope)
                 && let Some(place) = self.place_of(scope)
                 && let Some(setter) = self.setters.get_mut(place)
             {

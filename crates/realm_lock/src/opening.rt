@@ -11,6 +11,7 @@ use cancel_marks::{MarkCell, Seat};
 use join_rules::Joiner;
 use realm_core::RealmName;
 use realm_steps::RealmStep;
+use scope_checks::checks::scope_check;
 use scope_rules::{Catalog, Event, Options, Refusal, ScopeId};
 use share_ledger::OwnerShare;
 use std::sync::Wait;
@@ -79,7 +80,8 @@ impl<C: Catalog, N: RealmName> Realm<C, N> {
         ensures answer { CellAnswers (history_seen token.new) scope result }
     {
         let mut locked = self.room.locked.lock(rt);
-        locked.core.has_scope(token, scope)?;
+        locked.core.look(token);
+        scope_check(locked.core.realm(), scope)?;
         match locked.cell_of(scope) {
             Some(cell) => {
                 let seat = cell.seat();

@@ -8,6 +8,7 @@ ghost use Rattle.realm_core.specs.Calls.{Looked, history_seen};
 
 use crate::realm::Realm;
 use realm_core::RealmName;
+use scope_checks::questions;
 use scope_rules::{Catalog, Effective, Fault, Name, Refusal, ScopeId, State, TaskId, Value};
 use share_ledger::OwnerShare;
 use std::sync::Wait;
@@ -24,7 +25,8 @@ impl<C: Catalog, N: RealmName> Realm<C, N> {
         ensures answer { result ≡ binding_reply (history_seen token.new) token.new.actor key.now }
     {
         let mut locked = self.room.locked.lock(rt);
-        locked.core.get(token, key)
+        locked.core.look(token);
+        questions::binding(locked.core.realm(), token.actor(), key)
     }
 
     /// The value of the task, read by the owner of its scope after the join (JEP 505, `Subtask.get`).
@@ -43,7 +45,8 @@ impl<C: Catalog, N: RealmName> Realm<C, N> {
         ensures answer { result ≡ result_reply (history_seen token.new) token.new.actor task }
     {
         let mut locked = self.room.locked.lock(rt);
-        locked.core.result(token, task)
+        locked.core.look(token);
+        questions::result(locked.core.realm(), token.actor(), task)
     }
 
     /// The fault of the task, read by the owner of its scope after the join (JEP 505,
@@ -60,7 +63,8 @@ impl<C: Catalog, N: RealmName> Realm<C, N> {
         ensures answer { result ≡ fault_reply (history_seen token.new) token.new.actor task }
     {
         let mut locked = self.room.locked.lock(rt);
-        locked.core.fault(token, task)
+        locked.core.look(token);
+        questions::fault(locked.core.realm(), token.actor(), task)
     }
 
     /// What can be read of the task, with any actor's token (JEP 505, `Subtask.state`). Refused for an
@@ -77,7 +81,8 @@ impl<C: Catalog, N: RealmName> Realm<C, N> {
         ensures answer { result ≡ answering (task_check (history_seen token.new) task) (state (history_seen token.new) task) }
     {
         let mut locked = self.room.locked.lock(rt);
-        locked.core.state(token, task)
+        locked.core.look(token);
+        questions::state(locked.core.realm(), task)
     }
 
     /// The earliest deadline in effect for the scope, in milliseconds, with any actor's token (Trio,
@@ -95,6 +100,7 @@ impl<C: Catalog, N: RealmName> Realm<C, N> {
         ensures answer { result ≡ answering (until_check (history_seen token.new) scope) (effective (history_seen token.new) scope) }
     {
         let mut locked = self.room.locked.lock(rt);
-        locked.core.effective_deadline(token, scope)
+        locked.core.look(token);
+        questions::effective_deadline(locked.core.realm(), scope)
     }
 }

@@ -4,7 +4,7 @@ ghost use Rattle.realm_core.specs.Views.{ViewAnswers, MarkedViewAnswers};
 
 use crate::realm::Realm;
 use cancel_marks::Mark;
-use realm_core::{RealmName, View};
+use realm_core::{RealmName, View, marked_view_of, view_of};
 use scope_rules::{Catalog, Event, Refusal, ScopeId};
 use share_ledger::OwnerShare;
 use std::sync::Wait;
@@ -25,7 +25,8 @@ impl<C: Catalog, N: RealmName> Realm<C, N> {
         ensures answer { ViewAnswers (history_seen token.new) scope result }
     {
         let mut locked = self.room.locked.lock(rt);
-        locked.core.view(token, scope)
+        locked.core.look(token);
+        view_of(locked.core.realm(), scope)
     }
 
     /// The same, where the scope is cancelled as the mark says: for its cause, by the event at its place
@@ -44,7 +45,8 @@ impl<C: Catalog, N: RealmName> Realm<C, N> {
         ensures answer { MarkedViewAnswers (history_seen token.new) scope mark.now.cause mark.now.number result }
     {
         let mut locked = self.room.locked.lock(rt);
-        locked.core.view_with(token, scope, mark.cause, mark.number)
+        locked.core.look(token);
+        marked_view_of(locked.core.realm(), scope, mark.cause, mark.number)
     }
 
     /// All events since the last retirement, in order, with any actor's token: the history that the token
@@ -57,6 +59,10 @@ impl<C: Catalog, N: RealmName> Realm<C, N> {
     {
         let mut locked = self.room.locked.lock(rt);
         let alloc = locked.alloc;
-        locked.core.history(alloc, token)
+        locked.core.look(token);
+        match Vec::from_slice(alloc, locked.core.realm().events()) {
+            Ok(events) => Ok(events),
+            Err(_) => Err(Refusal::Memory),
+        }
     }
 }

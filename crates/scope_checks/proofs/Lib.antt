@@ -1,1 +1,2 @@
 pub mod PassedReadings
+pub mod Checked

@@ -1,2 +1,3 @@
 pub mod Passes
 pub mod Telling
+pub mod Questions

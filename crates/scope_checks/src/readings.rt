@@ -1,23 +1,30 @@
-//! What the checks ask of a history, however its answers are kept.
+//! What checks and questions ask of a history, however its answers are kept.
 
-ghost use Rattle.std.specs.Prelude.{◌≡◌, length};
+ghost use Rattle.std.specs.Prelude.{◌≡◌, Some, IfOk, IsSome, length, slice_get};
 ghost use Rattle.scope_rules.specs.History.{moment, opening, forking, scopes, tasks};
 ghost use Rattle.scope_rules.specs.Load.{load};
 ghost use Rattle.scope_rules.specs.Scopes.{joined, closed, innermost, next_level, closing};
-ghost use Rattle.scope_rules.specs.Cancels.{is_cancelled};
-ghost use Rattle.scope_rules.specs.Tasks.{stage, settled};
-ghost use Rattle.scope_rules.specs.Bindings.{stack, bound_as_opened, holds_last};
-ghost use Rattle.scope_rules.specs.Checks.{actor_check, owner_check, refuse_closing};
+ghost use Rattle.scope_rules.specs.Cancels.{is_cancelled, cut, deadline, effective};
+ghost use Rattle.scope_rules.specs.Tasks.{stage, state, settled, counts};
+ghost use Rattle.scope_rules.specs.Outcomes.{outcome};
+ghost use Rattle.scope_rules.specs.Verdicts.{verdict};
+ghost use Rattle.scope_rules.specs.Nests.{outermost, inner, tasks_of};
+ghost use Rattle.scope_rules.specs.Bindings.{stack, bindings, bound_to, bound_as_opened, holds_last};
+ghost use Rattle.scope_rules.specs.Checks.{scope_check, task_check, actor_check, owner_check, refuse_closing};
+ghost use Rattle.scope_rules.specs.Replies.{outcome_check};
 ghost use Rattle.scope_checks.specs.Passes.{Passes};
 
-use scope_rules::types::answers::Stage;
-use scope_rules::types::records::{Forking, Opening};
-use scope_rules::types::values::{Actor, ScopeId, TaskId};
+use scope_rules::types::answers::{Counts, Effective, Stage, State, Verdict};
+use scope_rules::types::names::Name;
+use scope_rules::types::outcomes::Outcome;
+use scope_rules::types::records::{Cut, Forking, Opening};
+use scope_rules::types::values::{Actor, ScopeId, TaskId, Value};
+use std::alloc::{AllocError, Global};
 
-/// The readings of a history that the checks want. A value that keeps its answers reads them off, and
-/// one that keeps the events alone scans these. What a reading rests on, as that the history is legal,
-/// is the value's own to carry, in its model's invariant or in a ghost field; and what is asked of an
-/// actor or of its scope alone is asked once the checks that come before it have passed.
+/// The readings of a history, of which every check and every question is made. A value that keeps its
+/// answers reads them off, and one that keeps the events alone scans these. What a reading rests on, as
+/// that the history is legal, is the value's own to carry, in its model's invariant or in a ghost field;
+/// and what is asked of one scope, task or actor alone may want that the checks of it have passed.
 pub trait Readings {
     ghost use Rattle.scope_rules.specs.History.{History};
 
@@ -106,4 +113,57 @@ pub trait Readings {
     fn holds_last(&self, actor: Actor) -> bool
         requires { Passes (actor_check (history self.now) actor) }
         ensures { result ≡ holds_last (history self.now) actor };
+
+    /// What the actor sees the key bound to.
+    fn bound(&self, actor: Actor, key: Name) -> Option<Value>
+        requires { Passes (actor_check (history self.now) actor) }
+        ensures { result ≡ bound_to key (bindings (history self.now) actor) };
+
+    /// What can be read of the task.
+    fn state(&self, task: TaskId) -> State
+        requires { Passes (task_check (history self.now) task) }
+        ensures { result ≡ state (history self.now) task };
+
+    /// How many tasks of the scope are at each stage.
+    fn counts(&self, scope: ScopeId) -> Counts
+        requires { Passes (scope_check (history self.now) scope) }
+        ensures { result ≡ counts (history self.now) scope };
+
+    /// The earliest own cancel on the scope's chain, if there is one: why it is cancelled, and by which
+    /// event.
+    fn cut(&self, scope: ScopeId) -> Option<Cut>
+        ensures { result ≡ cut (history self.now) scope };
+
+    /// The scope's own deadline, in milliseconds, whether it counts still or not.
+    fn deadline(&self, scope: ScopeId) -> Option<u64>
+        requires { Passes (scope_check (history self.now) scope) }
+        ensures { result ≡ deadline (history self.now) scope };
+
+    /// The earliest deadline in effect for the scope.
+    fn effective(&self, scope: ScopeId) -> Effective
+        requires { Passes (scope_check (history self.now) scope) }
+        ensures { result ≡ effective (history self.now) scope };
+
+    /// How the scope was closed, or would be if its close ended now.
+    fn verdict(&self, scope: ScopeId) -> Verdict
+        requires { IsSome (opening (history self.now) scope) }
+        ensures { result ≡ verdict (history self.now) scope };
+
+    /// What the join of the scope answered. It is refused for memory alone.
+    fn outcome(&self, alloc: Global, scope: ScopeId) -> Result<Outcome, AllocError>
+        requires { Passes (outcome_check (history self.now) scope) }
+        ensures { IfOk result (λ o. outcome (history self.now) scope ≡ Some o) };
+
+    /// The task that was forked in the scope after so many others, if there is one.
+    fn task_at(&self, scope: ScopeId, index: usize) -> Option<TaskId>
+        requires { Passes (scope_check (history self.now) scope) }
+        ensures { result ≡ slice_get (tasks_of (history self.now) scope) index };
+
+    /// The actor's outermost scope: the first that it opened and has not closed.
+    fn outermost(&self, actor: Actor) -> Option<ScopeId>
+        ensures { result ≡ outermost (history self.now) actor };
+
+    /// The scope inside the scope: the next that its owner opened and has not closed.
+    fn inner(&self, scope: ScopeId) -> Option<ScopeId>
+        ensures { result ≡ inner (history self.now) scope };
 }

@@ -1,4 +1,3 @@
-pub mod Checked
 pub mod Alike
 pub mod NeverOpened
 pub mod Balance
@@ -9,5 +8,3 @@ pub mod Forking
 pub mod Counting
 pub mod Ending
 pub mod Covering
-pub mod Closed
-pub mod Infos

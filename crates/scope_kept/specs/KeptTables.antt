@@ -1,17 +1,10 @@
 -- What is kept of a history, and when.
-use Rattle.std.specs.Prelude.{◌≡◌, ℕ, ◌+◌, ◌≤◌, ◌==◌, Bool, true, false, ◌&&◌, nat_lt, nat_le, Some, length, slice_get, count_by, if◌then◌else◌}
-use Rattle.scope_rules.specs.declared.types.refusals.Refusal.{Refusal}
-use Rattle.scope_rules.specs.declared.types.refusals.Refusal.TheVariants.{Retired}
-use Rattle.std.specs.Option.{option_map_or}
+use Rattle.std.specs.Prelude.{◌≡◌, ℕ, ◌+◌, ◌≤◌, ◌==◌, Bool, true, false, Some, length, slice_get, count_by}
 use Rattle.scope_rules.specs.declared.types.answers.Counts.{Counts}
-use Rattle.scope_rules.specs.declared.types.infos.ScopeStage.{ScopeStage}
-use Rattle.scope_rules.specs.declared.types.infos.ScopeStage.TheVariants.{Open, Closing, Closed}
 use Rattle.scope_rules.specs.declared.types.events.Event.{Event}
 use Rattle.scope_rules.specs.declared.types.events.Event.TheVariants.{Fork}
 use Rattle.join_rules.specs.JoinerStanding.{JoinerStanding}
-use Rattle.scope_rules.specs.History.{History, before, opening}
-use Rattle.scope_rules.specs.Bindings.{stack}
-use Rattle.scope_rows.specs.declared.records.ScopeRow.{ScopeRow}
+use Rattle.scope_rules.specs.History.{History}
 use Rattle.scope_rows.specs.Table.{RowTable}
 use Rattle.scope_rows.specs.Agreement.{AreRowsOf}
 use Rattle.scope_envs.specs.EnvTable.{EnvTable}
@@ -47,10 +40,6 @@ HasRoomForEnds h t = (i : ℕ) (a : JoinerStanding) → slice_get t.accounts i �
 abbrev pub all_counts : Counts → ℕ
 all_counts n = (n.never + n.waiting) + (n.running + n.finished)
 
--- a task is counted at some stage
-abbrev pub counts_some : Counts → Bool
-counts_some n = nat_lt 0 ((n.never + n.finished) + (n.waiting + n.running))
-
 -- so much more room is enough for all that was forked in scope s to complete, and one task more
 abbrev pub HasRoomToFork : History → CutTable → ℕ → ℕ → Type 0
 HasRoomToFork h t s more = (a : JoinerStanding) → account_at t s ≡ Some a → forks_of h s + 1 ≤ length a.seen + more
@@ -75,15 +64,3 @@ pub record AreAlike (rows : RowTable) (cuts : CutTable) (envs : EnvTable) (forks
   pub lists : length forks.lists ≡ length rows.scopes
   pub deadlines_before : deadlines.before ≡ rows.scopes_before
   pub deadline_count : length deadlines.deadlines ≡ length rows.scopes
-
--- why there is no row of the number: it was given before, or it is unknown
-abbrev pub absent : ℕ → ℕ → Refusal → Refusal
-absent n before unknown = if nat_lt 0 n && nat_le n before then Retired else unknown
-
--- the actor has at most as many own pairs as the opener of the scope had at its opening
-abbrev pub opened_as_high : History → ℕ → ℕ → Bool
-opened_as_high h a s = option_map_or (λ o. nat_le (length (stack h a)) (length (stack (before h o.place) o.actor))) (opening h s) false
-
--- how far the row's scope has come
-abbrev pub stage_in : ScopeRow → ScopeStage
-stage_in r = if r.closed then Closed else (if r.closing then Closing else Open)

@@ -7,6 +7,8 @@ ghost use Rattle.scope_rules.specs.History.{History, forking};
 ghost use Rattle.scope_kept.specs.KeptTables.{IsKeptOf, HasRoomToFork, all_counts};
 ghost use Rattle.scope_rules.specs.declared.types.capacity.Limits.{Limits};
 ghost use Rattle.scope_rules.specs.Legal.{Legal};
+ghost use Rattle.scope_rules.specs.Scopes.{forked_in, surrounding};
+ghost use Rattle.scope_rules.specs.Cancels.{is_cancelled};
 ghost use Rattle.scope_cuts.specs.CutTables.{HasRow};
 ghost use Rattle.scope_kept.specs.Events.{IsReadyFor, IsReadyAt, HasFollowed, HasFollowedAt};
 
@@ -25,7 +27,7 @@ use std::alloc::AllocError;
 impl Kept {
     /// The actor opened a scope; `listed` says whether a closure of the caller's is shown its
     /// completions.
-    pub fn open(
+    pub(crate) fn open(
         &mut self,
         actor: Actor,
         policy: Policy,
@@ -56,7 +58,7 @@ impl Kept {
     }
 
     /// The scope was cancelled by a call.
-    pub fn cancel(&mut self, scope: ScopeId, place: usize)
+    pub(crate) fn cancel(&mut self, scope: ScopeId, place: usize)
         requires { IsReadyAt self.old (Event.Cancel scope) place }
         ensures { HasFollowedAt self.old (Event.Cancel scope) place self.new }
     {
@@ -64,7 +66,7 @@ impl Kept {
     }
 
     /// The deadline of the scope was moved, in milliseconds, or taken away.
-    pub fn move_deadline(
+    pub(crate) fn move_deadline(
         &mut self,
         scope: ScopeId,
         deadline: Option<u64>,
@@ -80,7 +82,7 @@ impl Kept {
     }
 
     /// The moment was set, in milliseconds.
-    pub fn tick(&mut self, now: u64, place: usize)
+    pub(crate) fn tick(&mut self, now: u64, place: usize)
         requires { IsReadyAt self.old (Event.Tick now) place }
         ensures { HasFollowedAt self.old (Event.Tick now) place self.new }
     {
@@ -88,7 +90,7 @@ impl Kept {
     }
 
     /// The scope was joined.
-    pub fn join(&mut self, scope: ScopeId, place: usize)
+    pub(crate) fn join(&mut self, scope: ScopeId, place: usize)
         requires { (actor : ℕ) × IsReadyAt self.old (Event.Join actor scope) place }
         ensures { (actor : ℕ) → HasFollowedAt self.old (Event.Join actor scope) place self.new }
     {
@@ -98,7 +100,7 @@ impl Kept {
 
     /// The actor began the close of its scope, which covers each scope that the actor opened later and
     /// has not closed.
-    pub fn begin_close(&mut self, actor: Actor, scope: ScopeId, place: usize)
+    pub(crate) fn begin_close(&mut self, actor: Actor, scope: ScopeId, place: usize)
         requires { IsReadyAt self.old (Event.BeginClose actor scope) place }
         ensures { HasFollowedAt self.old (Event.BeginClose actor scope) place self.new }
     {
@@ -108,7 +110,7 @@ impl Kept {
     }
 
     /// The close of the scope ended.
-    pub fn end_close(&mut self, actor: Actor, scope: ScopeId)
+    pub(crate) fn end_close(&mut self, actor: Actor, scope: ScopeId)
         requires { IsReadyFor self.old (Event.EndClose actor scope) }
         ensures { HasFollowed self.old (Event.EndClose actor scope) self.new }
     {
@@ -119,7 +121,7 @@ impl Kept {
 /// The events of tasks.
 impl Kept {
     /// The actor forked the next task in the scope.
-    pub fn fork(
+    pub(crate) fn fork(
         &mut self,
         actor: Actor,
         scope: ScopeId,
@@ -162,7 +164,7 @@ impl Kept {
     }
 
     /// No thread was had for the task.
-    pub fn reject(&mut self, task: TaskId)
+    pub(crate) fn reject(&mut self, task: TaskId)
         requires { IsReadyFor self.old (Event.Reject task) }
         ensures { HasFollowed self.old (Event.Reject task) self.new }
     {
@@ -170,7 +172,7 @@ impl Kept {
     }
 
     /// The task's thread has come.
-    pub fn start(&mut self, task: TaskId)
+    pub(crate) fn start(&mut self, task: TaskId)
         requires { IsReadyFor self.old (Event.Start task) }
         ensures { HasFollowed self.old (Event.Start task) self.new }
     {
@@ -183,7 +185,7 @@ impl Kept {
     /// The task ended. Its scope's account has the completion, and where the joiner fires at it, the
     /// scope is cancelled. `test` is the caller's closure, if the joiner has one: it is asked where the
     /// scope was not cancelled.
-    pub fn finish(&mut self, task: TaskId, end: End, test: Option<&StoredTest>, place: usize)
+    pub(crate) fn finish(&mut self, task: TaskId, end: End, test: Option<&StoredTest>, place: usize)
         requires { IsReadyAt self.old (Event.Finish task end) place }
         ensures { HasFollowedAt self.old (Event.Finish task end) place self.new }
     {
@@ -201,7 +203,7 @@ impl Kept {
     }
 
     /// The scope that the task was forked in.
-    pub fn scope_of(&self, task: TaskId) -> ScopeId
+    fn scope_of(&self, task: TaskId) -> ScopeId
         requires { HasTask self.now.rows task }
         ensures row { result ≡ scope_of self.now.rows task }
         ensures agrees { (h : History) → IsKeptOf h self.now → option_map (λ f. f.scope) (forking h task) ≡ Some result }
@@ -216,7 +218,7 @@ impl Kept {
 /// The events of bindings.
 impl Kept {
     /// The actor bound the key to the value.
-    pub fn bind(&mut self, actor: Actor, key: Name, value: Value) -> Result<(), AllocError>
+    pub(crate) fn bind(&mut self, actor: Actor, key: Name, value: Value) -> Result<(), AllocError>
         requires { IsReadyFor self.old (Event.Bind actor (record { key = key; value = value })) }
         ensures followed { OnOk result (HasFollowed self.old (Event.Bind actor (record { key = key; value = value })) self.new) }
         ensures refused { OnErr result (self.new ≡ self.old) }
@@ -226,11 +228,46 @@ impl Kept {
     }
 
     /// The actor's last own binding was taken away.
-    pub fn unbind(&mut self, actor: Actor)
+    pub(crate) fn unbind(&mut self, actor: Actor)
         requires { IsReadyFor self.old (Event.Unbind actor) }
         ensures { HasFollowed self.old (Event.Unbind actor) self.new }
     {
         self.envs.unbind(actor);
+    }
+}
+
+/// What the events ask of what is kept.
+impl Kept {
+    /// Whether the scope is cancelled.
+    fn is_cancelled(&self, scope: ScopeId) -> bool
+        ensures { (L : Limits) (h : History) → Legal L h → IsKeptOf h self.now → result ≡ is_cancelled h scope }
+    {
+        match self.rows.scope(scope) {
+            Some(_) => self.cuts.is_cancelled(scope),
+            None => false,
+        }
+    }
+
+    /// The scope that lies around whatever the actor opens next.
+    #[tactic(auto, unfolding(scope_rules::specs::Scopes::surrounding))]
+    fn surrounding(&self, actor: Actor) -> Option<ScopeId>
+        ensures { (L : Limits) (h : History) → Legal L h → IsKeptOf h self.now → result ≡ surrounding h actor }
+    {
+        match self.rows.innermost(actor) {
+            Some(scope) => Some(scope),
+            None => self.forked_in(actor),
+        }
+    }
+
+    /// The scope that the actor was forked in, if it is a task.
+    #[tactic(auto, unfolding(scope_rules::specs::Scopes::forked_in))]
+    fn forked_in(&self, actor: Actor) -> Option<ScopeId>
+        ensures { (h : History) → IsKeptOf h self.now → result ≡ forked_in h actor }
+    {
+        match self.rows.task(actor) {
+            Some(row) => Some(row.forking.scope),
+            None => None,
+        }
     }
 }
 

@@ -17,8 +17,7 @@ use Rattle.scope_rules.specs.Nests.{inner, inner_reply, info, info_of, info_repl
 use Rattle.scope_rules.specs.Checks.{Checked, refuse_if, scope_check, task_check}
 use Rattle.scope_rules.specs.Table.{checked_then}
 use Rattle.tree_dump.specs.Tree.{task_told}
-use Rattle.scope_rules.proofs.Innermosts.{opened_after}
-use Rattle.scope_rules.proofs.Forkings.{forked_after}
+use Rattle.scope_checks.proofs.Checked.{scope_passes, task_passes}
 
 ok_err : {A B : Type 0} (a : Result A Refusal) (x : A) (r : Refusal) → a ≡ Ok x → a ≡ Err r → B
 ok_err a x r ok err = absurd cc
@@ -28,29 +27,6 @@ none_some o x none some = absurd cc
 
 false_true : {B : Type 0} (b : Bool) → b ≡ false → b ≡ true → B
 false_true b left right = absurd cc
-
-not_retired : (n b : ℕ) → b < n → (nat_lt 0 n && nat_le n b) ≡ false
-not_retired n b after = ap (λ x. nat_lt 0 n && x) (lt-leb n b after) ∙ by (nat_lt 0 n)
-  where
-    by : (x : Bool) → (x && false) ≡ false
-    by true = refl
-    by false = refl
-
--- an opened scope passes
-scope_passes : (h : History) (s : ℕ) (o : Opening) → opening h s ≡ Some o → scope_check h s ≡ Ok tt
-unfolding scope_check
-scope_passes h s o is =
-    let number = opened_after h s o is in
-    ap (λ b. cond b (Err Retired) (refuse_if (not (is_some (opening h s))) NoScope)) (not_retired s h.base.scopes (omega (arith, number.2)))
-    ∙ ap (λ x. refuse_if (not (is_some x)) NoScope) is
-
--- a forked task passes
-task_passes : (h : History) (k : ℕ) (f : Forking) → forking h k ≡ Some f → task_check h k ≡ Ok tt
-unfolding task_check
-task_passes h k f is =
-    let number = forked_after h k f is in
-    ap (λ b. cond b (Err Retired) (refuse_if (not (is_some (forking h k))) NoTask)) (not_retired k h.base.tasks (omega (arith, number.2)))
-    ∙ ap (λ x. refuse_if (not (is_some x)) NoTask) is
 
 -- ---- scopes
 

@@ -19,11 +19,9 @@
 
 mod book;
 mod objects;
-pub mod readings;
 pub mod told;
 pub mod walk;
 mod words;
 
 pub use book::dump;
-pub use readings::Nests;
 pub use walk::dump_of;

@@ -3,7 +3,7 @@ ghost use Rattle.std.specs.Prelude.{◌≡◌, IsSome, IsNone, None, slice_get, 
 ghost use Rattle.scope_rules.specs.Nests.{info, inner, tasks_of};
 ghost use Rattle.tree_dump.specs.Tree.{task_told};
 
-use crate::readings::Nests;
+use scope_checks::{Readings, questions};
 use scope_rules::types::infos::ScopeInfo;
 use scope_rules::{Label, ScopeId, Stage, State, TaskId};
 
@@ -20,10 +20,10 @@ pub struct TaskTold {
 
 /// What there is to say of the scope, if there is one and it was opened since the base.
 #[tactic(auto, using(crate::proofs::Answered::info_ok, crate::proofs::Answered::info_err))]
-pub(crate) fn info_at<N: Nests>(nests: &N, scope: Option<ScopeId>) -> Option<ScopeInfo>
-    ensures { result ≡ option_and_then (info (N.history nests.now)) scope }
+pub(crate) fn info_at<R: Readings>(readings: &R, scope: Option<ScopeId>) -> Option<ScopeInfo>
+    ensures { result ≡ option_and_then (info (R.history readings.now)) scope }
 {
-    match nests.info(scope?) {
+    match questions::info(readings, scope?) {
         Ok(info) => Some(info),
         Err(_) => None,
     }
@@ -31,10 +31,10 @@ pub(crate) fn info_at<N: Nests>(nests: &N, scope: Option<ScopeId>) -> Option<Sco
 
 /// The scope inside the scope.
 #[tactic(auto, using(crate::proofs::Answered::inner_err))]
-pub(crate) fn inner_of<N: Nests>(nests: &N, scope: ScopeId) -> Option<ScopeId>
-    ensures { result ≡ inner (N.history nests.now) scope }
+pub(crate) fn inner_of<R: Readings>(readings: &R, scope: ScopeId) -> Option<ScopeId>
+    ensures { result ≡ inner (R.history readings.now) scope }
 {
-    match nests.inner(scope) {
+    match questions::inner(readings, scope) {
         Ok(inner) => inner,
         Err(_) => None,
     }
@@ -42,13 +42,17 @@ pub(crate) fn inner_of<N: Nests>(nests: &N, scope: ScopeId) -> Option<ScopeId>
 
 /// What there is to say of the task, if it was forked since the base.
 #[tactic(auto, using(crate::proofs::Answered::label_ok, crate::proofs::Answered::label_err, crate::proofs::Answered::label_passes), unfolding(crate::specs::Tree::task_told))]
-fn told_of<N: Nests>(nests: &N, task: TaskId) -> Option<TaskTold>
-    ensures { result ≡ task_told (N.history nests.now) task }
+fn told_of<R: Readings>(readings: &R, task: TaskId) -> Option<TaskTold>
+    ensures { result ≡ task_told (R.history readings.now) task }
 {
-    let Ok(label) = nests.label(task) else {
+    let Ok(label) = questions::label(readings, task) else {
         return None;
     };
-    match (nests.stage(task), nests.state(task), nests.task_inner(task)) {
+    match (
+        questions::stage(readings, task),
+        questions::state(readings, task),
+        questions::task_inner(readings, task),
+    ) {
         (Ok(stage), Ok(state), Ok(inner)) => Some(TaskTold {
             task,
             label,
@@ -62,13 +66,13 @@ fn told_of<N: Nests>(nests: &N, task: TaskId) -> Option<TaskTold>
 
 /// What there is to say of the task that was forked in the scope after so many others, if there is one.
 #[tactic(auto, using(crate::proofs::Answered::info_passes, crate::proofs::Answered::task_there))]
-pub(crate) fn told_at<N: Nests>(nests: &N, scope: ScopeId, place: usize) -> Option<TaskTold>
-    requires { IsSome (info (N.history nests.now) scope) }
-    ensures told { result ≡ option_and_then (task_told (N.history nests.now)) (slice_get (tasks_of (N.history nests.now) scope) place) }
-    ensures last { IsNone result → slice_get (tasks_of (N.history nests.now) scope) place ≡ None }
+pub(crate) fn told_at<R: Readings>(readings: &R, scope: ScopeId, index: usize) -> Option<TaskTold>
+    requires { IsSome (info (R.history readings.now) scope) }
+    ensures told { result ≡ option_and_then (task_told (R.history readings.now)) (slice_get (tasks_of (R.history readings.now) scope) index) }
+    ensures last { IsNone result → slice_get (tasks_of (R.history readings.now) scope) index ≡ None }
 {
-    match nests.task_at(scope, place) {
-        Ok(Some(task)) => told_of(nests, task),
+    match questions::task_at(readings, scope, index) {
+        Ok(Some(task)) => told_of(readings, task),
         Ok(None) => None,
         Err(_) => unreachable!(),
     }

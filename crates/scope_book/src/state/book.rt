@@ -3,12 +3,10 @@ ghost use Rattle.scope_rules.specs.Legal.{Legal, IsWithin};
 ghost use Rattle.scope_rules.specs.Origin.{the_start};
 ghost use Rattle.scope_rules.specs.Replies.{starting, base_check, AnswersOrMemory};
 ghost use Rattle.scope_cuts.specs.CutsOf.{IsCancelOrderOf};
-ghost use Rattle.scope_kept.specs.KeptTables.{IsKeptOf};
 ghost use Rattle.kept_realm.specs.Fits.{Fitting};
 
 use join_rules::StoredTest;
-use kept_realm::FittingRealm;
-use scope_kept::Kept;
+use kept_realm::{FittingRealm, KeptRealm};
 use scope_rules::{Base, Catalog, Limits, Refusal, ScopeId};
 use std::alloc::Global;
 
@@ -65,13 +63,11 @@ impl<C: Catalog> BookState<C> {
         self.realm.limits()
     }
 
-    /// What is kept of the history, which answers the queries without a look at the events.
-    pub fn kept(&self) -> &Kept
-        ensures kept { IsKeptOf (history_of self.now) result.now }
-        ensures legal { Legal (limits_of self.now) (history_of self.now) }
+    /// The realm, of which questions are asked, as every other reading of a history is (`scope_checks`).
+    pub fn realm(&self) -> &KeptRealm
+        ensures { result.now ≡ realm_of self.now }
     {
-        let _limits = self.realm.limits();
-        self.realm.realm().kept()
+        self.realm.realm()
     }
 
     /// The n-th scope to be cancelled, from 0, if so many are: those that one event cancelled come in

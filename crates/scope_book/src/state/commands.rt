@@ -10,8 +10,8 @@ ghost use Rattle.kept_realm.specs.Fits.{FitsTask, FitsEvent};
 
 use crate::state::book::BookState;
 use join_rules::{Joiner, StoredTest};
-use scope_checks::Told;
-use scope_kept::Kept;
+use kept_realm::KeptRealm;
+use scope_checks::{Readings, Told};
 use scope_rules::{
     Actor, Base, Binding, Cancelling, Catalog, End, Event, ForkReply, Label, Name, Options,
     Refusal, ScopeId, TaskId, Value, Verdict,
@@ -34,7 +34,7 @@ impl<C: Catalog> BookState<C> {
         ensures history { realm_of self.new ≡ after (realm_of self.old) (Event.Open actor (policy_of joiner) options) (refusal_alone result) }
         ensures handed_back { IfErr result (λ e. e.1 ≡ joiner) }
     {
-        if let Err(refusal) = self.realm.realm().open_check(actor) {
+        if let Err(refusal) = self.realm().open_check(actor) {
             return Err((refusal, joiner));
         }
         if self.tests.reserve(1).is_err() {
@@ -108,7 +108,7 @@ impl<C: Catalog> BookState<C> {
         ensures answer { Answers (check_of (limits_of self.old) (history_of self.old) (Event.Finish task end)) tt result }
         ensures history { realm_of self.new ≡ after (realm_of self.old) (Event.Finish task end) result }
     {
-        let test = test_of(&self.tests, self.realm.realm().kept(), task);
+        let test = test_of(&self.tests, self.realm.realm(), task);
         self.realm
             .perform(Event::Finish { task, end }, false, test)?;
         Ok(())
@@ -235,10 +235,10 @@ impl<C: Catalog> BookState<C> {
 /// The closure that the joiner of the task's scope asks, if it has one.
 fn test_of<'a>(
     tests: &'a [Option<StoredTest>],
-    kept: &Kept,
+    realm: &KeptRealm,
     task: TaskId,
 ) -> Option<&'a StoredTest> {
-    let scope = kept.forking(task)?.scope;
-    let place = scope.checked_sub(kept.scopes_before())?.checked_sub(1)?;
+    let scope = realm.forking(task)?.scope;
+    let place = scope.checked_sub(realm.retired_scopes())?.checked_sub(1)?;
     tests.get(place as usize)?.as_ref()
 }

@@ -63,8 +63,8 @@ impl Plain {
         self.journal.limits()
     }
 
-    /// The realm's history, to be read.
-    pub(crate) fn view(&self) -> HistoryView<'_>
+    /// The realm's history, to be read by a scan of its events.
+    pub fn view(&self) -> HistoryView<'_>
         ensures { result ≡ self.now.history }
     {
         HistoryView::new(self.journal.base(), self.journal.events())

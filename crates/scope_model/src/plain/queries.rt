@@ -10,7 +10,8 @@ ghost use Rattle.scope_log.specs.Log.{log};
 ghost use Rattle.scope_log.specs.Previews.{preview};
 
 use crate::plain::evaluator::Plain;
-use scope_checks::{checks, questions, table};
+use scope_checks::checks::scope_check;
+use scope_checks::{questions, table};
 use scope_log::{Preview, ScopeLog};
 use scope_rules::types::answers::{Cause, Counts, Effective, Stage, State};
 use scope_rules::types::events::Event;
@@ -26,59 +27,39 @@ impl Plain {
     pub fn state(&self, task: TaskId) -> Result<State, Refusal>
         ensures { result ≡ answering (task_check self.now.history task) (state self.now.history task) }
     {
-        let view = self.view();
-        checks::task_check(&view, task)?;
-        Ok(view.state(task))
+        questions::state(&self.view(), task)
     }
 
     /// How far the task has come. Refused for an unknown task (`NoTask`, `Retired`).
     pub fn stage(&self, task: TaskId) -> Result<Stage, Refusal>
         ensures { result ≡ answering (task_check self.now.history task) (stage self.now.history task) }
     {
-        let view = self.view();
-        checks::task_check(&view, task)?;
-        Ok(view.stage(task))
+        questions::stage(&self.view(), task)
     }
 
     /// The value of the task, read by the owner of its scope after the join (JEP 505, `Subtask.get`).
     /// Refused where the actor is no running task or main, for a task that is unknown (`NoTask`,
     /// `Retired`) or of another's scope (`NotOwner`), before the join (`NotJoined`), and for one that
     /// can't be read (`Unavailable`) or failed (`NotSuccess`).
-    #[tactic(auto, unfolding(scope_rules::specs::Replies::result_reply))]
     pub fn result(&self, actor: Actor, task: TaskId) -> Result<Value, Refusal>
         ensures { result ≡ result_reply self.now.history actor task }
     {
-        let view = self.view();
-        questions::reading_check(&view, actor, task)?;
-        match view.state(task) {
-            State::Unavailable => Err(Refusal::Unavailable),
-            State::Success(value) => Ok(value),
-            State::Failed(_) => Err(Refusal::NotSuccess),
-        }
+        questions::result(&self.view(), actor, task)
     }
 
     /// The fault of the task, read by the owner of its scope after the join (JEP 505,
     /// `Subtask.exception`). Refused as `result` is, and for a task that succeeded (`NotFailed`).
-    #[tactic(auto, unfolding(scope_rules::specs::Replies::fault_reply))]
     pub fn fault(&self, actor: Actor, task: TaskId) -> Result<Fault, Refusal>
         ensures { result ≡ fault_reply self.now.history actor task }
     {
-        let view = self.view();
-        questions::reading_check(&view, actor, task)?;
-        match view.state(task) {
-            State::Unavailable => Err(Refusal::Unavailable),
-            State::Success(_) => Err(Refusal::NotFailed),
-            State::Failed(fault) => Ok(fault),
-        }
+        questions::fault(&self.view(), actor, task)
     }
 
     /// Why the scope is cancelled, if it is. Refused for an unknown scope (`NoScope`, `Retired`).
     pub fn cause(&self, scope: ScopeId) -> Result<Option<Cause>, Refusal>
         ensures { result ≡ answering (scope_check self.now.history scope) (cause self.now.history scope) }
     {
-        let view = self.view();
-        checks::scope_check(&view, scope)?;
-        Ok(view.cause(scope))
+        questions::cause(&self.view(), scope)
     }
 
     /// The place of the event by which the scope became cancelled, if it is, counted from 0 since the
@@ -86,9 +67,7 @@ impl Plain {
     pub fn cancelled_at(&self, scope: ScopeId) -> Result<Option<usize>, Refusal>
         ensures { result ≡ answering (scope_check self.now.history scope) (cancelled_at self.now.history scope) }
     {
-        let view = self.view();
-        checks::scope_check(&view, scope)?;
-        Ok(view.cancelled_at(scope))
+        questions::cancelled_at(&self.view(), scope)
     }
 
     /// The earliest deadline in effect for the scope (Trio, `current_effective_deadline`), in
@@ -96,9 +75,7 @@ impl Plain {
     pub fn effective_deadline(&self, scope: ScopeId) -> Result<Effective, Refusal>
         ensures { result ≡ answering (until_check self.now.history scope) (effective self.now.history scope) }
     {
-        let view = self.view();
-        questions::until_check(&view, scope)?;
-        Ok(view.effective(scope))
+        questions::effective_deadline(&self.view(), scope)
     }
 
     /// How many tasks of the scope are at each stage. Refused for an unknown scope (`NoScope`,
@@ -106,23 +83,15 @@ impl Plain {
     pub fn counts(&self, scope: ScopeId) -> Result<Counts, Refusal>
         ensures { result ≡ answering (scope_check self.now.history scope) (counts self.now.history scope) }
     {
-        let view = self.view();
-        checks::scope_check(&view, scope)?;
-        Ok(view.counts(scope))
+        questions::counts(&self.view(), scope)
     }
 
     /// What the actor sees the key bound to (JEP 506, `ScopedValue.get`). Refused where the actor is no
     /// running task or main, and where nothing is bound to the key (`NotBound`).
-    #[tactic(auto, unfolding(scope_rules::specs::Replies::binding_reply))]
     pub fn binding(&self, actor: Actor, key: &Name) -> Result<Value, Refusal>
         ensures { result ≡ binding_reply self.now.history actor key.now }
     {
-        let view = self.view();
-        checks::actor_check(&view, actor)?;
-        match view.binding(actor, key) {
-            Some(value) => Ok(value),
-            None => Err(Refusal::NotBound),
-        }
+        questions::binding(&self.view(), actor, key)
     }
 
     /// The moment, in milliseconds.
@@ -134,17 +103,10 @@ impl Plain {
 
     /// What the join of the scope answered. Refused for an unknown scope (`NoScope`, `Retired`), before
     /// the join (`NotJoined`), and where memory is refused (`Memory`).
-    #[tactic(auto, unfolding(scope_rules::specs::Replies::outcome_check))]
     pub fn outcome(&self, scope: ScopeId) -> Result<Outcome, Refusal>
         ensures { AnswersValue (outcome_check self.now.history scope) (outcome self.now.history scope) result }
     {
-        let view = self.view();
-        questions::outcome_check(&view, scope)?;
-        match view.outcome(self.allocator(), scope) {
-            Ok(Some(outcome)) => Ok(outcome),
-            Ok(None) => unreachable!(),
-            Err(_) => Err(Refusal::Memory),
-        }
+        questions::outcome(&self.view(), self.allocator(), scope)
     }
 
     /// The log of the scope: its own events since the base, in order, with the mark of its cancellation
@@ -153,7 +115,7 @@ impl Plain {
     pub fn project(&self, scope: ScopeId) -> Result<ScopeLog, Refusal>
         ensures { AnswersValue (scope_check self.now.history scope) (log self.now.history scope) result }
     {
-        checks::scope_check(&self.view(), scope)?;
+        scope_check(&self.view(), scope)?;
         self.log(scope)
     }
 

@@ -1,10 +1,9 @@
 ghost use Rattle.std.specs.Prelude.{◌≡◌, ◌<◌, slice_get};
 ghost use Rattle.scope_rules.specs.History.{opened_count};
-ghost use Rattle.scope_rules.specs.Nests.{unclosed_after, next_unclosed, outermost, inner, tasks_of, label, scope_stage, info};
+ghost use Rattle.scope_rules.specs.Nests.{unclosed_after, next_unclosed, outermost, inner, tasks_of};
 
 use crate::scan::view::HistoryView;
-use scope_rules::types::infos::{ScopeInfo, ScopeStage};
-use scope_rules::types::values::{Actor, Label, ScopeId, TaskId};
+use scope_rules::types::values::{Actor, ScopeId, TaskId};
 
 impl<'a> HistoryView<'a> {
     /// The scope that was opened after this many since the base, if it came after `scope` and the actor
@@ -72,47 +71,5 @@ impl<'a> HistoryView<'a> {
             }
         }
         None
-    }
-
-    /// The label of the task.
-    #[tactic(auto, unfolding(scope_rules::specs::Nests::label))]
-    pub fn label(&self, task: TaskId) -> Option<Label>
-        ensures { result ≡ label self.now task }
-    {
-        let forking = self.forking(task)?;
-        Some(forking.label)
-    }
-
-    /// How far the scope has come.
-    #[tactic(auto, unfolding(scope_rules::specs::Nests::scope_stage))]
-    fn scope_stage(&self, scope: ScopeId) -> ScopeStage
-        ensures { result ≡ scope_stage self.now scope }
-    {
-        if self.closed(scope) {
-            ScopeStage::Closed
-        } else if self.closing(scope) {
-            ScopeStage::Closing
-        } else {
-            ScopeStage::Open
-        }
-    }
-
-    /// What there is to say of the scope.
-    #[tactic(auto, unfolding(scope_rules::specs::Nests::info))]
-    pub fn info(&self, scope: ScopeId) -> Option<ScopeInfo>
-        ensures { result ≡ info self.now scope }
-    {
-        let opening = self.opening(scope)?;
-        Some(ScopeInfo {
-            scope,
-            owner: opening.actor,
-            policy: opening.policy,
-            deadline: self.deadline(scope),
-            expiry: opening.options.expiry,
-            shield: opening.options.shield,
-            joined: self.joined(scope),
-            stage: self.scope_stage(scope),
-            cause: self.cause(scope),
-        })
     }
 }

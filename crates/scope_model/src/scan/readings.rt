@@ -1,8 +1,11 @@
 use crate::scan::view::HistoryView;
 use scope_checks::Readings;
-use scope_rules::types::answers::Stage;
-use scope_rules::types::records::{Forking, Opening};
-use scope_rules::types::values::{Actor, ScopeId, TaskId};
+use scope_rules::types::answers::{Counts, Effective, Stage, State, Verdict};
+use scope_rules::types::names::Name;
+use scope_rules::types::outcomes::Outcome;
+use scope_rules::types::records::{Cut, Forking, Opening};
+use scope_rules::types::values::{Actor, ScopeId, TaskId, Value};
+use std::alloc::{AllocError, Global};
 
 /// A view of a history reads that history, by scanning it.
 impl<'a> Readings for HistoryView<'a> {
@@ -82,5 +85,53 @@ impl<'a> Readings for HistoryView<'a> {
 
     fn holds_last(&self, actor: Actor) -> bool {
         self.holds_last(actor)
+    }
+
+    fn bound(&self, actor: Actor, key: Name) -> Option<Value> {
+        self.binding(actor, &key)
+    }
+
+    fn state(&self, task: TaskId) -> State {
+        self.state(task)
+    }
+
+    fn counts(&self, scope: ScopeId) -> Counts {
+        self.counts(scope)
+    }
+
+    fn cut(&self, scope: ScopeId) -> Option<Cut> {
+        self.cut(scope)
+    }
+
+    fn deadline(&self, scope: ScopeId) -> Option<u64> {
+        self.deadline(scope)
+    }
+
+    fn effective(&self, scope: ScopeId) -> Effective {
+        self.effective(scope)
+    }
+
+    fn verdict(&self, scope: ScopeId) -> Verdict {
+        self.verdict(scope)
+    }
+
+    #[tactic(auto, using(scope_rules::proofs::Joined::outcome_there))]
+    fn outcome(&self, alloc: Global, scope: ScopeId) -> Result<Outcome, AllocError> {
+        match self.outcome(alloc, scope)? {
+            Some(outcome) => Ok(outcome),
+            None => unreachable!(),
+        }
+    }
+
+    fn task_at(&self, scope: ScopeId, index: usize) -> Option<TaskId> {
+        self.task_at(scope, index)
+    }
+
+    fn outermost(&self, actor: Actor) -> Option<ScopeId> {
+        self.outermost(actor)
+    }
+
+    fn inner(&self, scope: ScopeId) -> Option<ScopeId> {
+        self.inner(scope)
     }
 }

@@ -1,5 +1,6 @@
-use Rattle.std.proofs.Common.{◌≡◌, None, Some, refl, sym, ◌∙◌, subst}
+use Rattle.std.proofs.Common.{◌≡◌, None, Some, refl, ap, sym, ◌∙◌, subst}
 use Rattle.std.specs.Prelude.{IsOk}
+use Rattle.scope_rules.specs.Replies.{Realm}
 use Rattle.scope_rules.specs.Scopes.{innermost}
 use Rattle.realm_steps.specs.Steps.{history_of}
 use Rattle.realm_close.proofs.EndSteps.{inner_there, inner_ends, one_end, verdict_then, not_refused}
@@ -7,18 +8,21 @@ use Rattle.realm_close.proofs.ending.end_innermost.Goals as goal
 
 pub unreachable-requires : goal.unreachable-requires
 unreachable-requires g c =
+    let found = ap (λ (r : Realm). innermost r.history c.actor.result) (sym c.realm.ensures) ∙ sym c.innermost.ensures in
     inner_there (history_of c.args.core.now.steps) c.args.token.now.actor c.args.scope c.requires.can
-    (subst (λ a. innermost (history_of c.args.core.now.steps) a ≡ None) c.actor.ensures (sym c.innermost.ensures ∙ c.in_default.is))
+    (subst (λ a. innermost (history_of c.args.core.now.steps) a ≡ None) c.actor.ensures (found ∙ c.in_default.is))
 
 pub unreachable-requires-in_default-end_close : goal.unreachable-requires-in_default-end_close
 unreachable-requires-in_default-end_close g c =
-    let inner = subst (λ a. innermost (history_of c.args.core.now.steps) a ≡ Some c.in-Some.innermost) c.actor.ensures (sym c.innermost.ensures ∙ c.in-Some.is) in
+    let found = ap (λ (r : Realm). innermost r.history c.actor.result) (sym c.realm.ensures) ∙ sym c.innermost.ensures in
+    let inner = subst (λ a. innermost (history_of c.args.core.now.steps) a ≡ Some c.in-Some.innermost) c.actor.ensures (found ∙ c.in-Some.is) in
     let ok : IsOk c.end_close.result = c.end_close.ensures.sure (inner_ends _ c.args.core.now.steps c.args.token.now.actor c.args.scope c.in-Some.innermost c.limits-limits.ensures.legal c.requires.can inner) in
     not_refused c.end_close.result _ c.in_default-end_close.is ok
 
 pub returns-clause-end : goal.returns-clause-end
 returns-clause-end g c =
-    let inner = subst (λ a. innermost (history_of c.args.core.now.steps) a ≡ Some c.in-Some.innermost) c.actor.ensures (sym c.innermost.ensures ∙ c.in-Some.is) in
+    let found = ap (λ (r : Realm). innermost r.history c.actor.result) (sym c.realm.ensures) ∙ sym c.innermost.ensures in
+    let inner = subst (λ a. innermost (history_of c.args.core.now.steps) a ≡ Some c.in-Some.innermost) c.actor.ensures (found ∙ c.in-Some.is) in
     let ok : IsOk c.end_close.result = rw c.in-Ok.is refl in
     one_end _ _ c.args.token.now.actor c.args.scope c.in-Some.innermost c.args.core.now.steps _ c.limits-limits.ensures.legal c.requires.can inner (c.end_close.ensures.next ok) c.in-Ok.ensures.answer.adds.legal
 

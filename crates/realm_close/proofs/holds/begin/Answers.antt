@@ -1,5 +1,6 @@
 use Rattle.std.proofs.Common.{◌≡◌, true, false, sym, ap, ◌∙◌}
 use Rattle.scope_rules.specs.declared.types.events.Event.TheVariants.{BeginClose}
+use Rattle.scope_rules.specs.Replies.{Realm}
 use Rattle.scope_rules.specs.Scopes.{closed}
 use Rattle.realm_steps.specs.Steps.{history_of}
 use Rattle.realm_core.specs.Calls.{history_seen}
@@ -12,17 +13,17 @@ returns-in-Ok-Recorded-clause-answer g c =
     let it = did_record c.args.token.now c.begin_close.new.share (BeginClose c.args.token.now.actor c.args.scope) c.begin_close.result c.in-Ok-Recorded.field-0 c.in-Ok-Recorded.is c.in-Ok-Recorded.field-0-is c.begin_close.ensures.answer in
     (it, begun_recorded c.args.token.now c.begin_close.new.share c.args.scope it)
 
-pub returns-else-is_closed-clause-answer : goal.returns-else-is_closed-clause-answer
-returns-else-is_closed-clause-answer g c =
+pub returns-else-closed-clause-answer : goal.returns-else-closed-clause-answer
+returns-else-closed-clause-answer g c =
     let it = did_find c.args.token.now c.begin_close.new.share (BeginClose c.args.token.now.actor c.args.scope) c.begin_close.result c.in-Ok-Already.field-0 c.in-Ok-Already.is c.in-Ok-Already.field-0-is c.begin_close.ensures.answer in
-    let told : closed (history_of c.begin_close.new.self.steps) c.args.scope ≡ false = sym c.is_closed.ensures ∙ c.if-is_closed.false in
+    let told : closed (history_of c.begin_close.new.self.steps) c.args.scope ≡ false = ap (λ (r : Realm). closed r.history c.args.scope) (sym c.realm.ensures) ∙ (sym c.closed.ensures ∙ c.if-closed.false) in
     let here : closed (history_seen c.begin_close.new.share) c.args.scope ≡ false = ap (λ (k : CoreValue). closed (history_of k.steps) c.args.scope) (sym c.begin_close.ensures.core) ∙ told in
     (it, begun_already c.args.token.now c.begin_close.new.share c.args.scope it here)
 
-pub returns-then-is_closed-clause-sure : goal.returns-then-is_closed-clause-sure
-returns-then-is_closed-clause-sure g c = λ mine.
+pub returns-then-closed-clause-sure : goal.returns-then-closed-clause-sure
+returns-then-closed-clause-sure g c = λ mine.
     let it = did_find c.args.token.now c.begin_close.new.share (BeginClose c.args.token.now.actor c.args.scope) c.begin_close.result c.in-Ok-Already.field-0 c.in-Ok-Already.is c.in-Ok-Already.field-0-is c.begin_close.ensures.answer in
-    let told : closed (history_of c.begin_close.new.self.steps) c.args.scope ≡ true = sym c.is_closed.ensures ∙ c.if-is_closed.true in
+    let told : closed (history_of c.begin_close.new.self.steps) c.args.scope ≡ true = ap (λ (r : Realm). closed r.history c.args.scope) (sym c.realm.ensures) ∙ (sym c.closed.ensures ∙ c.if-closed.true) in
     let here : closed (history_seen c.begin_close.new.share) c.args.scope ≡ true = ap (λ (k : CoreValue). closed (history_of k.steps) c.args.scope) (sym c.begin_close.ensures.core) ∙ told in
     absurd (closed_sure c.args.token.now c.begin_close.new.share c.args.scope it here mine)
 

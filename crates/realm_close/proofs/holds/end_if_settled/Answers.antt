@@ -1,12 +1,14 @@
-use Rattle.std.proofs.Common.{ap}
+use Rattle.std.proofs.Common.{None, Some, ap, subst}
+use Rattle.scope_rules.specs.Replies.{Realm}
 use Rattle.realm_core.specs.Cores.{CoreValue}
+use Rattle.realm_close.specs.Waiting.{FoundUnsettled}
 use Rattle.realm_close.proofs.Kept.{can_close_now, waits_on}
 use Rattle.realm_close.proofs.holds.end_if_settled.Goals as goal
 
 pub end_all-requires-clause-can : goal.end_all-requires-clause-can
 end_all-requires-clause-can g c =
-    can_close_now c.args.token.now c.look.new.share c.args.scope c.look.new.self.steps c.look.ensures.token (ap (λ (k : CoreValue). k.steps) c.look.ensures.core) c.look.ensures.looks c.requires.begun c.in-None.ensures
+    can_close_now c.args.token.now c.look.new.share c.args.scope c.look.new.self.steps c.look.ensures.token (ap (λ (k : CoreValue). k.steps) c.look.ensures.core) c.look.ensures.looks c.requires.begun (subst (λ (r : Realm). FoundUnsettled r.history c.args.scope None) c.realm.ensures c.in-None.ensures)
 
 pub returns-in-Some-clause-answer : goal.returns-in-Some-clause-answer
 returns-in-Some-clause-answer g c =
-    waits_on c.args.token.now c.look.new.share c.args.scope c.in-Some.field-0 c.look.new.self.steps (ap (λ (k : CoreValue). k.steps) c.look.ensures.core) c.look.ensures.looks c.requires.begun c.in-Some.ensures
+    waits_on c.args.token.now c.look.new.share c.args.scope c.in-Some.field-0 c.look.new.self.steps (ap (λ (k : CoreValue). k.steps) c.look.ensures.core) c.look.ensures.looks c.requires.begun (subst (λ (r : Realm). FoundUnsettled r.history c.args.scope (Some c.in-Some.field-0)) c.realm.ensures c.in-Some.ensures)

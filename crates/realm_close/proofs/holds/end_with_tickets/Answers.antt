@@ -1,5 +1,6 @@
 use Rattle.std.proofs.Common.{◌≡◌, sym, ap, subst, All}
 use Rattle.std.proofs.lemmas.List.Sorted.{All-permutation, IsPermutation-sym}
+use Rattle.scope_rules.specs.Replies.{Realm}
 use Rattle.realm_steps.specs.Steps.{history_of}
 use Rattle.realm_core.specs.Cores.{CoreValue}
 use Rattle.share_ledger.specs.Values.{TicketValue}
@@ -18,7 +19,7 @@ returns-clause-done g c =
     let new = c.close_with_report.new.token.seen in
     let report = c.in_ok-report.report in
     let ends = c.in_ok-report.ensures.ends in
-    let given = subst (λ steps. AreTicketsOf (history_of steps) c.args.scope tickets) (sym c.requires.shown) (c.are_tickets_of.ensures.yes c.if-not-are_tickets_of.false) in
+    let given = subst (λ steps. AreTicketsOf (history_of steps) c.args.scope tickets) (sym c.requires.shown) (subst (λ (r : Realm). AreTicketsOf r.history c.args.scope tickets) c.realm.ensures (c.are_tickets_of.ensures.yes c.if-not-are_tickets_of.false)) in
     let after = ap (λ (k : CoreValue). k.steps) c.in_ok-report.ensures.core in
     let bear = All-permutation (BearsOut new) c.are_tickets_of.new.tickets.items tickets (IsPermutation-sym tickets c.are_tickets_of.new.tickets.items c.are_tickets_of.ensures.same) (subst (λ steps. All (BearsOut steps) c.are_tickets_of.new.tickets.items) after c.take_back.ensures.agreed) in
     record {

@@ -1,15 +1,17 @@
-use Rattle.std.proofs.Common.{ap, refl}
+use Rattle.std.proofs.Common.{None, Some, ap, refl, subst}
+use Rattle.scope_rules.specs.Replies.{Realm}
 use Rattle.realm_core.specs.Cores.{CoreValue}
+use Rattle.realm_close.specs.Waiting.{FoundUnsettled}
 use Rattle.realm_close.proofs.Kept.{can_close_now, waits_on, reported_or_left}
 use Rattle.realm_close.proofs.holds.report_if_settled.Goals as goal
 
 pub end_with_tickets-requires-clause-can : goal.end_with_tickets-requires-clause-can
 end_with_tickets-requires-clause-can g c =
-    can_close_now c.args.token.now c.look.new.share c.args.scope c.look.new.self.steps c.look.ensures.token (ap (λ (k : CoreValue). k.steps) c.look.ensures.core) c.look.ensures.looks c.requires.begun c.in-None.ensures
+    can_close_now c.args.token.now c.look.new.share c.args.scope c.look.new.self.steps c.look.ensures.token (ap (λ (k : CoreValue). k.steps) c.look.ensures.core) c.look.ensures.looks c.requires.begun (subst (λ (r : Realm). FoundUnsettled r.history c.args.scope None) c.realm.ensures c.in-None.ensures)
 
 pub returns-in-Some-clause-answer : goal.returns-in-Some-clause-answer
 returns-in-Some-clause-answer g c =
-    (waits_on c.args.token.now c.look.new.share c.args.scope c.in-Some.field-0 c.look.new.self.steps (ap (λ (k : CoreValue). k.steps) c.look.ensures.core) c.look.ensures.looks c.requires.begun c.in-Some.ensures, refl)
+    (waits_on c.args.token.now c.look.new.share c.args.scope c.in-Some.field-0 c.look.new.self.steps (ap (λ (k : CoreValue). k.steps) c.look.ensures.core) c.look.ensures.looks c.requires.begun (subst (λ (r : Realm). FoundUnsettled r.history c.args.scope (Some c.in-Some.field-0)) c.realm.ensures c.in-Some.ensures), refl)
 
 pub returns-in-None-clause-answer : goal.returns-in-None-clause-answer
 returns-in-None-clause-answer g c =

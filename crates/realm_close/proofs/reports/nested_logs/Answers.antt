@@ -1,47 +1,45 @@
 use Rattle.std.proofs.Common.{◌<◌, reverse, sym, subst}
-use Rattle.realm_steps.specs.Steps.{history_of}
-use Rattle.realm_steps.proofs.Histories.{legal_history}
 use Rattle.realm_close.proofs.Preparing.{IsPreparing, preparing_begins, next_opened, next_begun, preparing_goes_on, one_more, all_ordered, all_prepared}
 use Rattle.realm_close.proofs.Settling.{left, left_falls}
 use Rattle.realm_close.proofs.reports.nested_logs.Goals as goal
 
 pub loop-next-init : goal.loop-next-init
-loop-next-init g c = rw c.new-shown.ensures.items (preparing_begins (history_of c.args.core.now.steps) c.args.actor c.args.scope c.inner-next.result c.inner-next.ensures)
+loop-next-init c = rw c.new-shown.ensures.items (preparing_begins c.args.realm.now.history c.args.actor c.args.scope c.inner-next.result c.inner-next.ensures)
 
 pub closing_log-requires : goal.closing_log-requires
-closing_log-requires g c =
-    let h = history_of c.args.core.now.steps in
+closing_log-requires c =
+    let h = c.args.realm.now.history in
     let so_far = subst (IsPreparing h c.args.actor c.args.scope (reverse c.loop-next.shown.items)) c.in-Some.is c.loop-next.invariant in
-    record { begun = next_begun _ h c.args.actor c.args.scope (legal_history _ c.args.core.now.steps c.limits-limits.ensures.legal) c.requires.can (reverse c.loop-next.shown.items) c.in-Some.here so_far }
+    record { begun = next_begun _ h c.args.actor c.args.scope c.limits-limits.ensures.legal c.requires.can (reverse c.loop-next.shown.items) c.in-Some.here so_far }
 
 pub verdict-requires : goal.verdict-requires
-verdict-requires g c =
-    let h = history_of c.args.core.now.steps in
+verdict-requires c =
+    let h = c.args.realm.now.history in
     let so_far = subst (IsPreparing h c.args.actor c.args.scope (reverse c.loop-next.shown.items)) c.in-Some.is c.loop-next.invariant in
-    record { opened = next_opened _ h c.args.actor c.args.scope (legal_history _ c.args.core.now.steps c.limits-limits.ensures.legal) c.requires.can (reverse c.loop-next.shown.items) c.in-Some.here so_far }
+    next_opened _ h c.args.actor c.args.scope c.limits-limits.ensures.legal c.requires.can (reverse c.loop-next.shown.items) c.in-Some.here so_far
 
 pub loop-next-smaller : goal.loop-next-smaller
-loop-next-smaller g c =
-    let h = history_of c.args.core.now.steps in
+loop-next-smaller c =
+    let h = c.args.realm.now.history in
     subst (λ o. left h c.inner-next-in-Some.result < left h o) (sym c.in-Some.is) (left_falls h c.in-Some.here c.inner-next-in-Some.result c.inner-next-in-Some.ensures)
 
 pub loop-next-preserved : goal.loop-next-preserved
-loop-next-preserved g c =
-    let h = history_of c.args.core.now.steps in
+loop-next-preserved c =
+    let h = c.args.realm.now.history in
     let so_far = subst (IsPreparing h c.args.actor c.args.scope (reverse c.loop-next.shown.items)) c.in-Some.is c.loop-next.invariant in
-    let legal = legal_history _ c.args.core.now.steps c.limits-limits.ensures.legal in
+    let legal = c.limits-limits.ensures.legal in
     rw c.in-Ok.ensures.items
     (one_more h c.args.actor c.args.scope c.loop-next.shown.items (c.in-Some.here, c.verdict.result, c.in_ok-log.log) c.inner-next-in-Some.result
     (preparing_goes_on _ h c.args.actor c.args.scope legal c.requires.can (reverse c.loop-next.shown.items) c.in-Some.here c.verdict.result c.in_ok-log.log c.inner-next-in-Some.result so_far c.verdict.ensures c.in_ok-log.ensures.log c.inner-next-in-Some.ensures))
 
 pub returns-clause-order : goal.returns-clause-order
-returns-clause-order g c =
-    let h = history_of c.args.core.now.steps in
-    let legal = legal_history _ c.args.core.now.steps c.limits-limits.ensures.legal in
+returns-clause-order c =
+    let h = c.args.realm.now.history in
+    let legal = c.limits-limits.ensures.legal in
     rw c.reverse.ensures.items
     (all_ordered _ h c.args.actor c.args.scope legal c.requires.can (reverse c.loop-next.shown.items)
     (subst (IsPreparing h c.args.actor c.args.scope (reverse c.loop-next.shown.items)) c.in_default.is c.loop-next.invariant))
 
 pub returns-clause-prepared : goal.returns-clause-prepared
-returns-clause-prepared g c =
-    rw c.reverse.ensures.items (all_prepared (history_of c.args.core.now.steps) c.args.actor c.args.scope (reverse c.loop-next.shown.items) c.loop-next.next c.loop-next.invariant)
+returns-clause-prepared c =
+    rw c.reverse.ensures.items (all_prepared c.args.realm.now.history c.args.actor c.args.scope (reverse c.loop-next.shown.items) c.loop-next.next c.loop-next.invariant)

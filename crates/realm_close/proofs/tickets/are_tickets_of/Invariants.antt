@@ -1,11 +1,10 @@
 -- The tickets of the scopes so far are at their places.
-use Rattle.realm_steps.specs.Steps.{history_of}
 use Rattle.realm_close.proofs.Gathering.{IsGathering}
 use Rattle.realm_close.proofs.Settling.{left}
 use Rattle.realm_close.proofs.tickets.are_tickets_of.Given as goal
 
 abbrev pub invariant-loop-next : goal.invariant-loop-next
-invariant-loop-next g l = IsGathering (history_of l.core.steps) l.scope l.fn.tickets.items l.tickets.items l.placed l.next
+invariant-loop-next l = IsGathering l.realm.history l.scope l.fn.tickets.items l.tickets.items l.placed l.next
 
 abbrev pub decreases-loop-next : goal.decreases-loop-next
-decreases-loop-next g l = left (history_of l.core.steps) l.next
+decreases-loop-next l = left l.realm.history l.next

@@ -2,16 +2,15 @@ use Rattle.std.proofs.Common.{◌≡◌, Some, length, ◌+◌, take, get_or, sl
 use Rattle.std.proofs.Math.Seq.{take-length}
 use Rattle.std.proofs.lemmas.List.Sorted.{IsPermutation-trans}
 use Rattle.std.proofs.lemmas.Option.{slice_get-get_or}
-use Rattle.realm_steps.specs.Steps.{history_of}
 use Rattle.realm_close.proofs.Placing.{IsPlacing, placing_goes_on, placing_misses, placing_ends}
 use Rattle.realm_close.proofs.tickets.place_all.Goals as goal
 
 pub returns-in_default-clause-same : goal.returns-in_default-clause-same
-returns-in_default-clause-same g c = IsPermutation-trans c.args.tickets.now.items c.loop-task.tickets.items c.place_one.new.tickets.items c.loop-task.invariant.same c.place_one.ensures.same
+returns-in_default-clause-same c = IsPermutation-trans c.args.tickets.now.items c.loop-task.tickets.items c.place_one.new.tickets.items c.loop-task.invariant.same c.place_one.ensures.same
 
 pub returns-in_default-clause-placed : goal.returns-in_default-clause-placed
-returns-in_default-clause-placed g c =
-    let h = history_of c.args.core.now.steps in
+returns-in_default-clause-placed c =
+    let h = c.args.realm.now.history in
     let tasks = c.tasks_of-tasks.result.now in
     let i = c.loop-task.task-index in
     placing_misses h c.args.scope c.args.first c.args.tickets.now.items c.loop-task.tickets.items c.place_one.new.tickets.items c.loop-task.place i (get_or tasks i 0)
@@ -20,8 +19,8 @@ returns-in_default-clause-placed g c =
     c.place_one.ensures.same c.place_one.ensures.before c.in_default.ensures.placed
 
 pub loop-task-preserved : goal.loop-task-preserved
-loop-task-preserved g c =
-    let h = history_of c.args.core.now.steps in
+loop-task-preserved c =
+    let h = c.args.realm.now.history in
     let tasks = c.tasks_of-tasks.result.now in
     let i = c.loop-task.task-index in
     subst (λ ts. IsPlacing h ts c.args.first c.args.tickets.now.items c.place_one.new.tickets.items c.in-Some.next (i + 1)) (sym c.tasks_of-tasks.ensures)
@@ -31,8 +30,8 @@ loop-task-preserved g c =
     c.place_one.ensures.same c.place_one.ensures.before c.in-Some.next c.in-Some.ensures.placed)
 
 pub returns-clause-placed : goal.returns-clause-placed
-returns-clause-placed g c =
-    let h = history_of c.args.core.now.steps in
+returns-clause-placed c =
+    let h = c.args.realm.now.history in
     let tasks = c.tasks_of-tasks.result.now in
     let i = c.loop-task.task-index in
     let full : i ≡ length tasks = omega arith in

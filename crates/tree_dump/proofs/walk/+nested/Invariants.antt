@@ -10,9 +10,9 @@ decreases-nested g l = l.levels
 -- the tasks so far are shown
 abbrev pub invariant-loop-told : goal.invariant-loop-told
 invariant-loop-told g l =
-    let h = g.N.Nests.history l.nests in
+    let h = g.R.Readings.history l.readings in
     map view l.tasks.items ≡ map (task_shown h (nested h (l.fn.levels - 1))) (take (length l.tasks.items) (tasks_of h l.info.scope))
 
 -- the tasks that are left
 abbrev pub decreases-loop-told : goal.decreases-loop-told
-decreases-loop-told g l = length (tasks_of (g.N.Nests.history l.nests) l.info.scope) - length l.tasks.items
+decreases-loop-told g l = length (tasks_of (g.R.Readings.history l.readings) l.info.scope) - length l.tasks.items

@@ -32,7 +32,7 @@ returns-clause-entries c =
     let are = subst (λ (r : Realm). AreTrailsOf r.history c.self.inside.trails) c.self.view_is c.self.invariant.1 in
     let places = c.in_ok-places.ensures.agrees h are in
     let said = c.in_ok-said.ensures ∙ ap (filter_map (entry_at h c.args.scope)) (c.deref.ensures.value ∙ sym c.deref-2.ensures.value) in
-    IfOk-weaker c.with_mark.result _ _ (λ v made. entries_made h c.args.scope c.deref-2.result.now _ _ v.items (c.deref-2.ensures.value ∙ places) c.cancel_of.ensures said made) c.with_mark.ensures
+    IfOk-weaker c.with_mark.result _ _ (λ v made. entries_made h c.args.scope c.deref-2.result.now _ _ v.items (c.deref-2.ensures.value ∙ places) c.cancellation.ensures said made) c.with_mark.ensures
 
 pub returns-clause-small : goal.returns-clause-small
 returns-clause-small c =

@@ -3,6 +3,7 @@ use Rattle.std.proofs.Common.{ap, length, sym, subst, refl}
 use Rattle.scope_rules.specs.Replies.{Realm}
 use Rattle.scope_rules.specs.Legal.{Accepts}
 use Rattle.scope_kept.specs.KeptTables.{IsKeptOf}
+use Rattle.scope_rows.specs.Agreement.{AreRowsOf}
 use Rattle.scope_trails.specs.TrailsOf.{AreTrailsOf}
 use Rattle.scope_trails.proofs.EventRoom.{free_room}
 use Rattle.kept_realm.proofs.Ready.{ready_at}
@@ -22,7 +23,7 @@ tell-requires g c =
     can_tell c.self.inside.journal.realm.limits h c.args.event t c.scope_of_event-scope.result (length c.events-place.result.now) c.limits-limits.ensures.legal accepted c.self.invariant.1
     (free_room h c.args.event t c.requires.free c.self.invariant.1)
     (λ opens. absurd (free_opens_none c.args.event c.requires.free opens))
-    (λ other. c.scope_of_event-scope.ensures h c.self.invariant.0 other)
+    (λ other. c.scope_of_event-scope.ensures h (subst (AreRowsOf h) (sym c.rows.ensures) c.self.invariant.0.rows) other)
     (ap length c.events-place.ensures.events)
 
 pub invariant_of-self : goal.invariant_of-self
@@ -33,5 +34,5 @@ invariant_of-self g c =
       of_next (λ x. IsKeptOf x c.follow.new.kept) c.self.inside.journal.realm c.self.inside.journal.realm c.record.new.self.realm c.args.event c.record.ensures.added refl
           (c.in-Ok.ensures.followed L h c.limits-limits.ensures.legal accepted c.self.invariant.0 (ap length c.events-place.ensures.events)),
       of_next (λ x. AreTrailsOf x c.tell.new.trails) c.self.inside.journal.realm c.self.inside.journal.realm c.record.new.self.realm c.args.event c.record.ensures.added refl
-          (c.tell.ensures L h c.limits-limits.ensures.legal (free_room h c.args.event c.self.inside.trails c.requires.free c.self.invariant.1) (λ other. c.scope_of_event-scope.ensures h c.self.invariant.0 other) c.self.invariant.1),
+          (c.tell.ensures L h c.limits-limits.ensures.legal (free_room h c.args.event c.self.inside.trails c.requires.free c.self.invariant.1) (λ other. c.scope_of_event-scope.ensures h (subst (AreRowsOf h) (sym c.rows.ensures) c.self.invariant.0.rows) other) c.self.invariant.1),
     )

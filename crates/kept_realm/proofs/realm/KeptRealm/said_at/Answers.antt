@@ -7,13 +7,15 @@ use Rattle.scope_rules.specs.Replies.{Realm}
 use Rattle.scope_rules.proofs.NewScopes.{scope_passed}
 use Rattle.scope_rules.proofs.Prefixes.{take_whole}
 use Rattle.scope_log.specs.Log.{entry_at}
-use Rattle.scope_kept.specs.KeptTables.{IsKeptOf}
 use Rattle.kept_realm.proofs.Said.{AreSaid, none_said, place_there, said_next, one_said, not_unsaid}
 use Rattle.kept_realm.proofs.realm.KeptRealm.said_at.Goals as goal
 use Rattle.kept_realm.proofs.realm.KeptRealm.said_at.Goals.{in-Some+in_ok-push, in_default}
 
 pub loop-place-init : goal.loop-place-init
 loop-place-init c = none_said c.args.self.now.history c.args.scope c.args.places.now c.new-entries.result.items c.new-entries.ensures.items
+
+pub tasks_of-tasks-requires : goal.tasks_of-tasks-requires
+tasks_of-tasks-requires c = subst IsSome (sym (scope_passed c.args.self.now.history c.args.scope c.requires.check).is) refl
 
 pub bounds-events-place : goal.bounds-events-place
 bounds-events-place c =
@@ -27,7 +29,7 @@ loop-place-preserved c =
     let n = c.loop-place.place-index in
     let so = c.loop-place.invariant in
     let events = c.events-events.ensures.events ∙ ap (λ (r : Realm). r.history.events) c.self.view_is in
-    let tasks = c.tasks_of-tasks.ensures h (subst (λ (r : Realm). IsKeptOf r.history c.self.inside.kept) c.self.view_is c.self.invariant.0) (subst IsSome (sym (scope_passed h c.args.scope c.requires.check).is) refl) in
+    let tasks = c.tasks_of-tasks.ensures in
     let within = subst (λ es. get_or ps n 0 < length es) (sym events) (place_there h c.args.scope ps n c.requires.places c.loop-place-test.true) in
     let at = ap (λ es. slice_get es (get_or ps n 0)) (sym events) ∙ slice_get_read c.events-events.result.now (length c.events-events.result.now) (get_or ps n 0) c.index-events-place.result refl within c.index-events-place.is in
     let says = c.said.ensures ∙ said_next c.limits-limits.result h c.args.scope ps c.tasks_of-tasks.result.now n c.loop-place.forked c.loop-place.entries.items c.index-events-place.result (subst (λ L. Legal L h) (sym c.limits-limits.ensures.limits) c.limits-limits.ensures.legal) c.requires.places tasks c.loop-place-test.true so at in

@@ -21,10 +21,13 @@ overflow_add-task c =
     let ok : check_of realm.limits realm.history e ≡ Ok tt = rw c.in-Fork.is at c.requires in
     omega (arith, (fork_number realm.limits realm.history c.in-Fork.actor c.in-Fork.scope c.in-Fork.label ok).1, c.tasks-task.ensures)
 
-pub returns-in-EndClose : goal.returns-in-EndClose
-returns-in-EndClose c =
+pub verdict-requires : goal.verdict-requires
+verdict-requires c =
     let realm = c.args.self.now in
     let e = EndClose c.in-EndClose.actor c.in-EndClose.scope in
     let ok : check_of realm.limits realm.history e ≡ Ok tt = rw c.in-EndClose.is at c.requires in
     let owner = (end_close_passed realm.limits realm.history c.in-EndClose.actor c.in-EndClose.scope (record { passed = ok; recorded = refl })).owner in
-    rw c.in-EndClose.is (ap Closed (c.verdict.ensures (subst IsSome (sym owner.is) refl)))
+    subst IsSome (sym owner.is) refl
+
+pub returns-in-EndClose : goal.returns-in-EndClose
+returns-in-EndClose c = rw c.in-EndClose.is (ap Closed c.verdict.ensures)

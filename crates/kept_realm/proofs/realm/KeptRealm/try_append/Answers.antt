@@ -5,6 +5,7 @@ use Rattle.scope_rules.specs.Legal.{Accepts, Legal}
 use Rattle.scope_rules.specs.Load.{load, weight}
 use Rattle.scope_kept.specs.Events.{HasFollowedAt}
 use Rattle.scope_kept.specs.KeptTables.{IsKeptOf}
+use Rattle.scope_rows.specs.Agreement.{AreRowsOf}
 use Rattle.scope_trails.specs.TrailsOf.{AreTrailsOf}
 use Rattle.kept_realm.specs.Telling.{HasRoomFor}
 use Rattle.kept_realm.proofs.Ready.{ready_at}
@@ -29,7 +30,7 @@ tell-requires c =
     (c.make_room.ensures.agrees h c.self.invariant.1)
     (made_room h c.args.event c.make_room.new.trails n size room)
     room.1
-    (λ other. c.scope_of_event-scope.ensures h c.self.invariant.0 other)
+    (λ other. c.scope_of_event-scope.ensures h (subst (AreRowsOf h) (sym c.rows.ensures) c.self.invariant.0.rows) other)
     (ap length c.events-place.ensures.events)
 
 pub invariant_of-self-2 : goal.invariant_of-self-2
@@ -44,5 +45,5 @@ invariant_of-self-2 c =
       of_next (λ g. IsKeptOf g c.follow.new.kept) c.self.inside.journal.realm c.reserve.new.self.realm c.record.new.self.realm c.args.event c.record.ensures.added c.reserve.ensures.kept
           (followed_so L h c.limits-limits.ensures.legal accepted c.self.invariant.0 (ap length c.events-place.ensures.events)),
       of_next (λ g. AreTrailsOf g c.tell.new.trails) c.self.inside.journal.realm c.reserve.new.self.realm c.record.new.self.realm c.args.event c.record.ensures.added c.reserve.ensures.kept
-          (c.tell.ensures L h c.limits-limits.ensures.legal (made_room h c.args.event c.make_room.new.trails n size room) (λ other. c.scope_of_event-scope.ensures h c.self.invariant.0 other) (c.make_room.ensures.agrees h c.self.invariant.1)),
+          (c.tell.ensures L h c.limits-limits.ensures.legal (made_room h c.args.event c.make_room.new.trails n size room) (λ other. c.scope_of_event-scope.ensures h (subst (AreRowsOf h) (sym c.rows.ensures) c.self.invariant.0.rows) other) (c.make_room.ensures.agrees h c.self.invariant.1)),
     )

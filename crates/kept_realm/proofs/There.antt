@@ -1,0 +1,92 @@
+-- What is kept has a row for each scope that was opened, each task that was forked and each actor that acts.
+use Rattle.std.proofs.Common.{◌≡◌, ℕ, true, is_some, Option, Some, None, IsSome, refl, ap, sym, subst, ◌∙◌}
+use Rattle.std.specs.Option.{option_and_then}
+use Rattle.scope_rules.specs.declared.types.capacity.Limits.{Limits}
+use Rattle.scope_rules.specs.declared.types.records.Opening.{Opening}
+use Rattle.scope_rules.specs.History.{History, opening, forking}
+use Rattle.scope_rules.specs.Legal.{Legal}
+use Rattle.scope_rules.specs.Scopes.{joined, surrounding}
+use Rattle.scope_rules.specs.Checks.{actor_check, scope_check, task_check}
+use Rattle.scope_rules.specs.Replies.{outcome_check}
+use Rattle.scope_rules.proofs.Accepted.{checks_at, not_refused, not_not}
+use Rattle.scope_rules.proofs.Owing.{if_refused}
+use Rattle.scope_rules.proofs.Nesting.{IsOpened, surrounding_opened}
+use Rattle.scope_rules.proofs.NewScopes.{scope_passed}
+use Rattle.scope_rules.proofs.PassedRows.{actor_passed}
+use Rattle.scope_checks.specs.Passes.{Passes}
+use Rattle.scope_rows.specs.declared.records.ScopeRow.{ScopeRow}
+use Rattle.scope_rows.specs.Agreement.{AreRowsOf, IsScopeRow}
+use Rattle.scope_rows.specs.Table.{RowTable, scope_row}
+use Rattle.scope_rows.proofs.Joinings.{joined_is_some}
+use Rattle.scope_rows.proofs.Places.{scope_at, scope_row_is}
+use Rattle.scope_cuts.specs.CutTables.{CutTable, HasRow}
+use Rattle.scope_cuts.specs.CutsOf.{AreCutsOf}
+use Rattle.scope_cuts.proofs.Readings.{has_row}
+use Rattle.scope_envs.specs.EnvTable.{EnvTable, HasEnv}
+use Rattle.scope_envs.specs.Agreement.{AreEnvsOf}
+use Rattle.scope_envs.proofs.Held.{has_env_of_actor}
+use Rattle.own_deadlines.specs.DeadlineTable.{DeadlineTable, HasDeadline}
+use Rattle.own_deadlines.specs.DeadlinesOf.{AreDeadlinesOf}
+use Rattle.own_deadlines.proofs.DeadlineSteps.{opened_has_deadline}
+use Rattle.scope_outcomes.specs.Answers.{HasJoined}
+use Rattle.scope_outcomes.specs.ForkTable.{ForkTable, HasForks}
+use Rattle.scope_outcomes.specs.ForksOf.{AreForksOf}
+use Rattle.scope_outcomes.proofs.Held.{opened_has_forks}
+
+-- a scope that passes was opened
+pub opened_there : (h : History) (s : ℕ) → Passes (scope_check h s) → IsSome (opening h s)
+opened_there h s passed = subst IsSome (sym (scope_passed h s passed).is) refl
+
+pub scope_there : (h : History) (s : ℕ) → Passes (scope_check h s) → opening h s ≡ None → ⊥
+scope_there h s passed none = absurd (cc ((scope_passed h s passed).is, none))
+
+-- it has its row among the cuts
+pub row_passed : (h : History) (t : CutTable) (s : ℕ) → AreCutsOf h t → Passes (scope_check h s) → HasRow t s
+row_passed h t s are passed = has_row h t s are (scope_passed h s passed)
+
+pub row_there : (h : History) (t : CutTable) (s : ℕ) (r : ScopeRow) → AreCutsOf h t → IsScopeRow h s r → HasRow t s
+row_there h t s r are row = has_row h t s are (record { opened = r.opening; is = row.opening })
+
+pub around_there : (L : Limits) (h : History) (t : CutTable) (a s : ℕ) → Legal L h → AreCutsOf h t → surrounding h a ≡ Some s → HasRow t s
+around_there L h t a s legal are is = has_row h t s are (surrounding_opened L h a s legal is)
+
+-- and its own deadline
+pub deadline_there : (h : History) (t : DeadlineTable) (s : ℕ) → AreDeadlinesOf h t → Passes (scope_check h s) → HasDeadline t s
+deadline_there h t s are passed = opened_has_deadline h t s are (scope_passed h s passed)
+
+-- and a list of its tasks
+pub forks_there : (h : History) (t : ForkTable) (s : ℕ) → AreForksOf h t → IsSome (opening h s) → HasForks t s
+forks_there h t s are opened = opened_has_forks h t s are (opened_by h s (opening h s) refl opened)
+  where
+    opened_by : (h : History) (s : ℕ) (o : Option Opening) → opening h s ≡ o → IsSome o → IsOpened h s
+    opened_by h s None is some = absurd cc
+    opened_by h s (Some o) is some = record { opened = o; is = is }
+
+-- a joined scope has a row that says so
+pub joined_there : (h : History) (t : RowTable) (s : ℕ) → AreRowsOf h t → Passes (outcome_check h s) → HasJoined t s
+unfolding outcome_check
+joined_there h t s are passed =
+    let opened = scope_passed h s (checks_at _ 0 _ passed refl) in
+    let joined : joined h s ≡ true = not_not _ (not_refused _ _ (checks_at _ 1 _ passed refl)) in
+    let it = scope_at h t s are opened in
+    let at : option_and_then (λ (r : ScopeRow). r.joined) (scope_row t s) ≡ it.row.joined = ap (option_and_then (λ (r : ScopeRow). r.joined)) (scope_row_is h t s it) in
+    subst IsSome (it.says.joined ∙ sym at) (sym (joined_is_some h s) ∙ joined)
+
+pub joined_row : (h : History) (t : CutTable) (s : ℕ) → AreCutsOf h t → Passes (outcome_check h s) → HasRow t s
+unfolding outcome_check
+joined_row h t s are passed = row_passed h t s are (checks_at _ 0 _ passed refl)
+
+pub joined_forks : (h : History) (t : ForkTable) (s : ℕ) → AreForksOf h t → Passes (outcome_check h s) → HasForks t s
+unfolding outcome_check
+joined_forks h t s are passed = opened_has_forks h t s are (scope_passed h s (checks_at _ 0 _ passed refl))
+
+-- a task that passes was forked
+pub task_there : (h : History) (k : ℕ) → Passes (task_check h k) → forking h k ≡ None → ⊥
+unfolding task_check
+task_there h k passed none =
+    let some : is_some (forking h k) ≡ true = not_not _ (not_refused _ _ (if_refused _ _ _ passed)) in
+    absurd (cc (some, ap is_some none))
+
+-- an actor that passes has an environment
+pub env_there : (h : History) (t : EnvTable) (a : ℕ) → AreEnvsOf h t → Passes (actor_check h a) → HasEnv t a
+env_there h t a are passed = has_env_of_actor h t a are (actor_passed h a passed)
