@@ -25,9 +25,9 @@ use Rattle.scope_cuts.proofs.Readings.{has_row}
 use Rattle.scope_envs.specs.EnvTable.{EnvTable, HasEnv}
 use Rattle.scope_envs.specs.Agreement.{AreEnvsOf}
 use Rattle.scope_envs.proofs.Held.{has_env_of_actor}
-use Rattle.own_deadlines.specs.DeadlineTable.{DeadlineTable, HasDeadline}
-use Rattle.own_deadlines.specs.DeadlinesOf.{AreDeadlinesOf}
-use Rattle.own_deadlines.proofs.DeadlineSteps.{opened_has_deadline}
+use Rattle.scope_rows.specs.DeadlineTable.{DeadlineTable, HasDeadline}
+use Rattle.scope_rows.specs.DeadlinesOf.{AreDeadlinesOf}
+use Rattle.scope_rows.proofs.DeadlineSteps.{opened_has_deadline}
 use Rattle.scope_outcomes.specs.Answers.{HasJoined}
 use Rattle.scope_outcomes.specs.ForkTable.{ForkTable, HasForks}
 use Rattle.scope_outcomes.specs.ForksOf.{AreForksOf}

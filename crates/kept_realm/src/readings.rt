@@ -297,11 +297,11 @@ impl Readings for KeptRealm {
     }
 
     fn outermost(&self, actor: Actor) -> Option<ScopeId> {
-        scope_nests::outermost(self.rows(), actor)
+        scope_rows::nests::outermost(self.rows(), actor)
     }
 
     fn inner(&self, scope: ScopeId) -> Option<ScopeId> {
-        scope_nests::inner(self.rows(), scope)
+        scope_rows::nests::inner(self.rows(), scope)
     }
 }
 

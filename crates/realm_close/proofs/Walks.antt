@@ -13,7 +13,7 @@ use Rattle.scope_rules.proofs.Earlier.{earliest_first, scope_given}
 use Rattle.scope_rules.proofs.Innermosts.{HasUnclosed, innermost_is}
 use Rattle.scope_rules.proofs.OneEventMore.{opening_same, closed_grows, unclosed_earlier}
 use Rattle.scope_rules.proofs.Openings.{and_then_some, if_some}
-use Rattle.scope_nests.proofs.FirstUnclosed.{next_is}
+use Rattle.scope_rows.proofs.FirstUnclosed.{next_is}
 use Rattle.realm_close.specs.Ends.{InEndOrder}
 use Rattle.realm_close.proofs.EndChains.{closed_now}
 

@@ -9,8 +9,8 @@ use Rattle.scope_outcomes.specs.ForksOf.{AreForksOf}
 use Rattle.scope_envs.specs.Agreement.{AreEnvsOf}
 use Rattle.scope_cuts.specs.CutTables.{CutTable}
 use Rattle.scope_cuts.specs.CutsOf.{AreCutsOf}
-use Rattle.own_deadlines.specs.DeadlineTable.{DeadlineTable}
-use Rattle.own_deadlines.specs.DeadlinesOf.{AreDeadlinesOf}
+use Rattle.scope_rows.specs.DeadlineTable.{DeadlineTable}
+use Rattle.scope_rows.specs.DeadlinesOf.{AreDeadlinesOf}
 use Rattle.scope_kept.specs.KeptTables.{AreAlike}
 
 pub alike : (h : History) (rows : RowTable) (cuts : CutTable) (envs : EnvTable) (forks : ForkTable) (deadlines : DeadlineTable) → AreRowsOf h rows → AreCutsOf h cuts → AreEnvsOf h envs → AreForksOf h forks → AreDeadlinesOf h deadlines → AreAlike rows cuts envs forks deadlines

@@ -13,8 +13,8 @@ use Rattle.scope_outcomes.specs.ForksOf.{AreForksOf, moves_forks}
 use Rattle.scope_outcomes.proofs.ForkSteps.{forks_stay}
 use Rattle.scope_envs.specs.Agreement.{AreEnvsOf, moves_envs}
 use Rattle.scope_envs.proofs.Steps.{envs_stay}
-use Rattle.own_deadlines.specs.DeadlinesOf.{AreDeadlinesOf, moves_deadlines}
-use Rattle.own_deadlines.proofs.DeadlineSteps.{deadlines_stay}
+use Rattle.scope_rows.specs.DeadlinesOf.{AreDeadlinesOf, moves_deadlines}
+use Rattle.scope_rows.proofs.DeadlineSteps.{deadlines_stay}
 use Rattle.scope_kept.specs.KeptTables.{KeptTable, IsKeptOf, AreAlike, HasRoomForEnds, forks_in, forks_of}
 use Rattle.scope_kept.specs.Events.{IsReadyFor, IsReadyAt, HasFollowed, HasFollowedAt}
 use Rattle.scope_kept.proofs.Alike.{alike}

@@ -11,8 +11,8 @@ use Rattle.scope_envs.specs.EnvTable.{EnvTable}
 use Rattle.scope_outcomes.specs.ForkTable.{ForkTable}
 use Rattle.scope_outcomes.specs.ForksOf.{AreForksOf}
 use Rattle.scope_envs.specs.Agreement.{AreEnvsOf}
-use Rattle.own_deadlines.specs.DeadlineTable.{DeadlineTable}
-use Rattle.own_deadlines.specs.DeadlinesOf.{AreDeadlinesOf}
+use Rattle.scope_rows.specs.DeadlineTable.{DeadlineTable}
+use Rattle.scope_rows.specs.DeadlinesOf.{AreDeadlinesOf}
 use Rattle.scope_cuts.specs.CutTables.{CutTable, account_at}
 use Rattle.scope_cuts.specs.CutsOf.{AreCutsOf}
 

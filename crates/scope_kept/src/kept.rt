@@ -8,11 +8,10 @@ ghost use Rattle.scope_cuts.specs.Lent.{scopes_of};
 ghost use Rattle.scope_kept.specs.KeptTables.{IsKeptOf};
 ghost use Rattle.scope_kept.specs.Lending.{KeepsAll};
 
-use own_deadlines::OwnDeadlines;
 use scope_cuts::{CancelledScopes, Cuts};
 use scope_envs::Envs;
 use scope_outcomes::Forks;
-use scope_rows::Rows;
+use scope_rows::{OwnDeadlines, Rows};
 use scope_rules::Base;
 use std::alloc::{AllocError, Global};
 use std::marker::Model;

@@ -22,3 +22,7 @@ pub mod MarkLaws
 pub mod CloseLaws
 pub mod CloseWriting
 pub mod WantsMet
+pub mod DeadlineSteps
+pub mod LevelLimit
+pub mod FirstUnclosed
+pub mod NestWalks

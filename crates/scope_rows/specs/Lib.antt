@@ -2,3 +2,5 @@ pub mod Table
 pub mod Agreement
 pub mod Steps
 pub mod Wants
+pub mod DeadlineTable
+pub mod DeadlinesOf

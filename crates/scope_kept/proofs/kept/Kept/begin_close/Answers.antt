@@ -3,7 +3,7 @@ use Rattle.scope_rules.specs.declared.types.events.Event.TheVariants.{BeginClose
 use Rattle.scope_rows.proofs.WantsMet.{can_begin_close}
 use Rattle.scope_envs.proofs.Steps.{envs_stay}
 use Rattle.scope_outcomes.proofs.ForkSteps.{forks_stay}
-use Rattle.own_deadlines.proofs.DeadlineSteps.{deadlines_stay}
+use Rattle.scope_rows.proofs.DeadlineSteps.{deadlines_stay}
 use Rattle.scope_kept.specs.KeptTables.{KeptTable}
 use Rattle.scope_kept.specs.Events.{IsReadyAt, HasFollowedAt}
 use Rattle.scope_kept.proofs.Following.{alike_next_at, room_stays}

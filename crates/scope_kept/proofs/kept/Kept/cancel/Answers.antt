@@ -5,7 +5,7 @@ use Rattle.scope_cuts.specs.CutTables.{CutTable, cancelled}
 use Rattle.scope_cuts.proofs.CancelSteps.{cancelled_next}
 use Rattle.scope_cuts.proofs.Readings.{has_row}
 use Rattle.scope_rows.proofs.Keeping.{rows_cancelled}
-use Rattle.own_deadlines.proofs.DeadlineSteps.{deadlines_stay}
+use Rattle.scope_rows.proofs.DeadlineSteps.{deadlines_stay}
 use Rattle.scope_kept.specs.KeptTables.{KeptTable}
 use Rattle.scope_kept.specs.Events.{IsReadyAt, HasFollowedAt}
 use Rattle.scope_kept.proofs.Following.{cuts_follow, alike_next_at}

@@ -5,7 +5,7 @@ use Rattle.scope_rows.specs.Table.{scope_of}
 use Rattle.scope_rows.proofs.WantsMet.{can_finish}
 use Rattle.scope_envs.proofs.Steps.{envs_stay}
 use Rattle.scope_outcomes.proofs.ForkSteps.{forks_stay}
-use Rattle.own_deadlines.proofs.DeadlineSteps.{deadlines_stay}
+use Rattle.scope_rows.proofs.DeadlineSteps.{deadlines_stay}
 use Rattle.scope_kept.specs.KeptTables.{KeptTable, IsKeptOf}
 use Rattle.scope_kept.specs.Events.{IsReadyAt, HasFollowedAt}
 use Rattle.scope_kept.proofs.Ending.{ends_in, room_for_end, few_ended, cuts_ended, room_ended}

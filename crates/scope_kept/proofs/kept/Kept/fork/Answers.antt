@@ -6,7 +6,7 @@ use Rattle.scope_cuts.specs.CutsOf.{AreCutsOf}
 use Rattle.scope_cuts.proofs.EventSteps.{cuts_stay}
 use Rattle.scope_envs.specs.Agreement.{AreEnvsOf}
 use Rattle.scope_outcomes.proofs.Held.{still_has_forks}
-use Rattle.own_deadlines.proofs.DeadlineSteps.{deadlines_stay}
+use Rattle.scope_rows.proofs.DeadlineSteps.{deadlines_stay}
 use Rattle.scope_kept.specs.KeptTables.{KeptTable, IsKeptOf, HasRoomForEnds, HasRoomToFork}
 use Rattle.scope_kept.specs.Events.{IsReadyAt, HasFollowedAt}
 use Rattle.scope_kept.proofs.Following.{alike_next_at}

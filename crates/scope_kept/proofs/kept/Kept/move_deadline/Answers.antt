@@ -1,7 +1,7 @@
 use Rattle.std.proofs.Common.{refl, sym, subst}
 use Rattle.scope_rules.specs.declared.types.events.Event.TheVariants.{Move}
 use Rattle.scope_rows.proofs.Keeping.{rows_deadline_moved}
-use Rattle.own_deadlines.proofs.DeadlineSteps.{opened_has_deadline}
+use Rattle.scope_rows.proofs.DeadlineSteps.{opened_has_deadline}
 use Rattle.scope_kept.specs.KeptTables.{KeptTable}
 use Rattle.scope_kept.specs.Events.{IsReadyAt, HasFollowedAt}
 use Rattle.scope_kept.proofs.Following.{cuts_follow, alike_next_at}

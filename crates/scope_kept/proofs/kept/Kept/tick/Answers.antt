@@ -1,7 +1,7 @@
 use Rattle.std.proofs.Common.{refl, sym, subst}
 use Rattle.scope_rules.specs.declared.types.events.Event.TheVariants.{Tick}
 use Rattle.scope_rows.proofs.Keeping.{rows_ticked}
-use Rattle.own_deadlines.proofs.DeadlineSteps.{deadlines_stay}
+use Rattle.scope_rows.proofs.DeadlineSteps.{deadlines_stay}
 use Rattle.scope_kept.specs.KeptTables.{KeptTable}
 use Rattle.scope_kept.specs.Events.{IsReadyAt, HasFollowedAt}
 use Rattle.scope_kept.proofs.Following.{cuts_follow}

@@ -1,8 +1,8 @@
 -- The walk goes down until it has come past the scope, or nothing is left.
 use Rattle.std.proofs.Common.{◌≡◌, subst, arith}
 use Rattle.scope_rules.specs.declared.types.capacity.TheConstants.{LEVEL_LIMIT}
-use Rattle.scope_nests.proofs.NestWalks.{AreWalked, walk_start, walk_on, walk_end, walk_past, walk_out}
-use Rattle.scope_nests.proofs.nests.next_unclosed.Goals as goal
+use Rattle.scope_rows.proofs.NestWalks.{AreWalked, walk_start, walk_on, walk_end, walk_past, walk_out}
+use Rattle.scope_rows.proofs.nests.next_unclosed.Goals as goal
 
 pub loop-level-init : goal.loop-level-init
 loop-level-init c = walk_start c.args.rows.now c.args.actor c.args.scope c.innermost-next.result c.innermost-next.ensures.agrees

@@ -1,7 +1,7 @@
 -- The outermost scope is the first after none.
 use Rattle.std.proofs.Common.{◌∙◌}
-use Rattle.scope_nests.proofs.FirstUnclosed.{outermost_is}
-use Rattle.scope_nests.proofs.nests.outermost.Goals as goal
+use Rattle.scope_rows.proofs.FirstUnclosed.{outermost_is}
+use Rattle.scope_rows.proofs.nests.outermost.Goals as goal
 
 pub returns : goal.returns
 returns c = λ L h legal are. c.next_unclosed.ensures L h legal are ∙ outermost_is h c.args.actor

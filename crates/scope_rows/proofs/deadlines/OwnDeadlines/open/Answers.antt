@@ -1,8 +1,8 @@
 -- The new scope has the deadline that it is opened with.
 use Rattle.std.proofs.Common.{arith}
 use Rattle.std.proofs.lemmas.Grind.{common_steps}
-use Rattle.own_deadlines.proofs.DeadlineSteps.{opened_agrees}
-use Rattle.own_deadlines.proofs.deadlines.OwnDeadlines.open.Goals as goal
+use Rattle.scope_rows.proofs.DeadlineSteps.{opened_agrees}
+use Rattle.scope_rows.proofs.deadlines.OwnDeadlines.open.Goals as goal
 
 pub returns-clause-kept : goal.returns-clause-kept
 returns-clause-kept c = grind (arith, common_steps)

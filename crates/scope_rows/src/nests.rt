@@ -1,4 +1,5 @@
-//! The walk down an actor's unclosed scopes.
+//! What lies in what: the outermost scope of an actor and the scope inside a scope, by the rows alone,
+//! without a look at the history.
 //!
 //! Each unclosed scope of an actor lies in the one before it. So an actor has no more of them than there
 //! are levels, and a walk over all of them takes constant time.
@@ -11,7 +12,7 @@ ghost use Rattle.scope_rules.specs.Nests.{next_unclosed, outermost, inner};
 ghost use Rattle.scope_rows.specs.Agreement.{AreRowsOf};
 ghost use Rattle.scope_rows.specs.Steps.{below_of};
 
-use scope_rows::Rows;
+use crate::rows::Rows;
 use scope_rules::types::capacity::LEVEL_LIMIT;
 use scope_rules::{Actor, ScopeId};
 

@@ -25,8 +25,8 @@ use Rattle.scope_rows.specs.Table.{place_of}
 use Rattle.scope_rows.proofs.Altering.{altered_length, altered_set, altered_split, pushed_split}
 use Rattle.scope_rows.proofs.Keeping.{count_same}
 use Rattle.scope_rows.proofs.Places.{number_at, number_apart, place_within}
-use Rattle.own_deadlines.specs.DeadlineTable.{DeadlineTable, HasDeadline, deadline_in, no_deadlines, with_open, with_deadline}
-use Rattle.own_deadlines.specs.DeadlinesOf.{AreDeadlinesOf, moves_deadlines}
+use Rattle.scope_rows.specs.DeadlineTable.{DeadlineTable, HasDeadline, deadline_in, no_deadlines, with_open, with_deadline}
+use Rattle.scope_rows.specs.DeadlinesOf.{AreDeadlinesOf, moves_deadlines}
 
 -- ---- what is there
 

@@ -4,7 +4,7 @@ use Rattle.scope_rules.specs.declared.types.events.Event.{Event}
 use Rattle.scope_rules.specs.declared.types.events.Event.TheVariants.{Open, Move}
 use Rattle.scope_rules.specs.History.{History, opened_count}
 use Rattle.scope_rules.specs.Cancels.{deadline}
-use Rattle.own_deadlines.specs.DeadlineTable.{DeadlineTable}
+use Rattle.scope_rows.specs.DeadlineTable.{DeadlineTable}
 
 -- the table has the own deadline of each scope that was opened since the base
 pub record AreDeadlinesOf (h : History) (t : DeadlineTable) : Type 0 where

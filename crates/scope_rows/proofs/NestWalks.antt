@@ -15,8 +15,8 @@ use Rattle.scope_rows.specs.Table.{RowTable}
 use Rattle.scope_rows.proofs.CloseLaws.{are_below}
 use Rattle.scope_rows.proofs.EndLaws.{below_is}
 use Rattle.scope_rows.proofs.Places.{scope_at}
-use Rattle.scope_nests.proofs.FirstUnclosed.{next_none, next_is}
-use Rattle.scope_nests.proofs.LevelLimit.{level_within, level_counts, level_below}
+use Rattle.scope_rows.proofs.FirstUnclosed.{next_none, next_is}
+use Rattle.scope_rows.proofs.LevelLimit.{level_within, level_counts, level_below}
 
 -- an unclosed scope of the actor is the one that was found last, or comes after it, or is still to come
 abbrev IsMet : Option ℕ → Option ℕ → ℕ → Type 0

@@ -3,7 +3,7 @@ use Rattle.std.proofs.Common.{ap, sym, ◌∙◌}
 use Rattle.std.specs.Option.{option_and_then}
 use Rattle.scope_rules.specs.declared.types.records.Opening.{Opening}
 use Rattle.scope_rules.specs.Nests.{next_unclosed, inner}
-use Rattle.scope_nests.proofs.nests.inner.Goals as goal
+use Rattle.scope_rows.proofs.nests.inner.Goals as goal
 
 pub returns-in_err-row : goal.returns-in_err-row
 unfolding inner

@@ -1,3 +1,6 @@
+//! The own deadline of each scope: that of its last move, or else of its opening, whether it counts still
+//! or not.
+
 ghost use Rattle.std.specs.Prelude.{◌≡◌, ℕ, ◌≤◌, ◌<◌, [], OnOk, OnErr, length};
 ghost use Rattle.scope_rules.specs.Origin.{Origin};
 ghost use Rattle.scope_rules.specs.declared.types.capacity.Limits.{Limits};
@@ -8,8 +11,8 @@ ghost use Rattle.scope_rules.specs.History.{History, followed};
 ghost use Rattle.scope_rules.specs.Cancels.{deadline};
 ghost use Rattle.scope_rules.specs.Legal.{Legal};
 ghost use Rattle.scope_rows.specs.Table.{place_of};
-ghost use Rattle.own_deadlines.specs.DeadlineTable.{HasDeadline, deadline_in, no_deadlines, with_open, with_deadline};
-ghost use Rattle.own_deadlines.specs.DeadlinesOf.{AreDeadlinesOf};
+ghost use Rattle.scope_rows.specs.DeadlineTable.{HasDeadline, deadline_in, no_deadlines, with_open, with_deadline};
+ghost use Rattle.scope_rows.specs.DeadlinesOf.{AreDeadlinesOf};
 
 use scope_rules::ScopeId;
 use std::alloc::{AllocError, Global};
@@ -26,7 +29,7 @@ pub struct OwnDeadlines {
 
 impl Model for OwnDeadlines {
     ghost use Rattle.std.specs.Prelude.{◌-◌, vec_capacity, vec_len};
-    ghost use Rattle.own_deadlines.specs.DeadlineTable.{DeadlineTable};
+    ghost use Rattle.scope_rows.specs.DeadlineTable.{DeadlineTable};
 
     ghost Value = { DeadlineTable };
 

@@ -1,2 +1,0 @@
-pub mod DeadlineTable
-pub mod DeadlinesOf

@@ -1,3 +1,0 @@
-pub mod LevelLimit
-pub mod FirstUnclosed
-pub mod NestWalks
