@@ -1,7 +1,7 @@
 -- Of a task that was forked since the last retirement, the list says how it ended and what its fork
 -- gave, as the history does.
-use Rattle.std.proofs.Common.{◌≡◌, ℕ, ◌+◌, ◌-◌, ◌≤◌, ◌<◌, ◌==◌, Bool, true, false, cond, Option, Some, None, List, [], ◌∷◌, length, refl, sym, ap, ◌∙◌, arith, subst, inl, inr}
-use Rattle.std.proofs.lemmas.Bool.{both_ways, cases_Bool, eqb-true, eqb-false}
+use Rattle.std.proofs.Common.{◌≡◌, ℕ, ◌+◌, ◌≤◌, ◌<◌, ◌==◌, Bool, true, false, cond, Option, Some, None, List, [], ◌∷◌, length, refl, sym, ap, ◌∙◌, arith, subst}
+use Rattle.std.proofs.lemmas.Bool.{both_ways}
 use Rattle.std.specs.Option.{option_or}
 use Rattle.scope_rules.specs.declared.types.capacity.Limits.{Limits}
 use Rattle.scope_rules.specs.declared.types.events.Event.{Event}
@@ -29,7 +29,8 @@ use Rattle.realm_steps.specs.Steps.{asked, fresh, advance, advanced, history_of,
 use Rattle.realm_steps.specs.Tickets.{is_event, grant_of, granted, grant_in, end_of, end_in}
 use Rattle.realm_steps.specs.StepLaws.{end_shown, grant_shown, TellsHistory}
 use Rattle.realm_steps.proofs.Asks.{asks_no_fork, asks_no_end}
-use Rattle.realm_steps.proofs.Histories.{legal_empty, legal_advance, tasks_advance, base_advanced}
+use Rattle.realm_steps.proofs.Histories.{legal_empty, legal_advance, base_advanced}
+use Rattle.realm_steps.proofs.GrantWalks.{to_fork}
 use Rattle.realm_steps.proofs.Ties.{base_after, none_before, finished_found, rejected_told, started_told}
 
 shown_or : (o p : Option Ending) → end_shown (option_or o p) ≡ option_or (end_shown o) (end_shown p)
@@ -114,31 +115,25 @@ fork_made L h _ legal ok so = absurd cc
 same_forking : (f g : Forking) (o : Option Forking) → o ≡ Some f → o ≡ Some g → f ≡ g
 same_forking f g o is so = cc
 
-grants_on : (L : Limits) (k : ℕ) (h : History) (n : ℕ) (xs : List RealmStep) (f : Forking) → Legal L h → LegalFrom L h xs → (advanced h xs).base.tasks < k → tasks h + n ≡ k → 1 ≤ n → forking (advanced h xs) k ≡ Some f → granted h n xs ≡ grant_shown (cancelled_before (advanced h xs) f.scope f.place) f
-grants_on L k h n [] f legal lawful above number some is = let it = forked_after h k f is in absurd (omega (arith, it.1, it.2))
-grants_on L k h n (x ∷ xs) f legal lawful above number some is =
-    let lawful' = legal_advance L h x legal lawful.0 in
-    let counted = tasks_advance h x in
-    elim (cases_Bool (is_event is_fork x)) [
-      | inl forks ↦
-          elim (cases_Bool (n == 1)) [
-            | inl one ↦
-                let it = fork_made L h x legal lawful.0 forks in
-                let first : tasks h + 1 ≡ k = omega (arith, eqb-true n 1 one) in
-                let made : forking (advance h x) k ≡ Some it.new = subst (λ (m : ℕ). forking (advance h x) m ≡ Some it.new) first it.forked in
-                let on = forked_on L k (advance h x) xs it.new lawful' lawful.1 above made in
-                let same = same_forking it.new f (forking (advanced h (x ∷ xs)) k) on.forked is in
-                let P : Forking → Type 0 = λ (w : Forking). grant_of h x ≡ grant_shown (cancelled_before (advanced h (x ∷ xs)) w.scope w.place) w in
-                rw (forks, one) (subst P same (it.gives ∙ ap (λ b. grant_shown b it.new) (sym on.cancelled)))
-            | inr more ↦ rw (forks, more) (grants_on L k (advance h x) (n - 1) xs f lawful' lawful.1 above (omega (arith, rw forks at counted, eqb-false n 1 more)) (omega (arith, eqb-false n 1 more)) is)
-          ]
-      | inr other ↦ rw other (grants_on L k (advance h x) n xs f lawful' lawful.1 above (omega (arith, rw other at counted)) some is)
-    ]
+-- what the n-th fork gave, which is task k's, is what the history says that it gave
+abbrev TellsFork : ℕ → Forking → History → ℕ → List RealmStep → Type 0
+TellsFork k f h n xs = (advanced h xs).base.tasks < k → forking (advanced h xs) k ≡ Some f → granted h n xs ≡ grant_shown (cancelled_before (advanced h xs) f.scope f.place) f
+
+grants_on : (L : Limits) (k : ℕ) (h : History) (n : ℕ) (xs : List RealmStep) (f : Forking) → Legal L h → LegalFrom L h xs → tasks h + n ≡ k → 1 ≤ n → TellsFork k f h n xs
+grants_on L k h n xs f =
+    to_fork L k (TellsFork k f) (λ h n below above is. let it = forked_after h k f is in absurd (omega (arith, it.1, it.2, below)))
+    (λ h x xs n legal ok lawful forks first gives above is.
+    let it = fork_made L h x legal ok forks in
+    let made : forking (advance h x) k ≡ Some it.new = subst (λ (m : ℕ). forking (advance h x) m ≡ Some it.new) first it.forked in
+    let on = forked_on L k (advance h x) xs it.new (legal_advance L h x legal ok) lawful above made in
+    let same = same_forking it.new f (forking (advanced h (x ∷ xs)) k) on.forked is in
+    let P : Forking → Type 0 = λ (w : Forking). grant_of h x ≡ grant_shown (cancelled_before (advanced h (x ∷ xs)) w.scope w.place) w in
+    gives ∙ subst P same (it.gives ∙ ap (λ b. grant_shown b it.new) (sym on.cancelled))) (λ h x xs n m legal ok below gives rest above is. gives ∙ rest above is) h n xs
 
 -- the list says what the task's fork gave
 pub grant_told : (L : Limits) (xs : List RealmStep) (k : ℕ) (f : Forking) → IsLegal L xs → (history_of xs).base.tasks < k → forking (history_of xs) k ≡ Some f → grant_in k xs ≡ grant_shown (cancelled_before (history_of xs) f.scope f.place) f
 unfolding history_of IsLegal grant_in
-grant_told L xs k f lawful above is = grants_on L k fresh k xs f (legal_empty L fresh.base) lawful above (omega arith) (omega arith) is
+grant_told L xs k f lawful above is = grants_on L k fresh k xs f (legal_empty L fresh.base) lawful (omega arith) (omega arith) above is
 
 -- of a task that was forked since the last retirement, the list says what the history says
 pub tells_history : (L : Limits) (xs : List RealmStep) (k : ℕ) → IsLegal L xs → (history_of xs).base.tasks < k → TellsHistory k xs

@@ -1,12 +1,12 @@
 -- Tasks that wait or run go on so until their own steps, since no retirement passes meanwhile.
-use Rattle.std.proofs.Common.{ap, ◌≡◌, ℕ, ◌+◌, ◌-◌, ◌≤◌, ◌<◌, ◌==◌, Bool, true, false, not, cond, Option, Some, None, Ok, is_some, List, [], ◌∷◌, refl, sym, ◌∙◌, arith, subst, inl, inr}
+use Rattle.std.proofs.Common.{ap, ◌≡◌, ℕ, ◌+◌, ◌≤◌, ◌<◌, Bool, true, false, not, cond, Option, Some, None, Ok, is_some, List, [], ◌∷◌, refl, sym, ◌∙◌, arith, subst, inl, inr}
 use Rattle.std.proofs.lemmas.Bool.{or_parts, and_parts, cases_Bool, both_ways, false_from_ne_true, eqb-true, not-true}
 use Rattle.std.specs.List.{list_any}
 use Rattle.scope_rules.specs.declared.types.capacity.Limits.{Limits}
 use Rattle.scope_rules.specs.declared.types.events.Event.TheVariants.{Fork, Start}
 use Rattle.scope_rules.specs.declared.types.answers.Stage.{Stage}
 use Rattle.scope_rules.specs.declared.types.answers.Stage.TheVariants.{Never, Waiting, Running}
-use Rattle.scope_rules.specs.History.{History, tasks, is_fork}
+use Rattle.scope_rules.specs.History.{History, tasks}
 use Rattle.scope_rules.specs.Cancels.{is_cancelled}
 use Rattle.scope_rules.specs.Tasks.{stage, rejects, starts, finishes, is_waiting, is_running, is_settled}
 use Rattle.scope_rules.specs.Table.{retire_check}
@@ -24,8 +24,9 @@ use Rattle.realm_steps.specs.StepLaws.{TellsAlike}
 use Rattle.realm_steps.specs.Holders.{Agrees}
 use Rattle.realm_steps.specs.declared.steps.Holder.TheVariants.{TicketOf}
 use Rattle.realm_steps.proofs.Asks.{asks_no_start, asks_no_finish}
-use Rattle.realm_steps.proofs.Histories.{legal_empty, legal_advance, tasks_advance, retired_without_scopes}
+use Rattle.realm_steps.proofs.Histories.{legal_empty, legal_advance, retired_without_scopes}
 use Rattle.realm_steps.proofs.Told.{finished_is, seen_tells}
+use Rattle.realm_steps.proofs.GrantWalks.{granted_number, to_fork}
 
 -- a retirement finds each task settled
 retired_settled : (L : Limits) (h : History) (k : ℕ) → Legal L h → retire_check h 0 ≡ Ok tt → is_settled (stage h k) ≡ true
@@ -95,19 +96,6 @@ fork_step : (L : Limits) (h : History) (x : RealmStep) (g : Grant) → Legal L h
 fork_step L h (Happened (Fork a s label)) g legal ok at = rw (stage_forked L h a s label legal ok) (waiting_or_never (is_cancelled h s) Grant (record { scope = s; label = label }) None g at)
 fork_step L h _ g legal ok at = absurd cc
 
--- the n-th fork of the steps is counted from 1
-pub granted_number : (h : History) (n : ℕ) (xs : List RealmStep) (g : Grant) → granted h n xs ≡ Some g → 1 ≤ n
-granted_number h n [] g at = absurd cc
-granted_number h n (x ∷ xs) g at =
-    elim (cases_Bool (is_event is_fork x)) [
-      | inl forks ↦
-          elim (cases_Bool (n == 1)) [
-            | inl one ↦ omega (arith, eqb-true n 1 one)
-            | inr more ↦ omega (arith, granted_number (advance h x) (n - 1) xs g (rw (forks, more) at at))
-          ]
-      | inr other ↦ granted_number (advance h x) n xs g (rw other at at)
-    ]
-
 -- a task is not started before it is forked
 unstarted_before : (L : Limits) (h : History) (k : ℕ) (x : RealmStep) → Passes L h x → tasks h < k → is_event (starts k) x ≡ false
 unstarted_before L h k (Happened e) ok before_it =
@@ -120,51 +108,44 @@ unstarted_before L h k (Asked actor q) ok before_it = asks_no_start k q
 unstarted_before L h k Retirement ok before_it = refl
 
 -- a task that was given a thread after h waits, where it has no reject and no start
-granted_waits : (L : Limits) (h : History) (n k : ℕ) (xs : List RealmStep) (g : Grant) → Legal L h → LegalFrom L h xs → tasks h + n ≡ k → granted h n xs ≡ Some g → list_any (is_event (rejects k)) xs ≡ false → list_any (is_event (starts k)) xs ≡ false → is_waiting (stage (advanced h xs) k) ≡ true
-granted_waits L h n k [] g legal lawful number at unrejected unstarted = absurd cc
-granted_waits L h n k (x ∷ xs) g legal lawful number at unrejected unstarted =
+abbrev WaitsFrom : ℕ → Grant → History → ℕ → List RealmStep → Type 0
+WaitsFrom k g h n xs = granted h n xs ≡ Some g → list_any (is_event (rejects k)) xs ≡ false → list_any (is_event (starts k)) xs ≡ false → is_waiting (stage (advanced h xs) k) ≡ true
+
+granted_waits : (L : Limits) (h : History) (n k : ℕ) (xs : List RealmStep) (g : Grant) → Legal L h → LegalFrom L h xs → tasks h + n ≡ k → 1 ≤ n → WaitsFrom k g h n xs
+granted_waits L h n k xs g =
+    to_fork L k (WaitsFrom k g) (λ h n below at unrejected unstarted. absurd cc)
+    (λ h x xs n legal ok lawful forks first is at unrejected unstarted.
     let r = or_parts (is_event (rejects k) x) (list_any (is_event (rejects k)) xs) unrejected in
     let s = or_parts (is_event (starts k) x) (list_any (is_event (starts k)) xs) unstarted in
-    let lawful' = legal_advance L h x legal lawful.0 in
-    let counted = tasks_advance h x in
-    elim (cases_Bool (is_event is_fork x)) [
-      | inl forks ↦
-          elim (cases_Bool (n == 1)) [
-            | inl one ↦
-                let first : tasks h + 1 ≡ k = omega (arith, eqb-true n 1 one) in
-                waits_on L (advance h x) k xs lawful' lawful.1 (rw first at (fork_step L h x g legal lawful.0 (rw (forks, one) at at))) r.1 s.1
-            | inr more ↦
-                let rest : granted (advance h x) (n - 1) xs ≡ Some g = rw (forks, more) at at in
-                let some = granted_number (advance h x) (n - 1) xs g rest in
-                granted_waits L (advance h x) (n - 1) k xs g lawful' lawful.1 (omega (arith, rw forks at counted)) rest r.1 s.1
-          ]
-      | inr other ↦ granted_waits L (advance h x) n k xs g lawful' lawful.1 (omega (arith, rw other at counted)) (rw other at at) r.1 s.1
-    ]
+    waits_on L (advance h x) k xs (legal_advance L h x legal ok) lawful (rw first at (fork_step L h x g legal ok (sym is ∙ at))) r.1 s.1)
+    (λ h x xs n m legal ok below is rest at unrejected unstarted.
+    let r = or_parts (is_event (rejects k) x) (list_any (is_event (rejects k)) xs) unrejected in
+    let s = or_parts (is_event (starts k) x) (list_any (is_event (starts k)) xs) unstarted in
+    rest (sym is ∙ at) r.1 s.1) h n xs
 
 -- a task that was given a thread after h, and was started, runs, where it has no reject and no end
-granted_runs : (L : Limits) (h : History) (n k : ℕ) (xs : List RealmStep) (g : Grant) → Legal L h → LegalFrom L h xs → tasks h + n ≡ k → granted h n xs ≡ Some g → list_any (is_event (rejects k)) xs ≡ false → list_any (is_event (starts k)) xs ≡ true → list_any (is_event (finishes k)) xs ≡ false → is_running (stage (advanced h xs) k) ≡ true
-granted_runs L h n k [] g legal lawful number at unrejected started unfinished = absurd cc
-granted_runs L h n k (x ∷ xs) g legal lawful number at unrejected started unfinished =
-    let r = or_parts (is_event (rejects k) x) (list_any (is_event (rejects k)) xs) unrejected in
-    let f = or_parts (is_event (finishes k) x) (list_any (is_event (finishes k)) xs) unfinished in
-    let some = granted_number h n (x ∷ xs) g at in
-    let here : is_event (starts k) x ≡ false = unstarted_before L h k x lawful.0 (omega arith) in
-    let later : list_any (is_event (starts k)) xs ≡ true = rw here at started in
-    let lawful' = legal_advance L h x legal lawful.0 in
-    let counted = tasks_advance h x in
-    elim (cases_Bool (is_event is_fork x)) [
-      | inl forks ↦
-          elim (cases_Bool (n == 1)) [
-            | inl one ↦
-                let first : tasks h + 1 ≡ k = omega (arith, eqb-true n 1 one) in
-                starts_on L (advance h x) k xs lawful' lawful.1 (rw first at (fork_step L h x g legal lawful.0 (rw (forks, one) at at))) r.1 later f.1
-            | inr more ↦
-                let rest : granted (advance h x) (n - 1) xs ≡ Some g = rw (forks, more) at at in
-                let some' = granted_number (advance h x) (n - 1) xs g rest in
-                granted_runs L (advance h x) (n - 1) k xs g lawful' lawful.1 (omega (arith, rw forks at counted)) rest r.1 later f.1
-          ]
-      | inr other ↦ granted_runs L (advance h x) n k xs g lawful' lawful.1 (omega (arith, rw other at counted)) (rw other at at) r.1 later f.1
-    ]
+abbrev RunsFrom : ℕ → Grant → History → ℕ → List RealmStep → Type 0
+RunsFrom k g h n xs = granted h n xs ≡ Some g → list_any (is_event (rejects k)) xs ≡ false → list_any (is_event (starts k)) xs ≡ true → list_any (is_event (finishes k)) xs ≡ false → is_running (stage (advanced h xs) k) ≡ true
+
+granted_runs : (L : Limits) (h : History) (n k : ℕ) (xs : List RealmStep) (g : Grant) → Legal L h → LegalFrom L h xs → tasks h + n ≡ k → 1 ≤ n → RunsFrom k g h n xs
+granted_runs L h n k xs g =
+    to_fork L k (RunsFrom k g) (λ h n below at unrejected started unfinished. absurd cc)
+    (λ h x xs n legal ok lawful forks first is at unrejected started unfinished.
+    let waits = rw first at (fork_step L h x g legal ok (sym is ∙ at)) in
+    let rest = later h x xs legal ok (omega (arith, first)) unrejected started unfinished in
+    starts_on L (advance h x) k xs (legal_advance L h x legal ok) lawful waits rest.0 rest.1 rest.2)
+    (λ h x xs n m legal ok below is rest at unrejected started unfinished.
+    let later' = later h x xs legal ok below unrejected started unfinished in
+    rest (sym is ∙ at) later'.0 later'.1 later'.2) h n xs
+  where
+    -- what is said of all steps is said of those after the first
+    later : (h : History) (x : RealmStep) (xs : List RealmStep) → Legal L h → Passes L h x → tasks h < k → list_any (is_event (rejects k)) (x ∷ xs) ≡ false → list_any (is_event (starts k)) (x ∷ xs) ≡ true → list_any (is_event (finishes k)) (x ∷ xs) ≡ false
+        → (list_any (is_event (rejects k)) xs ≡ false) × (list_any (is_event (starts k)) xs ≡ true) × (list_any (is_event (finishes k)) xs ≡ false)
+    later h x xs legal ok below unrejected started unfinished =
+        let r = or_parts (is_event (rejects k) x) (list_any (is_event (rejects k)) xs) unrejected in
+        let f = or_parts (is_event (finishes k) x) (list_any (is_event (finishes k)) xs) unfinished in
+        let here : is_event (starts k) x ≡ false = unstarted_before L h k x ok below in
+        (r.1, rw here at started, f.1)
 
 waiting_is : (x : Stage) → is_waiting x ≡ true → x ≡ Waiting
 waiting_is Waiting so = refl
@@ -184,7 +165,7 @@ unfolding history_of IsLegal grant_in rejected_in started_in
 given_waits L xs k lawful given unstarted =
     let parts = and_parts (is_some (grant_in k xs)) (not (rejected_in k xs)) given in
     let it = some_grant (grant_in k xs) parts.0 in
-    waiting_is _ (granted_waits L fresh k k xs it.0 (legal_empty L fresh.base) lawful (omega arith) it.1 (not-true (rejected_in k xs) parts.1) unstarted)
+    waiting_is _ (granted_waits L fresh k k xs it.0 (legal_empty L fresh.base) lawful (omega arith) (granted_number fresh k xs it.0 it.1) it.1 (not-true (rejected_in k xs) parts.1) unstarted)
 
 -- a task that was given a thread, and is started and not finished, runs
 pub started_runs : (L : Limits) (xs : List RealmStep) (k : ℕ) → IsLegal L xs → given_in k xs ≡ true → started_in k xs ≡ true → finished_in k xs ≡ false → stage (history_of xs) k ≡ Running
@@ -192,7 +173,7 @@ unfolding history_of IsLegal grant_in rejected_in started_in
 started_runs L xs k lawful given started unfinished =
     let parts = and_parts (is_some (grant_in k xs)) (not (rejected_in k xs)) given in
     let it = some_grant (grant_in k xs) parts.0 in
-    running_is _ (granted_runs L fresh k k xs it.0 (legal_empty L fresh.base) lawful (omega arith) it.1 (not-true (rejected_in k xs) parts.1) started (sym (finished_is k xs) ∙ unfinished))
+    running_is _ (granted_runs L fresh k k xs it.0 (legal_empty L fresh.base) lawful (omega arith) (granted_number fresh k xs it.0 it.1) it.1 (not-true (rejected_in k xs) parts.1) started (sym (finished_is k xs) ∙ unfinished))
 
 -- tasks are numbered from 1
 pub grant_number : (k : ℕ) (xs : List RealmStep) (g : Grant) → grant_in k xs ≡ Some g → 1 ≤ k
