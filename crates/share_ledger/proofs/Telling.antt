@@ -93,69 +93,50 @@ share_holder : (views : List LedgerView) (who : Holder) → IsShareOf views who 
 share_holder views who share = ap (λ (vs : List LedgerView). holder_of (view_of vs)) share
 
 -- what the keeper was told of a ticket's share
-pub known_agrees : (k : ℕ) (old views : List LedgerView) (keeper : LedgerView) → IsShareOf old (TicketOf k) → views ≡ old → IsKnown views keeper → Agrees (TicketOf k) (steps_of (view_of old)) (steps_of keeper)
-known_agrees k old views keeper share same known =
-    let known' = subst (λ (vs : List LedgerView). IsKnown vs keeper) same known in
-    subst (λ (who : Holder). Agrees who (steps_of (view_of old)) (steps_of keeper)) (share_holder old (TicketOf k) share) known'.1
+known_agrees : (k : ℕ) (views : List LedgerView) (keeper : LedgerView) → IsShareOf views (TicketOf k) → IsKnown views keeper → Agrees (TicketOf k) (steps_of (view_of views)) (steps_of keeper)
+known_agrees k views keeper share known = subst (λ (who : Holder). Agrees who (steps_of (view_of views)) (steps_of keeper)) (share_holder views (TicketOf k) share) known.1
 
 -- a share that was given back is the same holder's, and has seen the list
-pub share_raised : (who : Holder) (old views new : List LedgerView) (keeper : LedgerView) (steps : List RealmStep) → IsShareOf old who → views ≡ old → new ≡ holding (limits_of keeper) (holder_of (view_of views)) steps ∷ [] → IsShareOf new who × (steps_of (view_of new) ≡ steps)
-share_raised who old views new keeper steps share same is =
-    let holder : holder_of (view_of views) ≡ who = ap (λ (vs : List LedgerView). holder_of (view_of vs)) same ∙ share_holder old who share in
-    let e : new ≡ holding (limits_of keeper) who steps ∷ [] = is ∙ ap (λ (w : Holder). holding (limits_of keeper) w steps ∷ []) holder in
+share_raised : (who : Holder) (views new : List LedgerView) (keeper : LedgerView) (steps : List RealmStep) → IsShareOf views who → new ≡ holding (limits_of keeper) (holder_of (view_of views)) steps ∷ [] → IsShareOf new who × (steps_of (view_of new) ≡ steps)
+share_raised who views new keeper steps share is =
+    let e : new ≡ holding (limits_of keeper) who steps ∷ [] = is ∙ ap (λ (w : Holder). holding (limits_of keeper) w steps ∷ []) (share_holder views who share) in
     (rw e refl, rw e refl)
 
-module _ (k scope : ℕ) (label : Label) (given started : Bool) (end : Option EndValue) (old views new : List LedgerView) (keeper : LedgerView) (ticket : IsTicket k scope label given started end old) (same : views ≡ old) (known : IsKnown views keeper) where
+module _ (k scope : ℕ) (label : Label) (given started : Bool) (end : Option EndValue) (views new : List LedgerView) (keeper : LedgerView) (ticket : IsTicket k scope label given started end views) (known : IsKnown views keeper) where
+  -- what the keeper's list says
+  says : Says k (record { scope = scope; label = label }) (not given) started end (steps_of keeper)
+  says = says_known k scope label given started end views (steps_of keeper) ticket (known_agrees k views keeper ticket.share known)
+
   now_says : (x : RealmStep) → Says k (record { scope = scope; label = label }) (not given || is_event (rejects k) x) (started || is_event (starts k) x) (option_or end (end_of k x)) (steps_of keeper ++ x ∷ [])
-  now_says x = says_push k (record { scope = scope; label = label }) (not given) started end (steps_of keeper) x (says_known k scope label given started end old (steps_of keeper) ticket (known_agrees k old views keeper ticket.share same known))
+  now_says x = says_push k (record { scope = scope; label = label }) (not given) started end (steps_of keeper) x says
 
   -- a ticket whose share has followed
   pub followed_ticket : new ≡ holding (limits_of keeper) (holder_of (view_of views)) (steps_of keeper) ∷ [] → IsTicket k scope label given started end new
   followed_ticket is =
-      let raised = share_raised (TicketOf k) old views new keeper (steps_of keeper) ticket.share same is in
-      ticket_of k scope label given started end new (steps_of keeper) raised.0 raised.1 (says_known k scope label given started end old (steps_of keeper) ticket (known_agrees k old views keeper ticket.share same known))
+      let raised = share_raised (TicketOf k) views new keeper (steps_of keeper) ticket.share is in
+      ticket_of k scope label given started end new (steps_of keeper) raised.0 raised.1 says
+
+  -- a ticket whose share has seen a step more, with what that says of the task
+  stepped_ticket : (x : RealmStep) (given' started' : Bool) (end' : Option EndValue) → new ≡ holding (limits_of keeper) (holder_of (view_of views)) (steps_of keeper ++ x ∷ []) ∷ [] → (not given || is_event (rejects k) x) ≡ not given' → (started || is_event (starts k) x) ≡ started' → option_or end (end_of k x) ≡ end' → IsTicket k scope label given' started' end' new
+  stepped_ticket x given' started' end' is rejected begun ended =
+      let raised = share_raised (TicketOf k) views new keeper (steps_of keeper ++ x ∷ []) ticket.share is in
+      let now = now_says x in
+      ticket_of k scope label given' started' end' new (steps_of keeper ++ x ∷ []) raised.0 raised.1
+      (record { grant = now.grant; rejected = now.rejected ∙ rejected; started = now.started ∙ begun; end = now.end ∙ ended })
 
   -- a ticket whose task was rejected
   pub rejected_ticket : new ≡ holding (limits_of keeper) (holder_of (view_of views)) (steps_of keeper ++ Happened (Reject k) ∷ []) ∷ [] → IsTicket k scope label false started end new
-  rejected_ticket is =
-      let steps = steps_of keeper ++ Happened (Reject k) ∷ [] in
-      let raised = share_raised (TicketOf k) old views new keeper steps ticket.share same is in
-      let says = now_says (Happened (Reject k)) in
-      ticket_of k scope label false started end new steps raised.0 raised.1
-      (record {
-        grant = says.grant;
-        rejected = says.rejected ∙ or_right (not given) (k == k) (eq-eqb k k refl);
-        started = says.started ∙ or-false started;
-        end = says.end ∙ option_or-none end;
-      })
+  rejected_ticket is = stepped_ticket (Happened (Reject k)) false started end is (or_right (not given) (k == k) (eq-eqb k k refl)) (or-false started) (option_or-none end)
 
   -- a ticket whose task was started
   pub started_ticket : new ≡ holding (limits_of keeper) (holder_of (view_of views)) (steps_of keeper ++ Happened (Start k) ∷ []) ∷ [] → IsTicket k scope label given true end new
-  started_ticket is =
-      let steps = steps_of keeper ++ Happened (Start k) ∷ [] in
-      let raised = share_raised (TicketOf k) old views new keeper steps ticket.share same is in
-      let says = now_says (Happened (Start k)) in
-      ticket_of k scope label given true end new steps raised.0 raised.1
-      (record {
-        grant = says.grant;
-        rejected = says.rejected ∙ or-false (not given);
-        started = says.started ∙ or_right started (k == k) (eq-eqb k k refl);
-        end = says.end ∙ option_or-none end;
-      })
+  started_ticket is = stepped_ticket (Happened (Start k)) given true end is (or-false (not given)) (or_right started (k == k) (eq-eqb k k refl)) (option_or-none end)
 
   -- a ticket whose task has ended
   pub ended_ticket : (how : EndValue) → end ≡ None → new ≡ holding (limits_of keeper) (holder_of (view_of views)) (steps_of keeper ++ Happened (Finish k how) ∷ []) ∷ [] → IsTicket k scope label given started (Some how) new
   ended_ticket how unended is =
-      let steps = steps_of keeper ++ Happened (Finish k how) ∷ [] in
-      let raised = share_raised (TicketOf k) old views new keeper steps ticket.share same is in
-      let says = now_says (Happened (Finish k how)) in
-      ticket_of k scope label given started (Some how) new steps raised.0 raised.1
-      (record {
-        grant = says.grant;
-        rejected = says.rejected ∙ or-false (not given);
-        started = says.started ∙ or-false started;
-        end = says.end ∙ (ap (λ (o : Option EndValue). option_or o (cond (k == k) (Some how) None)) unended ∙ cond-true (k == k) (Some how) None (eq-eqb k k refl));
-      })
+      let ended = ap (λ (o : Option EndValue). option_or o (cond (k == k) (Some how) None)) unended ∙ cond-true (k == k) (Some how) None (eq-eqb k k refl) in
+      stepped_ticket (Happened (Finish k how)) given started (Some how) is (or-false (not given)) (or-false started) ended
 
   start_owners : (who : Holder) → is_own who (Happened (Start k)) ≡ true → list_any (same_holder who) (TokenOf k ∷ TicketOf k ∷ []) ≡ true
   start_owners (TokenOf a) own = or_left (a == k) _ (eq-eqb a k (sym (eqb-true k a own)))
@@ -164,7 +145,6 @@ module _ (k scope : ℕ) (label : Label) (given started : Bool) (end : Option En
   start_unnamed : started ≡ false → (who : Holder) → newly_named (steps_of keeper) (Happened (Start k)) ≡ Some who → is_named who (steps_of keeper) ≡ false
   start_unnamed unstarted who new_one =
       let is : TokenOf k ≡ who = cc in
-      let says = says_known k scope label given started end old (steps_of keeper) ticket (known_agrees k old views keeper ticket.share same known) in
       let numbered = grant_number k (steps_of keeper) (record { scope = scope; label = label }) says.grant in
       let not_main : (k == 0) ≡ false = ne_eqb k 0 (λ main. absurd (omega arith)) in
       subst (λ (w : Holder). is_named w (steps_of keeper) ≡ false) is (or_from (k == 0) (started_in k (steps_of keeper)) not_main (says.started ∙ unstarted))
@@ -172,8 +152,7 @@ module _ (k scope : ℕ) (label : Label) (given started : Bool) (end : Option En
   -- who has the ticket of a task that isn't started may start it
   pub may_start : started ≡ false → MayAppend (steps_of keeper) (holder_of (view_of views) ∷ []) (Happened (Start k))
   may_start unstarted =
-      let holder : holder_of (view_of views) ≡ TicketOf k = ap (λ (vs : List LedgerView). holder_of (view_of vs)) same ∙ share_holder old (TicketOf k) ticket.share in
-      record { owners = rw holder start_owners; unnamed = start_unnamed unstarted }
+      record { owners = rw (share_holder views (TicketOf k) ticket.share) start_owners; unnamed = start_unnamed unstarted }
 
 -- a fork says nothing of a task but what it was forked with
 fork_says : (k a scope : ℕ) (label : Label) (xs : List RealmStep) → TellsAlike k [] xs → (rejected_in k (xs ++ Happened (Fork a scope label) ∷ []) ≡ false) × (started_in k (xs ++ Happened (Fork a scope label) ∷ []) ≡ false) × (end_in k (xs ++ Happened (Fork a scope label) ∷ []) ≡ None)
@@ -185,23 +164,25 @@ fork_says k a scope label xs alike = (
 )
 
 -- a ticket that was just given out
-pub new_ticket : (a k scope : ℕ) (label : Label) (keeper : LedgerView) (new : List LedgerView) → k ≡ tasks (history_of (steps_of keeper)) + 1 → is_cancelled (history_of (steps_of keeper)) scope ≡ false → IsFresh (steps_of keeper) (Happened (Fork a scope label))
+pub new_ticket : (a k scope : ℕ) (label : Label) (keeper : LedgerView) (new : List LedgerView) (said : List RealmStep) → steps_of keeper ≡ said → k ≡ tasks (history_of said) + 1 → is_cancelled (history_of said) scope ≡ false → IsFresh (steps_of keeper) (Happened (Fork a scope label))
     → new ≡ holding (limits_of keeper) (TicketOf (forks (steps_of keeper) + 1)) (steps_of keeper ++ Happened (Fork a scope label) ∷ []) ∷ [] → IsTicket k scope label true false None new
-new_ticket a k scope label keeper new number live fresh is =
+new_ticket a k scope label keeper new said known numbered uncancelled fresh is =
     let steps = steps_of keeper in
+    let number = subst (λ xs. k ≡ tasks (history_of xs) + 1) (sym known) numbered in
+    let live = subst (λ xs. is_cancelled (history_of xs) scope ≡ false) (sym known) uncancelled in
     let x = Happened (Fork a scope label) in
     let g : Grant = record { scope = scope; label = label } in
     let next : forks steps + 1 ≡ k = omega (arith, tasks_forks steps) in
     let none = subst (λ (n : ℕ). list_any (is_own (TicketOf n)) steps ≡ false) next (fresh (TicketOf (forks steps + 1)) refl) in
     let alike = others_tell k [] steps none in
-    let said = fork_says k a scope label steps alike in
+    let tells = fork_says k a scope label steps alike in
     let e : new ≡ holding (limits_of keeper) (TicketOf k) (steps ++ x ∷ []) ∷ [] = is ∙ ap (λ (n : ℕ). holding (limits_of keeper) (TicketOf n) (steps ++ x ∷ []) ∷ []) next in
     ticket_of k scope label true false None new (steps ++ x ∷ []) (rw e refl) (rw e refl)
     (record {
       grant = grant-fork k steps x g next refl (cond-false (is_cancelled (history_of steps) scope) None (Some g) live);
-      rejected = said.0;
-      started = said.1;
-      end = said.2;
+      rejected = tells.0;
+      started = tells.1;
+      end = tells.2;
     })
 
 -- a ticket with no end in its list has none

@@ -9,13 +9,10 @@ ghost use Rattle.share_ledger.specs.Values.{OwnerAgrees, TicketAgrees, IsWaiting
 use crate::desk::Desk;
 use crate::shares::OwnerShare;
 use crate::tickets::Ticket;
-use crate::views::LedgerView;
-use atomic_table::Badge;
 use realm_steps::RealmStep;
 use scope_rules::types::values::MAIN;
 use scope_rules::{End, Event, Label, Limits, ScopeId, TaskId};
 use std::marker::Model;
-use std::mem;
 
 /// The keeper of a realm's list of steps. Whoever has it, and the share of each holder whose own the
 /// step is, takes the next step. It lies under the realm's lock.
@@ -54,9 +51,8 @@ impl Keeper {
         ensures share { share.new ≡ record share.old { seen = self.new.steps } }
         ensures agreed { OwnerAgrees share.old self.old }
     {
-        let badge = mem::replace(&mut share.badge, Badge::blank());
         let step = RealmStep::by(share.actor, event);
-        share.badge = self.desk.step_alone(badge, step);
+        self.desk.step_alone(&mut share.badge, step);
     }
 
     /// Appends a retirement, which is main's.
@@ -67,8 +63,8 @@ impl Keeper {
         ensures share { share.new ≡ record share.old { seen = self.new.steps } }
         ensures agreed { OwnerAgrees share.old self.old }
     {
-        let badge = mem::replace(&mut share.badge, Badge::blank());
-        share.badge = self.desk.step_alone(badge, RealmStep::Retirement);
+        self.desk
+            .step_alone(&mut share.badge, RealmStep::Retirement);
     }
 
     /// The token has seen the whole list. What it had seen before agreed with the list.
@@ -78,8 +74,7 @@ impl Keeper {
         ensures share { share.new ≡ record share.old { seen = self.old.steps } }
         ensures agreed { OwnerAgrees share.old self.old }
     {
-        let badge = mem::replace(&mut share.badge, Badge::blank());
-        share.badge = self.desk.refresh(badge);
+        self.desk.refresh(&mut share.badge);
     }
 
     /// The same, for a ticket.
@@ -89,8 +84,7 @@ impl Keeper {
         ensures ticket { ticket.new ≡ record ticket.old { seen = self.old.steps } }
         ensures agreed { TicketAgrees ticket.old self.old }
     {
-        let badge = mem::replace(&mut ticket.badge, Badge::blank());
-        ticket.badge = self.desk.refresh(badge);
+        self.desk.refresh(&mut ticket.badge);
     }
 
     /// Appends a fork, which gives the next task a thread: the scope is not cancelled. The task's ticket
@@ -112,14 +106,14 @@ impl Keeper {
         ensures waiting { IsWaiting result }
         ensures unended { end_in task result.seen ≡ None }
     {
-        let badge = mem::replace(&mut share.badge, Badge::blank());
         let event = Event::Fork {
             actor: share.actor,
             scope,
             label: *label,
         };
-        let (new, old) = self.desk.step_naming(badge, RealmStep::Happened(event));
-        share.badge = old;
+        let new = self
+            .desk
+            .step_naming(&mut share.badge, RealmStep::Happened(event));
         Ticket::new(task, scope, *label, new)
     }
 
@@ -130,15 +124,15 @@ impl Keeper {
         ensures share { share.new ≡ record share.old { seen = self.new.steps } }
         ensures agreed { OwnerAgrees share.old self.old }
     {
-        let badge = mem::replace(&mut share.badge, Badge::blank());
         let event = Event::Fork {
             actor: share.actor,
             scope,
             label: *label,
         };
-        let (new, old) = self.desk.step_naming(badge, RealmStep::Happened(event));
-        drop(new);
-        share.badge = old;
+        drop(
+            self.desk
+                .step_naming(&mut share.badge, RealmStep::Happened(event)),
+        );
     }
 
     /// Appends the reject of the ticket's task, which waits.
@@ -150,9 +144,9 @@ impl Keeper {
         ensures given { given_in ticket.new.task ticket.new.seen ≡ false }
         ensures agreed { TicketAgrees ticket.old self.old }
     {
-        let badge = mem::replace(&mut ticket.badge, Badge::blank());
         let event = Event::Reject { task: ticket.task };
-        ticket.badge = self.desk.step_alone(badge, RealmStep::Happened(event));
+        self.desk
+            .step_alone(&mut ticket.badge, RealmStep::Happened(event));
         ticket.given = false;
     }
 
@@ -166,10 +160,10 @@ impl Keeper {
         ensures share { result ≡ record { table = self.old.table; limits = self.old.limits; actor = ticket.old.task; seen = self.new.steps } }
         ensures agreed { TicketAgrees ticket.old self.old }
     {
-        let badge = mem::replace(&mut ticket.badge, Badge::blank());
         let event = Event::Start { task: ticket.task };
-        let (new, old) = self.desk.step_naming(badge, RealmStep::Happened(event));
-        ticket.badge = old;
+        let new = self
+            .desk
+            .step_naming(&mut ticket.badge, RealmStep::Happened(event));
         ticket.started = true;
         OwnerShare::new(ticket.task, new)
     }
@@ -186,13 +180,12 @@ impl Keeper {
         ensures agreed { TicketAgrees ticket.old self.old }
         ensures token_agreed { OwnerAgrees share self.old }
     {
-        let badge = mem::replace(&mut ticket.badge, Badge::blank());
         let event = Event::Finish {
             task: ticket.task,
             end,
         };
-        let step = RealmStep::Happened(event);
-        ticket.badge = self.desk.step_together(badge, share.badge, step);
+        self.desk
+            .step_together(&mut ticket.badge, share.badge, RealmStep::Happened(event));
         ticket.end = Some(end);
     }
 }

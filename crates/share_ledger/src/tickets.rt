@@ -1,7 +1,7 @@
 ghost use Rattle.std.specs.Prelude.{◌≡◌, true, false, None, Some};
 ghost use Rattle.std.specs.List.{sum_by};
 ghost use Rattle.realm_steps.specs.Tickets.{grant_in, end_in};
-ghost use Rattle.share_ledger.specs.Values.{IsTicket, given_count, started_count, finished_count};
+ghost use Rattle.share_ledger.specs.Values.{IsTicket, IsWaiting, given_count, started_count, finished_count};
 ghost use Rattle.share_ledger.specs.Desks.{limits_of, steps_of, view_of};
 
 use crate::views::LedgerView;
@@ -50,7 +50,9 @@ impl Ticket {
         badge: Badge<LedgerView>,
     ) -> Ticket
         requires { IsTicket task scope label true false None badge.views }
-        ensures { result ≡ record { table = badge.table_id; limits = limits_of (view_of badge.views); task = task; scope = scope; label = label; seen = steps_of (view_of badge.views) } }
+        ensures ticket { result ≡ record { table = badge.table_id; limits = limits_of (view_of badge.views); task = task; scope = scope; label = label; seen = steps_of (view_of badge.views) } }
+        ensures waiting { IsWaiting result }
+        ensures unended { end_in task result.seen ≡ None }
     {
         Ticket {
             task,
