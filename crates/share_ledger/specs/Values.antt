@@ -1,14 +1,14 @@
 -- What contracts see of the keeper, of a token's share and of a ticket.
-use Rattle.std.specs.Prelude.{◌≡◌, ℕ, ◌==◌, Bool, true, false, Option, Some, List, if◌then◌else◌}
+use Rattle.std.specs.Prelude.{◌≡◌, ℕ, ◌&&◌, Bool, true, false, not, Option, Some, List, if◌then◌else◌}
 use Rattle.scope_rules.specs.declared.types.capacity.Limits.{Limits}
 use Rattle.scope_rules.specs.declared.types.values.Label.{Label}
 use Rattle.scope_rules.specs.declared.types.events.Event.{Event}
-use Rattle.scope_rules.specs.declared.types.events.Event.TheVariants.{Open, Cancel, Move, Tick, Bind, Unbind, Join, BeginClose, EndClose}
+use Rattle.scope_rules.specs.declared.types.events.Event.TheVariants.{Fork, Start, Finish}
 use Rattle.scope_rules.specs.Ends.{EndValue}
 use Rattle.realm_steps.specs.declared.steps.RealmStep.{RealmStep}
 use Rattle.realm_steps.specs.declared.steps.Holder.{Holder}
 use Rattle.realm_steps.specs.declared.steps.Holder.TheVariants.{TokenOf, TicketOf}
-use Rattle.realm_steps.specs.Holders.{Agrees}
+use Rattle.realm_steps.specs.Holders.{is_of_actor, Agrees}
 use Rattle.realm_steps.specs.Tickets.{grant_in, given_in, started_in, finished_in, end_in}
 use Rattle.atomic_table.specs.Seated.{TableId}
 use Rattle.share_ledger.specs.declared.views.LedgerView.{LedgerView}
@@ -47,19 +47,17 @@ OwnerAgrees share keeper = AgreesWith (TokenOf share.actor) share.limits share.s
 abbrev pub TicketAgrees : TicketValue → KeeperValue → Type 0
 TicketAgrees ticket keeper = AgreesWith (TicketOf ticket.task) ticket.limits ticket.seen keeper
 
+-- a fork makes a ticket, and a start and an end are a ticket's too
+abbrev pub is_of_ticket : Event → Bool
+is_of_ticket (Fork actor scope label) = true
+is_of_ticket (Start task) = true
+is_of_ticket (Finish task end) = true
+is_of_ticket _ = false
+
 -- the event can be recorded with the token of the actor: it is the actor's own and no other's, or what any
 -- actor may ask for; and it names nobody
 abbrev pub is_recorded_by : ℕ → Event → Bool
-is_recorded_by a (Open actor policy options) = actor == a
-is_recorded_by a (Cancel scope) = true
-is_recorded_by a (Move scope deadline) = true
-is_recorded_by a (Tick now) = true
-is_recorded_by a (Bind actor pair) = actor == a
-is_recorded_by a (Unbind actor) = actor == a
-is_recorded_by a (Join actor scope) = actor == a
-is_recorded_by a (BeginClose actor scope) = actor == a
-is_recorded_by a (EndClose actor scope) = actor == a
-is_recorded_by a _ = false
+is_recorded_by a e = not (is_of_ticket e) && is_of_actor a e
 
 abbrev pub one_if : Bool → ℕ
 one_if b = if b then 1 else 0
