@@ -13,7 +13,7 @@ use Rattle.scope_rules.specs.Tasks.{rejects, starts, finishes, stage, is_at, is_
 use Rattle.scope_rules.specs.Legal.{Legal}
 use Rattle.scope_rules.proofs.Growing.{forking_stays}
 use Rattle.scope_rules.proofs.TallySteps.{tally, tally_moves, tally_forks}
-use Rattle.scope_rows.specs.Steps.{count_fork, count_reject, count_start, count_finish}
+use Rattle.scope_rows.specs.Steps.{count_fork, count_taken, count_finish}
 use Rattle.scope_rows.proofs.Frames.{counts_by, counts_same, tallies_of}
 
 -- whether a forked task is one of a scope at a stage
@@ -42,9 +42,15 @@ module _ (L : Limits) (h : History) (e : Event) (k : ℕ) (f : Forking) (old new
   pub moved_here : (s : ℕ) (x : Stage) → (f.scope == s) ≡ true → tally (followed h e) s x + cond {A = ℕ} (is_stage x old) 1 0 ≡ tally h s x + cond {A = ℕ} (is_stage x new) 1 0
   moved_here s x of = moved_by s x true of
 
+-- where a task that waited may come, before its end
+abbrev pub is_taken : Stage → Bool
+is_taken Never = true
+is_taken Running = true
+is_taken _ = false
+
 module _ (L : Limits) (h : History) (e : Event) (k : ℕ) (f : Forking) (s : ℕ) (n : Counts) (legal : Legal L h) (is : forking h k ≡ Some f) (names : NamesAlone e k) (of : (f.scope == s) ≡ true) (had : counts h s ≡ n) where
   -- a task that waited never runs
-  pub counts_rejected : stage h k ≡ Waiting → stage (followed h e) k ≡ Never → counts (followed h e) s ≡ count_reject n
+  counts_rejected : stage h k ≡ Waiting → stage (followed h e) k ≡ Never → counts (followed h e) s ≡ count_taken Never n
   counts_rejected was now =
       let t = tallies_of h s n had in
       let m : (x : Stage) → tally (followed h e) s x + cond {A = ℕ} (is_stage x Waiting) 1 0 ≡ tally h s x + cond {A = ℕ} (is_stage x Never) 1 0 = λ x. moved_here L h e k f Waiting Never legal is names was now s x of in
@@ -52,12 +58,18 @@ module _ (L : Limits) (h : History) (e : Event) (k : ℕ) (f : Forking) (s : ℕ
       (omega (arith, m Never, t.never)) (omega (arith, m Waiting, t.waiting)) (omega (arith, m Running, t.running)) (omega (arith, m Finished, t.finished))
 
   -- a task that waited runs
-  pub counts_started : stage h k ≡ Waiting → stage (followed h e) k ≡ Running → counts (followed h e) s ≡ count_start n
+  counts_started : stage h k ≡ Waiting → stage (followed h e) k ≡ Running → counts (followed h e) s ≡ count_taken Running n
   counts_started was now =
       let t = tallies_of h s n had in
       let m : (x : Stage) → tally (followed h e) s x + cond {A = ℕ} (is_stage x Waiting) 1 0 ≡ tally h s x + cond {A = ℕ} (is_stage x Running) 1 0 = λ x. moved_here L h e k f Waiting Running legal is names was now s x of in
       counts_by (followed h e) s n.never (n.waiting - 1) (n.running + 1) n.finished
       (omega (arith, m Never, t.never)) (omega (arith, m Waiting, t.waiting)) (omega (arith, m Running, t.running)) (omega (arith, m Finished, t.finished))
+
+  -- a task that waited runs, or never does
+  pub counts_taken : (to : Stage) → is_taken to ≡ true → stage h k ≡ Waiting → stage (followed h e) k ≡ to → counts (followed h e) s ≡ count_taken to n
+  counts_taken Never may was now = counts_rejected was now
+  counts_taken Running may was now = counts_started was now
+  counts_taken _ may was now = absurd cc
 
   -- a task that ran has finished
   pub counts_finished : stage h k ≡ Running → stage (followed h e) k ≡ Finished → counts (followed h e) s ≡ count_finish n

@@ -1,7 +1,7 @@
 -- How what is kept of own deadlines goes on by one event.
 use Rattle.std.proofs.Common.{◌≡◌, ◌≢◌, ℕ, ◌+◌, ◌<◌, false, cond, Option, Some, None, [], ◌∷◌, length, set, refl, ap, sym, subst, ◌∙◌, arith, length-append, inl, inr}
 use Rattle.std.proofs.lemmas.Bool.{eq-eqb, ne_eqb}
-use Rattle.std.proofs.lemmas.Option.{slice_get-get_or, slice_get_within}
+use Rattle.std.proofs.lemmas.Option.{slice_get_within}
 use Rattle.std.specs.Option.{option_and_then, option_map_or, option_or}
 use Rattle.scope_rules.specs.declared.types.capacity.Limits.{Limits}
 use Rattle.scope_rules.specs.declared.types.events.Event.{Event}
@@ -24,7 +24,7 @@ use Rattle.scope_rules.proofs.Prefixes.{last_of-push}
 use Rattle.scope_rows.specs.Table.{place_of}
 use Rattle.scope_rows.proofs.Altering.{altered_length, altered_set, altered_split, pushed_split}
 use Rattle.scope_rows.proofs.Keeping.{count_same}
-use Rattle.scope_rows.proofs.Places.{number_at, number_apart, place_within}
+use Rattle.scope_rows.proofs.Places.{number_at, number_apart, entry_there, opened_numbered}
 use Rattle.scope_rows.specs.DeadlineTable.{DeadlineTable, HasDeadline, deadline_in, no_deadlines, with_open, with_deadline}
 use Rattle.scope_rows.specs.DeadlinesOf.{AreDeadlinesOf, moves_deadlines}
 
@@ -33,23 +33,15 @@ use Rattle.scope_rows.specs.DeadlinesOf.{AreDeadlinesOf, moves_deadlines}
 -- a realm begins with no deadlines
 pub begins : (before : ℕ) (b : Origin) (t : DeadlineTable) → t ≡ no_deadlines before → b.scopes ≡ before → AreDeadlinesOf (record { base = b; events = [] }) t
 begins before b t is scopes =
-    subst (AreDeadlinesOf (record { base = b; events = [] })) (sym is) (record {
-      numbered = sym scopes;
-      count = refl;
-      deadlines = λ i d at. absurd cc;
-    })
+    subst (AreDeadlinesOf (record { base = b; events = [] })) (sym is) (record { numbered = sym scopes; count = refl; deadlines = λ i d at. absurd cc })
 
 -- the entry of a scope is its own deadline
 pub deadline_there : (h : History) (t : DeadlineTable) (s : ℕ) → HasDeadline t s → AreDeadlinesOf h t → deadline_in t s ≡ deadline h s
-deadline_there h t s has are =
-    let at = slice_get-get_or t.deadlines (place_of t.before s) None (place_within t.before (length t.deadlines) s has.0 has.1) in
-    are.deadlines (place_of t.before s) (deadline_in t s) at ∙ ap (deadline h) (number_at t.before s has.0)
+deadline_there h t s has are = entry_there (λ n d. d ≡ deadline h n) t.before t.deadlines s None has are.deadlines
 
 -- an opened scope has an entry
 pub opened_has_deadline : (h : History) (t : DeadlineTable) (s : ℕ) → AreDeadlinesOf h t → IsOpened h s → HasDeadline t s
-opened_has_deadline h t s are it =
-    let number = opened_after h s it.opened it.is in
-    (omega (arith, number.2, are.numbered), omega (arith, number.1, number.2, are.numbered, are.count))
+opened_has_deadline h t s are it = opened_numbered h t.before t.deadlines s are.numbered are.count it
 
 -- room for more leaves the deadlines
 pub roomier : (h : History) (t u : DeadlineTable) → u ≡ record t { spare = u.spare } → AreDeadlinesOf h t → AreDeadlinesOf h u

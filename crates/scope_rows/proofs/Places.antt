@@ -1,15 +1,16 @@
 -- Where the row of a scope or a task stands.
-use Rattle.std.proofs.Common.{◌≡◌, ◌≢◌, ℕ, ◌+◌, ◌<◌, ◌≤◌, cond, Option, Some, None, List, length, slice_get, ap, sym, ◌∙◌, arith, subst}
+use Rattle.std.proofs.Common.{◌≡◌, ◌≢◌, ℕ, ◌+◌, ◌<◌, ◌≤◌, cond, Option, Some, None, List, length, slice_get, slice_index_or, ap, sym, ◌∙◌, arith, subst}
 use Rattle.std.specs.Option.{option_map_or}
 use Rattle.std.proofs.lemmas.Bool.{lt-ltb}
+use Rattle.std.proofs.lemmas.Option.{slice_get-get_or}
 use Rattle.scope_rules.specs.declared.types.records.Forking.{Forking}
-use Rattle.scope_rules.specs.History.{History, forking}
+use Rattle.scope_rules.specs.History.{History, forking, opened_count}
 use Rattle.scope_rules.proofs.Nesting.{IsOpened}
 use Rattle.scope_rules.proofs.Forkings.{IsForked, forked_after}
 use Rattle.scope_rules.proofs.Innermosts.{opened_after}
 use Rattle.scope_rows.specs.declared.records.ScopeRow.{ScopeRow}
 use Rattle.scope_rows.specs.declared.records.TaskRow.{TaskRow}
-use Rattle.scope_rows.specs.Table.{RowTable, HasScope, HasTask, place_of, row_of, scope_row, task_row, scope_of}
+use Rattle.scope_rows.specs.Table.{RowTable, IsNumbered, HasScope, HasTask, place_of, row_of, scope_row, task_row, scope_of}
 use Rattle.scope_rows.specs.Agreement.{AreRowsOf, IsScopeRow, IsTaskRow}
 use Rattle.scope_rows.proofs.Altering.{there_is}
 
@@ -43,33 +44,35 @@ pub record TaskRowAt (h : History) (t : RowTable) (k : ℕ) : Type 0 where
   pub says : IsTaskRow h k row
   pub has : HasTask t k
 
+-- where each row is right, so is the row of a number
+row_there : {R : Type 0} (says : ℕ → R → Type 0) (before : ℕ) (rows : List R) (n : ℕ) → IsNumbered before rows n → ((i : ℕ) (r : R) → slice_get rows i ≡ Some r → says (before + 1 + i) r) → (r : R) × (slice_get rows (place_of before n) ≡ Some r) × says n r
+row_there says before rows n has right =
+    let it = there_is rows (place_of before n) (place_within before (length rows) n has.0 has.1) in
+    (it.0, it.1, subst (λ m. says m it.0) (number_at before n has.0) (right (place_of before n) it.0 it.1))
+
+-- and so is what is read there, whatever is read where there is none
+pub entry_there : {R : Type 0} (says : ℕ → R → Type 0) (before : ℕ) (rows : List R) (n : ℕ) (other : R) → IsNumbered before rows n → ((i : ℕ) (r : R) → slice_get rows i ≡ Some r → says (before + 1 + i) r) → says n (slice_index_or rows (place_of before n) other)
+entry_there says before rows n other has right =
+    let at = slice_get-get_or rows (place_of before n) other (place_within before (length rows) n has.0 has.1) in
+    subst (λ m. says m (slice_index_or rows (place_of before n) other)) (number_at before n has.0) (right (place_of before n) (slice_index_or rows (place_of before n) other) at)
+
 -- a scope of the rows has a right row
 pub scope_there : (h : History) (t : RowTable) (s : ℕ) → AreRowsOf h t → HasScope t s → ScopeRowAt h t s
-scope_there h t s are has =
-    let it = there_is t.scopes (place_of t.scopes_before s) (place_within t.scopes_before (length t.scopes) s has.0 has.1) in
-    record {
-      row = it.0;
-      at = it.1;
-      says = subst (λ n. IsScopeRow h n it.0) (number_at t.scopes_before s has.0) (are.scopes (place_of t.scopes_before s) it.0 it.1);
-      has = has;
-    }
+scope_there h t s are has = let it = row_there (IsScopeRow h) t.scopes_before t.scopes s has are.scopes in record { row = it.0; at = it.1; says = it.2; has = has }
 
 -- a task of the rows has a right row
 pub task_there : (h : History) (t : RowTable) (k : ℕ) → AreRowsOf h t → HasTask t k → TaskRowAt h t k
-task_there h t k are has =
-    let it = there_is t.tasks (place_of t.tasks_before k) (place_within t.tasks_before (length t.tasks) k has.0 has.1) in
-    record {
-      row = it.0;
-      at = it.1;
-      says = subst (λ n. IsTaskRow h n it.0) (number_at t.tasks_before k has.0) (are.tasks (place_of t.tasks_before k) it.0 it.1);
-      has = has;
-    }
+task_there h t k are has = let it = row_there (IsTaskRow h) t.tasks_before t.tasks k has are.tasks in record { row = it.0; at = it.1; says = it.2; has = has }
+
+-- where there is a row for each scope since the base, a scope that was opened has one
+pub opened_numbered : {R : Type 0} (h : History) (before : ℕ) (rows : List R) (s : ℕ) → before ≡ h.base.scopes → length rows ≡ opened_count h → IsOpened h s → IsNumbered before rows s
+opened_numbered h before rows s numbered count it =
+    let number = opened_after h s it.opened it.is in
+    (omega (arith, number.2, numbered), omega (arith, number.1, number.2, numbered, count))
 
 -- a scope that was opened has a row
 pub opened_has : (h : History) (t : RowTable) (s : ℕ) → AreRowsOf h t → IsOpened h s → HasScope t s
-opened_has h t s are it =
-    let number = opened_after h s it.opened it.is in
-    (omega (arith, number.2, are.scopes_before), omega (arith, number.1, number.2, are.scopes_before, are.scope_count))
+opened_has h t s are it = opened_numbered h t.scopes_before t.scopes s are.scopes_before are.scope_count it
 
 -- a task that was forked has a row
 pub forked_has : (h : History) (t : RowTable) (k : ℕ) → AreRowsOf h t → IsForked h k → HasTask t k

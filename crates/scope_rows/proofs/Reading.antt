@@ -21,15 +21,9 @@ pub got : {R : Type 0} (xs : List R) (i : ℕ) (o : Option (Bor R)) → is_some 
 got xs i None test is = sym (slice_get_past xs i (ltb-false i (length xs) (sym test)))
 got xs i (Some x) test is = sym (slice_get-get_or xs i x.now (ltb-true i (length xs) (sym test)) ∙ ap Some (sym is))
 
--- the row of a scope that is read
-pub scope_got : (v t : RowTable) (xs : List ScopeRow) (s : ℕ) (o : Option ScopeRow) → v ≡ t → v.scopes_before < s → xs ≡ v.scopes → o ≡ slice_get xs (place_of v.scopes_before s) → o ≡ scope_row t s
-scope_got v t xs s o same more is read =
-    read ∙ (ap (λ ys. slice_get ys (place_of v.scopes_before s)) is ∙ (sym (row_is v.scopes_before v.scopes s more) ∙ ap (λ (u : RowTable). scope_row u s) same))
-
--- the row of a task that is read
-pub task_got : (v t : RowTable) (xs : List TaskRow) (k : ℕ) (o : Option TaskRow) → v ≡ t → v.tasks_before < k → xs ≡ v.tasks → o ≡ slice_get xs (place_of v.tasks_before k) → o ≡ task_row t k
-task_got v t xs k o same more is read =
-    read ∙ (ap (λ ys. slice_get ys (place_of v.tasks_before k)) is ∙ (sym (row_is v.tasks_before v.tasks k more) ∙ ap (λ (u : RowTable). task_row u k) same))
+-- the row of a number that is read
+pub row_got : {R : Type 0} (before : ℕ) (rows : List R) (n : ℕ) (o : Option R) → before < n → o ≡ slice_get rows (place_of before n) → o ≡ row_of before rows n
+row_got before rows n o more read = read ∙ sym (row_is before rows n more)
 
 -- a row stands after the numbers before
 row_after : {R : Type 0} (before : ℕ) (rows : List R) (n : ℕ) (r : R) → row_of before rows n ≡ Some r → (before < n) × (slice_get rows (place_of before n) ≡ Some r)

@@ -1,5 +1,5 @@
 -- The rows after a reject, a start and an end of a task.
-use Rattle.std.proofs.Common.{◌≡◌, ℕ, ◌+◌, ◌==◌, Bool, true, false, cond, Some, slice_get, refl, ap, sym, subst, ◌∙◌, inl, inr}
+use Rattle.std.proofs.Common.{◌≡◌, ℕ, ◌+◌, ◌==◌, Bool, true, false, cond, Some, None, length, slice_get, refl, ap, sym, subst, ◌∙◌, inl, inr}
 use Rattle.std.proofs.lemmas.Bool.{eq-eqb, ne_eqb}
 use Rattle.scope_rules.specs.declared.types.capacity.Limits.{Limits}
 use Rattle.scope_rules.specs.declared.types.answers.Counts.{Counts}
@@ -14,7 +14,7 @@ use Rattle.scope_rules.specs.History.{History, followed, forking, is_open, is_fo
 use Rattle.scope_rules.specs.Scopes.{joins, begins_closing, ends, innermost}
 use Rattle.scope_rules.specs.Cancels.{is_cancelled}
 use Rattle.scope_rules.specs.Verdicts.{begins_for}
-use Rattle.scope_rules.specs.Tasks.{stage, is_waiting, is_running, counts, state_by_end}
+use Rattle.scope_rules.specs.Tasks.{ending_of, stage, is_waiting, is_running, counts, state_by_end}
 use Rattle.scope_rules.specs.Legal.{Legal, Accepts}
 use Rattle.scope_rules.proofs.Accepted.{running_task}
 use Rattle.scope_rules.proofs.InnermostSteps.{innermost_same}
@@ -26,12 +26,12 @@ use Rattle.scope_rows.specs.declared.records.ScopeRow.{ScopeRow}
 use Rattle.scope_rows.specs.declared.records.TaskRow.{TaskRow}
 use Rattle.scope_rows.specs.Table.{RowTable, place_of, scope_of}
 use Rattle.scope_rows.specs.Agreement.{AreRowsOf, IsScopeRow, IsTaskRow}
-use Rattle.scope_rows.specs.Steps.{altered, recount, moved, stage_row, ended_row, state_at_end, rejected, started, finished, count_reject, count_start, count_finish}
+use Rattle.scope_rows.specs.Steps.{altered, recount, moved, stage_row, ended_row, state_at_end, taken, rejected, started, finished, count_taken, count_finish}
 use Rattle.scope_rows.proofs.Altering.{altered_length, altered_split}
 use Rattle.scope_rows.proofs.Places.{task_at, number_at, number_apart, scope_of_is, opened_has}
 use Rattle.scope_rows.proofs.Frames.{scope_on, scope_kept, task_on, task_kept, joining_same, closing_same, closed_same, violated_same}
 use Rattle.scope_rows.proofs.Keeping.{count_same}
-use Rattle.scope_rows.proofs.CountMoves.{NamesAlone, counts_elsewhere, counts_rejected, counts_started, counts_finished}
+use Rattle.scope_rows.proofs.CountMoves.{NamesAlone, is_taken, counts_elsewhere, counts_taken, counts_finished}
 use Rattle.scope_rules.proofs.Nesting.{forked_opened}
 
 -- what waits is at the stage of it
@@ -44,33 +44,37 @@ pub running_is : (x : Stage) → is_running x ≡ true → x ≡ Running
 running_is Running is = refl
 running_is _ is = absurd cc
 
+-- an event that says nothing of scopes
+record SaysNone (h : History) (e : Event) : Type 0 where
+  opens_none : is_open e ≡ false
+  joins_none : (s : ℕ) → joins s e ≡ false
+  begins_none : (s : ℕ) → begins_closing h s e ≡ false
+  violates_none : (s : ℕ) → begins_for h s e ≡ false
+  ends_none : (s : ℕ) → ends s e ≡ false
+
 -- an event that moves a task, and says nothing else
-pub record Moves (h : History) (e : Event) (k : ℕ) (f : Forking) (row : TaskRow → TaskRow) (g : Counts → Counts) : Type 0 where
-  pub names : NamesAlone e k
-  pub opens_none : is_open e ≡ false
-  pub joins_none : (s : ℕ) → joins s e ≡ false
-  pub begins_none : (s : ℕ) → begins_closing h s e ≡ false
-  pub violates_none : (s : ℕ) → begins_for h s e ≡ false
-  pub ends_none : (s : ℕ) → ends s e ≡ false
-  pub task : (r : TaskRow) → IsTaskRow h k r → IsTaskRow (followed h e) k (row r)
-  pub counted : (s : ℕ) (n : Counts) → (f.scope == s) ≡ true → counts h s ≡ n → counts (followed h e) s ≡ g n
-  pub elsewhere : (s : ℕ) → (f.scope == s) ≡ false → counts (followed h e) s ≡ counts h s
+record Moves (h : History) (e : Event) (k : ℕ) (f : Forking) (row : TaskRow → TaskRow) (g : Counts → Counts) : Type 0 where
+  names : NamesAlone e k
+  none : SaysNone h e
+  task : (r : TaskRow) → IsTaskRow h k r → IsTaskRow (followed h e) k (row r)
+  counted : (s : ℕ) (n : Counts) → (f.scope == s) ≡ true → counts h s ≡ n → counts (followed h e) s ≡ g n
+  elsewhere : (s : ℕ) → (f.scope == s) ≡ false → counts (followed h e) s ≡ counts h s
 
 module _ (L : Limits) (h : History) (e : Event) (t : RowTable) (k : ℕ) (f : Forking) (row : TaskRow → TaskRow) (g : Counts → Counts) (legal : Legal L h) (are : AreRowsOf h t) (is : forking h k ≡ Some f) (so : Moves h e k f row g) where
   -- the innermost scopes stay
   inner : (a : ℕ) → innermost (followed h e) a ≡ innermost h a
-  inner a = innermost_same h e a so.opens_none so.ends_none
+  inner a = innermost_same h e a so.none.opens_none so.none.ends_none
 
   -- the row of the task's scope
   scope_here : (s : ℕ) (r : ScopeRow) → (f.scope == s) ≡ true → IsScopeRow h s r → IsScopeRow (followed h e) s (recount g r)
   scope_here s r of it =
       scope_on h e s r r.joined r.closing r.closed r.violated (g r.counts) it
-      (joining_same h e s (so.joins_none s) ∙ it.joined) (closing_same h e s (so.begins_none s) ∙ it.closing) (closed_same h e s (so.ends_none s) ∙ it.closed) (violated_same h e s (so.violates_none s) ∙ it.violated)
+      (joining_same h e s (so.none.joins_none s) ∙ it.joined) (closing_same h e s (so.none.begins_none s) ∙ it.closing) (closed_same h e s (so.none.ends_none s) ∙ it.closed) (violated_same h e s (so.none.violates_none s) ∙ it.violated)
       (so.counted s r.counts of it.counts)
 
   -- the row of another
   scope_elsewhere : (s : ℕ) (r : ScopeRow) → (f.scope == s) ≡ false → IsScopeRow h s r → IsScopeRow (followed h e) s r
-  scope_elsewhere s r other it = scope_kept h e s r it (so.joins_none s) (so.begins_none s) (so.ends_none s) (so.violates_none s) (so.elsewhere s other)
+  scope_elsewhere s r other it = scope_kept h e s r it (so.none.joins_none s) (so.none.begins_none s) (so.none.ends_none s) (so.none.violates_none s) (so.elsewhere s other)
 
   -- the rows of all scopes
   moved_scopes : (i : ℕ) (r : ScopeRow) → slice_get (altered (recount g) t.scopes (place_of t.scopes_before (scope_of t k))) i ≡ Some r → IsScopeRow (followed h e) (t.scopes_before + 1 + i) r
@@ -104,12 +108,12 @@ module _ (L : Limits) (h : History) (e : Event) (t : RowTable) (k : ℕ) (f : Fo
       ]
 
   -- the rows with the task moved agree after the event
-  pub rows_moved : AreRowsOf (followed h e) (moved t k row g)
+  rows_moved : AreRowsOf (followed h e) (moved t k row g)
   rows_moved = record {
     scopes_before = are.scopes_before;
     tasks_before = are.tasks_before;
     main = inner 0 ∙ are.main;
-    scope_count = altered_length (recount g) t.scopes (place_of t.scopes_before (scope_of t k)) ∙ (are.scope_count ∙ sym (count_same is_open h e so.opens_none));
+    scope_count = altered_length (recount g) t.scopes (place_of t.scopes_before (scope_of t k)) ∙ (are.scope_count ∙ sym (count_same is_open h e so.none.opens_none));
     task_count = altered_length row t.tasks (place_of t.tasks_before k) ∙ (are.task_count ∙ sym (count_same is_fork h e so.names.forks_none));
     scopes = moved_scopes;
     tasks = moved_tasks;
@@ -127,45 +131,44 @@ names_started k = record { forks_none = refl; others = λ j apart. (refl, ne_eqb
 pub names_finished : (k : ℕ) (end : EndValue) → NamesAlone (Finish k end) k
 names_finished k end = record { forks_none = refl; others = λ j apart. (refl, refl, ne_eqb k j (λ same. apart (sym same))) }
 
--- the rows agree after a reject
-pub rows_rejected : (L : Limits) (h : History) (t : RowTable) (k : ℕ) → Legal L h → Accepts L h (Reject k) → AreRowsOf h t → AreRowsOf (followed h (Reject k)) (rejected t k)
-rows_rejected L h t k legal ok are =
-    let e = Reject k in
-    let it = waiting_forked h k (reject_passed L h k ok) in
-    let was = waiting_is (stage h k) (reject_passed L h k ok) in
-    let now = stage_rejected L h k legal ok in
-    rows_moved L h e t k it.forked (stage_row Never) count_reject legal are it.is
+-- an event that takes a task which waits, and says nothing of how it ends
+abbrev takes : Event → Bool
+takes (Reject task) = true
+takes (Start task) = true
+takes _ = false
+
+says_none : (h : History) (e : Event) → takes e ≡ true → SaysNone h e
+says_none h (Reject task) so = record { opens_none = refl; joins_none = λ s. refl; begins_none = λ s. refl; violates_none = λ s. refl; ends_none = λ s. refl }
+says_none h (Start task) so = record { opens_none = refl; joins_none = λ s. refl; begins_none = λ s. refl; violates_none = λ s. refl; ends_none = λ s. refl }
+says_none h _ so = absurd cc
+
+no_ending : (k i : ℕ) (e : Event) → takes e ≡ true → ending_of k i e ≡ None
+no_ending k i (Finish task end) so = absurd cc
+no_ending k i _ so = refl
+
+-- the rows agree after an event that takes a task
+rows_taken : (L : Limits) (h : History) (t u : RowTable) (k : ℕ) (e : Event) (to : Stage) → u ≡ taken t k to → Legal L h → AreRowsOf h t → is_waiting (stage h k) ≡ true → NamesAlone e k → takes e ≡ true → is_taken to ≡ true → stage (followed h e) k ≡ to → AreRowsOf (followed h e) u
+rows_taken L h t u k e to written legal are waits names so may now =
+    let it = waiting_forked h k waits in
+    let was = waiting_is (stage h k) waits in
+    let none = says_none h e so in
+    subst (AreRowsOf (followed h e)) (sym written)
+    (rows_moved L h e t k it.forked (stage_row to) (count_taken to) legal are it.is
     (record {
-      names = names_rejected k;
-      opens_none = refl;
-      joins_none = λ s. refl;
-      begins_none = λ s. refl;
-      violates_none = λ s. refl;
-      ends_none = λ s. refl;
-      task = λ r says. task_on h e k r Never r.state r.innermost says now (state_stays L h e k r.forking legal says.forking refl ∙ says.state) (innermost_same h e k refl (λ n. refl) ∙ says.innermost);
-      counted = λ s n of had. counts_rejected L h e k it.forked s n legal it.is (names_rejected k) of had was now;
-      elsewhere = λ s other. counts_elsewhere L h e k it.forked Waiting Never legal it.is (names_rejected k) was now s other;
-    })
+      names = names;
+      none = none;
+      task = λ r says. task_on h e k r to r.state r.innermost says now (state_stays L h e k r.forking legal says.forking (no_ending k (length h.events) e so) ∙ says.state) (innermost_same h e k none.opens_none none.ends_none ∙ says.innermost);
+      counted = λ s n of had. counts_taken L h e k it.forked s n legal it.is names of had to may was now;
+      elsewhere = λ s other. counts_elsewhere L h e k it.forked Waiting to legal it.is names was now s other;
+    }))
+
+-- they agree after a reject
+pub rows_rejected : (L : Limits) (h : History) (t u : RowTable) (k : ℕ) → u ≡ rejected t k → Legal L h → Accepts L h (Reject k) → AreRowsOf h t → AreRowsOf (followed h (Reject k)) u
+rows_rejected L h t u k written legal ok are = rows_taken L h t u k (Reject k) Never written legal are (reject_passed L h k ok) (names_rejected k) refl refl (stage_rejected L h k legal ok)
 
 -- and after a start
-pub rows_started : (L : Limits) (h : History) (t : RowTable) (k : ℕ) → Legal L h → Accepts L h (Start k) → AreRowsOf h t → AreRowsOf (followed h (Start k)) (started t k)
-rows_started L h t k legal ok are =
-    let e = Start k in
-    let it = waiting_forked h k (start_passed L h k ok) in
-    let was = waiting_is (stage h k) (start_passed L h k ok) in
-    let now = stage_started L h k legal ok in
-    rows_moved L h e t k it.forked (stage_row Running) count_start legal are it.is
-    (record {
-      names = names_started k;
-      opens_none = refl;
-      joins_none = λ s. refl;
-      begins_none = λ s. refl;
-      violates_none = λ s. refl;
-      ends_none = λ s. refl;
-      task = λ r says. task_on h e k r Running r.state r.innermost says now (state_stays L h e k r.forking legal says.forking refl ∙ says.state) (innermost_same h e k refl (λ n. refl) ∙ says.innermost);
-      counted = λ s n of had. counts_started L h e k it.forked s n legal it.is (names_started k) of had was now;
-      elsewhere = λ s other. counts_elsewhere L h e k it.forked Waiting Running legal it.is (names_started k) was now s other;
-    })
+pub rows_started : (L : Limits) (h : History) (t u : RowTable) (k : ℕ) → u ≡ started t k → Legal L h → Accepts L h (Start k) → AreRowsOf h t → AreRowsOf (followed h (Start k)) u
+rows_started L h t u k written legal ok are = rows_taken L h t u k (Start k) Running written legal are (start_passed L h k ok) (names_started k) refl refl (stage_started L h k legal ok)
 
 -- and after an end, where it is known whether the task's scope is cancelled
 pub rows_finished : (L : Limits) (h : History) (t : RowTable) (k : ℕ) (end : EndValue) (cancelled : Bool) → Legal L h → Accepts L h (Finish k end) → AreRowsOf h t → cancelled ≡ is_cancelled h (scope_of t k)
@@ -181,11 +184,7 @@ rows_finished L h t k end cancelled legal ok are cut =
     rows_moved L h e t k it.forked (ended_row (state_at_end cancelled end)) count_finish legal are it.is
     (record {
       names = names_finished k end;
-      opens_none = refl;
-      joins_none = λ s. refl;
-      begins_none = λ s. refl;
-      violates_none = λ s. refl;
-      ends_none = λ s. refl;
+      none = record { opens_none = refl; joins_none = λ s. refl; begins_none = λ s. refl; violates_none = λ s. refl; ends_none = λ s. refl };
       task = λ r says.
           task_on h e k r Finished (state_at_end cancelled end) r.innermost says now
           (state_ended L h k end it.forked legal it.is (running_task h k runs) ∙ ap (λ b. cond b Unavailable (state_by_end end)) known)

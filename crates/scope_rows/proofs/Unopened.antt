@@ -1,6 +1,6 @@
 -- Of a scope that was never opened nothing is said.
-use Rattle.std.proofs.Common.{◌≡◌, ◌≢◌, ℕ, ◌+◌, ◌==◌, ◌&&◌, true, false, not, nat_lt, Option, Some, None, [], refl, sym, subst, ◌∙◌, arith, inl, inr}
-use Rattle.std.proofs.lemmas.Bool.{eqb-true, and_parts, or_cases, false_from_ne_true}
+use Rattle.std.proofs.Common.{◌≡◌, ◌≢◌, ℕ, ◌+◌, ◌==◌, ◌&&◌, ◌||◌, Bool, true, false, not, nat_lt, Option, Some, None, [], refl, sym, subst, ◌∙◌, arith, inl, inr}
+use Rattle.std.proofs.lemmas.Bool.{eqb-true, and_parts, or_cases, both_ways, false_from_ne_true}
 use Rattle.scope_rules.specs.declared.types.capacity.Limits.{Limits}
 use Rattle.scope_rules.specs.declared.types.events.Event.{Event}
 use Rattle.scope_rules.specs.declared.types.events.Event.TheVariants.{BeginClose}
@@ -60,41 +60,36 @@ begun_for_opened L h (BeginClose actor scope) s ok it =
     subst (IsOpened h) (eqb-true scope s (and_parts (scope == s) (covers_another h s) it).0) (record { opened = owner.opened; is = owner.is })
 begun_for_opened L h _ s ok it = absurd cc
 
--- each closing scope was opened
-ClosingIsOpened : History → Type 0
-ClosingIsOpened h = (s : ℕ) → closing h s ≡ true → IsOpened h s
+-- what is said of no scope as a realm begins, and then only of what was opened, is said of opened scopes alone
+module _ (said : History → ℕ → Bool) (now : History → ℕ → Event → Bool) (start : (b : Origin) (s : ℕ) → said (record { base = b; events = [] }) s ≡ false) (grows : (h : History) (e : Event) (s : ℕ) → said (followed h e) s ≡ (said h s || now h s e))
+    (opened_now : (L : Limits) (h : History) (e : Event) (s : ℕ) → Accepts L h e → now h s e ≡ true → IsOpened h s) where
+  abbrev SaidIsOpened : History → Type 0
+  SaidIsOpened h = (s : ℕ) → said h s ≡ true → IsOpened h s
 
-closing_start : (b : Origin) → ClosingIsOpened (record { base = b; events = [] })
-unfolding ClosingIsOpened closing some_below
-closing_start b s so = absurd cc
+  said_start : (b : Origin) → SaidIsOpened (record { base = b; events = [] })
+  said_start b s so = absurd (both_ways (said (record { base = b; events = [] }) s) (start b s) so)
 
-closing_step : (L : Limits) (h : History) (e : Event) → Accepts L h e → ClosingIsOpened h → ClosingIsOpened (followed h e)
-unfolding ClosingIsOpened
-closing_step L h e ok so s it =
-    stays_opened h e s (elim (or_cases (closing h s) (begins_closing h s e) (sym (closing_grows h e s) ∙ it)) [ inl old ↦ so s old | inr now ↦ begun_opened L h e s ok now ])
+  said_step : (L : Limits) (h : History) (e : Event) → Accepts L h e → SaidIsOpened h → SaidIsOpened (followed h e)
+  said_step L h e ok was s it = stays_opened h e s (elim (or_cases (said h s) (now h s e) (sym (grows h e s) ∙ it)) [ inl old ↦ was s old | inr new ↦ opened_now L h e s ok new ])
+
+  said_opened : (L : Limits) (h : History) (s : ℕ) → Legal L h → said h s ≡ true → IsOpened h s
+  said_opened L h s legal it = along L SaidIsOpened said_start (λ g e lawful ok was. said_step L g e ok was) h legal s it
+
+closing_start : (b : Origin) (s : ℕ) → closing (record { base = b; events = [] }) s ≡ false
+unfolding closing some_below
+closing_start b s = refl
 
 -- in a legal history what is closing was opened
 pub closing_opened : (L : Limits) (h : History) (s : ℕ) → Legal L h → closing h s ≡ true → IsOpened h s
-unfolding ClosingIsOpened
-closing_opened L h s legal it = along L ClosingIsOpened closing_start (λ g e lawful ok was. closing_step L g e ok was) h legal s it
+closing_opened L h s legal it = said_opened closing begins_closing closing_start closing_grows begun_opened L h s legal it
 
--- each scope whose close was out of order was opened
-ViolatedIsOpened : History → Type 0
-ViolatedIsOpened h = (s : ℕ) → violated h s ≡ true → IsOpened h s
+violated_start : (b : Origin) (s : ℕ) → violated (record { base = b; events = [] }) s ≡ false
+unfolding violated some_below
+violated_start b s = refl
 
-violated_start : (b : Origin) → ViolatedIsOpened (record { base = b; events = [] })
-unfolding ViolatedIsOpened violated some_below
-violated_start b s so = absurd cc
-
-violated_step : (L : Limits) (h : History) (e : Event) → Accepts L h e → ViolatedIsOpened h → ViolatedIsOpened (followed h e)
-unfolding ViolatedIsOpened
-violated_step L h e ok so s it =
-    stays_opened h e s (elim (or_cases (violated h s) (begins_for h s e) (sym (violated_grows h e s) ∙ it)) [ inl old ↦ so s old | inr now ↦ begun_for_opened L h e s ok now ])
-
--- in a legal history a scope whose close was out of order was opened
-pub violated_opened : (L : Limits) (h : History) (s : ℕ) → Legal L h → violated h s ≡ true → IsOpened h s
-unfolding ViolatedIsOpened
-violated_opened L h s legal it = along L ViolatedIsOpened violated_start (λ g e lawful ok was. violated_step L g e ok was) h legal s it
+-- and so was a scope whose close was out of order
+violated_opened : (L : Limits) (h : History) (s : ℕ) → Legal L h → violated h s ≡ true → IsOpened h s
+violated_opened L h s legal it = said_opened violated begins_for violated_start violated_grows begun_for_opened L h s legal it
 
 -- nothing is said of a scope that was never opened
 pub record IsUnsaid (h : History) (s : ℕ) : Type 0 where

@@ -109,11 +109,10 @@ recount g r = record r { counts = g r.counts }
 abbrev pub count_fork : Bool → Counts → Counts
 count_fork cancelled c = if cancelled then record c { never = c.never + 1 } else record c { waiting = c.waiting + 1 }
 
-abbrev pub count_reject : Counts → Counts
-count_reject c = record c { waiting = c.waiting - 1; never = c.never + 1 }
-
-abbrev pub count_start : Counts → Counts
-count_start c = record c { waiting = c.waiting - 1; running = c.running + 1 }
+-- a task that waited is at this stage: it runs, or never does
+abbrev pub count_taken : Stage → Counts → Counts
+count_taken Running c = record c { waiting = c.waiting - 1; running = c.running + 1 }
+count_taken _ c = record c { waiting = c.waiting - 1; never = c.never + 1 }
 
 abbrev pub count_finish : Counts → Counts
 count_finish c = record c { running = c.running - 1; finished = c.finished + 1 }
@@ -135,11 +134,14 @@ moved t k f g =
 abbrev pub stage_row : Stage → TaskRow → TaskRow
 stage_row x r = record r { stage = x }
 
+abbrev pub taken : RowTable → ℕ → Stage → RowTable
+taken t k x = moved t k (stage_row x) (count_taken x)
+
 abbrev pub rejected : RowTable → ℕ → RowTable
-rejected t k = moved t k (stage_row Never) count_reject
+rejected t k = taken t k Never
 
 abbrev pub started : RowTable → ℕ → RowTable
-started t k = moved t k (stage_row Running) count_start
+started t k = taken t k Running
 
 -- what can be read of a task that ends so: nothing, where its scope is cancelled
 abbrev pub state_at_end : Bool → EndValue → State

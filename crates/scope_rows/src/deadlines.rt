@@ -14,6 +14,7 @@ ghost use Rattle.scope_rows.specs.Table.{place_of};
 ghost use Rattle.scope_rows.specs.DeadlineTable.{HasDeadline, deadline_in, no_deadlines, with_open, with_deadline};
 ghost use Rattle.scope_rows.specs.DeadlinesOf.{AreDeadlinesOf};
 
+use crate::numbered::place_of;
 use scope_rules::ScopeId;
 use std::alloc::{AllocError, Global};
 use std::marker::Model;
@@ -94,6 +95,6 @@ impl OwnDeadlines {
         ensures place { result ≡ place_of self.now.before scope }
         ensures within { result < length self.now.deadlines }
     {
-        (scope - self.before - 1) as usize
+        place_of(self.before, scope)
     }
 }

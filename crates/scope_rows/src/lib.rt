@@ -5,6 +5,7 @@
 
 pub mod deadlines;
 pub mod nests;
+mod numbered;
 pub mod records;
 pub mod rows;
 

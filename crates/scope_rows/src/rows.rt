@@ -11,6 +11,7 @@ ghost use Rattle.scope_rows.specs.Table.{RowTable, HasScope, HasTask, HasActor, 
 ghost use Rattle.scope_rows.specs.Steps.{restarted, with_innermost};
 ghost use Rattle.scope_rows.specs.Wants.{HasScopeNumbers, HasTaskNumbers};
 
+use crate::numbered::{place_of, row_of};
 use crate::records::{ScopeRow, TaskRow};
 use scope_rules::types::values::MAIN;
 use scope_rules::{Actor, ScopeId, TaskId};
@@ -70,10 +71,7 @@ impl Rows {
         ensures row { option_map (λ row. row.now) result ≡ scope_row self.now scope }
         ensures agrees { (h : History) → AreRowsOf h self.now → MatchOption result (opening h scope ≡ None) (λ row. IsScopeRow h scope row.now) }
     {
-        if scope <= self.scopes_before {
-            return None;
-        }
-        self.scopes.get((scope - self.scopes_before - 1) as usize)
+        row_of(&self.scopes, self.scopes_before, scope)
     }
 
     /// The row of the task, if it was forked since the base.
@@ -81,10 +79,7 @@ impl Rows {
         ensures row { option_map (λ row. row.now) result ≡ task_row self.now task }
         ensures agrees { (h : History) → AreRowsOf h self.now → MatchOption result (forking h task ≡ None) (λ row. IsTaskRow h task row.now) }
     {
-        if task <= self.tasks_before {
-            return None;
-        }
-        self.tasks.get((task - self.tasks_before - 1) as usize)
+        row_of(&self.tasks, self.tasks_before, task)
     }
 
     /// The latest scope that the actor opened and has not closed.
@@ -196,7 +191,7 @@ impl Rows {
         ensures place { result ≡ place_of self.now.scopes_before scope }
         ensures within { result < length self.now.scopes }
     {
-        (scope - self.scopes_before - 1) as usize
+        place_of(self.scopes_before, scope)
     }
 
     /// The place of the task's row.
@@ -205,7 +200,7 @@ impl Rows {
         ensures place { result ≡ place_of self.now.tasks_before task }
         ensures within { result < length self.now.tasks }
     {
-        (task - self.tasks_before - 1) as usize
+        place_of(self.tasks_before, task)
     }
 
     /// Says what the actor's innermost scope is.
@@ -216,7 +211,8 @@ impl Rows {
         if actor == MAIN {
             self.main_innermost = innermost;
         } else {
-            self.tasks[(actor - self.tasks_before - 1) as usize].innermost = innermost;
+            let at = place_of(self.tasks_before, actor);
+            self.tasks[at].innermost = innermost;
         }
     }
 }

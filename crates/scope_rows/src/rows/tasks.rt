@@ -8,7 +8,7 @@ ghost use Rattle.scope_rules.specs.declared.types.capacity.Limits.{Limits};
 ghost use Rattle.scope_rules.specs.declared.types.events.Event.TheVariants.{Fork, Reject, Start, Finish};
 ghost use Rattle.scope_rows.specs.Agreement.{AreRowsOf};
 ghost use Rattle.scope_rows.specs.Table.{scope_of};
-ghost use Rattle.scope_rows.specs.Steps.{forked, rejected, started, finished, count_fork, count_reject, count_start, count_finish, new_task_row, state_at_end};
+ghost use Rattle.scope_rows.specs.Steps.{forked, taken, rejected, started, finished, count_fork, count_taken, count_finish, new_task_row, state_at_end};
 ghost use Rattle.scope_rows.specs.Wants.{CanFork, CanBeTaken, CanFinish, HasCountRoom};
 
 use crate::records::TaskRow;
@@ -37,11 +37,7 @@ impl Rows {
         ensures rows { self.new ≡ rejected self.old task }
         ensures agrees { (L : Limits) (h : History) → Legal L h → Accepts L h (Reject task) → AreRowsOf h self.old → AreRowsOf (followed h (Reject task)) self.new }
     {
-        let at = self.task_place(task);
-        let of = self.scope_place(self.tasks[at].forking.scope);
-        self.tasks[at].stage = Stage::Never;
-        let row = &mut self.scopes[of];
-        row.counts = with_reject(row.counts);
+        self.take(task, Stage::Never);
     }
 
     /// The task, which waits, runs.
@@ -50,11 +46,19 @@ impl Rows {
         ensures rows { self.new ≡ started self.old task }
         ensures agrees { (L : Limits) (h : History) → Legal L h → Accepts L h (Start task) → AreRowsOf h self.old → AreRowsOf (followed h (Start task)) self.new }
     {
+        self.take(task, Stage::Running);
+    }
+
+    /// The task, which waits, is at the stage: it runs, or never does.
+    fn take(&mut self, task: TaskId, stage: Stage)
+        requires { CanBeTaken self.old task }
+        ensures { self.new ≡ taken self.old task stage }
+    {
         let at = self.task_place(task);
         let of = self.scope_place(self.tasks[at].forking.scope);
-        self.tasks[at].stage = Stage::Running;
+        self.tasks[at].stage = stage;
         let row = &mut self.scopes[of];
-        row.counts = with_start(row.counts);
+        row.counts = with_taken(row.counts, stage);
     }
 
     /// The task, which runs, ends. Where its scope is cancelled, the end can't be read.
@@ -107,30 +111,19 @@ fn with_fork(counts: Counts, cancelled: bool) -> Counts
     }
 }
 
-/// The counts where a task that waited never runs.
-fn with_reject(counts: Counts) -> Counts
+/// The counts where a task that waited is at the stage: it runs, or never does.
+fn with_taken(counts: Counts, stage: Stage) -> Counts
     requires waits { 1 ≤ counts.waiting }
     requires room { HasCountRoom counts }
-    ensures { result ≡ count_reject counts }
+    ensures { result ≡ count_taken stage counts }
 {
-    Counts {
-        waiting: counts.waiting - 1,
-        never: counts.never + 1,
-        ..counts
+    let mut taken = counts;
+    taken.waiting -= 1;
+    match stage {
+        Stage::Running => taken.running += 1,
+        _ => taken.never += 1,
     }
-}
-
-/// The counts where a task that waited runs.
-fn with_start(counts: Counts) -> Counts
-    requires waits { 1 ≤ counts.waiting }
-    requires room { HasCountRoom counts }
-    ensures { result ≡ count_start counts }
-{
-    Counts {
-        waiting: counts.waiting - 1,
-        running: counts.running + 1,
-        ..counts
-    }
+    taken
 }
 
 /// The counts where a task that ran has finished.

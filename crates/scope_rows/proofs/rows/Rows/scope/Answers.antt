@@ -1,17 +1,11 @@
 -- What is read is the row of the scope's number.
-use Rattle.std.proofs.Common.{ap, ◌∙◌, sym}
-use Rattle.scope_rows.proofs.Reading.{got, scope_got, scope_answer, scope_row_none, row_before}
-use Rattle.scope_rows.specs.Table.{RowTable, scope_row}
+use Rattle.std.proofs.Common.{ap, ◌∙◌}
+use Rattle.scope_rows.proofs.Reading.{scope_answer}
+use Rattle.scope_rows.specs.Table.{RowTable, row_of, scope_row}
 use Rattle.scope_rows.proofs.rows.Rows.scope.Goals as goal
 
-pub returns-then-scope-self-clause-agrees : goal.returns-then-scope-self-clause-agrees
-returns-then-scope-self-clause-agrees c = λ h are.
-    scope_row_none h _ c.args.scope are
-    (ap (λ (t : RowTable). scope_row t c.args.scope) (sym c.self.view_is) ∙ row_before c.self.inside.scopes_before c.self.inside.scopes.items c.args.scope c.if-scope-self.true)
-
 pub returns-clause-row : goal.returns-clause-row
-returns-clause-row c =
-    scope_got _ c.args.self.now c.deref.result.now c.args.scope _ c.self.view_is c.if-scope-self.false c.deref.ensures.value (got c.deref.result.now _ c.get.result c.get.ensures.lookup.0 c.get.ensures.lookup.1)
+returns-clause-row c = c.row_of.ensures ∙ ap (λ rows. row_of c.self.inside.scopes_before rows c.args.scope) c.deref.ensures.value ∙ ap (λ (t : RowTable). scope_row t c.args.scope) c.self.view_is
 
 pub returns-clause-agrees : goal.returns-clause-agrees
-returns-clause-agrees c = λ h are. scope_answer h c.args.self.now c.args.scope c.get.result (returns-clause-row c) are
+returns-clause-agrees c = λ h are. scope_answer h c.args.self.now c.args.scope c.row_of.result (returns-clause-row c) are

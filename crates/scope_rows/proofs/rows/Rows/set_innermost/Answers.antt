@@ -1,9 +1,8 @@
 -- The row of a task says it, or main's own field.
-use Rattle.std.proofs.Common.{refl}
 use Rattle.std.proofs.lemmas.Bool.{ne_eqb}
 use Rattle.scope_rows.proofs.Writing.{inner_written}
 use Rattle.scope_rows.proofs.rows.Rows.set_innermost.Goals as goal
 
 pub returns-else-actor-eq-MAIN : goal.returns-else-actor-eq-MAIN
 returns-else-actor-eq-MAIN c =
-    inner_written _ c.args.self.now c.args.actor _ c.index_mut.result.now c.args.innermost c.self.view_is (ne_eqb c.args.actor 0 c.if-actor-eq-MAIN.false) c.requires refl c.index_mut.ensures.value
+    inner_written _ c.args.self.now c.args.actor _ c.index_mut.result.now c.args.innermost c.self.view_is (ne_eqb c.args.actor 0 c.if-actor-eq-MAIN.false) c.requires c.place_of-at.ensures c.index_mut.ensures.value
