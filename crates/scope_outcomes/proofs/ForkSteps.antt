@@ -3,7 +3,6 @@ use Rattle.std.proofs.Common.{◌≡◌, ◌≢◌, ℕ, ◌+◌, ◌<◌, Bool,
 use Rattle.std.proofs.lemmas.Bool.{eq-eqb, ne_eqb}
 use Rattle.std.proofs.lemmas.Grind.{get_or-set_at}
 use Rattle.std.proofs.lemmas.List.{append-nil}
-use Rattle.std.proofs.lemmas.Option.{slice_get-get_or}
 use Rattle.std.specs.List.{filter}
 use Rattle.scope_rules.specs.declared.types.capacity.Limits.{Limits}
 use Rattle.scope_rules.specs.declared.types.events.Event.{Event}
@@ -23,7 +22,7 @@ use Rattle.scope_rows.specs.Steps.{altered}
 use Rattle.scope_rows.specs.Table.{place_of}
 use Rattle.scope_rows.proofs.Altering.{altered_length, altered_split, pushed_split, written}
 use Rattle.scope_rows.proofs.Keeping.{count_same}
-use Rattle.scope_rows.proofs.Places.{number_at, number_apart, place_within}
+use Rattle.scope_rows.proofs.Places.{number_at, number_apart, entry_there}
 use Rattle.scope_outcomes.specs.ForkTable.{ForkTable, ForkedTasks, HasForks, no_forks, forks_in, tasks_in, no_lists, with_open, with_forks, roomy, with_task}
 use Rattle.scope_outcomes.specs.ForksOf.{AreForksOf, moves_forks}
 use Rattle.scope_rules.specs.Nests.{tasks_of}
@@ -34,17 +33,11 @@ use Rattle.scope_outcomes.proofs.TaskLists.{if_one, tasks_kept, tasks_forked}
 -- a realm begins with no lists
 pub begins : (before : ℕ) (b : Origin) (t : ForkTable) → t ≡ no_lists before → b.scopes ≡ before → AreForksOf (record { base = b; events = [] }) t
 begins before b t is scopes =
-    subst (AreForksOf (record { base = b; events = [] })) (sym is) (record {
-      numbered = sym scopes;
-      count = refl;
-      lists = λ i x at. absurd cc;
-    })
+    subst (AreForksOf (record { base = b; events = [] })) (sym is) (record { numbered = sym scopes; count = refl; lists = λ i x at. absurd cc })
 
 -- the list of a scope has its tasks
 pub tasks_there : (h : History) (t : ForkTable) (s : ℕ) → HasForks t s → AreForksOf h t → tasks_in t s ≡ tasks_of h s
-tasks_there h t s has are =
-    let at = slice_get-get_or t.lists (place_of t.before s) no_forks (place_within t.before (length t.lists) s has.0 has.1) in
-    are.lists (place_of t.before s) (forks_in t s) at ∙ ap (tasks_of h) (number_at t.before s has.0)
+tasks_there h t s has are = entry_there (λ n x. x.numbers ≡ tasks_of h n) t.before t.lists s no_forks has are.lists
 
 -- ---- an event that neither opens nor forks
 

@@ -5,7 +5,6 @@ use Rattle.scope_rules.specs.declared.types.capacity.Limits.{Limits}
 use Rattle.scope_rules.specs.History.{History}
 use Rattle.scope_rules.specs.Scopes.{joined}
 use Rattle.scope_rules.specs.Legal.{Legal}
-use Rattle.scope_rules.proofs.Innermosts.{opened_after}
 use Rattle.scope_rules.proofs.Nesting.{IsOpened}
 use Rattle.scope_rules.proofs.NewScopes.{joined_opened}
 use Rattle.scope_rows.specs.declared.records.ScopeRow.{ScopeRow}
@@ -13,7 +12,7 @@ use Rattle.scope_rows.specs.Agreement.{AreRowsOf}
 use Rattle.scope_rows.specs.Table.{RowTable, HasScope, place_of}
 use Rattle.scope_rows.proofs.Altering.{altered_length}
 use Rattle.scope_rows.proofs.Joinings.{joined_is_some}
-use Rattle.scope_rows.proofs.Places.{scope_at, scope_row_is}
+use Rattle.scope_rows.proofs.Places.{opened_numbered, scope_at, scope_row_is}
 use Rattle.scope_cuts.specs.CutTables.{CutTable, HasRow}
 use Rattle.scope_cuts.specs.CutsOf.{AreCutsOf}
 use Rattle.scope_cuts.proofs.Readings.{has_row}
@@ -23,9 +22,7 @@ use Rattle.scope_outcomes.specs.ForksOf.{AreForksOf}
 
 -- an opened scope has a list
 pub opened_has_forks : (h : History) (t : ForkTable) (s : ℕ) → AreForksOf h t → IsOpened h s → HasForks t s
-opened_has_forks h t s are it =
-    let number = opened_after h s it.opened it.is in
-    (omega (arith, number.2, are.numbered), omega (arith, number.1, number.2, are.numbered, are.count))
+opened_has_forks h t s are it = opened_numbered h t.before t.lists s are.numbered are.count it
 
 -- a scope that has a row has a list, where both are of one history
 pub has_forks : (h : History) (rows : RowTable) (t : ForkTable) (s : ℕ) → AreRowsOf h rows → AreForksOf h t → HasScope rows s → HasForks t s

@@ -3,7 +3,7 @@ use Rattle.std.proofs.Common.{◌≡◌, ◌≢◌, ℕ, suc, ◌+◌, ◌<◌, 
 use Rattle.std.proofs.lemmas.Bool.{eq-eqb, ne_eqb}
 use Rattle.std.proofs.lemmas.Grind.{get_or_default_zero}
 use Rattle.std.proofs.lemmas.List.{append-nil}
-use Rattle.std.proofs.lemmas.Option.{slice_get-get_or, slice_get_within, get_or_from_slice_get}
+use Rattle.std.proofs.lemmas.Option.{slice_get_within, get_or_from_slice_get}
 use Rattle.scope_rules.specs.declared.types.capacity.Limits.{Limits}
 use Rattle.scope_rules.specs.declared.types.events.Event.{Event}
 use Rattle.scope_rules.specs.declared.types.events.Event.TheVariants.{Open}
@@ -18,7 +18,7 @@ use Rattle.scope_rows.specs.Steps.{altered}
 use Rattle.scope_rows.specs.Table.{place_of}
 use Rattle.scope_rows.proofs.Altering.{altered_length, altered_split, pushed_split, written}
 use Rattle.scope_rows.proofs.Keeping.{count_same}
-use Rattle.scope_rows.proofs.Places.{number_at, number_apart, place_within}
+use Rattle.scope_rows.proofs.Places.{number_at, number_apart, entry_there}
 use Rattle.scope_log.specs.Log.{is_of}
 use Rattle.scope_trails.specs.Places.{scope_of_event, if_one, places_of}
 use Rattle.scope_trails.specs.TrailTable.{TrailTable, HasTrail, last_in, trail_in, trail_to, no_trails, with_open, with_last, with_event}
@@ -31,9 +31,7 @@ use Rattle.scope_trails.proofs.TrailWalks.{ahead, trail_grown, trail_begins, tra
 -- the trail of a scope has the places of its events
 pub trail_there : (h : History) (t : TrailTable) (s : ℕ) → HasTrail t s → AreTrailsOf h t → trail_in t s ≡ places_of h s
 unfolding trail_in
-trail_there h t s has are =
-    let at = slice_get-get_or t.lasts (place_of t.before s) 0 (place_within t.before (length t.lasts) s has.0 has.1) in
-    (are.trails (place_of t.before s) (last_in t s) at).places ∙ ap (places_of h) (number_at t.before s has.0)
+trail_there h t s has are = (entry_there (λ n last. IsTrailOf h n t.links last) t.before t.lasts s 0 has are.trails).places
 
 -- ---- the trail of one scope
 

@@ -1,12 +1,12 @@
 -- A scope that was opened has a trail, so an event can be told of its scope.
-use Rattle.std.proofs.Common.{◌≡◌, ℕ, false, Some, arith, sym, ◌∙◌}
+use Rattle.std.proofs.Common.{◌≡◌, ℕ, false, Some, sym, ◌∙◌}
 use Rattle.scope_rules.specs.declared.types.capacity.Limits.{Limits}
 use Rattle.scope_rules.specs.declared.types.events.Event.{Event}
 use Rattle.scope_rules.specs.History.{History, is_open}
 use Rattle.scope_rules.specs.Legal.{Accepts, Legal}
-use Rattle.scope_rules.proofs.Innermosts.{opened_after}
 use Rattle.scope_rules.proofs.Nesting.{IsOpened}
 use Rattle.scope_rules.proofs.OneEventMore.{opening_same}
+use Rattle.scope_rows.proofs.Places.{opened_numbered}
 use Rattle.scope_log.proofs.NewLogs.{named_opened}
 use Rattle.scope_trails.specs.Places.{scope_of_event}
 use Rattle.scope_trails.specs.TrailTable.{TrailTable, HasTrail}
@@ -15,9 +15,7 @@ use Rattle.scope_trails.proofs.LogPlaces.{one_scope}
 
 -- a scope that was opened has a trail
 pub opened_trail : (h : History) (t : TrailTable) (s : ℕ) → AreTrailsOf h t → IsOpened h s → HasTrail t s
-opened_trail h t s are it =
-    let number = opened_after h s it.opened it.is in
-    (omega (arith, number.2, are.numbered), omega (arith, number.1, number.2, are.numbered, are.count))
+opened_trail h t s are it = opened_numbered h t.before t.lasts s are.numbered are.count it
 
 -- so has the scope of an accepted event that opens none
 pub event_trail : (L : Limits) (h : History) (e : Event) (t : TrailTable) (s : ℕ) → Legal L h → Accepts L h e → is_open e ≡ false → AreTrailsOf h t → scope_of_event h e ≡ Some s → HasTrail t s
