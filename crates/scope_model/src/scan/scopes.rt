@@ -2,7 +2,7 @@ ghost use Rattle.std.specs.Prelude.{◌≡◌, ◌<◌, ◌+◌, ◌≤◌, ◌^
 ghost use Rattle.scope_rules.specs.Search.{latest, some_below};
 ghost use Rattle.scope_rules.specs.History.{opened_count, opening};
 ghost use Rattle.scope_rules.specs.Chains.{outwards};
-ghost use Rattle.scope_rules.specs.Scopes.{joins, joined, ends, closed, unclosed_of, innermost, forked_in, surrounding, around, parent, outer, next_level, have_one_opener, covers, begins_closing, closing_at, closing};
+ghost use Rattle.scope_rules.specs.Scopes.{joined, closed, unclosed_of, innermost, forked_in, surrounding, around, parent, outer, next_level, have_one_opener, covers, begins_closing, closing_at, closing};
 
 use crate::scan::view::HistoryView;
 use scope_rules::types::events::Event;
@@ -15,7 +15,9 @@ impl<'a> HistoryView<'a> {
     pub fn joined(&self, scope: ScopeId) -> bool
         ensures { result ≡ joined self.now scope }
     {
-        self.events().iter().any(|event| joins(scope, event))
+        self.events().iter().any(
+            |event| matches!(*event, Event::Join { scope: joined, .. } if joined == scope),
+        )
     }
 
     /// Whether the scope is closed.
@@ -23,7 +25,9 @@ impl<'a> HistoryView<'a> {
     pub fn closed(&self, scope: ScopeId) -> bool
         ensures { result ≡ closed self.now scope }
     {
-        self.events().iter().any(|event| ends(scope, event))
+        self.events().iter().any(
+            |event| matches!(*event, Event::EndClose { scope: closed, .. } if closed == scope),
+        )
     }
 
     /// The scope that was opened after this many since the base, if the actor opened it and has not
@@ -152,13 +156,7 @@ impl<'a> HistoryView<'a> {
     fn begins_closing(&self, scope: ScopeId, event: &Event) -> bool
         ensures { result ≡ begins_closing self.now scope event.now }
     {
-        match *event {
-            Event::BeginClose {
-                actor: _,
-                scope: closing,
-            } => self.covers(closing, scope),
-            _ => false,
-        }
+        matches!(*event, Event::BeginClose { scope: closing, .. } if self.covers(closing, scope))
     }
 
     /// Whether the event at the place begins a close that covers the scope.
@@ -180,31 +178,5 @@ impl<'a> HistoryView<'a> {
             found |= self.closing_at(scope, place);
         }
         found
-    }
-}
-
-/// Whether the event joins the scope.
-fn joins(scope: ScopeId, event: &Event) -> bool
-    ensures { result ≡ joins scope event.now }
-{
-    match *event {
-        Event::Join {
-            actor: _,
-            scope: joined,
-        } => joined == scope,
-        _ => false,
-    }
-}
-
-/// Whether the event ends the close of the scope.
-fn ends(scope: ScopeId, event: &Event) -> bool
-    ensures { result ≡ ends scope event.now }
-{
-    match *event {
-        Event::EndClose {
-            actor: _,
-            scope: closed,
-        } => closed == scope,
-        _ => false,
     }
 }

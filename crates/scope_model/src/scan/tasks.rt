@@ -2,7 +2,7 @@ ghost use Rattle.std.specs.Prelude.{◌≡◌, ◌<◌, ◌≤◌, ◌+◌, ◌^
 ghost use Rattle.std.specs.List.{list_all, range_with_len};
 ghost use Rattle.scope_rules.specs.History.{forked_count, task_numbers};
 ghost use Rattle.scope_rules.specs.Completions.{is_task_of};
-ghost use Rattle.scope_rules.specs.Tasks.{rejects, rejected, starts, started, finishes, finished, ending_of, ending_at, ending, stage_of, stage, is_never, is_waiting, is_running, is_finished, is_settled, state_by_end, state_of, state, is_at, is_stage, counts, is_unsettled, settled};
+ghost use Rattle.scope_rules.specs.Tasks.{rejected, started, finished, ending_of, ending_at, ending, stage_of, stage, is_never, is_waiting, is_running, is_finished, is_settled, state_by_end, state_of, state, is_at, is_stage, counts, is_unsettled, settled};
 
 use crate::scan::view::HistoryView;
 use scope_rules::types::answers::{Counts, Stage, State};
@@ -16,7 +16,9 @@ impl<'a> HistoryView<'a> {
     fn rejected(&self, task: TaskId) -> bool
         ensures { result ≡ rejected self.now task }
     {
-        self.events().iter().any(|event| rejects(task, event))
+        self.events().iter().any(
+            |event| matches!(*event, Event::Reject { task: rejected } if rejected == task),
+        )
     }
 
     /// Whether the task was started.
@@ -24,7 +26,9 @@ impl<'a> HistoryView<'a> {
     fn started(&self, task: TaskId) -> bool
         ensures { result ≡ started self.now task }
     {
-        self.events().iter().any(|event| starts(task, event))
+        self.events().iter().any(
+            |event| matches!(*event, Event::Start { task: started } if started == task),
+        )
     }
 
     /// Whether the task has ended.
@@ -32,7 +36,9 @@ impl<'a> HistoryView<'a> {
     fn finished(&self, task: TaskId) -> bool
         ensures { result ≡ finished self.now task }
     {
-        self.events().iter().any(|event| finishes(task, event))
+        self.events().iter().any(
+            |event| matches!(*event, Event::Finish { task: finished, .. } if finished == task),
+        )
     }
 
     /// The end of the task, if the event at the place is it.
@@ -148,39 +154,6 @@ impl<'a> HistoryView<'a> {
             unsettled |= self.is_unsettled(scope, self.task_after(before));
         }
         !unsettled
-    }
-}
-
-/// Whether the event rejects the task.
-fn rejects(task: TaskId, event: &Event) -> bool
-    ensures { result ≡ rejects task event.now }
-{
-    match *event {
-        Event::Reject { task: rejected } => rejected == task,
-        _ => false,
-    }
-}
-
-/// Whether the event starts the task.
-fn starts(task: TaskId, event: &Event) -> bool
-    ensures { result ≡ starts task event.now }
-{
-    match *event {
-        Event::Start { task: started } => started == task,
-        _ => false,
-    }
-}
-
-/// Whether the event ends the task.
-fn finishes(task: TaskId, event: &Event) -> bool
-    ensures { result ≡ finishes task event.now }
-{
-    match *event {
-        Event::Finish {
-            task: finished,
-            end: _,
-        } => finished == task,
-        _ => false,
     }
 }
 

@@ -43,13 +43,7 @@ impl<'a> HistoryView<'a> {
     fn begins_for(&self, scope: ScopeId, event: &Event) -> bool
         ensures { result ≡ begins_for self.now scope event.now }
     {
-        match *event {
-            Event::BeginClose {
-                actor: _,
-                scope: closing,
-            } => closing == scope && self.covers_another(scope),
-            _ => false,
-        }
+        matches!(*event, Event::BeginClose { scope: closing, .. } if closing == scope && self.covers_another(scope))
     }
 
     /// Whether the event at the place began the scope's own close and covered another scope.

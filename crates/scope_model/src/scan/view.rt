@@ -111,7 +111,7 @@ impl<'a> HistoryView<'a> {
         requires { count < forked_count self.now }
         ensures { result ≡ self.now.base.tasks + 1 + count }
     {
-        let _forked = count_forked(self.events);
+        let _forked_fit = count_forked(self.events);
         self.base.tasks() + 1 + count
     }
 
@@ -120,7 +120,7 @@ impl<'a> HistoryView<'a> {
         requires { count < opened_count self.now }
         ensures { result ≡ self.now.base.scopes + 1 + count }
     {
-        let _opened = count_opened(self.events);
+        let _opened_fit = count_opened(self.events);
         self.base.scopes() + 1 + count
     }
 
