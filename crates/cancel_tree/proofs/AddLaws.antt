@@ -1,5 +1,5 @@
 -- What is kept stays right when a scope is added.
-use Rattle.std.proofs.Common.{◌≡◌, ◌⊎◌, ℕ, zero, suc, ◌+◌, ◌-◌, ◌<◌, ◌≤◌, Bool, true, false, cond, Option, Some, None, List, [], ◌∷◌, ◌++◌, length, get_or, slice_get, set, refl, ap, sym, ◌∙◌, subst, inl, inr, arith}
+use Rattle.std.proofs.Common.{◌≡◌, ◌⊎◌, ℕ, zero, suc, ◌+◌, ◌-◌, ◌<◌, ◌≤◌, Bool, true, false, cond, Option, Some, None, List, [], ◌∷◌, ◌++◌, length, get_or, slice_get, refl, ap, sym, ◌∙◌, subst, inl, inr, arith}
 use Rattle.std.specs.Option.{option_and_then, IfSome}
 use Rattle.std.proofs.lemmas.Bool.{ne_eqb, eq-eqb, cases_eq, cases_lt}
 use Rattle.std.proofs.lemmas.Option.{same_Some, slice_get-get_or, slice_get_within, slice_get_past}
@@ -10,7 +10,7 @@ use Rattle.cancel_tree.specs.declared.rows.Links.{Links}
 use Rattle.scope_rules.specs.Chains.{IsInward, onward, chain_by, nearer}
 use Rattle.cancel_tree.specs.Rows.{row, IsAdded, outer, new_row, parent_of, outer_of, own_of, cut_of, level_of, level_in}
 use Rattle.cancel_tree.specs.Reach.{is_scope, last_inner}
-use Rattle.cancel_tree.specs.Columns.{AreColumns}
+use Rattle.cancel_tree.specs.Columns.{AreColumns, led, AreLed}
 use Rattle.scope_rules.proofs.ChainLaws.{cut_law, cut_kept, chain_law, chain_kept}
 use Rattle.cancel_tree.proofs.ReachLaws.{last_inner_found}
 use Rattle.cancel_tree.proofs.SpreadLaws.{slice_get-set}
@@ -46,8 +46,7 @@ get_or_before (y ∷ xs) x (suc i) d h = get_or_before xs x i d (omega arith)
 -- ---- the links with a new one, to which the scope outside leads
 
 abbrev pub relinked : Option ℕ → List Links → Links → Links → List Links
-relinked None links link d = links ++ link ∷ []
-relinked (Some p) links link d = set (links ++ link ∷ []) (p - 1) (record (get_or (links ++ link ∷ []) (p - 1) d) { first_inner = Some (suc (length links)) })
+relinked o links link d = led (links ++ link ∷ []) o (suc (length links)) d
 
 pub relinked_length : (o : Option ℕ) (links : List Links) (link d : Links) → length (relinked o links link d) ≡ suc (length links)
 relinked_length None links link d = push_length links link
@@ -286,12 +285,6 @@ module _ (told : List Told) (links : List Links) (cuts : List (Option Cut)) (kep
     cut = cuts_new;
   }
 
--- the link from the scope outside, as it is written
-pub put_linked : (links links_new : List Links) (added x : Links) (p scope : ℕ) → links_new ≡ links ++ added ∷ [] → x ≡ get_or links_new (p - 1) x → scope ≡ suc (length links)
-    → set links_new (p - 1) (record x { first_inner = Some scope }) ≡ relinked (Some p) links added x
-put_linked links links_new added x p scope same at is =
-    λ i. set (same i) (p - 1) (record ((at ∙ ap (λ ls. get_or ls (p - 1) x) same) i) { first_inner = Some (is i) })
-
 pub link_is : (told : List Told) (parent : Option ℕ) (shield : Bool) (opened : ℕ) (around : ℕ) (next o : Option ℕ) → around + 1 ≡ level_in told parent → o ≡ outer (new_row parent shield opened)
     → next ≡ option_and_then (λ s. last_inner (outer_of told) s (length told)) o
     → (let l : Links = record { level = around + 1; first_inner = None; next_inner = next } in l) ≡ record { level = level_in told parent; first_inner = None; next_inner = option_and_then (λ s. last_inner (outer_of told) s (length told)) (outer (new_row parent shield opened)) }
@@ -334,11 +327,16 @@ module _ (ts told told_new : List Told) (links links_new : List Links) (cuts cut
       (subst (λ xs. AreColumns (told ++ new_row parent shield opened ∷ []) ls xs) (sym cuts_are)
       (subst (λ xs. AreColumns (told ++ new_row parent shield opened ∷ []) xs (cuts ++ the_cut ∷ [])) (sym e) (kept_at d)))
 
-  pub kept_alone : Links → o ≡ None → AreColumns told_new links_new cuts_new
-  kept_alone d none = kept_columns links_new d (links_are ∙ ap (λ x. relinked x links the_link d) (sym none ∙ at))
-
-  pub kept_inside : (p scope : ℕ) (x : Links) → o ≡ Some p → x ≡ get_or links_new (p - 1) x → scope ≡ length ts + 1 → AreColumns told_new (set links_new (p - 1) (record x { first_inner = Some scope })) cuts_new
-  kept_inside p scope x some read number =
+  pub kept_new : (d : Links) (scope : ℕ) (after : List Links) → AreLed links_new o scope after → scope ≡ length ts + 1 → AreColumns told_new after cuts_new
+  kept_new d scope after are_led number =
       let count : scope ≡ suc (length links) = number ∙ ap (λ xs. length xs + 1) (sym is) ∙ ap (λ n. n + 1) (sym kept.rows) ∙ omega arith in
-      kept_columns (set links_new (p - 1) (record x { first_inner = Some scope })) x
-      (put_linked links links_new the_link x p scope links_are read count ∙ ap (λ o. relinked o links the_link x) (sym some ∙ at))
+      kept_columns after d (are_led d ∙ (λ i. led (links_are i) (at i) (count i) d))
+
+  outer_is_added : (b : Bool) (p : Option ℕ) → IfSome p (IsAdded told) → IfSome (cond b None p) (λ q. (1 ≤ q) × (q ≤ length links_new))
+  outer_is_added true p added = tt
+  outer_is_added false None added = tt
+  outer_is_added false (Some q) added = (added.0, omega (arith, added.1, kept.rows, ap length links_are, push_length links the_link))
+
+  -- the scope outside has links
+  pub outer_linked : IfSome o (λ q. (1 ≤ q) × (q ≤ length links_new))
+  outer_linked = subst (λ q. IfSome q (λ p. (1 ≤ p) × (p ≤ length links_new))) (sym at) (outer_is_added shield parent there_told)

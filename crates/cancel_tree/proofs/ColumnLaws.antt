@@ -11,7 +11,6 @@ use Rattle.scope_rules.specs.Chains.{IsInward, cut_by, chain_by}
 use Rattle.cancel_tree.specs.Rows.{row, IsAdded, IsLatest, outer, changed, with_own, with_deadline, cut_at, parent_of, outer_of, own_of, cut_of}
 use Rattle.cancel_tree.specs.Reach.{reached, IsSpread, is_at_or_before}
 use Rattle.cancel_tree.specs.Columns.{IsLinked, AreColumns}
-use Rattle.std.proofs.lemmas.List.{get_or_default}
 use Rattle.cancel_tree.proofs.RowLaws.{changed_set, changed_same, row_at, altered_length, field_kept, field_at, row_changed, outer_inward}
 use Rattle.cancel_tree.proofs.CutLaws.{cut_put, cut_stays, cut_bounded, reached_cut}
 
@@ -147,12 +146,23 @@ kept_cut told links cuts s d added kept =
     let lt : s - 1 < length told = omega (arith, added.0, added.1) in
     same_Some _ _ (sym (slice_get-get_or cuts (s - 1) d (omega (arith, kept.columns))) ∙ kept.cut (s - 1) lt ∙ ap (λ t. Some (cut_of told t)) (let e : suc (s - 1) ≡ s = omega (arith, added.0) in e))
 
+-- the own cancel that is read
+pub own_read : (told : List Told) (s : ℕ) (x : Told) → IsAdded told s → x ≡ get_or told (s - 1) x → x.own ≡ own_of told s
+own_read told s x added at_x = ap (λ (t : Told). t.own) at_x ∙ sym (field_at (λ t. t.own) told s x added)
+
 -- a first own cancel, written into the row
-pub own_put : (told : List Told) (s : ℕ) (x y : Told) (c : Cut) → IsAdded told s → x ≡ get_or told (s - 1) x → y ≡ get_or told (s - 1) y → y.own ≡ None → set told (s - 1) (record x { own = Some c }) ≡ changed told s (with_own c)
-own_put told s x y c added at_x at_y none =
-    let same : x ≡ y = at_x ∙ get_or_default told (s - 1) x y (omega (arith, added.0, added.1)) ∙ sym at_y in
-    let free : x.own ≡ None = ap (λ t. t.own) same ∙ none in
+pub own_put : (told : List Told) (s : ℕ) (x : Told) (c : Cut) → IsAdded told s → x ≡ get_or told (s - 1) x → own_of told s ≡ None → set told (s - 1) (record x { own = Some c }) ≡ changed told s (with_own c)
+own_put told s x c added at_x none =
+    let free : x.own ≡ None = own_read told s x added at_x ∙ none in
     changed_set (with_own c) told s x (record x { own = Some c }) added (sym (ap (λ o. let t : Told = record x { own = option_or o (Some c) } in t) free) ∙ ap (with_own c) at_x)
+
+-- and leaves how many rows there are
+pub rows_after : (told after : List Told) (s : ℕ) (c : Cut) → after ≡ changed told s (with_own c) → length after ≡ length told
+rows_after told after s c put = ap length put ∙ altered_length (with_own c) told (s - 1)
+
+-- and which scope is outside which
+pub outers_after : (now told after : List Told) (s : ℕ) (c : Cut) → told ≡ now → IsAdded now s → after ≡ changed told s (with_own c) → outer_of after ≡ outer_of told
+outers_after _ told after s c view added put = ap outer_of put ∙ outers_kept told s added.0 (with_own c) (λ t. refl)
 
 -- an own cancel stays
 pub own_stays : (told : List Told) (s : ℕ) (y : Told) (c : Cut) → IsAdded told s → y ≡ get_or told (s - 1) y → is_some y.own ≡ true → told ≡ changed told s (with_own c)

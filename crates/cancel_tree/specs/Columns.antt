@@ -1,5 +1,6 @@
 -- What a tree keeps beside what it was told.
-use Rattle.std.specs.Prelude.{◌≡◌, ℕ, suc, ◌<◌, Option, Some, List, length, slice_get}
+use Rattle.std.specs.Prelude.{◌≡◌, ℕ, suc, ◌-◌, ◌<◌, Option, Some, None, List, length, slice_get}
+use Rattle.std.proofs.Common.{get_or, set}
 use Rattle.scope_rules.specs.declared.types.records.Cut.{Cut}
 use Rattle.cancel_tree.specs.declared.rows.Told.{Told}
 use Rattle.cancel_tree.specs.declared.rows.Links.{Links}
@@ -21,3 +22,11 @@ pub record AreColumns (told : List Told) (links : List Links) (cuts : List (Opti
   pub levels : (i : ℕ) (l : Links) → slice_get links i ≡ Some l → l.level ≡ level_of told (suc i)
   pub named : (s : ℕ) (c : Cut) → own_of told s ≡ Some c → c.cause.scope ≡ s
   pub cut : (i : ℕ) → i < length told → slice_get cuts i ≡ Some (cut_of told (suc i))
+
+-- the links, where the scope outside, if there is one, leads to the scope. `none` is read where there are none
+abbrev pub led : List Links → Option ℕ → ℕ → Links → List Links
+led links None s none = links
+led links (Some o) s none = set links (o - 1) (record (get_or links (o - 1) none) { first_inner = Some s })
+
+abbrev pub AreLed : List Links → Option ℕ → ℕ → List Links → Type 0
+AreLed old o s new = (none : Links) → new ≡ led old o s none

@@ -8,6 +8,7 @@ ghost use Rattle.scope_rules.specs.Chains.{IsInward, chain_by, least_on, nearer,
 ghost use Rattle.scope_rules.specs.Earliest.{IsEarliest};
 ghost use Rattle.cancel_tree.specs.Reach.{is_at_or_before, last_inner};
 ghost use Rattle.cancel_tree.specs.Rows.{IsAdded, IsLatest, cause_of, place_of, cut_of, own_of, outer_of, deadline_of, effective_of, level_of, level_in, new_row, with_own, with_deadline, changed, cut_at};
+ghost use Rattle.cancel_tree.specs.Columns.{AreLed};
 ghost use Rattle.cancel_tree.specs.Order.{IsCancelOrder};
 ghost use Rattle.cancel_tree.specs.Lending.{KeepsTold};
 
@@ -114,9 +115,7 @@ impl Tree {
             return Err(Refusal::Memory);
         }
         self.listed.add(scope, cut.is_some(), opened);
-        if let Some(outer) = outer {
-            self.links[(outer - 1) as usize].first_inner = Some(scope);
-        }
+        lead_to(&mut self.links, outer, scope);
         Ok(())
     }
 
@@ -250,7 +249,7 @@ impl Tree {
             cause: Cause { scope, kind },
         };
         let is_cause = is_at_or_before(number, self.cuts[place]);
-        self.told[place].own = Some(cut);
+        put_own(&mut self.told, scope, cut);
         if is_cause {
             self.listed.begin(number as usize);
             spread(
@@ -298,6 +297,25 @@ fn append(
     Ok(())
 }
 
+/// The scope outside, if there is one, leads to this scope.
+fn lead_to(links: &mut Vec<Links>, outer: Option<ScopeId>, scope: ScopeId)
+    requires { IfSome outer (λ o. (1 ≤ o) × (o ≤ length links.old.items)) }
+    ensures { AreLed links.old.items outer scope links.new.items }
+{
+    if let Some(outer) = outer {
+        links[(outer - 1) as usize].first_inner = Some(scope);
+    }
+}
+
+/// The scope, which has no own cancel, has this one.
+fn put_own(told: &mut Vec<Told>, scope: ScopeId, cut: Cut)
+    requires added { IsAdded told.old.items scope }
+    requires none { own_of told.old.items scope ≡ None }
+    ensures { told.new.items ≡ changed told.old.items scope (with_own cut) }
+{
+    told[(scope - 1) as usize].own = Some(cut);
+}
+
 /// The least deadline on the chain of the scope.
 fn least_deadline(told: &[Told], scope: ScopeId) -> Option<u64>
     requires added { IsAdded told.now scope }
@@ -342,7 +360,7 @@ impl Tree {
         requires { IsAdded self.now scope }
         ensures { chain_by (outer_of self.now) scope ≡ scope ∷ onward (outer_of self.now scope) (chain_by (outer_of self.now)) }
     {
-        let _told = &self.told;
+        let _rows_are_kept = &self.told;
     }
 
     /// The first cut of a scope is the nearer of its own cancel and the first cut of the scope outside.
@@ -350,7 +368,7 @@ impl Tree {
         requires { IsAdded self.now scope }
         ensures { cut_of self.now scope ≡ nearer (own_of self.now scope) (option_and_then (cut_of self.now) (outer_of self.now scope)) }
     {
-        let _told = &self.told;
+        let _rows_are_kept = &self.told;
     }
 
     /// The first cut of a scope is the own cancel of a scope on its chain, none on the chain has an
@@ -358,20 +376,20 @@ impl Tree {
     pub fn first_cut_is_the_earliest(&self, scope: ScopeId)
         ensures { IsEarliest (own_of self.now) (chain_by (outer_of self.now) scope) (cut_of self.now scope) }
     {
-        let _told = &self.told;
+        let _rows_are_kept = &self.told;
     }
 
     /// The cause of a scope is a scope on its chain.
     pub fn cause_is_on_the_chain(&self, scope: ScopeId)
         ensures { IfSome (cause_of self.now scope) (λ cause. Contains (chain_by (outer_of self.now) scope) cause.scope) }
     {
-        let _told = &self.told;
+        let _rows_are_kept = &self.told;
     }
 
     /// There is one list of the cancelled scopes in order of their cancellation.
     pub fn cancel_order_is_one(&self)
         ensures { (one other : List ℕ) → IsCancelOrder self.now one → IsCancelOrder self.now other → one ≡ other }
     {
-        let _told = &self.told;
+        let _rows_are_kept = &self.told;
     }
 }

@@ -4,7 +4,7 @@ use Rattle.std.specs.Prelude.{IsPermutation}
 use Rattle.cancel_tree.specs.Listed.{IsOnce, AreRuns, AreKept}
 use Rattle.cancel_tree.proofs.ListedLaws.{refused_same, listed_room, listed_added}
 use Rattle.cancel_tree.specs.declared.rows.Links.{Links}
-use Rattle.cancel_tree.proofs.AddLaws.{kept_alone, kept_inside}
+use Rattle.cancel_tree.proofs.AddLaws.{kept_new, outer_linked}
 use Rattle.cancel_tree.proofs.tree.Tree.add.Goals as goal
 
 abbrev no_links : Links
@@ -25,27 +25,14 @@ invariant_of-self-then-is_err-2 c =
     (subst (λ ls. AreKept c.self.inside.told.items ls c.append.new.cuts.items c.make_room.new.self) (sym links)
     (subst (λ cs. AreKept c.self.inside.told.items c.self.inside.links.items cs c.make_room.new.self) (sym cuts) kept))
 
-pub invariant_of-self-in-Some : goal.invariant_of-self-in-Some
-invariant_of-self-in-Some c =
-    let room = c.make_room.ensures in
-    let roomy = listed_room c.self.inside.told.items c.self.inside.cuts.items c.self.inside.listed c.make_room.new.self room.scopes room.run room.moment room.in_order room.kept_room c.self.invariant.listed in
-    let enough : length c.self.inside.told.items + 1 ≤ vec_capacity c.make_room.new.self.scopes = search rules in
-    let listed = listed_added c.args.self.now c.self.inside.told.items c.append.new.told.items c.self.inside.links.items c.self.inside.cuts.items c.append.new.cuts.items
-    c.self.view_is c.self.invariant.columns c.args.parent c.args.shield c.args.opened c.requires.there c.requires.latest c.outer-outer.result c.cut_from-cut.result _
-    (c.is_err-2.ensures.negation ∙ ap not c.if-is_err-2.false) c.append.ensures.told c.append.ensures.cuts c.outer-outer.ensures c.cut_from-cut.ensures
-    no_links c.make_room.new.self c.add.new.self c.args.scope roomy c.requires.next enough
-    (let e = c.is_some.ensures in subst (λ b. (when : ℕ → Option ℕ) → IsOnce c.make_room.new.self.scopes.items → AreRuns when c.make_room.new.self → (b ≡ true → when c.args.scope ≡ Some c.args.opened) → AreRuns when c.add.new.self) e c.add.ensures.runs)
-    (subst (λ b. IsPermutation (cond b (c.make_room.new.self.scopes.items ++ c.args.scope ∷ []) c.make_room.new.self.scopes.items) c.add.new.self.scopes.items) c.is_some.ensures c.add.ensures.moved)
-    (c.add.ensures.moment ∙ ap (λ b. cond b c.args.opened c.make_room.new.self.moment) c.is_some.ensures) c.add.ensures.room in
-    let columns =
-    kept_inside c.args.self.now c.self.inside.told.items c.append.new.told.items c.self.inside.links.items c.append.new.links.items c.self.inside.cuts.items c.append.new.cuts.items
+pub lead_to-requires : goal.lead_to-requires
+lead_to-requires c =
+    outer_linked c.args.self.now c.self.inside.told.items c.append.new.told.items c.self.inside.links.items c.append.new.links.items c.self.inside.cuts.items c.append.new.cuts.items
     c.self.view_is c.self.invariant.columns c.args.parent c.args.shield c.args.opened c.requires.there c.level_around-around.result c.last_inner.result c.outer-outer.result c.cut_from-cut.result _
     (c.is_err-2.ensures.negation ∙ ap not c.if-is_err-2.false) c.append.ensures.told c.append.ensures.links c.append.ensures.cuts c.level_around-around.ensures c.outer-outer.ensures c.last_inner.ensures c.cut_from-cut.ensures
-    c.in-Some.outer c.args.scope c.index_mut.result.now c.in-Some.is c.index_mut.ensures.value c.requires.next in
-    record { columns = columns; listed = listed }
 
-pub invariant_of-self-in_default : goal.invariant_of-self-in_default
-invariant_of-self-in_default c =
+pub invariant_of-self-2 : goal.invariant_of-self-2
+invariant_of-self-2 c =
     let room = c.make_room.ensures in
     let roomy = listed_room c.self.inside.told.items c.self.inside.cuts.items c.self.inside.listed c.make_room.new.self room.scopes room.run room.moment room.in_order room.kept_room c.self.invariant.listed in
     let enough : length c.self.inside.told.items + 1 ≤ vec_capacity c.make_room.new.self.scopes = search rules in
@@ -56,9 +43,8 @@ invariant_of-self-in_default c =
     (let e = c.is_some.ensures in subst (λ b. (when : ℕ → Option ℕ) → IsOnce c.make_room.new.self.scopes.items → AreRuns when c.make_room.new.self → (b ≡ true → when c.args.scope ≡ Some c.args.opened) → AreRuns when c.add.new.self) e c.add.ensures.runs)
     (subst (λ b. IsPermutation (cond b (c.make_room.new.self.scopes.items ++ c.args.scope ∷ []) c.make_room.new.self.scopes.items) c.add.new.self.scopes.items) c.is_some.ensures c.add.ensures.moved)
     (c.add.ensures.moment ∙ ap (λ b. cond b c.args.opened c.make_room.new.self.moment) c.is_some.ensures) c.add.ensures.room in
-    let columns =
-    kept_alone c.args.self.now c.self.inside.told.items c.append.new.told.items c.self.inside.links.items c.append.new.links.items c.self.inside.cuts.items c.append.new.cuts.items
+    let columns = kept_new c.args.self.now c.self.inside.told.items c.append.new.told.items c.self.inside.links.items c.append.new.links.items c.self.inside.cuts.items c.append.new.cuts.items
     c.self.view_is c.self.invariant.columns c.args.parent c.args.shield c.args.opened c.requires.there c.level_around-around.result c.last_inner.result c.outer-outer.result c.cut_from-cut.result _
     (c.is_err-2.ensures.negation ∙ ap not c.if-is_err-2.false) c.append.ensures.told c.append.ensures.links c.append.ensures.cuts c.level_around-around.ensures c.outer-outer.ensures c.last_inner.ensures c.cut_from-cut.ensures
-    no_links c.in_default.is in
+    no_links c.args.scope c.lead_to.new.links.items c.lead_to.ensures c.requires.next in
     record { columns = columns; listed = listed }
