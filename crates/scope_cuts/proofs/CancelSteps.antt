@@ -106,32 +106,12 @@ ticked_moment h now = moment_grows h (Tick now)
 pub past_has_own : (L : Limits) (h : History) (b s : ℕ) (t : Told) → Legal L h → IsToldOf h b s t → is_past (moment h) t.deadline ≡ true → is_some t.own ≡ true
 past_has_own L h b s t legal was past = own_some b t.own (ap is_some (sym was.own) ∙ overdue_cancelled L h s was.opened legal was.is (ap (is_past (moment h)) was.deadline ∙ past))
 
-ticked_outer : (before now place n : ℕ) (t : Told) → rows.outer (ticked before now place n t) ≡ rows.outer t
-ticked_outer before now place n t = by (passes before now t.deadline)
+-- what an own cancel leaves of a row, a tick leaves too
+ticked_leaves : {A : Type 0} (f : Told → A) → ((c : Cut) (t : Told) → f (with_own c t) ≡ f t) → (before now place n : ℕ) (t : Told) → f (ticked before now place n t) ≡ f t
+ticked_leaves f same before now place n t = by (passes before now t.deadline)
   where
-    by : (b : Bool) → rows.outer (cond b (with_own (cut_at place n Deadline) t) t) ≡ rows.outer t
-    by true = refl
-    by false = refl
-
-ticked_parent : (before now place n : ℕ) (t : Told) → (ticked before now place n t).parent ≡ t.parent
-ticked_parent before now place n t = by (passes before now t.deadline)
-  where
-    by : (b : Bool) → (cond b (with_own (cut_at place n Deadline) t) t).parent ≡ t.parent
-    by true = refl
-    by false = refl
-
-ticked_opened : (before now place n : ℕ) (t : Told) → (ticked before now place n t).opened ≡ t.opened
-ticked_opened before now place n t = by (passes before now t.deadline)
-  where
-    by : (b : Bool) → (cond b (with_own (cut_at place n Deadline) t) t).opened ≡ t.opened
-    by true = refl
-    by false = refl
-
-ticked_deadline : (before now place n : ℕ) (t : Told) → (ticked before now place n t).deadline ≡ t.deadline
-ticked_deadline before now place n t = by (passes before now t.deadline)
-  where
-    by : (b : Bool) → (cond b (with_own (cut_at place n Deadline) t) t).deadline ≡ t.deadline
-    by true = refl
+    by : (b : Bool) → f (cond b (with_own (cut_at place n Deadline) t) t) ≡ f t
+    by true = same (cut_at place n Deadline) t
     by false = refl
 
 pub ticked_next : (L : Limits) (h : History) (now : ℕ) (old new : CutTable) → Legal L h → AreCutsOf h old
@@ -146,9 +126,10 @@ ticked_next L h now old new legal was stepped moment_is accounts =
     (moment_is ∙ sym at) (ap length accounts)
     (λ m row there row_is.
     let s = old.before + m in
-    let deadline = ticked_deadline old.moment now place m row in
+    let deadline = ticked_leaves (λ (t : Told). t.deadline) (λ c t. refl) old.moment now place m row in
     let own = ticked_own old.moment now place m row (λ past. past_has_own L h old.before s row legal row_is (sym (ap (λ x. is_past x row.deadline) was.moment) ∙ past)) in
-    row_next h e old.before m row (ticked old.moment now place m row) row_is (ticked_parent old.moment now place m row) (ticked_outer old.moment now place m row) (ticked_opened old.moment now place m row)
+    row_next h e old.before m row (ticked old.moment now place m row) row_is (ticked_leaves (λ (t : Told). t.parent) (λ c t. refl) old.moment now place m row) (ticked_leaves rows.outer (λ c t. refl) old.moment now place m row)
+    (ticked_leaves (λ (t : Told). t.opened) (λ c t. refl) old.moment now place m row)
     (counting_same h e old.before s row row_is refl refl ∙ sym deadline)
     (own ∙ ap (λ x. option_or row.own (option_map (λ k. cut_at place m k) (kind_told None false x row.deadline))) (sym at)
     ∙ ap (λ d. option_or row.own (option_map (λ k. cut_at place m k) (kind_told None false (moment (followed h e)) d))) (sym deadline)))

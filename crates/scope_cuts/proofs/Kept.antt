@@ -46,54 +46,39 @@ come_put : (now : ℕ) (b : Bool) (d e : Option ℕ) → to_come now (cond b d e
 come_put now true d e = refl
 come_put now false d e = refl
 
--- a deadline that is taken away is taken out of the index
-pub kept_join : (before now n : ℕ) (told : List Told) (accounts : List JoinerStanding) (moments : Moments) → IsAdded told n → AreKept before now told accounts moments
-    → AreKept before now (changed told n (with_deadline None)) accounts (map.remove moments n)
-kept_join before now n told accounts moments added was =
-    let same = altered_length (with_deadline None) told (n - 1) in
+-- a deadline that is set stands in the index as far as it is still to come
+kept_put : (before now n : ℕ) (d : Option ℕ) (told : List Told) (accounts : List JoinerStanding) (moments moments' : Moments) → IsAdded told n → AreKept before now told accounts moments → ((m : ℕ) → map.get moments' m ≡ cond (eq_by_cmp nat_cmp m n) (to_come now d) (map.get moments m))
+    → AreKept before now (changed told n (with_deadline d)) accounts moments'
+kept_put before now n d told accounts moments moments' added was put =
+    let same = altered_length (with_deadline d) told (n - 1) in
     record {
       rows = was.rows ∙ sym same;
       numbers = omega (arith, was.numbers, same);
       indexed = λ m.
-          map.get-remove nat_cmp_total moments n m
-          ∙ (ap (λ b. cond b None (map.get moments m)) (tied m n)
-          ∙ (ap (λ o. cond (eqb m n) None o) (was.indexed m)
-          ∙ (sym (come_put now (eqb m n) None (deadline_of told m)) ∙ ap (to_come now) (sym (deadline_put None told n m added)))));
+          put m
+          ∙ (ap (λ b. cond b (to_come now d) (map.get moments m)) (tied m n)
+          ∙ (ap (λ o. cond (eqb m n) (to_come now d) o) (was.indexed m)
+          ∙ (sym (come_put now (eqb m n) d (deadline_of told m)) ∙ ap (to_come now) (sym (deadline_put d told n m added)))));
     }
+
+-- a deadline that is taken away is taken out of the index
+pub kept_join : (before now n : ℕ) (told : List Told) (accounts : List JoinerStanding) (moments : Moments) → IsAdded told n → AreKept before now told accounts moments
+    → AreKept before now (changed told n (with_deadline None)) accounts (map.remove moments n)
+kept_join before now n told accounts moments added was = kept_put before now n None told accounts moments (map.remove moments n) added was (map.get-remove nat_cmp_total moments n)
 
 -- a deadline that is still to come is put into the index
 pub kept_move : (before now n d : ℕ) (told : List Told) (accounts : List JoinerStanding) (moments : Moments) → IsAdded told n → now < d → AreKept before now told accounts moments
     → AreKept before now (changed told n (with_deadline (Some d))) accounts (map.insert moments n d)
 kept_move before now n d told accounts moments added later was =
-    let same = altered_length (with_deadline (Some d)) told (n - 1) in
     let coming : to_come now (Some d) ≡ Some d = ap (λ b. cond b (Some d) None) (lt-ltb now d later) in
-    record {
-      rows = was.rows ∙ sym same;
-      numbers = omega (arith, was.numbers, same);
-      indexed = λ m.
-          map.get-insert nat_cmp_total moments n d m
-          ∙ (ap (λ b. cond b (Some d) (map.get moments m)) (tied m n)
-          ∙ (ap (λ o. cond (eqb m n) (Some d) o) (was.indexed m)
-          ∙ (ap (λ o. cond (eqb m n) o (to_come now (deadline_of told m))) (sym coming)
-          ∙ (sym (come_put now (eqb m n) (Some d) (deadline_of told m)) ∙ ap (to_come now) (sym (deadline_put (Some d) told n m added))))));
-    }
+    kept_put before now n (Some d) told accounts moments (map.insert moments n d) added was (λ m. map.get-insert nat_cmp_total moments n d m ∙ ap (λ o. cond (eq_by_cmp nat_cmp m n) o (map.get moments m)) (sym coming))
 
 -- one that has passed is not
 pub kept_past : (before now n d : ℕ) (told : List Told) (accounts : List JoinerStanding) (moments : Moments) → IsAdded told n → d ≤ now → AreKept before now told accounts moments
     → AreKept before now (changed told n (with_deadline (Some d))) accounts (map.remove moments n)
 kept_past before now n d told accounts moments added past was =
-    let same = altered_length (with_deadline (Some d)) told (n - 1) in
     let gone : to_come now (Some d) ≡ None = ap (λ b. cond b (Some d) None) (le-ltb now d past) in
-    record {
-      rows = was.rows ∙ sym same;
-      numbers = omega (arith, was.numbers, same);
-      indexed = λ m.
-          map.get-remove nat_cmp_total moments n m
-          ∙ (ap (λ b. cond b None (map.get moments m)) (tied m n)
-          ∙ (ap (λ o. cond (eqb m n) None o) (was.indexed m)
-          ∙ (ap (λ o. cond (eqb m n) o (to_come now (deadline_of told m))) (sym gone)
-          ∙ (sym (come_put now (eqb m n) (Some d) (deadline_of told m)) ∙ ap (to_come now) (sym (deadline_put (Some d) told n m added))))));
-    }
+    kept_put before now n (Some d) told accounts moments (map.remove moments n) added was (λ m. map.get-remove nat_cmp_total moments n m ∙ ap (λ o. cond (eq_by_cmp nat_cmp m n) o (map.get moments m)) (sym gone))
 
 -- with no rows nothing is listed
 pub kept_begun : (before now : ℕ) → before < 2 ^ 32 → AreKept before now [] [] map.empty

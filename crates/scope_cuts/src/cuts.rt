@@ -337,7 +337,10 @@ impl Cuts {
         requires few { IfSome (account_at self.old scope) (λ a. a.totals.completions < TASK_LIMIT) }
         ensures { HasCounted self.old self.new scope done }
     {
-        let _counted = self.accounts[(scope - self.before - 1) as usize].count(done);
+        let at = (scope - self.before - 1) as usize;
+        if self.accounts[at].count(done).is_err() {
+            unreachable!()
+        }
     }
 }
 
