@@ -1,5 +1,5 @@
 -- What a progress keeps answers for every list that it stands for.
-use Rattle.std.proofs.Common.{◌≡◌, true, List, [], ◌∷◌, ◌++◌, count_by, length, ap, sym, ◌∙◌}
+use Rattle.std.proofs.Common.{◌≡◌, true, List, [], ◌∷◌, ◌++◌, count_by, length, refl, ap, sym, subst, ◌∙◌}
 use Rattle.std.specs.List.{find}
 use Rattle.scope_rules.specs.declared.types.values.Completion.{Completion}
 use Rattle.scope_rules.specs.declared.types.joiners.Rule.{Rule}
@@ -29,23 +29,15 @@ stands-push old new list d totals seen joiner stands = record {
       seen had ∙ ap (λ xs. xs ++ d ∷ []) (stands.seen had);
 }
 
--- what each reader tells of the list
-pub completions_listed : (kept : JoinerStanding) (list : List Completion) → StandsFor kept list → kept.totals.completions ≡ length list
-unfolding totals_of
-completions_listed kept list stands = ap (λ (t : Totals). t.completions) (sym stands.totals)
+-- what the readers tell of the list
+pub record AreListed (kept : JoinerStanding) (list : List Completion) : Type 0 where
+  pub completions : kept.totals.completions ≡ length list
+  pub failures : kept.totals.failures ≡ count_by has_failed list
+  pub successes : kept.totals.successes ≡ count_by has_succeeded list
+  pub first_failure : kept.totals.first_failure ≡ find has_failed list
+  pub first_success : kept.totals.first_success ≡ find has_succeeded list
 
-pub failures_listed : (kept : JoinerStanding) (list : List Completion) → StandsFor kept list → kept.totals.failures ≡ count_by has_failed list
+pub are_listed : (kept : JoinerStanding) (list : List Completion) → StandsFor kept list → AreListed kept list
 unfolding totals_of
-failures_listed kept list stands = ap (λ (t : Totals). t.failures) (sym stands.totals)
-
-pub successes_listed : (kept : JoinerStanding) (list : List Completion) → StandsFor kept list → kept.totals.successes ≡ count_by has_succeeded list
-unfolding totals_of
-successes_listed kept list stands = ap (λ (t : Totals). t.successes) (sym stands.totals)
-
-pub first_failure_listed : (kept : JoinerStanding) (list : List Completion) → StandsFor kept list → kept.totals.first_failure ≡ find has_failed list
-unfolding totals_of
-first_failure_listed kept list stands = ap (λ (t : Totals). t.first_failure) (sym stands.totals)
-
-pub first_success_listed : (kept : JoinerStanding) (list : List Completion) → StandsFor kept list → kept.totals.first_success ≡ find has_succeeded list
-unfolding totals_of
-first_success_listed kept list stands = ap (λ (t : Totals). t.first_success) (sym stands.totals)
+are_listed kept list stands =
+    subst (λ (t : Totals). AreListed (record kept { totals = t }) list) stands.totals (record { completions = refl; failures = refl; successes = refl; first_failure = refl; first_success = refl })

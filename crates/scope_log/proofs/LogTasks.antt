@@ -142,26 +142,23 @@ module _ (marks : ℕ → Event → Bool) (marked_so : History → ℕ → Bool)
           ∙ (both_or (marked_so g k) (marks k e) (is_task_of g s k)
           ∙ (ap (λ b. b && is_task_of g s k) (sym (grows g e k)) ∙ shown_stays L g e s k lawful ok))))
 
+-- what an event says of a task, the log of its scope says
+task_said : (h : History) (s k : ℕ) (e : Event) → ((is_of h s e && option_map_or (rejects_task k) (said h e) false) ≡ (rejects k e && is_task_of h s k))
+    × ((is_of h s e && option_map_or (starts_task k) (said h e) false) ≡ (starts k e && is_task_of h s k))
+    × ((is_of h s e && option_map_or (finishes_task k) (said h e) false) ≡ (finishes k e && is_task_of h s k))
+task_said h s k (Reject task) = (same_task h s task k, and_false (is_task_of h s task), and_false (is_task_of h s task))
+task_said h s k (Start task) = (and_false (is_task_of h s task), same_task h s task k, and_false (is_task_of h s task))
+task_said h s k (Finish task end) = (and_false (is_task_of h s task), and_false (is_task_of h s task), same_task h s task k)
+task_said h s k e = (and_false (is_of h s e), and_false (is_of h s e), and_false (is_of h s e))
+
 reject_told : (h : History) (s k : ℕ) (e : Event) → tells (rejects_task k) h s e ≡ (rejects k e && is_task_of h s k)
-reject_told h s k e = tells_by (rejects_task k) h s e ∙ by e
-  where
-    by : (x : Event) → (is_of h s x && option_map_or (rejects_task k) (said h x) false) ≡ (rejects k x && is_task_of h s k)
-    by (Reject task) = same_task h s task k
-    by x = and_false (is_of h s x)
+reject_told h s k e = tells_by (rejects_task k) h s e ∙ (task_said h s k e).0
 
 start_told : (h : History) (s k : ℕ) (e : Event) → tells (starts_task k) h s e ≡ (starts k e && is_task_of h s k)
-start_told h s k e = tells_by (starts_task k) h s e ∙ by e
-  where
-    by : (x : Event) → (is_of h s x && option_map_or (starts_task k) (said h x) false) ≡ (starts k x && is_task_of h s k)
-    by (Start task) = same_task h s task k
-    by x = and_false (is_of h s x)
+start_told h s k e = tells_by (starts_task k) h s e ∙ (task_said h s k e).1
 
 finish_told : (h : History) (s k : ℕ) (e : Event) → tells (finishes_task k) h s e ≡ (finishes k e && is_task_of h s k)
-finish_told h s k e = tells_by (finishes_task k) h s e ∙ by e
-  where
-    by : (x : Event) → (is_of h s x && option_map_or (finishes_task k) (said h x) false) ≡ (finishes k x && is_task_of h s k)
-    by (Finish task end) = same_task h s task k
-    by x = and_false (is_of h s x)
+finish_told h s k e = tells_by (finishes_task k) h s e ∙ (task_said h s k e).2
 
 -- the entries reject a task where it is one of the scope and was rejected
 pub rejected_told : (L : Limits) (h : History) (s k : ℕ) → Legal L h → list_any (rejects_task k) (entries h s) ≡ (rejected h k && is_task_of h s k)

@@ -25,7 +25,7 @@ use Rattle.scope_rows.specs.Table.{RowTable, scope_row, task_row}
 use Rattle.scope_rows.specs.Agreement.{AreRowsOf}
 use Rattle.scope_rows.proofs.Reading.{scope_row_says, task_row_says, task_row_none}
 use Rattle.join_rules.specs.JoinerStanding.{JoinerStanding, StandsFor}
-use Rattle.join_rules.proofs.StandingLemmas.{first_failure_listed, first_success_listed}
+use Rattle.join_rules.proofs.StandingLemmas.{are_listed}
 use Rattle.scope_cuts.specs.CutTables.{CutTable, HasRow, account_at}
 use Rattle.scope_cuts.specs.CutsOf.{AreCutsOf, IsAccountOf}
 use Rattle.scope_outcomes.specs.ForkTable.{ForkTable}
@@ -86,8 +86,8 @@ module _ (L : Limits) (h : History) (s i : ℕ) (t : RowTable) (a : JoinerStandi
   -- what could be read at the join is what is kept
   pub readable_told : readable_of (before h i) s ≡ readable_by t a.totals ks
   readable_told =
-      rw (first_told has_failed a.totals.first_failure (first_failure_listed a (completions h s) stands))
-      (rw (first_told has_succeeded a.totals.first_success (first_success_listed a (completions h s) stands))
+      rw (first_told has_failed a.totals.first_failure (are_listed a (completions h s) stands).first_failure)
+      (rw (first_told has_succeeded a.totals.first_success (are_listed a (completions h s) stands).first_success)
       (rw values_told (rw listing_told refl)))
 
 -- ---- the outcome

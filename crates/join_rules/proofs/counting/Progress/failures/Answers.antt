@@ -1,7 +1,7 @@
 -- The kept totals are those of every list that the progress stands for.
 use Rattle.std.proofs.Common.{◌∙◌}
-use Rattle.join_rules.proofs.StandingLemmas.{failures_listed}
+use Rattle.join_rules.proofs.StandingLemmas.{are_listed}
 use Rattle.join_rules.proofs.counting.Progress.failures.Goals as goal
 
 pub returns-clause-listed : goal.returns-clause-listed
-returns-clause-listed g c = λ list stands. c.failures.ensures ∙ failures_listed _ list stands
+returns-clause-listed g c = λ list stands. c.failures.ensures ∙ (are_listed _ list stands).failures
