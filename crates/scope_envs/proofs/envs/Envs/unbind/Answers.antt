@@ -4,16 +4,8 @@ use Rattle.std.proofs.lemmas.Grind.{common_steps}
 use Rattle.scope_envs.proofs.Steps.{unbind_agrees}
 use Rattle.scope_envs.proofs.envs.Envs.unbind.Goals as goal
 
-pub returns-then-actor-eq-MAIN-clause-kept : goal.returns-then-actor-eq-MAIN-clause-kept
-returns-then-actor-eq-MAIN-clause-kept c = search rules
-
-pub returns-else-actor-eq-MAIN-clause-kept : goal.returns-else-actor-eq-MAIN-clause-kept
-returns-else-actor-eq-MAIN-clause-kept c = grind (arith, common_steps)
-
 pub returns-then-actor-eq-MAIN-clause-agrees : goal.returns-then-actor-eq-MAIN-clause-agrees
-returns-then-actor-eq-MAIN-clause-agrees c =
-    λ h agrees. unbind_agrees h _ _ _ c.requires (returns-then-actor-eq-MAIN-clause-kept c) agrees
+returns-then-actor-eq-MAIN-clause-agrees c = λ h agrees. unbind_agrees h _ _ _ c.requires (search rules) agrees
 
 pub returns-else-actor-eq-MAIN-clause-agrees : goal.returns-else-actor-eq-MAIN-clause-agrees
-returns-else-actor-eq-MAIN-clause-agrees c =
-    λ h agrees. unbind_agrees h _ _ _ c.requires (returns-else-actor-eq-MAIN-clause-kept c) agrees
+returns-else-actor-eq-MAIN-clause-agrees c = λ h agrees. unbind_agrees h _ _ _ c.requires (grind (arith, common_steps)) agrees
