@@ -1,14 +1,16 @@
 -- What a cancel, a move, a tick and the beginning of a close make of the table.
-use Rattle.std.proofs.Common.{◌≡◌, ◌⊎◌, inl, inr, slice_get, ℕ, ◌+◌, ◌-◌, ◌==◌, ◌||◌, Bool, true, false, cond, nat_lt, is_some, Option, Some, None, option_map, length, refl, ap, sym, subst, ◌∙◌, arith}
+use Rattle.std.proofs.Common.{◌≡◌, ◌≢◌, ◌⊎◌, inl, inr, slice_get, ℕ, ◌+◌, ◌-◌, ◌==◌, ◌||◌, Bool, true, false, cond, nat_lt, is_some, Option, Some, None, option_map, length, refl, ap, sym, subst, ◌∙◌, arith}
 use Rattle.std.specs.Option.{option_or, option_map_or}
 use Rattle.std.proofs.lemmas.Bool.{eq-eqb, le-leb, ltb-false}
 use Rattle.scope_rules.specs.declared.types.capacity.Limits.{Limits}
 use Rattle.scope_rules.specs.declared.types.answers.CauseKind.{CauseKind}
 use Rattle.scope_rules.specs.declared.types.answers.CauseKind.TheVariants.{Joiner, Deadline, Call, Close}
 use Rattle.scope_rules.specs.declared.types.records.Cut.{Cut}
+use Rattle.scope_rules.specs.declared.types.events.Event.{Event}
 use Rattle.scope_rules.specs.declared.types.events.Event.TheVariants.{Cancel, Move, Tick, BeginClose}
-use Rattle.scope_rules.specs.History.{History, followed, moment}
+use Rattle.scope_rules.specs.History.{History, followed, moment, is_open, tick_of}
 use Rattle.scope_rules.specs.Scopes.{joined, covers}
+use Rattle.scope_rules.specs.Completions.{completion_of}
 use Rattle.scope_rules.specs.Cancels.{move_of, joiner_fires, deadline, counting_deadline}
 use Rattle.scope_rules.specs.Legal.{Legal}
 use Rattle.scope_rules.proofs.Prefixes.{option_or-none}
@@ -22,7 +24,7 @@ use Rattle.scope_cuts.specs.CutsOf.{IsToldOf, AreCutsOf}
 use Rattle.scope_cuts.proofs.OwnCuts.{kind_told, overdue_cancelled}
 use Rattle.scope_cuts.proofs.RowSteps.{row_next, row_stays, counting_same, own_some}
 use Rattle.scope_cuts.proofs.TableSteps.{HasStepped, table_next, accounts_stay, at_row}
-use Rattle.scope_cuts.proofs.EventSteps.{row_of_scope, stepped_at, at_row_by, moment_same, other_row}
+use Rattle.scope_cuts.proofs.EventSteps.{Row, row_of_scope, stepped_at, at_row_by, moment_same, other_row}
 
 -- ---- a cancel
 
@@ -32,6 +34,25 @@ call_here s t same k = ap (λ b. cond b (Some Call) k) (eq-eqb s t same)
 call_there : (s t : ℕ) → (s == t) ≡ false → cond (s == t) (Some Call) None ≡ None
 call_there s t apart = ap (λ b. cond b (Some Call) None) apart
 
+-- an event that changes one row and leaves the others, the moment and the accounts leaves the table right
+one_row_next : (L : Limits) (h : History) (e : Event) (s : ℕ) (f : ℕ → Told → Told) (old new : CutTable) (at : Row old s) → Legal L h → AreCutsOf h old
+    → new ≡ record old { told = changed old.told (s - old.before) (f (s - old.before)) } → is_open e ≡ false → tick_of e ≡ None → ((n : ℕ) → completion_of (followed h e) n e ≡ None)
+    → ((row : Told) → IsToldOf h old.before (old.before + at.number) row → IsToldOf (followed h e) old.before (old.before + at.number) (f at.number row))
+    → ((m : ℕ) (row : Told) → m ≢ at.number → IsToldOf h old.before (old.before + m) row → IsToldOf (followed h e) old.before (old.before + m) row)
+    → AreCutsOf (followed h e) new
+one_row_next L h e s f old new at legal was is unopened untimed unended here others =
+    let number : s - old.before ≡ at.number = omega (arith, at.is) in
+    let told : new.told ≡ changed old.told at.number (f at.number) = ap (λ (t : CutTable). t.told) is ∙ ap (λ n. changed old.told n (f n)) number in
+    let accounts : new.accounts ≡ old.accounts = ap (λ (t : CutTable). t.accounts) is in
+    let before : new.before ≡ old.before = ap (λ (t : CutTable). t.before) is in
+    let moment_is : new.moment ≡ old.moment = ap (λ (t : CutTable). t.moment) is in
+    table_next h e old new (at_row at.number (f at.number)) was unopened (stepped_at old new at.number (f at.number) at.first before told)
+    (moment_is ∙ (was.moment ∙ sym (moment_same h e untimed))) (ap length accounts)
+    (λ m row there row_is. at_row_by (λ k t. IsToldOf (followed h e) old.before (old.before + k) t) at.number (f at.number) m row
+    (λ same. here row (subst (λ k. IsToldOf h old.before (old.before + k) row) same row_is))
+    (λ apart. others m row apart row_is))
+    (λ i acc there. accounts_stay L h e old legal was unended i acc (sym (ap (λ xs. slice_get xs i) accounts) ∙ there))
+
 pub cancelled_next : (L : Limits) (h : History) (s : ℕ) (old new : CutTable) → Legal L h → AreCutsOf h old → HasRow old s
     → new ≡ cancelled old s Call (length h.events)
     → AreCutsOf (followed h (Cancel s)) new
@@ -40,22 +61,10 @@ cancelled_next L h s old new legal was has is =
     let e = Cancel s in
     let at = row_of_scope old s has in
     let place = length h.events in
-    let number : s - old.before ≡ at.number = omega (arith, at.is) in
-    let now = moment_same h e refl in
-    let f = with_own (cut_at place at.number Call) in
-    let told : new.told ≡ changed old.told at.number f = ap (λ (t : CutTable). t.told) is ∙ ap (λ n. changed old.told n (with_own (cut_at place n Call))) number in
-    let accounts : new.accounts ≡ old.accounts = ap (λ (t : CutTable). t.accounts) is in
-    let before : new.before ≡ old.before = ap (λ (t : CutTable). t.before) is in
-    let moment_is : new.moment ≡ old.moment = ap (λ (t : CutTable). t.moment) is in
-    table_next h e old new (at_row at.number f) was refl (stepped_at old new at.number f at.first before told)
-    (moment_is ∙ (was.moment ∙ sym now)) (ap length accounts)
-    (λ m row there row_is. at_row_by (λ k t. IsToldOf (followed h e) old.before (old.before + k) t) at.number f m row
-    (λ same.
-    let here : IsToldOf h old.before (old.before + at.number) row = subst (λ k. IsToldOf h old.before (old.before + k) row) same row_is in
-    row_next h e old.before at.number row (f row) here refl refl refl (counting_same h e old.before (old.before + at.number) row here refl refl)
+    one_row_next L h e s (λ n. with_own (cut_at place n Call)) old new at legal was is refl refl (λ k. refl)
+    (λ row here. row_next h e old.before at.number row (with_own (cut_at place at.number Call) row) here refl refl refl (counting_same h e old.before (old.before + at.number) row here refl refl)
     (sym (ap (λ k. option_or row.own (option_map (λ x. cut_at place at.number x) (option_or k (cond (joiner_fires (followed h e) (old.before + at.number) e) (Some Joiner) (cond (is_past (moment (followed h e)) row.deadline) (Some Deadline) None))))) (call_here s (old.before + at.number) (sym at.is) None))))
-    (λ apart. row_stays L h e old.before m row legal row_is now refl refl (call_there s (old.before + m) (other_row old.before m at.number s at.is apart)) refl))
-    (λ i acc there. accounts_stay L h e old legal was (λ k. refl) i acc (sym (ap (λ xs. slice_get xs i) accounts) ∙ there))
+    (λ m row apart row_is. row_stays L h e old.before m row legal row_is (moment_same h e refl) refl refl (call_there s (old.before + m) (other_row old.before m at.number s at.is apart)) refl)
 
 -- ---- a tick
 
@@ -171,25 +180,11 @@ pub moved_next : (L : Limits) (h : History) (s : ℕ) (d : Option ℕ) (old new 
     → AreCutsOf (followed h (Move s d)) new
 unfolding joiner_fires
 moved_next L h s d old new legal was has unjoined is =
-    let e = Move s d in
     let at = row_of_scope old s has in
-    let place = length h.events in
-    let number : s - old.before ≡ at.number = omega (arith, at.is) in
-    let now = moment_same h e refl in
-    let f = moved old.moment place d at.number in
-    let told : new.told ≡ changed old.told at.number f = ap (λ (t : CutTable). t.told) is ∙ ap (λ n. changed old.told n (moved old.moment place d n)) number in
-    let accounts : new.accounts ≡ old.accounts = ap (λ (t : CutTable). t.accounts) is in
-    let before : new.before ≡ old.before = ap (λ (t : CutTable). t.before) is in
-    let moment_is : new.moment ≡ old.moment = ap (λ (t : CutTable). t.moment) is in
-    table_next h e old new (at_row at.number f) was refl (stepped_at old new at.number f at.first before told)
-    (moment_is ∙ (was.moment ∙ sym now)) (ap length accounts)
-    (λ m row there row_is. at_row_by (λ k t. IsToldOf (followed h e) old.before (old.before + k) t) at.number f m row
-    (λ same.
-    let here : IsToldOf h old.before (old.before + at.number) row = subst (λ k. IsToldOf h old.before (old.before + k) row) same row_is in
-    subst (λ k. IsToldOf (followed h (Move k d)) old.before (old.before + at.number) (f row)) at.is
+    one_row_next L h (Move s d) s (moved old.moment (length h.events) d) old new at legal was is refl refl (λ k. refl)
+    (λ row here. subst (λ k. IsToldOf (followed h (Move k d)) old.before (old.before + at.number) (moved old.moment (length h.events) d at.number row)) at.is
     (moved_row h old.before at.number old.moment d row here (subst (λ k. joined h k ≡ false) (sym at.is) unjoined) was.moment))
-    (λ apart. row_stays L h e old.before m row legal row_is now refl (moved_away s (old.before + m) d (other_row old.before m at.number s at.is apart)) refl refl))
-    (λ i acc there. accounts_stay L h e old legal was (λ k. refl) i acc (sym (ap (λ xs. slice_get xs i) accounts) ∙ there))
+    (λ m row apart row_is. row_stays L h (Move s d) old.before m row legal row_is (moment_same h (Move s d) refl) refl (moved_away s (old.before + m) d (other_row old.before m at.number s at.is apart)) refl refl)
 
 -- ---- the beginning of a close
 

@@ -30,7 +30,7 @@ use Rattle.scope_log.specs.LocalForms.{before_mark, completions_in, readable_in}
 use Rattle.scope_log.proofs.FirstParts.{first_of, first_of-append}
 use Rattle.scope_log.proofs.LogStates.{find_grows, unended}
 use Rattle.scope_log.proofs.LogTasks.{task_grows}
-use Rattle.scope_log.proofs.NewLogs.{task_there}
+use Rattle.scope_rules.proofs.Forkings.{task_there}
 
 -- ---- the same search, over the completions
 

@@ -35,7 +35,7 @@ use Rattle.scope_log.specs.LocalForms.{before_mark, is_mark, finishes_task, comp
 use Rattle.scope_log.proofs.FirstParts.{before_first-cons, pick_one}
 use Rattle.scope_log.proofs.LogMarks.{gives_by, cond_none, parted, picks_grow}
 use Rattle.scope_log.proofs.LogTasks.{task_grows, finished_told}
-use Rattle.scope_log.proofs.NewLogs.{task_there}
+use Rattle.scope_rules.proofs.Forkings.{task_there}
 
 -- ---- completions
 

@@ -31,7 +31,7 @@ use Rattle.scope_log.specs.Log.{is_of, said, entry_of, entries}
 use Rattle.scope_log.specs.LocalForms.{is_mark, after_mark, forks_task, rejects_task, starts_task, finishes_task, is_never_in, stage_in}
 use Rattle.scope_log.proofs.FirstParts.{after_first_none}
 use Rattle.scope_log.proofs.LogMarks.{tells, tells_by, and_false, marked, parted, any_grows}
-use Rattle.scope_log.proofs.NewLogs.{task_there}
+use Rattle.scope_rules.proofs.Forkings.{task_there}
 
 -- ---- which tasks there are
 

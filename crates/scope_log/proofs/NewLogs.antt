@@ -1,21 +1,20 @@
 -- No event names a scope that isn't opened yet, so its log begins with its opening.
 use Rattle.std.proofs.Common.{◌≡◌, ℕ, ◌+◌, ◌==◌, Bool, true, false, cond, Option, Some, None, option_map, [], ◌++◌, refl, ap, sym, subst, ◌∙◌}
 use Rattle.std.proofs.lemmas.Bool.{eqb-true, false_from_ne_true}
-use Rattle.std.specs.Option.{option_map_or}
 use Rattle.std.specs.List.{cons_option}
 use Rattle.scope_rules.specs.declared.types.capacity.Limits.{Limits}
 use Rattle.scope_rules.specs.declared.types.events.Event.{Event}
 use Rattle.scope_rules.specs.declared.types.events.Event.TheVariants.{Open, Fork, Reject, Start, Finish, Cancel, Move, Join, BeginClose, EndClose}
 use Rattle.scope_rules.specs.declared.types.records.Cut.{Cut}
-use Rattle.scope_rules.specs.declared.types.records.Forking.{Forking}
 use Rattle.scope_rules.specs.declared.types.records.Opening.{Opening}
 use Rattle.scope_rules.specs.Origin.{Origin}
-use Rattle.scope_rules.specs.History.{History, followed, opening, forking, scopes}
+use Rattle.scope_rules.specs.History.{History, followed, opening, scopes}
 use Rattle.scope_rules.specs.Cancels.{cut, cause, is_cancelled}
 use Rattle.scope_rules.specs.Completions.{is_task_of}
 use Rattle.scope_rules.specs.Table.{check_of}
 use Rattle.scope_rules.specs.Legal.{Accepts, Legal}
 use Rattle.scope_rules.proofs.Accepted.{checks_at}
+use Rattle.scope_rules.proofs.Forkings.{task_there}
 use Rattle.scope_rules.proofs.Growing.{opening_stays}
 use Rattle.scope_rules.proofs.InnermostSteps.{next_opening}
 use Rattle.scope_rules.proofs.Nesting.{IsOpened, forked_opened}
@@ -26,20 +25,6 @@ use Rattle.scope_rules.proofs.Staying.{cut_opened}
 use Rattle.scope_log.specs.Log.{LogValue, is_of, said, entry_of, entries, mark_next, mark_of, entries_next, log}
 use Rattle.scope_log.specs.LogLaws.{LogGoesOn}
 use Rattle.scope_log.proofs.LogSteps.{entries_grow}
-
--- a task of scope s was forked in it
-pub record IsTask (h : History) (s k : ℕ) : Type 0 where
-  pub forked : Forking
-  pub is : forking h k ≡ Some forked
-  pub of : forked.scope ≡ s
-
-task_by : (h : History) (s k : ℕ) (o : Option Forking) → forking h k ≡ o → option_map_or (λ (f : Forking). f.scope == s) o false ≡ true → IsTask h s k
-task_by h s k None is so = absurd cc
-task_by h s k (Some f) is so = record { forked = f; is = is; of = eqb-true f.scope s so }
-
-pub task_there : (h : History) (s k : ℕ) → is_task_of h s k ≡ true → IsTask h s k
-unfolding is_task_of
-task_there h s k so = task_by h s k (forking h k) refl so
 
 module _ (L : Limits) (h : History) (s : ℕ) where
   by_number : (n : ℕ) → (n == s) ≡ true → IsOpened h n → IsOpened h s

@@ -27,6 +27,7 @@ pub fn logs_tell_causes()
 
 /// A log has the tasks of its scope in fork order, and tells how far each came and what can be read of
 /// it, and which completed.
+#[tactic(auto, using(crate::proofs::LogTells::tells_tasks, crate::proofs::LogTells::tells_stages, crate::proofs::LogTells::tells_states, crate::proofs::LogTells::tells_completions))]
 pub fn logs_tell_tasks()
     ensures tasks { LogTellsTasks }
     ensures stages { LogTellsStages }
@@ -36,6 +37,7 @@ pub fn logs_tell_tasks()
 
 /// A log tells how many tasks of its scope are at each stage, whether none waits or runs, and whether
 /// the scope may be joined.
+#[tactic(auto, using(crate::proofs::LogTells::tells_counts, crate::proofs::LogTells::tells_settled, crate::proofs::LogTells::tells_ready))]
 pub fn logs_tell_counts()
     ensures counts { LogTellsCounts }
     ensures settled { LogTellsSettled }

@@ -3,12 +3,11 @@
 ghost use Rattle.std.specs.Prelude.{◌≡◌, ◌+◌, ◌≤◌, ◌<◌, ◌^◌, length, count_by, false, option_map, IfOk};
 ghost use Rattle.std.specs.List.{list_any, position, position_or_len, find};
 ghost use Rattle.std.specs.Option.{option_map_or};
-ghost use Rattle.scope_rules.specs.Tasks.{state_by_end};
 ghost use Rattle.scope_log.specs.Counting.{total, counted};
 ghost use Rattle.scope_log.specs.LocalForms.{is_mark, cause_said, cause_in, before_mark, after_mark, task_forked, tasks_in, forks_task, rejects_task, starts_task, finishes_task, is_never_in, stage_in, completion_said, completions_in, is_end_of, state_in, is_at_in, counts_in, is_unsettled_in, settled_in, ready_in};
 
 use crate::entries::LogEntry;
-use scope_rules::{Cause, Completion, Counts, End, Stage, State, TaskId};
+use scope_rules::{Cause, Completion, Counts, Stage, State, TaskId};
 use std::alloc::{AllocError, Global};
 
 /// Why the scope is cancelled, if it is: what its mark says.
@@ -128,7 +127,7 @@ pub(crate) fn state(entries: &[LogEntry], task: TaskId) -> State
     ensures { result ≡ state_in entries.now task }
 {
     match end_of(before_mark(entries), task) {
-        Some(done) => state_by_end(&done.end),
+        Some(done) => State::by_end(&done.end),
         None => State::Unavailable,
     }
 }
@@ -302,15 +301,5 @@ pub(crate) fn completion_said(entry: &LogEntry) -> Option<Completion>
     match *entry {
         LogEntry::Finish { task, end } => Some(Completion { task, end }),
         _ => None,
-    }
-}
-
-/// The state that the end shows.
-fn state_by_end(end: &End) -> State
-    ensures { result ≡ state_by_end end.now }
-{
-    match *end {
-        Ok(value) => State::Success(value),
-        Err(fault) => State::Failed(fault),
     }
 }

@@ -12,6 +12,8 @@ use Rattle.scope_rules.specs.Outcomes.{first_read, joining_at, joining}
 use Rattle.scope_rules.specs.Tasks.{state, ready}
 use Rattle.scope_rules.specs.Table.{check_of}
 use Rattle.scope_rules.specs.Legal.{Accepts, Legal}
+use Rattle.scope_rules.proofs.Answered.{joining_entry}
+use Rattle.scope_rules.proofs.Forkings.{IsTask}
 use Rattle.scope_rules.proofs.Accepted.{checks_at, not_refused, not_not}
 use Rattle.scope_rules.proofs.Nesting.{IsOpened, legal_before}
 use Rattle.scope_rules.proofs.NewScopes.{scope_passed}
@@ -23,7 +25,7 @@ use Rattle.scope_rules.specs.Nests.{tasks_of}
 use Rattle.scope_outcomes.proofs.Since.{since}
 use Rattle.scope_outcomes.proofs.TaskLists.{if_one, tasks_kept, tasks_forked}
 use Rattle.scope_outcomes.proofs.Over.{IsOver, forks_for, over_ready, over_stays, over_states, task_before}
-use Rattle.scope_outcomes.proofs.Readings.{IsTask, first_over}
+use Rattle.scope_outcomes.proofs.Readings.{first_over}
 
 -- the later history h says of scope s what g says
 pub record IsLike (g : History) (s : ℕ) (h : History) : Type 0 where
@@ -73,13 +75,7 @@ join_by h s i _ so at within = absurd cc
 
 -- a join stands at the place of the join
 pub join_at : (h : History) (s i : ℕ) → joining h s ≡ Some i → JoinAt h s i
-unfolding joining
-join_at h s i is =
-    let there = earliest_where (joining_at h s) i (length h.events) is in
-    let entry = and_then_some (λ (e : Event). cond (joins s e) (Some there.0) None) (slice_get h.events there.0) i there.2 in
-    let test = if_some (joins s entry.0) (Some there.0) i entry.2 in
-    let same : there.0 ≡ i = cc (test.1) in
-    join_by h s i entry.0 test.0 (ap (slice_get h.events) (sym same) ∙ entry.1) (omega (arith, there.1, same))
+join_at h s i is = let it = joining_entry h s i is in join_by h s i it.0 it.2 it.1 it.3
 
 -- what is accepted to be joined was opened, and is ready
 pub join_wants : (L : Limits) (h : History) (a s : ℕ) → Accepts L h (Join a s) → IsOpened h s × (ready h s ≡ true)

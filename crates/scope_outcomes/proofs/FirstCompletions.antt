@@ -19,6 +19,7 @@ use Rattle.scope_rules.specs.Answers.{is_available}
 use Rattle.scope_rules.specs.Outcomes.{readable, first_read}
 use Rattle.scope_rules.specs.Tasks.{finishes, finished, state, state_by_end}
 use Rattle.scope_rules.specs.Legal.{Accepts, Legal}
+use Rattle.scope_rules.proofs.Forkings.{IsTask}
 use Rattle.scope_rules.proofs.Accepted.{running_task}
 use Rattle.scope_rules.proofs.CompletionSteps.{completions_grow}
 use Rattle.scope_rules.proofs.Growing.{forking_stays}
@@ -26,7 +27,7 @@ use Rattle.scope_rules.proofs.OneEventMore.{finished_grows, along}
 use Rattle.scope_rules.proofs.PassedRows.{finish_passed}
 use Rattle.scope_rules.proofs.StateSteps.{state_ended}
 use Rattle.scope_outcomes.proofs.Over.{cancelled_stays}
-use Rattle.scope_outcomes.proofs.Readings.{IsTask, completes_it, forked_earlier, ended_state, unreadable, first_grows}
+use Rattle.scope_outcomes.proofs.Readings.{completes_it, forked_earlier, ended_state, unreadable, first_grows}
 
 -- a completion of the scope: where it can't be read, the scope is cancelled
 record Completed (h : History) (s : ℕ) (d : Completion) : Type 0 where

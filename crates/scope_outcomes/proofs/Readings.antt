@@ -18,6 +18,7 @@ use Rattle.scope_rules.specs.Legal.{Accepts, Legal}
 use Rattle.scope_rules.proofs.Accepted.{entry_at, running_task}
 use Rattle.scope_rules.proofs.CompletionSteps.{is_task_stays}
 use Rattle.scope_rules.proofs.Earlier.{forking_since}
+use Rattle.scope_rules.proofs.Forkings.{IsTask, task_there}
 use Rattle.scope_rules.proofs.OneEventMore.{last_event, forking_same}
 use Rattle.scope_rules.proofs.PassedRows.{finish_passed, finisher_passed}
 use Rattle.scope_rules.proofs.Prefixes.{get_push, option_or-none}
@@ -30,20 +31,6 @@ any_at : (p : Event → Bool) (es : List Event) (i : ℕ) (e : Event) → slice_
 any_at p [] i e at so = absurd cc
 any_at p (x ∷ es) zero e at so = let same : x ≡ e = cc in or_left (p x) (list_any p es) (ap p same ∙ so)
 any_at p (x ∷ es) (suc i) e at so = or_right (p x) (list_any p es) (any_at p es i e at so)
-
--- a task that is one of a scope was forked in it
-pub record IsTask (h : History) (s k : ℕ) : Type 0 where
-  pub forked : Forking
-  pub is : forking h k ≡ Some forked
-  pub of : forked.scope ≡ s
-
-task_by : (h : History) (s k : ℕ) (o : Option Forking) → forking h k ≡ o → option_map_or (λ (f : Forking). f.scope == s) o false ≡ true → IsTask h s k
-task_by h s k None is so = absurd cc
-task_by h s k (Some f) is so = record { forked = f; is = is; of = eqb-true f.scope s so }
-
-pub task_there : (h : History) (s k : ℕ) → is_task_of h s k ≡ true → IsTask h s k
-unfolding is_task_of
-task_there h s k so = task_by h s k (forking h k) refl so
 
 pub is_task : (h : History) (s k : ℕ) → IsTask h s k → is_task_of h s k ≡ true
 unfolding is_task_of

@@ -35,7 +35,7 @@ use Rattle.scope_outcomes.specs.Answers.{cause_before, state_in, readable_in, re
 use Rattle.scope_outcomes.proofs.AtJoin.{IsLike, join_at, join_wants, like_at_join}
 use Rattle.scope_outcomes.proofs.CutsBefore.{cause_at}
 use Rattle.scope_outcomes.proofs.FirstCompletions.{where_read, first_by_completions}
-use Rattle.scope_outcomes.proofs.Readings.{task_there}
+use Rattle.scope_rules.proofs.Forkings.{task_there}
 
 -- ---- the rows' states
 

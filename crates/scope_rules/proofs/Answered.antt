@@ -1,5 +1,5 @@
 -- What a join answered stays.
-use Rattle.std.proofs.Common.{◌≡◌, ℕ, ◌+◌, ◌<◌, cond, Option, Some, None, option_map, [], ◌∷◌, ◌++◌, length, slice_get, refl, ap, ◌∙◌, arith, length-append}
+use Rattle.std.proofs.Common.{◌≡◌, ℕ, ◌+◌, ◌<◌, cond, true, Option, Some, None, option_map, [], ◌∷◌, ◌++◌, length, slice_get, refl, ap, sym, ◌∙◌, arith, length-append}
 use Rattle.scope_rules.specs.declared.types.events.Event.{Event}
 use Rattle.scope_rules.specs.declared.types.outcomes.Outcome.{Outcome}
 use Rattle.scope_rules.specs.History.{History, before, followed, opening}
@@ -11,15 +11,19 @@ use Rattle.scope_rules.proofs.Pushing.{before_push}
 use Rattle.scope_rules.proofs.Growing.{opening_stays}
 use Rattle.scope_rules.proofs.Prefixes.{get_push}
 
--- the place of a join is in the history
-pub joining_inside : (h : History) (s i : ℕ) → joining h s ≡ Some i → i < length h.events
+-- a join stands at the place of the join
+pub joining_entry : (h : History) (s i : ℕ) → joining h s ≡ Some i → (e : Event) × (slice_get h.events i ≡ Some e) × (joins s e ≡ true) × (i < length h.events)
 unfolding joining
-joining_inside h s i is =
+joining_entry h s i is =
     let there = earliest_where (joining_at h s) i (length h.events) is in
     let entry = and_then_some (λ (e : Event). cond (joins s e) (Some there.0) None) (slice_get h.events there.0) i there.2 in
     let test = if_some (joins s entry.0) (Some there.0) i entry.2 in
     let same : there.0 ≡ i = cc (test.1) in
-    omega (arith, there.1, same)
+    (entry.0, ap (slice_get h.events) (sym same) ∙ entry.1, test.0, omega (arith, there.1, same))
+
+-- the place of a join is in the history
+pub joining_inside : (h : History) (s i : ℕ) → joining h s ≡ Some i → i < length h.events
+joining_inside h s i is = (joining_entry h s i is).3
 
 -- the place of a join stays
 pub joining_stays : (h : History) (e : Event) (s i : ℕ) → joining h s ≡ Some i → joining (followed h e) s ≡ Some i

@@ -81,21 +81,23 @@ forking_shown i (Fork actor scope label) f is =
     subst (λ (x : Forking). (x.place ≡ i) × (Fork actor scope label ≡ Fork x.actor x.scope x.label)) same (refl, refl)
 forking_shown i _ f is = absurd cc
 
+-- the event that shows what has a number stands at its place
+shown_event : {R : Type 0} (kind : Event → Bool) (shown : ℕ → Event → Option R) (place : R → ℕ) (event : R → Event) → ((i : ℕ) (e : Event) (x : R) → shown i e ≡ Some x → (place x ≡ i) × (e ≡ event x))
+    → (start n : ℕ) (es : List Event) (x : R) → earliest (numbered_at kind shown start es n) (length es) ≡ Some x → slice_get es (place x) ≡ Some (event x)
+shown_event kind shown place event shows start n es x found =
+    let it = numbered_entry kind shown start n es x found in
+    let said = shows it.0 it.1 x it.3 in
+    ap (slice_get es) said.0 ∙ (it.2 ∙ ap Some said.1)
+
 -- the event of an opening stands at its place
 pub opening_event : (h : History) (s : ℕ) (o : Opening) → opening h s ≡ Some o → slice_get h.events o.place ≡ Some (Open o.actor o.policy o.options)
 unfolding opening
-opening_event h s o is =
-    let it = numbered_entry is_open opening_of h.base.scopes s h.events o is in
-    let shown = opening_shown it.0 it.1 o it.3 in
-    ap (slice_get h.events) shown.0 ∙ (it.2 ∙ ap Some shown.1)
+opening_event h s o is = shown_event is_open opening_of (λ (x : Opening). x.place) (λ (x : Opening). Open x.actor x.policy x.options) opening_shown h.base.scopes s h.events o is
 
 -- the event of a forking stands at its place
 pub forking_event : (h : History) (k : ℕ) (f : Forking) → forking h k ≡ Some f → slice_get h.events f.place ≡ Some (Fork f.actor f.scope f.label)
 unfolding forking
-forking_event h k f is =
-    let it = numbered_entry is_fork forking_of h.base.tasks k h.events f is in
-    let shown = forking_shown it.0 it.1 f it.3 in
-    ap (slice_get h.events) shown.0 ∙ (it.2 ∙ ap Some shown.1)
+forking_event h k f is = shown_event is_fork forking_of (λ (x : Forking). x.place) (λ (x : Forking). Fork x.actor x.scope x.label) forking_shown h.base.tasks k h.events f is
 
 -- what was opened is opened in each prefix that reaches it
 pub opening_before : (h : History) (s n : ℕ) (o : Opening) → opening h s ≡ Some o → o.place < n → opening (before h n) s ≡ Some o

@@ -1,9 +1,12 @@
 -- Where tasks were forked, and what the row of their forking wanted.
-use Rattle.std.proofs.Common.{◌≡◌, ℕ, ◌+◌, ◌<◌, Some, sym, subst, arith}
+use Rattle.std.proofs.Common.{◌≡◌, ℕ, ◌+◌, ◌<◌, ◌==◌, true, false, Option, Some, None, refl, sym, subst, arith}
+use Rattle.std.proofs.lemmas.Bool.{eqb-true}
+use Rattle.std.specs.Option.{option_map_or}
 use Rattle.scope_rules.specs.declared.types.capacity.Limits.{Limits}
 use Rattle.scope_rules.specs.declared.types.records.Opening.{Opening}
 use Rattle.scope_rules.specs.declared.types.records.Forking.{Forking}
 use Rattle.scope_rules.specs.History.{History, before, forked_count, opening, forking, is_open, is_fork, opening_of, forking_of}
+use Rattle.scope_rules.specs.Completions.{is_task_of}
 use Rattle.scope_rules.specs.Legal.{Legal}
 use Rattle.scope_rules.proofs.Openings.{numbered_within, forks_it}
 use Rattle.scope_rules.proofs.Growing.{numbered_entry, opening_place, forking_place}
@@ -47,3 +50,17 @@ pub forker_owns : (L : Limits) (h : History) (k : ℕ) (f : Forking) → Legal L
 forker_owns L h k f legal is =
     let owner = (forking_row L h k f legal is).owner in
     record { opened = owner.opened; is = opening_later h f.place f.scope owner.opened owner.is; by = owner.by }
+
+-- a task that is one of a scope was forked in it
+pub record IsTask (h : History) (s k : ℕ) : Type 0 where
+  pub forked : Forking
+  pub is : forking h k ≡ Some forked
+  pub of : forked.scope ≡ s
+
+task_by : (h : History) (s k : ℕ) (o : Option Forking) → forking h k ≡ o → option_map_or (λ (f : Forking). f.scope == s) o false ≡ true → IsTask h s k
+task_by h s k None is so = absurd cc
+task_by h s k (Some f) is so = record { forked = f; is = is; of = eqb-true f.scope s so }
+
+pub task_there : (h : History) (s k : ℕ) → is_task_of h s k ≡ true → IsTask h s k
+unfolding is_task_of
+task_there h s k so = task_by h s k (forking h k) refl so

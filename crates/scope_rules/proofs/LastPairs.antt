@@ -155,19 +155,17 @@ opened_after L h a i s legal last it =
           absurd (omega (arith, above, it.height, size))
     ]
 
+-- a scope that was opened since then holds the last pair, where there were as many pairs at its opening
+since_holds : (h : History) (a n : ℕ) (since : HasOpenedSince h a n) → length (stack h a) ≤ length (stack (before h since.opened.place) a) → IsTrue (holds_last h a)
+since_holds h a n since height = test_finds h a since.scope (record { opened = since.opened; is = since.is; owner = since.owner; unclosed = since.unclosed; height = height })
+
 -- the test of an unbind says that a scope which was opened after the last pair was bound isn't closed
 pub held_by_later : (L : Limits) (h : History) (a i : ℕ) → Legal L h → IsLastBound h a i → IsTrue (holds_last h a) ↔ HasOpenedSince h a (i + 1)
 held_by_later L h a i legal last = (
   λ told. let it = found_by_test h a told in opened_after L h a i it.0 legal last it.1,
   λ since.
       let inside = opening_within h since.scope since.opened since.is in
-      test_finds h a since.scope (record {
-        opened = since.opened;
-        is = since.is;
-        owner = since.owner;
-        unclosed = since.unclosed;
-        height = last.stands since.opened.place (omega (arith, since.later)) (omega (arith, inside));
-      }),
+      since_holds h a (i + 1) since (last.stands since.opened.place (omega (arith, since.later)) (omega (arith, inside))),
 )
 
 -- where the actor began with its last pair, each of its scopes came later
@@ -178,11 +176,5 @@ held_by_any h a began = (
       record { scope = it.0; opened = it.1.opened; is = it.1.is; owner = it.1.owner; unclosed = it.1.unclosed; later = omega arith },
   λ since.
       let inside = opening_within h since.scope since.opened since.is in
-      test_finds h a since.scope (record {
-        opened = since.opened;
-        is = since.is;
-        owner = since.owner;
-        unclosed = since.unclosed;
-        height = began.stands since.opened.place (omega (arith, inside));
-      }),
+      since_holds h a 0 since (began.stands since.opened.place (omega (arith, inside))),
 )

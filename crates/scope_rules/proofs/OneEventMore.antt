@@ -107,21 +107,18 @@ either_found : {A : Type 0} (o p : Option A) (x : A) → option_or o p ≡ Some 
 either_found None p x is = inr is
 either_found (Some y) p x is = inl is
 
+-- what has a number had it before, or is the new one, which has the next
+numbered_split : {A : Type 0} (n k : ℕ) (old new : Option A) (x : A) → option_or old (cond (n == k) new None) ≡ Some x → (old ≡ Some x) ⊎ ((k ≡ n) × (new ≡ Some x))
+numbered_split n k old new x is =
+    elim (either_found old (cond (n == k) new None) x is) [ inl there ↦ inl there | inr now ↦ let it = if_some (n == k) new x now in inr (sym (eqb-true _ _ it.0), it.1) ]
+
 -- what is opened after one event more was so before, or the event opened it
 pub opening_split : (h : History) (e : Event) (s : ℕ) (o : Opening) → opening (followed h e) s ≡ Some o → (opening h s ≡ Some o) ⊎ ((s ≡ scopes h + 1) × (opening_of (length h.events) e ≡ Some o))
-opening_split h e s o is =
-    elim (either_found (opening h s) (cond (scopes h + 1 == s) (opening_of (length h.events) e) None) o (sym (opening_grows h e s) ∙ is)) [
-      | inl old ↦ inl old
-      | inr new ↦ let it = if_some (scopes h + 1 == s) (opening_of (length h.events) e) o new in inr (sym (eqb-true _ _ it.0), it.1)
-    ]
+opening_split h e s o is = numbered_split (scopes h + 1) s (opening h s) (opening_of (length h.events) e) o (sym (opening_grows h e s) ∙ is)
 
 -- what is forked after one event more was so before, or the event forked it
 pub forking_split : (h : History) (e : Event) (k : ℕ) (f : Forking) → forking (followed h e) k ≡ Some f → (forking h k ≡ Some f) ⊎ ((k ≡ tasks h + 1) × (forking_of (length h.events) e ≡ Some f))
-forking_split h e k f is =
-    elim (either_found (forking h k) (cond (tasks h + 1 == k) (forking_of (length h.events) e) None) f (sym (forking_grows h e k) ∙ is)) [
-      | inl old ↦ inl old
-      | inr new ↦ let it = if_some (tasks h + 1 == k) (forking_of (length h.events) e) f new in inr (sym (eqb-true _ _ it.0), it.1)
-    ]
+forking_split h e k f is = numbered_split (tasks h + 1) k (forking h k) (forking_of (length h.events) e) f (sym (forking_grows h e k) ∙ is)
 
 -- a scope is joined after one event more where it was so before, or the event joins it
 pub joined_grows : (h : History) (e : Event) (s : ℕ) → joined (followed h e) s ≡ (joined h s || joins s e)

@@ -1,13 +1,12 @@
 -- An accepted event pays for what is owed after it.
-use Rattle.std.proofs.Common.{◌≡◌, ℕ, zero, suc, ◌+◌, ◌*◌, ◌<◌, ◌≤◌, Bool, true, false, cond, Option, Some, None, Ok, Err, List, [], ◌∷◌, ◌++◌, slice_get, count_by, is_some, refl, ap, ◌∙◌, arith}
+use Rattle.std.proofs.Common.{◌≡◌, ℕ, zero, suc, ◌+◌, ◌*◌, ◌<◌, ◌≤◌, Bool, true, false, cond, Option, Some, None, Ok, Err, List, [], ◌∷◌, ◌++◌, length, slice_get, count_by, is_some, refl, ap, ◌∙◌, arith}
 use Rattle.std.proofs.lemmas.List.Sums.{sum_by-append}
 use Rattle.std.specs.List.{range_with_len}
 use Rattle.scope_rules.specs.declared.types.capacity.Limits.{Limits}
-use Rattle.scope_rules.specs.declared.types.records.Opening.{Opening}
-use Rattle.scope_rules.specs.declared.types.records.Forking.{Forking}
 use Rattle.scope_rules.specs.declared.types.events.Event.{Event}
 use Rattle.scope_rules.specs.declared.types.events.Event.TheVariants.{Open, Fork, Reject, Start, Finish, Cancel, Move, Tick, Bind, Unbind, Join, BeginClose, EndClose}
-use Rattle.scope_rules.specs.History.{History, followed, opened_count, forked_count, opening, forking, is_open, is_fork, opening_of, forking_of, scope_numbers, task_numbers}
+use Rattle.scope_rules.specs.Search.{earliest}
+use Rattle.scope_rules.specs.History.{History, followed, opening, forking, numbered_at, is_open, is_fork, opening_of, forking_of, scope_numbers, task_numbers}
 use Rattle.scope_rules.specs.Checks.{Checked, scope_check, task_check}
 use Rattle.scope_rules.specs.Table.{check_of}
 use Rattle.scope_rules.specs.Load.{weight}
@@ -31,19 +30,12 @@ pub record Given (ns : List ℕ) (n : ℕ) : Type 0 where
 given_at : (a k n j : ℕ) → j < k → n ≡ a + j + 1 → Given (range_with_len (a + 1) k) n
 given_at a k n j within is = record { place = j; there = range_at (a + 1) k j within ∙ ap Some (omega arith) }
 
-given_scope_by : (h : History) (s : ℕ) (o : Option Opening) → opening h s ≡ o → is_some o ≡ true → Given (scope_numbers h) s
-unfolding opening
-given_scope_by h s None is found = absurd cc
-given_scope_by h s (Some o) is found =
-    let there = numbered_within is_open opening_of h.base.scopes h.events s opens_it o is in
-    given_at h.base.scopes (opened_count h) s there.0 there.1 there.2
-
-given_task_by : (h : History) (k : ℕ) (o : Option Forking) → forking h k ≡ o → is_some o ≡ true → Given (task_numbers h) k
-unfolding forking
-given_task_by h k None is found = absurd cc
-given_task_by h k (Some f) is found =
-    let there = numbered_within is_fork forking_of h.base.tasks h.events k forks_it f is in
-    given_at h.base.tasks (forked_count h) k there.0 there.1 there.2
+given_by : {R : Type 0} (kind : Event → Bool) (shown : ℕ → Event → Option R) (start n : ℕ) (es : List Event) (of_kind : (i : ℕ) (e : Event) (x : R) → shown i e ≡ Some x → kind e ≡ true) (o : Option R)
+    → earliest (numbered_at kind shown start es n) (length es) ≡ o → is_some o ≡ true → Given (range_with_len (start + 1) (count_by kind es)) n
+given_by kind shown start n es of_kind None is found = absurd cc
+given_by kind shown start n es of_kind (Some x) is found =
+    let there = numbered_within kind shown start es n of_kind x is in
+    given_at start (count_by kind es) n there.0 there.1 there.2
 
 pub if_refused : (b : Bool) (c : Checked) (r : _) → cond b (Err r) c ≡ Ok tt → c ≡ Ok tt
 if_refused true c r passed = absurd cc
@@ -51,13 +43,13 @@ if_refused false c r passed = passed
 
 -- a scope whose number passed was given it
 pub given_scope : (h : History) (s : ℕ) → scope_check h s ≡ Ok tt → Given (scope_numbers h) s
-unfolding scope_check
-given_scope h s passed = given_scope_by h s (opening h s) refl (not_not _ (not_refused _ _ (if_refused _ _ _ passed)))
+unfolding scope_check opening
+given_scope h s passed = given_by is_open opening_of h.base.scopes s h.events opens_it (opening h s) refl (not_not _ (not_refused _ _ (if_refused _ _ _ passed)))
 
 -- a task whose number passed was given it
 pub given_task : (h : History) (k : ℕ) → task_check h k ≡ Ok tt → Given (task_numbers h) k
-unfolding task_check
-given_task h k passed = given_task_by h k (forking h k) refl (not_not _ (not_refused _ _ (if_refused _ _ _ passed)))
+unfolding task_check forking
+given_task h k passed = given_by is_fork forking_of h.base.tasks k h.events forks_it (forking h k) refl (not_not _ (not_refused _ _ (if_refused _ _ _ passed)))
 
 pub count_push : (kind : Event → Bool) (es : List Event) (e : Event) → count_by kind (es ++ e ∷ []) ≡ count_by kind es + cond (kind e) 1 0
 count_push kind es e = sum_by-append (λ x. cond (kind x) 1 0) es (e ∷ []) ∙ omega arith
@@ -66,35 +58,36 @@ numbers_by : (mark : Event → Option ℕ) (a k m : ℕ) (b : Bool) (es : List E
 numbers_by mark a k m true es is = rw is (missing_number mark a k es)
 numbers_by mark a k m false es is = let same : m ≡ k = is ∙ omega arith in rw same (omega arith)
 
--- one event more: a scope more where it opens_it one, and nothing more is missing otherwise
-scopes_missing : (mark : Event → Option ℕ) (h : History) (e : Event) → missing mark (scope_numbers (followed h e)) (h.events ++ e ∷ []) ≤ missing mark (scope_numbers h) h.events + cond (is_open e) 1 0
-scopes_missing mark h e =
-    let number = numbers_by mark (h.base.scopes + 1) (opened_count h) (opened_count (followed h e)) (is_open e) (h.events ++ e ∷ []) (count_push is_open h.events e) in
-    let event = missing_same mark (scope_numbers h) h.events e in
+-- one event more: a number more where it is of the kind that is numbered, and nothing more is missing otherwise
+numbered_missing : (mark : Event → Option ℕ) (kind : Event → Bool) (first : ℕ) (h : History) (e : Event)
+    → missing mark (range_with_len first (count_by kind (followed h e).events)) (h.events ++ e ∷ []) ≤ missing mark (range_with_len first (count_by kind h.events)) h.events + cond (kind e) 1 0
+numbered_missing mark kind first h e =
+    let number = numbers_by mark first (count_by kind h.events) (count_by kind (followed h e).events) (kind e) (h.events ++ e ∷ []) (count_push kind h.events e) in
+    let event = missing_same mark (range_with_len first (count_by kind h.events)) h.events e in
     omega (arith, number, event)
+
+scopes_missing : (mark : Event → Option ℕ) (h : History) (e : Event) → missing mark (scope_numbers (followed h e)) (h.events ++ e ∷ []) ≤ missing mark (scope_numbers h) h.events + cond (is_open e) 1 0
+scopes_missing mark h e = numbered_missing mark is_open (h.base.scopes + 1) h e
 
 tasks_missing : (mark : Event → Option ℕ) (h : History) (e : Event) → missing mark (task_numbers (followed h e)) (h.events ++ e ∷ []) ≤ missing mark (task_numbers h) h.events + cond (is_fork e) 1 0
-tasks_missing mark h e =
-    let number = numbers_by mark (h.base.tasks + 1) (forked_count h) (forked_count (followed h e)) (is_fork e) (h.events ++ e ∷ []) (count_push is_fork h.events e) in
-    let event = missing_same mark (task_numbers h) h.events e in
-    omega (arith, number, event)
+tasks_missing mark h e = numbered_missing mark is_fork (h.base.tasks + 1) h e
 
--- an event that was missing for a scope, and opens_it none
+-- an event that was missing for a number, and isn't numbered itself
+numbered_lower : (mark : Event → Option ℕ) (kind : Event → Bool) (first : ℕ) (h : History) (e : Event) (n : ℕ) → kind e ≡ false → Given (range_with_len first (count_by kind h.events)) n → lacks mark h.events n ≡ true → mark e ≡ Some n
+    → missing mark (range_with_len first (count_by kind (followed h e).events)) (h.events ++ e ∷ []) + 1 ≤ missing mark (range_with_len first (count_by kind h.events)) h.events
+numbered_lower mark kind first h e n other given lacked is =
+    let number = numbers_by mark first (count_by kind h.events) (count_by kind (followed h e).events) (kind e) (h.events ++ e ∷ []) (count_push kind h.events e) in
+    let none : cond {A = ℕ} (kind e) 1 0 ≡ 0 = ap (λ b. cond {A = ℕ} b 1 0) other in
+    let event = missing_lower mark (range_with_len first (count_by kind h.events)) h.events e given.place n given.there lacked is in
+    omega (arith, number, event, none)
+
 scope_lower : (mark : Event → Option ℕ) (h : History) (e : Event) (s : ℕ) → is_open e ≡ false → Given (scope_numbers h) s → lacks mark h.events s ≡ true → mark e ≡ Some s
     → missing mark (scope_numbers (followed h e)) (h.events ++ e ∷ []) + 1 ≤ missing mark (scope_numbers h) h.events
-scope_lower mark h e s closed_kind given lacked is =
-    let number = numbers_by mark (h.base.scopes + 1) (opened_count h) (opened_count (followed h e)) (is_open e) (h.events ++ e ∷ []) (count_push is_open h.events e) in
-    let none : cond {A = ℕ} (is_open e) 1 0 ≡ 0 = ap (λ b. cond {A = ℕ} b 1 0) closed_kind in
-    let event = missing_lower mark (scope_numbers h) h.events e given.place s given.there lacked is in
-    omega (arith, number, event, none)
+scope_lower mark h e s other given lacked is = numbered_lower mark is_open (h.base.scopes + 1) h e s other given lacked is
 
 task_lower : (mark : Event → Option ℕ) (h : History) (e : Event) (k : ℕ) → is_fork e ≡ false → Given (task_numbers h) k → lacks mark h.events k ≡ true → mark e ≡ Some k
     → missing mark (task_numbers (followed h e)) (h.events ++ e ∷ []) + 1 ≤ missing mark (task_numbers h) h.events
-task_lower mark h e k forks_none given lacked is =
-    let number = numbers_by mark (h.base.tasks + 1) (forked_count h) (forked_count (followed h e)) (is_fork e) (h.events ++ e ∷ []) (count_push is_fork h.events e) in
-    let none : cond {A = ℕ} (is_fork e) 1 0 ≡ 0 = ap (λ b. cond {A = ℕ} b 1 0) forks_none in
-    let event = missing_lower mark (task_numbers h) h.events e given.place k given.there lacked is in
-    omega (arith, number, event, none)
+task_lower mark h e k other given lacked is = numbered_lower mark is_fork (h.base.tasks + 1) h e k other given lacked is
 
 abbrev one_if : Bool → ℕ
 one_if b = cond {A = ℕ} b 1 0

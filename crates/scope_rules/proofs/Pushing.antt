@@ -94,34 +94,35 @@ fork_number L h a s label ok =
     let under = not_refused _ _ (checks_at _ 6 _ ok refl) in
     (leb-false L.tasks (forked_count h) (or_left _ _ under), leb-false GREATEST_NUMBER (tasks h) (or_right _ _ under))
 
--- an accepted event fits the limits of scopes and of their numbers
-scopes_fit : (L : Limits) (h : History) (e : Event) → IsWithin L h → Accepts L h e
-    → (opened_count h + cond {A = ℕ} (is_open e) 1 0 ≤ L.scopes) × (scopes h + cond {A = ℕ} (is_open e) 1 0 ≤ GREATEST_NUMBER)
-scopes_fit L h (Open actor policy options) within ok =
-    let under = open_number L h actor policy options ok.passed in
-    (omega (arith, under.0), omega (arith, under.1))
-scopes_fit L h _ within ok = (omega (arith, within.opened), omega (arith, within.scopes_fit))
+-- the event fits the limits of scopes and of tasks, and of their numbers
+record NumbersFit (L : Limits) (h : History) (e : Event) : Type 0 where
+  opened : opened_count h + cond {A = ℕ} (is_open e) 1 0 ≤ L.scopes
+  scopes_fit : scopes h + cond {A = ℕ} (is_open e) 1 0 ≤ GREATEST_NUMBER
+  forked : forked_count h + cond {A = ℕ} (is_fork e) 1 0 ≤ L.tasks
+  tasks_fit : tasks h + cond {A = ℕ} (is_fork e) 1 0 ≤ GREATEST_NUMBER
 
-tasks_fit : (L : Limits) (h : History) (e : Event) → IsWithin L h → Accepts L h e
-    → (forked_count h + cond {A = ℕ} (is_fork e) 1 0 ≤ L.tasks) × (tasks h + cond {A = ℕ} (is_fork e) 1 0 ≤ GREATEST_NUMBER)
-tasks_fit L h (Fork actor scope label) within ok =
+-- an accepted event does
+numbers_fit : (L : Limits) (h : History) (e : Event) → IsWithin L h → Accepts L h e → NumbersFit L h e
+numbers_fit L h (Open actor policy options) within ok =
+    let under = open_number L h actor policy options ok.passed in
+    record { opened = omega (arith, under.0); scopes_fit = omega (arith, under.1); forked = omega (arith, within.forked); tasks_fit = omega (arith, within.tasks_fit) }
+numbers_fit L h (Fork actor scope label) within ok =
     let under = fork_number L h actor scope label ok.passed in
-    (omega (arith, under.0), omega (arith, under.1))
-tasks_fit L h _ within ok = (omega (arith, within.forked), omega (arith, within.tasks_fit))
+    record { opened = omega (arith, within.opened); scopes_fit = omega (arith, within.scopes_fit); forked = omega (arith, under.0); tasks_fit = omega (arith, under.1) }
+numbers_fit L h _ within ok = record { opened = omega (arith, within.opened); scopes_fit = omega (arith, within.scopes_fit); forked = omega (arith, within.forked); tasks_fit = omega (arith, within.tasks_fit) }
 
 -- a realm within its limits is so after an accepted event
 pub within_push : (L : Limits) (h : History) (e : Event) → IsWithin L h → Accepts L h e → IsWithin L (followed h e)
 within_push L h e within ok =
     let opened = count_push is_open h.events e in
     let forked = count_push is_fork h.events e in
-    let scopes_so = scopes_fit L h e within ok in
-    let tasks_so = tasks_fit L h e within ok in
+    let fit = numbers_fit L h e within ok in
     record {
-      opened = omega (arith, opened, scopes_so.0);
-      forked = omega (arith, forked, tasks_so.0);
+      opened = omega (arith, opened, fit.opened);
+      forked = omega (arith, forked, fit.forked);
       loaded = omega (arith, load_push h e, load_fits L h e within.loaded ok);
-      scopes_fit = omega (arith, opened, scopes_so.1);
-      tasks_fit = omega (arith, forked, tasks_so.1);
+      scopes_fit = omega (arith, opened, fit.scopes_fit);
+      tasks_fit = omega (arith, forked, fit.tasks_fit);
     }
 
 height_weight : (a n : ℕ) (e : Event) → height_after a n e ≤ n + weight e

@@ -5,6 +5,7 @@ use Rattle.std.specs.Option.{option_map_or, option_or}
 use Rattle.scope_rules.specs.declared.types.capacity.Limits.{Limits}
 use Rattle.scope_rules.specs.declared.types.events.Event.{Event}
 use Rattle.scope_rules.specs.declared.types.events.Event.TheVariants.{Fork, Reject, Start, Finish}
+use Rattle.scope_rules.specs.declared.types.answers.Stage.{Stage}
 use Rattle.scope_rules.specs.declared.types.answers.Stage.TheVariants.{Never, Waiting, Running, Finished}
 use Rattle.scope_rules.specs.declared.types.records.Forking.{Forking}
 use Rattle.scope_rules.specs.Origin.{Origin}
@@ -43,21 +44,21 @@ finishes_now : (c r f s b : Bool) → is_running (staged c r f s) ≡ true → b
 finishes_now false false false true true runs now = refl
 finishes_now _ _ _ _ _ runs now = absurd cc
 
--- a task that is started runs
-pub stage_started : (L : Limits) (h : History) (k : ℕ) → Legal L h → Accepts L h (Start k) → stage (followed h (Start k)) k ≡ Running
-stage_started L h k legal ok =
-    let waits = start_passed L h k ok in
+-- where a task that waits comes by an event
+waiting_grows : (L : Limits) (h : History) (k : ℕ) (e : Event) (to : Stage) → Legal L h → is_waiting (stage h k) ≡ true
+    → ((c r f s : Bool) → is_waiting (staged c r f s) ≡ true → staged c (r || rejects k e) (f || finishes k e) (s || starts k e) ≡ to) → stage (followed h e) k ≡ to
+waiting_grows L h k e to legal waits comes =
     let it = waiting_forked h k waits in
     let f = it.forked in
-    stage_grows L h (Start k) k f legal it.is ∙ starts_now (cancelled_before h f.scope f.place) (rejected h k) (finished h k) (started h k) (k == k) (rw (stage_is h k f it.is) at waits) (eq-eqb k k refl)
+    stage_grows L h e k f legal it.is ∙ comes (cancelled_before h f.scope f.place) (rejected h k) (finished h k) (started h k) (rw (stage_is h k f it.is) at waits)
+
+-- a task that is started runs
+pub stage_started : (L : Limits) (h : History) (k : ℕ) → Legal L h → Accepts L h (Start k) → stage (followed h (Start k)) k ≡ Running
+stage_started L h k legal ok = waiting_grows L h k (Start k) Running legal (start_passed L h k ok) (λ c r f s waits. starts_now c r f s (k == k) waits (eq-eqb k k refl))
 
 -- a task that is rejected never runs
 pub stage_rejected : (L : Limits) (h : History) (k : ℕ) → Legal L h → Accepts L h (Reject k) → stage (followed h (Reject k)) k ≡ Never
-stage_rejected L h k legal ok =
-    let waits = reject_passed L h k ok in
-    let it = waiting_forked h k waits in
-    let f = it.forked in
-    stage_grows L h (Reject k) k f legal it.is ∙ rejects_now (cancelled_before h f.scope f.place) (rejected h k) (finished h k) (started h k) (k == k) (rw (stage_is h k f it.is) at waits) (eq-eqb k k refl)
+stage_rejected L h k legal ok = waiting_grows L h k (Reject k) Never legal (reject_passed L h k ok) (λ c r f s waits. rejects_now c r f s (k == k) waits (eq-eqb k k refl))
 
 -- a task that finishes is finished
 pub stage_finished : (L : Limits) (h : History) (k : ℕ) (end : _) → Legal L h → Accepts L h (Finish k end) → stage (followed h (Finish k end)) k ≡ Finished

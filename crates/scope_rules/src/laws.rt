@@ -33,6 +33,7 @@ pub fn cause_stays()
 {}
 
 /// Numbers of scopes and tasks are given once, stay with their events, and never fall.
+#[tactic(auto, using(crate::proofs::Growing::numbers_grow, crate::proofs::Growing::opening_stays, crate::proofs::Growing::forking_stays, crate::proofs::Growing::opening_once, crate::proofs::Growing::forking_once))]
 pub fn numbers_are_given_once()
     ensures never_fall { NumbersNeverFall }
     ensures scope_stays { ScopeNumberStays }

@@ -2,13 +2,13 @@ ghost use Rattle.std.specs.Prelude.{◌≡◌, ◌<◌, ◌≤◌, ◌+◌, ◌^
 ghost use Rattle.std.specs.List.{list_all, range_with_len};
 ghost use Rattle.scope_rules.specs.History.{forked_count, task_numbers};
 ghost use Rattle.scope_rules.specs.Completions.{is_task_of};
-ghost use Rattle.scope_rules.specs.Tasks.{rejected, started, finished, ending_of, ending_at, ending, stage_of, stage, is_never, is_waiting, is_running, is_finished, is_settled, state_by_end, state_of, state, is_at, is_stage, counts, is_unsettled, settled};
+ghost use Rattle.scope_rules.specs.Tasks.{rejected, started, finished, ending_of, ending_at, ending, stage_of, stage, is_never, is_waiting, is_running, is_finished, is_settled, state_of, state, is_at, is_stage, counts, is_unsettled, settled};
 
 use crate::scan::view::HistoryView;
 use scope_rules::types::answers::{Counts, Stage, State};
 use scope_rules::types::events::Event;
 use scope_rules::types::records::{Ending, Forking};
-use scope_rules::types::values::{End, ScopeId, TaskId};
+use scope_rules::types::values::{ScopeId, TaskId};
 
 impl<'a> HistoryView<'a> {
     /// Whether the task was rejected.
@@ -102,7 +102,7 @@ impl<'a> HistoryView<'a> {
         if self.cancelled_before(forking.scope, ending.place) {
             return State::Unavailable;
         }
-        state_by_end(&ending.end)
+        State::by_end(&ending.end)
     }
 
     /// Whether the task is one of the scope, at the stage.
@@ -173,16 +173,6 @@ fn ending_of(task: TaskId, place: usize, event: &Event) -> Option<Ending>
             }
         }
         _ => None,
-    }
-}
-
-/// The state that the end shows.
-fn state_by_end(end: &End) -> State
-    ensures { result ≡ state_by_end end.now }
-{
-    match *end {
-        Ok(value) => State::Success(value),
-        Err(fault) => State::Failed(fault),
     }
 }
 

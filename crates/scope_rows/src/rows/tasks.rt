@@ -146,8 +146,5 @@ fn state_at_end(end: End, cancelled: bool) -> State
     if cancelled {
         return State::Unavailable;
     }
-    match end {
-        Ok(value) => State::Success(value),
-        Err(fault) => State::Failed(fault),
-    }
+    State::by_end(&end)
 }

@@ -1,4 +1,7 @@
-use crate::types::values::{Fault, ScopeId, TaskId, Value};
+ghost use Rattle.std.specs.Prelude.{◌≡◌};
+ghost use Rattle.scope_rules.specs.Tasks.{state_by_end};
+
+use crate::types::values::{End, Fault, ScopeId, TaskId, Value};
 
 /// How far a task has come.
 #[derive(Clone, Copy, Debug, PartialEq, Eq)]
@@ -18,6 +21,18 @@ pub enum State {
     Unavailable,
     Success(Value),
     Failed(Fault),
+}
+
+impl State {
+    /// What can be read of a task that ended so.
+    pub fn by_end(end: &End) -> State
+        ensures { result ≡ state_by_end end.now }
+    {
+        match *end {
+            Ok(value) => State::Success(value),
+            Err(fault) => State::Failed(fault),
+        }
+    }
 }
 
 /// What made the own cancel of a scope.
