@@ -1,5 +1,5 @@
 -- From its join on, the tasks of a scope, their states and what can be read first stay.
-use Rattle.std.proofs.Common.{◌≡◌, ℕ, ◌+◌, ◌<◌, ◌==◌, Bool, true, false, cond, Some, None, ◌++◌, length, slice_get, refl, ap, sym, subst, ◌∙◌, arith}
+use Rattle.std.proofs.Common.{◌≡◌, ℕ, ◌+◌, ◌<◌, ◌==◌, Bool, true, false, Some, ◌++◌, length, slice_get, refl, ap, sym, subst, ◌∙◌, arith}
 use Rattle.std.proofs.lemmas.Bool.{both_ways, eqb-true, eq-eqb, or_right, false_from_ne_true}
 use Rattle.std.proofs.lemmas.List.{append-nil}
 use Rattle.scope_rules.specs.declared.types.capacity.Limits.{Limits}
@@ -8,7 +8,7 @@ use Rattle.scope_rules.specs.declared.types.events.Event.TheVariants.{Fork, Join
 use Rattle.scope_rules.specs.declared.types.values.Completion.{Completion}
 use Rattle.scope_rules.specs.History.{History, before, followed, tasks}
 use Rattle.scope_rules.specs.Scopes.{joins, joined}
-use Rattle.scope_rules.specs.Outcomes.{first_read, joining_at, joining}
+use Rattle.scope_rules.specs.Outcomes.{first_read, joining}
 use Rattle.scope_rules.specs.Tasks.{state, ready}
 use Rattle.scope_rules.specs.Table.{check_of}
 use Rattle.scope_rules.specs.Legal.{Accepts, Legal}
@@ -18,9 +18,7 @@ use Rattle.scope_rules.proofs.Accepted.{checks_at, not_refused, not_not}
 use Rattle.scope_rules.proofs.Nesting.{IsOpened, legal_before}
 use Rattle.scope_rules.proofs.NewScopes.{scope_passed}
 use Rattle.scope_rules.proofs.OneEventMore.{joined_grows, joined_stays}
-use Rattle.scope_rules.proofs.Openings.{if_some, and_then_some}
 use Rattle.scope_rules.proofs.Prefixes.{take_at}
-use Rattle.scope_rules.proofs.Searching.{earliest_where}
 use Rattle.scope_rules.specs.Nests.{tasks_of}
 use Rattle.scope_outcomes.proofs.Since.{since}
 use Rattle.scope_outcomes.proofs.TaskLists.{if_one, tasks_kept, tasks_forked}

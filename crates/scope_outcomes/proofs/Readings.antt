@@ -1,6 +1,6 @@
 -- What the first completion that can be read goes by, one event more.
 use Rattle.std.proofs.Common.{◌≡◌, ℕ, zero, suc, ◌<◌, ◌==◌, ◌&&◌, Bool, true, false, cond, Option, Some, None, List, [], ◌∷◌, ◌++◌, length, slice_get, refl, ap, sym, subst, ◌∙◌, arith, length-append}
-use Rattle.std.proofs.lemmas.Bool.{both_ways, eqb-true, eq-eqb, and_right, or_left, or_right, false_from_ne_true}
+use Rattle.std.proofs.lemmas.Bool.{both_ways, eq-eqb, and_right, or_left, or_right, false_from_ne_true}
 use Rattle.std.specs.Option.{option_and_then, option_or, option_map_or}
 use Rattle.std.specs.List.{list_any}
 use Rattle.scope_rules.specs.declared.types.capacity.Limits.{Limits}

@@ -1,5 +1,5 @@
 -- What a key is bound to in joined lists, and how a search from the end finds it.
-use Rattle.std.proofs.Common.{◌≡◌, ◌++◌, [], ◌∷◌, List, Bool, true, false, cond, Option, Some, None, refl, ap, sym, ◌∙◌, reverse, IsTrue, ◌↔◌}
+use Rattle.std.proofs.Common.{◌≡◌, [], ◌∷◌, List, Bool, true, false, cond, Option, Some, None, refl, ap, ◌∙◌, reverse, IsTrue, ◌↔◌}
 use Rattle.std.specs.Option.{option_or, option_map}
 use Rattle.std.specs.List.{find}
 use Rattle.std.proofs.lemmas.Bool.Decides.{same_from_decides}
