@@ -6,7 +6,7 @@ use Rattle.clap.specs.Faults.{check_fault, defaults_fault, level_fault, settle_f
 use Rattle.clap.specs.Kinds.{Kinds, or_else}
 use Rattle.clap.specs.Simple.{App, Shape, built, filled, help_rule, version_rule}
 use Rattle.clap.specs.Faults.{is_simple_and_free}
-use Rattle.clap.specs.Walk.{Names, Row, Rule, Text, Walk, arg_by_id, arg_by_long, arg_by_short, finished, nothing_held, settled, takes_values, walk, walk_from, walked}
+use Rattle.clap.specs.Walk.{Names, Row, Rule, Text, Walk, arg_by_id, arg_by_index, arg_by_long, arg_by_short, finished, nothing_held, settled, takes_values, walk, walk_from, walked}
 use Rattle.command_line.specs.Application.{option_rule, scopectl, with_options}
 use Rattle.command_line.specs.CommandLine.{command_word, is_name}
 use Rattle.command_line.specs.declared.lines.Job.{Job}
@@ -56,25 +56,7 @@ built_replay = record {
 }
 
 abbrev pub built_top : Shape
-built_top = record {
-  name = codes "scopectl";
-  aliases = [];
-  rules = top_rules;
-  is_plain = true;
-  is_leaf = false;
-  no_binary_name = false;
-  disable_help_flag = false;
-  disable_help_subcommand = true;
-  disable_version_flag = false;
-  propagate_version = false;
-  has_version = true;
-  has_long_version = false;
-  args_override_self = false;
-  arg_required_else_help = false;
-  subcommand_required = true;
-  subcommand_negates_reqs = false;
-  is_built = true;
-}
+built_top = record built_replay { name = codes "scopectl"; rules = top_rules; is_leaf = false; has_version = true; subcommand_required = true }
 
 -- the command of a job that runs a script: that of `replay`, but for its name
 abbrev pub built_script : Text → Shape
@@ -143,9 +125,17 @@ asks_version = (refl, λ rows e. cc)
 found : (a b : Rule) → Some a ≡ Some b → Asks a → Asks b
 found a b is asks = subst Asks (ap (λ o. unwrap_or o a) is) asks
 
-replay_asks : (x : ℕ) (a : Rule) → arg_by_short replay_rules x ≡ Some a → Asks a
-unfolding replay_rules
-replay_asks x a e = go ((104 == x) || false) e
+-- a level with no positional, each short name of which asks
+level_of : (s : Shape) → arg_by_index s.rules 1 ≡ None → s.args_override_self ≡ false → ((x : ℕ) (a : Rule) → arg_by_short s.rules x ≡ Some a → Asks a) → IsLevel s
+level_of s none once each = record {
+  no_positional = none;
+  flag = λ x a is. (each x a is).0;
+  asks = λ x a is rows clear. (each x a is).1 rows (subst (λ b. use_fault b a [] rows ≡ []) once clear);
+}
+
+-- where `-h` is the only short name, it asks for help
+help_asks : (x : ℕ) (a : Rule) → cond ((104 == x) || false) (Some built_help) None ≡ Some a → Asks a
+help_asks x a e = go ((104 == x) || false) e
   where
     go : (b : Bool) → cond b (Some built_help) None ≡ Some a → Asks a
     go true is = found built_help a is asks_help
@@ -153,11 +143,7 @@ replay_asks x a e = go ((104 == x) || false) e
 
 pub replay_level : IsLevel built_replay
 unfolding replay_rules
-replay_level = record {
-  no_positional = refl;
-  flag = λ x a is. (replay_asks x a is).0;
-  asks = λ x a is. (replay_asks x a is).1;
-}
+replay_level = level_of built_replay refl refl help_asks
 
 -- ---- the name of a command says nothing of its faults
 
@@ -178,21 +164,9 @@ same_level name rest =
 
 -- ---- `quote`
 
-quote_asks : (x : ℕ) (a : Rule) → arg_by_short quote_rules x ≡ Some a → Asks a
-unfolding quote_rules
-quote_asks x a e = go ((104 == x) || false) e
-  where
-    go : (b : Bool) → cond b (Some built_help) None ≡ Some a → Asks a
-    go true is = found built_help a is asks_help
-    go false is = absurd (cc)
-
 pub quote_level : IsLevel built_quote
 unfolding quote_rules
-quote_level = record {
-  no_positional = refl;
-  flag = λ x a is. (quote_asks x a is).0;
-  asks = λ x a is. (quote_asks x a is).1;
-}
+quote_level = level_of built_quote refl refl help_asks
 
 -- the faults of the words after a job's word
 abbrev pub words_fault : Job → List Text → Kinds
@@ -213,8 +187,4 @@ top_asks x a e = go ((104 == x) || false) ((86 == x) || false) e
 
 pub top_level : IsLevel built_top
 unfolding top_rules
-top_level = record {
-  no_positional = refl;
-  flag = λ x a is. (top_asks x a is).0;
-  asks = λ x a is. (top_asks x a is).1;
-}
+top_level = level_of built_top refl refl top_asks

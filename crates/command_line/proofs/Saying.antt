@@ -83,6 +83,10 @@ reads_none before rows pending comes clear settles =
     (got.0, ap (option_and_then (λ g. options_said g [])) got.1, got.2)
 
 module _ (word : Text) where
+  -- `--` ends the options
+  ended : (rows : List Row) (pending : Option (Text × List Text)) → bytes_eq word dashes ≡ true → walked replay_rules [] (at (holding rows pending) idle) word ≡ past_dashes (holding rows pending) idle
+  ended rows pending e = dashes_end built_replay [] replay_level rows pending idle word refl e
+
   ends_said : (g : Given) → bytes_eq word dashes ≡ true → options_said g (word ∷ []) ≡ Some g
   unfolding options_said
   ends_said g e = rw e refl
@@ -108,7 +112,7 @@ module _ (word : Text) where
       let parts = or_else-nil _ _ clear in
       elim (turn before rows pending word comes parts.0) [
         | ends e ↦
-            let is = dashes_end built_replay [] replay_level rows pending idle word refl e in
+            let is = ended rows pending e in
             let got = comes (subst (λ (w : Walk). settle_fault replay_rules false w.held ≡ []) is settles) in (
               got.0,
               ap (option_and_then (λ g. options_said g (word ∷ []))) got.1 ∙ ends_said got.0 e,
@@ -160,8 +164,7 @@ module _ (word : Text) where
         let parts = or_else-nil _ _ clear in
         elim (turn before rows pending word comes parts.0) [
           | ends e ↦
-              let is = dashes_end built_replay [] replay_level rows pending idle word refl e in
-              let past = subst (λ (w : Walk). walk_fault built_replay [] w (after ∷ rest) ≡ []) is parts.1 in
+              let past = subst (λ (w : Walk). walk_fault built_replay [] w (after ∷ rest) ≡ []) (ended rows pending e) parts.1 in
               absurd (nothing_past_dashes built_replay [] replay_level (holding rows pending) idle after (or_else-nil _ _ past).0)
           | gives s text g apart long given fresh is ↦
               let read = next_reads (Some (more g s text)) (rows_given (more g s text)) None (λ _. (more g s text, refl, refl))

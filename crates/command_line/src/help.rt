@@ -30,19 +30,38 @@ Exit status:
 Try 'scopectl replay --help', or that of another command, for an example.
 ";
 
-/// What `scopectl replay --help` writes.
-pub const REPLAY_HELP: &str =
-    "Reads a script of commands from standard input, one a line, and writes one reply a line to
-standard output. A line that is empty or begins with # has no reply.
-
-Usage: scopectl replay [OPTIONS]
-
+/// The help of a job that runs a script: what it does and how it is called, its options, an example, and the
+/// statuses.
+macro_rules! script_help {
+    ($begin:literal, $example:literal) => {
+        concat!(
+            $begin,
+            "
 Options:
       --scopes <N>  How many scopes may be opened, from 1 to 4096 [default: 4096]
       --tasks <N>   How many tasks may be forked, from 1 to 65536 [default: 65536]
       --load <N>    How much load the realm takes, from 1 to 1048576 units [default: 1048576]
   -h, --help        Print help
+",
+            $example,
+            "
+Exit status:
+  0  the script was read to its end, also where commands were refused
+  1  standard error has one line: scopectl: read, scopectl: write or scopectl: memory
+  2  the command line is not understood
+"
+        )
+    };
+}
 
+/// What `scopectl replay --help` writes.
+pub const REPLAY_HELP: &str = script_help!(
+    "Reads a script of commands from standard input, one a line, and writes one reply a line to
+standard output. A line that is empty or begins with # has no reply.
+
+Usage: scopectl replay [OPTIONS]
+",
+    "
 Example: the script on the left has the replies on the right.
 
   open 0 await    scope 1
@@ -52,27 +71,18 @@ Example: the script on the left has the replies on the right.
   join 0 1        outcome done
   close 0 1       closing
   closed 0 1      closed
-
-Exit status:
-  0  the script was read to its end, also where commands were refused
-  1  standard error has one line: scopectl: read, scopectl: write or scopectl: memory
-  2  the command line is not understood
-";
+"
+);
 
 /// What `scopectl dump --help` writes.
-pub const DUMP_HELP: &str =
+pub const DUMP_HELP: &str = script_help!(
     "Reads a script of commands from standard input, one a line, and writes no replies, but in the end
 one line of JSON: the tree of the scopes that are not closed, each with its tasks, what lies inside
 it and inside them, and why it is cancelled.
 
 Usage: scopectl dump [OPTIONS]
-
-Options:
-      --scopes <N>  How many scopes may be opened, from 1 to 4096 [default: 4096]
-      --tasks <N>   How many tasks may be forked, from 1 to 65536 [default: 65536]
-      --load <N>    How much load the realm takes, from 1 to 1048576 units [default: 1048576]
-  -h, --help        Print help
-
+",
+    "
 Example: the script
 
   open 0 all deadline=100
@@ -83,12 +93,8 @@ has the dump (one line, which is broken here)
   {\"moment\":0,\"root\":{\"cause\":null,\"deadline\":100,\"expiry\":\"fail\",\"id\":1,\"inner\":null,
   \"joined\":false,\"joiner\":\"all\",\"owner\":0,\"shield\":false,\"stage\":\"open\",\"tasks\":[
   {\"id\":1,\"inner\":null,\"name\":\"a\",\"stage\":\"waiting\",\"state\":\"unavailable\"}]}}
-
-Exit status:
-  0  the script was read to its end, also where commands were refused
-  1  standard error has one line: scopectl: read, scopectl: write or scopectl: memory
-  2  the command line is not understood
-";
+"
+);
 
 /// What `scopectl quote --help` writes.
 pub const QUOTE_HELP: &str =

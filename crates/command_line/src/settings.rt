@@ -24,21 +24,25 @@ impl Setting {
     pub fn name(self) -> &'static str
         ensures { result.now ≡ name_of self }
     {
-        match self {
-            Setting::Scopes => "scopes",
-            Setting::Tasks => "tasks",
-            Setting::Load => "load",
-        }
+        self.name_and_greatest().0
     }
 
     /// The greatest number that the option can say, which also stands where it is not given.
     pub fn greatest(self) -> u32
         ensures { result ≡ greatest_of self }
     {
+        self.name_and_greatest().1
+    }
+
+    /// Each option's name and greatest number.
+    fn name_and_greatest(self) -> (&'static str, u32)
+        ensures name { result.0.now ≡ name_of self }
+        ensures greatest { result.1 ≡ greatest_of self }
+    {
         match self {
-            Setting::Scopes => SCOPE_LIMIT,
-            Setting::Tasks => TASK_LIMIT,
-            Setting::Load => LOAD_LIMIT,
+            Setting::Scopes => ("scopes", SCOPE_LIMIT),
+            Setting::Tasks => ("tasks", TASK_LIMIT),
+            Setting::Load => ("load", LOAD_LIMIT),
         }
     }
 }

@@ -37,6 +37,19 @@ pub fn answer(
     ensures rests { MatchResult result (λ a. Answers plan.now.mode plan.now.offers tasks.now outcome.now a) (λ e. IsNoAnswer (Answers plan.now.mode plan.now.offers tasks.now outcome.now) outcome.now e) }
     ensures cancelled { IsCancelled outcome.now → result ≡ Err Cancelled }
 {
+    answer_by_ends(alloc, plan, tasks, outcome)
+}
+
+/// The same, by the plan's mode and what the join gave: that it rests on the ends. So the plan allows it.
+fn answer_by_ends(
+    alloc: Global,
+    plan: &Plan,
+    tasks: &[TaskState],
+    outcome: &Outcome,
+) -> Result<Answer, NoAnswer>
+    ensures rests { MatchResult result (λ a. Answers plan.now.mode plan.now.offers tasks.now outcome.now a) (λ e. IsNoAnswer (Answers plan.now.mode plan.now.offers tasks.now outcome.now) outcome.now e) }
+    ensures cancelled { IsCancelled outcome.now → result ≡ Err Cancelled }
+{
     match (plan.mode(), outcome) {
         (_, Outcome::Timeout | Outcome::Cancelled(_)) => Err(NoAnswer::Cancelled),
         (_, Outcome::Partial(states)) => partial_answer(alloc, plan, states.as_slice()),

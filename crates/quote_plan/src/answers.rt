@@ -1,8 +1,7 @@
 //! What the gateway answers, and the line that says it.
 
-ghost use Rattle.std.specs.Prelude.{◌≡◌, Some, IfOk};
-ghost use Rattle.std.specs.String.{string_bytes};
-ghost use Rattle.quote_plan.specs.AnswerText.{answer_text, quote_text, quotes_text};
+ghost use Rattle.std.specs.Prelude.{◌≡◌, Some, IfOk, string_bytes};
+ghost use Rattle.quote_plan.specs.AnswerText.{answer_text, quotes_text};
 
 use scope_rules::{Fault, Name};
 use script_replies::name_text;
@@ -83,7 +82,7 @@ impl fmt::Display for Answer {
         match self {
             Answer::Best(quote) => { write!(f, "best {} {}", name_text(&quote.name), quote.price) }
             Answer::NoPrice => f.write_str("none"),
-            Answer::All(quotes) => write!(f, "all{}", ShownQuotes(quotes.as_slice())),
+            Answer::All(quotes) => write!(f, "all{quotes}"),
             Answer::First(quote) => {
                 write!(f, "first {} {}", name_text(&quote.name), quote.price)
             }
@@ -91,35 +90,20 @@ impl fmt::Display for Answer {
                 write!(f, "failed {} {}", name_text(name), name_text(&fault.0))
             }
             Answer::Empty => f.write_str("empty"),
-            Answer::Partial(quotes) => write!(f, "partial{}", ShownQuotes(quotes.as_slice())),
+            Answer::Partial(quotes) => write!(f, "partial{quotes}"),
         }
     }
 }
 
-/// Offers with their prices, each after a space.
-#[derive(Clone, Copy)]
-struct ShownQuotes<'a>(&'a [Quote]);
-
-impl fmt::Display for ShownQuotes<'_> {
-    ghost output = { λ q. Some (quotes_text q.0.now) };
+/// The offers with their prices, each after a space: `NAME=PRICE`.
+impl fmt::Display for Quotes {
+    ghost output = { λ q. Some (quotes_text q) };
 
     #[tactic(auto, unfolding(crate::specs::AnswerText::quotes_text))]
     fn fmt<W: fmt::Write>(&self, f: &mut fmt::Formatter<W>) -> fmt::Result {
-        for quote in self.0 {
-            write!(f, " {}", ShownQuote(*quote))?;
+        for quote in self.as_slice() {
+            write!(f, " {}={}", name_text(&quote.name), quote.price)?;
         }
         Ok(())
-    }
-}
-
-/// An offer with its price: `NAME=PRICE`.
-#[derive(Clone, Copy)]
-struct ShownQuote(Quote);
-
-impl fmt::Display for ShownQuote {
-    ghost output = { λ q. Some (quote_text q.0) };
-
-    fn fmt<W: fmt::Write>(&self, f: &mut fmt::Formatter<W>) -> fmt::Result {
-        write!(f, "{}={}", name_text(&self.0.name), self.0.price)
     }
 }

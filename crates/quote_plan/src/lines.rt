@@ -142,11 +142,10 @@ fn failing_offer(args: &[u8]) -> Option<PlanLine>
 fn fault(word: &[u8]) -> Option<Fault>
     ensures { result ≡ fault_said word.now }
 {
-    let fault = Fault(name(word)?);
-    if is_made_by_runtime(&fault) {
-        return None;
+    match Fault(name(word)?) {
+        fault if is_made_by_runtime(&fault) => None,
+        fault => Some(fault),
     }
-    Some(fault)
 }
 
 /// Whether the runtime itself makes the fault.

@@ -24,13 +24,26 @@ use Rattle.script_lines.specs.Openings.{open_said}
 unfoldable pub number_alone : List (List ℕ) → Option ℕ
 number_alone args = just_one args >>= small_said
 
+-- what is made of the two arguments: a number, and what the other says
+abbrev pub number_and : {A B : Type 0} → (List ℕ → Option A) → (ℕ → A → B) → List (List ℕ) → Option B
+number_and said made args = do
+  words ← just_two args
+  number ← small_said words.0
+  second ← said words.1
+  Some (made number second)
+
+-- what is made of the three arguments: a number, and what the others say
+abbrev pub number_and_two : {A B : Type 0} → (List ℕ → Option A) → (List ℕ → Option B) → (ℕ → A → B → Command) → List (List ℕ) → Option Command
+number_and_two said also_said made args = do
+  words ← just_three args
+  number ← small_said words.0
+  second ← said words.1
+  third ← also_said words.2
+  Some (made number second third)
+
 -- the numbers that are the two arguments
 unfoldable pub two_numbers : List (List ℕ) → Option (ℕ × ℕ)
-two_numbers args = do
-  words ← just_two args
-  first ← small_said words.0
-  second ← small_said words.1
-  Some (first, second)
+two_numbers args = number_and small_said (λ first second. (first, second)) args
 
 -- a label with no end that is expected
 abbrev pub label_of : Name → Label
@@ -38,12 +51,7 @@ label_of name = record { name = name; due = None }
 
 -- `fork A S NAME`, without its first word
 unfoldable pub fork_said : List (List ℕ) → Option Command
-fork_said args = do
-  words ← just_three args
-  actor ← small_said words.0
-  scope ← small_said words.1
-  name ← name_said words.2
-  Some (command.Do (event.Fork actor scope (label_of name)))
+fork_said args = number_and_two small_said name_said (λ actor scope name. command.Do (event.Fork actor scope (label_of name))) args
 
 -- the end of a task that failed so
 abbrev pub failed : Name → EndValue
@@ -51,19 +59,11 @@ failed name = Err (record { 0 = name })
 
 -- `ok K VALUE`, without its first word
 unfoldable pub ok_said : List (List ℕ) → Option Command
-ok_said args = do
-  words ← just_two args
-  task ← small_said words.0
-  value ← value_said words.1
-  Some (command.Do (event.Finish task (Ok value)))
+ok_said args = number_and value_said (λ task value. command.Do (event.Finish task (Ok value))) args
 
 -- `fail K NAME`, without its first word
 unfoldable pub fail_said : List (List ℕ) → Option Command
-fail_said args = do
-  words ← just_two args
-  task ← small_said words.0
-  name ← name_said words.1
-  Some (command.Do (event.Finish task (failed name)))
+fail_said args = number_and name_said (λ task name. command.Do (event.Finish task (failed name))) args
 
 -- a deadline, or `never`
 unfoldable pub new_deadline_said : List ℕ → Option (Option ℕ)
@@ -71,11 +71,7 @@ new_deadline_said word = if bytes_eq word (codes "never") then Some None else op
 
 -- `move S N`, or `move S never`, without its first word
 unfoldable pub move_said : List (List ℕ) → Option Command
-move_said args = do
-  words ← just_two args
-  scope ← small_said words.0
-  deadline ← new_deadline_said words.1
-  Some (command.Do (event.Move scope deadline))
+move_said args = number_and new_deadline_said (λ scope deadline. command.Do (event.Move scope deadline)) args
 
 -- `tick N`, without its first word
 unfoldable pub tick_said : List (List ℕ) → Option Command
@@ -83,20 +79,11 @@ tick_said args = option_map (λ n. command.Do (event.Tick n)) (just_one args >>=
 
 -- `bind A NAME VALUE`, without its first word
 unfoldable pub bind_said : List (List ℕ) → Option Command
-bind_said args = do
-  words ← just_three args
-  actor ← small_said words.0
-  key ← name_said words.1
-  value ← value_said words.2
-  Some (command.Do (event.Bind actor (record { key = key; value = value })))
+bind_said args = number_and_two name_said value_said (λ actor key value. command.Do (event.Bind actor (record { key = key; value = value }))) args
 
 -- `get A NAME`, without its first word
 unfoldable pub get_said : List (List ℕ) → Option Command
-get_said args = do
-  words ← just_two args
-  actor ← small_said words.0
-  key ← name_said words.1
-  Some (command.Ask (question.Get actor key))
+get_said args = number_and name_said (λ actor key. command.Ask (question.Get actor key)) args
 
 -- the command of a form with this number
 unfoldable pub one_number_said : OneNumber → ℕ → Command

@@ -20,10 +20,14 @@ abbrev pub found_or : {A : Type 0} → A → List ℕ → List (List ℕ) → Op
 found_or without word others (Some found) = (found, others)
 found_or without word others None = (without, word ∷ others)
 
+-- what the next word says, where it says anything, and the fields after it
+abbrev pub next_said : {A : Type 0} → A → (List ℕ → Option A) → List (List ℕ) → A × List (List ℕ)
+next_said without said [] = (without, [])
+next_said without said (word ∷ others) = found_or without word others (said word)
+
 -- a joiner, where one comes next, and the fields after it
 unfoldable pub policy_next : List (List ℕ) → Policy × List (List ℕ)
-policy_next [] = (AwaitOk, [])
-policy_next (word ∷ others) = found_or AwaitOk word others (policy_said word)
+policy_next words = next_said AwaitOk policy_said words
 
 -- the moment n of `deadline=n`
 abbrev pub deadline_said : List ℕ → Option ℕ
@@ -31,13 +35,15 @@ deadline_said word = after (codes "deadline=") word >>= moment_said
 
 -- a deadline, where one comes next, and the fields after it
 unfoldable pub deadline_next : List (List ℕ) → Option ℕ × List (List ℕ)
-deadline_next [] = (None, [])
-deadline_next (word ∷ others) = found_or None word others (option_map Some (deadline_said word))
+deadline_next words = next_said None (λ word. option_map Some (deadline_said word)) words
 
--- whether the word comes next, and the fields after it
+-- that the flag stands there, where the word is that flag
+abbrev pub flag_said : List ℕ → List ℕ → Option Bool
+flag_said flag word = if bytes_eq word flag then Some true else None
+
+-- whether the flag comes next, and the fields after it
 unfoldable pub flag_next : List ℕ → List (List ℕ) → Bool × List (List ℕ)
-flag_next flag [] = (false, [])
-flag_next flag (word ∷ others) = if bytes_eq word flag then (true, others) else (false, word ∷ others)
+flag_next flag words = next_said false (flag_said flag) words
 
 -- what it means that `move-on` stands there, or not
 abbrev pub expiry_of : Bool → Expiry

@@ -56,27 +56,13 @@ fn one_number(form: OneNumber, number: u32) -> Command
 fn two_numbers(form: TwoNumbers, actor: u32, number: u32) -> Command
     ensures { result ≡ two_numbers_said form actor number }
 {
+    let (scope, task) = (number, number);
     match form {
-        TwoNumbers::Join => Command::Do(Event::Join {
-            actor,
-            scope: number,
-        }),
-        TwoNumbers::Close => Command::Do(Event::BeginClose {
-            actor,
-            scope: number,
-        }),
-        TwoNumbers::Closed => Command::Do(Event::EndClose {
-            actor,
-            scope: number,
-        }),
-        TwoNumbers::ResultOf => Command::Ask(Question::Result {
-            actor,
-            task: number,
-        }),
-        TwoNumbers::FaultOf => Command::Ask(Question::Fault {
-            actor,
-            task: number,
-        }),
+        TwoNumbers::Join => Command::Do(Event::Join { actor, scope }),
+        TwoNumbers::Close => Command::Do(Event::BeginClose { actor, scope }),
+        TwoNumbers::Closed => Command::Do(Event::EndClose { actor, scope }),
+        TwoNumbers::ResultOf => Command::Ask(Question::Result { actor, task }),
+        TwoNumbers::FaultOf => Command::Ask(Question::Fault { actor, task }),
     }
 }
 

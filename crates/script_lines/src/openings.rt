@@ -96,9 +96,8 @@ fn flag_next<'a>(flag: &[u8], text: &'a [u8]) -> (bool, &'a [u8])
 fn expiry_of(moves_on: bool) -> Expiry
     ensures { result ≡ expiry_of moves_on }
 {
-    if moves_on {
-        Expiry::MoveOn
-    } else {
-        Expiry::Fail
+    match moves_on {
+        true => Expiry::MoveOn,
+        false => Expiry::Fail,
     }
 }

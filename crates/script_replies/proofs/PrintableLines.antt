@@ -27,8 +27,9 @@ use Rattle.scope_rules.specs.declared.types.values.Value.TheVariants as value
 use Rattle.scope_rules.specs.Refusals.{word_of, line_of}
 use Rattle.script_replies.specs.declared.reply.Reply.TheVariants as reply
 use Rattle.script_replies.specs.OutcomeText.{value_text, end_text, task_value_text, task_state_text, values_text, states_text, outcome_line}
-use Rattle.script_replies.specs.ReplyText.{task_line, closed_line, state_line, stage_line, kind_word, cause_line, until_line, counts_line, reply_text}
+use Rattle.script_replies.specs.ReplyText.{task_line, closed_line, cause_line, until_line, counts_line, reply_text}
 use Rattle.script_replies.specs.Printable.{LinesArePrintable}
+use Rattle.script_replies.specs.Words.{state_word, stage_word, kind_word}
 use Rattle.script_replies.proofs.PrintableText.{Shows, decimal_shows, signed_shows, name_shows, each_shows}
 
 value_shows : (v : Value) → Shows (value_text v)
@@ -75,12 +76,12 @@ closed_shows verdict.Plain = refl
 closed_shows verdict.NotJoined = refl
 closed_shows verdict.Violated = refl
 
-state_shows : (s : State) → Shows (state_line s)
+state_shows : (s : State) → Shows (state_word s)
 state_shows state.Unavailable = refl
 state_shows (state.Success value) = refl
 state_shows (state.Failed fault) = refl
 
-stage_shows : (s : Stage) → Shows (stage_line s)
+stage_shows : (s : Stage) → Shows (stage_word s)
 stage_shows stage.Never = refl
 stage_shows stage.Waiting = refl
 stage_shows stage.Running = refl

@@ -1,3 +1,4 @@
 pub mod OutcomeText
 pub mod ReplyText
 pub mod Printable
+pub mod Words

@@ -3,22 +3,17 @@ use Rattle.std.specs.Prelude.{ℕ, List, ◌++◌, Option, None, Some, codes}
 use Rattle.std.specs.Fmt.{decimal}
 use Rattle.scope_rules.specs.Refusals.{line_of}
 use Rattle.scope_rules.specs.declared.types.answers.Cause.{Cause}
-use Rattle.scope_rules.specs.declared.types.answers.CauseKind.{CauseKind}
-use Rattle.scope_rules.specs.declared.types.answers.CauseKind.TheVariants as kind
 use Rattle.scope_rules.specs.declared.types.answers.Counts.{Counts}
 use Rattle.scope_rules.specs.declared.types.answers.Effective.{Effective}
 use Rattle.scope_rules.specs.declared.types.answers.Effective.TheVariants as effective
 use Rattle.scope_rules.specs.declared.types.answers.ForkReply.{ForkReply}
 use Rattle.scope_rules.specs.declared.types.answers.ForkReply.TheVariants as fork
-use Rattle.scope_rules.specs.declared.types.answers.Stage.{Stage}
-use Rattle.scope_rules.specs.declared.types.answers.Stage.TheVariants as stage
-use Rattle.scope_rules.specs.declared.types.answers.State.{State}
-use Rattle.scope_rules.specs.declared.types.answers.State.TheVariants as state
 use Rattle.scope_rules.specs.declared.types.answers.Verdict.{Verdict}
 use Rattle.scope_rules.specs.declared.types.answers.Verdict.TheVariants as verdict
 use Rattle.script_replies.specs.declared.reply.Reply.{Reply}
 use Rattle.script_replies.specs.declared.reply.Reply.TheVariants as reply
 use Rattle.script_replies.specs.OutcomeText.{value_text, fault_text, outcome_line}
+use Rattle.script_replies.specs.Words.{state_word, stage_word, kind_word}
 
 abbrev pub task_line : ForkReply → List ℕ
 task_line (fork.Thread task) = codes "task " ++ decimal task ++ codes " thread"
@@ -28,23 +23,6 @@ abbrev pub closed_line : Verdict → List ℕ
 closed_line verdict.Plain = codes "closed"
 closed_line verdict.NotJoined = codes "closed not-joined"
 closed_line verdict.Violated = codes "closed violated"
-
-abbrev pub state_line : State → List ℕ
-state_line state.Unavailable = codes "state unavailable"
-state_line (state.Success value) = codes "state success"
-state_line (state.Failed fault) = codes "state failed"
-
-abbrev pub stage_line : Stage → List ℕ
-stage_line stage.Never = codes "stage never"
-stage_line stage.Waiting = codes "stage waiting"
-stage_line stage.Running = codes "stage running"
-stage_line stage.Finished = codes "stage finished"
-
-abbrev pub kind_word : CauseKind → List ℕ
-kind_word kind.Call = codes "call"
-kind_word kind.Close = codes "close"
-kind_word kind.Joiner = codes "joiner"
-kind_word kind.Deadline = codes "deadline"
 
 -- a scope that is not cancelled is live
 abbrev pub cause_line : Option Cause → List ℕ
@@ -77,8 +55,8 @@ reply_text (reply.Outcome outcome) = outcome_line outcome
 reply_text reply.Closing = codes "closing"
 reply_text (reply.Closed verdict) = closed_line verdict
 reply_text (reply.Retired scopes tasks) = codes "retired " ++ decimal scopes ++ codes " " ++ decimal tasks
-reply_text (reply.State state) = state_line state
-reply_text (reply.Stage stage) = stage_line stage
+reply_text (reply.State state) = codes "state " ++ state_word state
+reply_text (reply.Stage stage) = codes "stage " ++ stage_word stage
 reply_text (reply.Value value) = codes "value " ++ value_text value
 reply_text (reply.Fault fault) = codes "fault " ++ fault_text fault
 reply_text (reply.Cause cause) = cause_line cause

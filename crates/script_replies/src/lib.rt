@@ -11,4 +11,4 @@ mod words;
 pub use lines::append_line;
 pub use parts::name_text;
 pub use reply::Reply;
-pub use words::kind_word;
+pub use words::{kind_word, stage_word, state_word};

@@ -5,9 +5,9 @@ ghost use Rattle.script_replies.specs.ReplyText.{reply_text};
 use crate::outcomes::ShownOutcome;
 use crate::parts::{ShownCounts, ShownFault, ShownValue};
 use crate::reply::Reply;
-use crate::words::{closed_line, kind_word, stage_line, state_line};
+use crate::words::{kind_word, stage_word, state_word};
 use arrayvec::ArrayString;
-use scope_rules::{Effective, ForkReply};
+use scope_rules::{Effective, ForkReply, Verdict};
 use std::alloc::AllocError;
 use std::fmt;
 use std::fmt::{Display, Write};
@@ -28,9 +28,9 @@ impl fmt::Display for Reply {
             Reply::Bound => "bound",
             Reply::Unbound => "unbound",
             Reply::Closing => "closing",
-            Reply::Closed(verdict) => closed_line(*verdict),
-            Reply::State(state) => state_line(*state),
-            Reply::Stage(stage) => stage_line(*stage),
+            Reply::Closed(Verdict::Plain) => "closed",
+            Reply::Closed(Verdict::NotJoined) => "closed not-joined",
+            Reply::Closed(Verdict::Violated) => "closed violated",
             Reply::Cause(None) => "live",
             Reply::Until(Effective::Past) => "past",
             Reply::Until(Effective::Never) => "never",
@@ -40,6 +40,8 @@ impl fmt::Display for Reply {
             Reply::Moment(moment) => return write!(f, "moment {moment}"),
             Reply::Outcome(outcome) => return ShownOutcome(outcome).fmt(f),
             Reply::Retired { scopes, tasks } => return write!(f, "retired {scopes} {tasks}"),
+            Reply::State(state) => return write!(f, "state {}", state_word(*state)),
+            Reply::Stage(stage) => return write!(f, "stage {}", stage_word(*stage)),
             Reply::Value(value) => return write!(f, "value {}", ShownValue(*value)),
             Reply::Fault(fault) => return write!(f, "fault {}", ShownFault(*fault)),
             Reply::Cause(Some(cause)) => {

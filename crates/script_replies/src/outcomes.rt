@@ -2,11 +2,11 @@
 ghost use Rattle.std.specs.Prelude.{Some};
 ghost use Rattle.script_replies.specs.OutcomeText.{values_text, states_text, outcome_line};
 
-use crate::parts::{ShownFault, ShownTaskState, ShownTaskValue, ShownValue};
+use crate::parts::{ShownEnd, ShownFault, ShownValue};
 use scope_rules::{Outcome, TaskState, TaskValue};
 use std::fmt;
 
-/// Tasks with their values, each after a space.
+/// Tasks with their values, each after a space: `K=V`.
 #[derive(Clone, Copy)]
 struct ShownValues<'a>(&'a [TaskValue]);
 
@@ -16,13 +16,13 @@ impl fmt::Display for ShownValues<'_> {
     #[tactic(auto, unfolding(crate::specs::OutcomeText::values_text))]
     fn fmt<W: fmt::Write>(&self, f: &mut fmt::Formatter<W>) -> fmt::Result {
         for task in self.0 {
-            write!(f, " {}", ShownTaskValue(*task))?;
+            write!(f, " {}={}", task.task, ShownValue(task.value))?;
         }
         Ok(())
     }
 }
 
-/// Tasks with how they ended, each after a space.
+/// Tasks with how they ended, each after a space: `K=ok:V`, `K=fail:F` or `K=none`.
 #[derive(Clone, Copy)]
 struct ShownStates<'a>(&'a [TaskState]);
 
@@ -32,7 +32,7 @@ impl fmt::Display for ShownStates<'_> {
     #[tactic(auto, unfolding(crate::specs::OutcomeText::states_text))]
     fn fmt<W: fmt::Write>(&self, f: &mut fmt::Formatter<W>) -> fmt::Result {
         for task in self.0 {
-            write!(f, " {}", ShownTaskState(*task))?;
+            write!(f, " {}={}", task.task, ShownEnd(task.state))?;
         }
         Ok(())
     }

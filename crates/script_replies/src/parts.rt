@@ -1,10 +1,10 @@
 //! How the parts of a line are shown.
 ghost use Rattle.std.specs.Prelude.{◌≡◌, Some};
 ghost use Rattle.scope_rules.specs.Names.{text_of};
-ghost use Rattle.script_replies.specs.OutcomeText.{value_text, fault_text, end_text, task_value_text, task_state_text};
+ghost use Rattle.script_replies.specs.OutcomeText.{value_text, fault_text, end_text};
 ghost use Rattle.script_replies.specs.ReplyText.{counts_line};
 
-use scope_rules::{Counts, Fault, Name, State, TaskState, TaskValue, Value};
+use scope_rules::{Counts, Fault, Name, State, Value};
 use std::{fmt, str};
 
 /// The text of a name.
@@ -57,30 +57,6 @@ impl fmt::Display for ShownEnd {
             State::Success(value) => write!(f, "ok:{}", ShownValue(value)),
             State::Failed(fault) => write!(f, "fail:{}", ShownFault(fault)),
         }
-    }
-}
-
-/// A task with its value: `K=V`.
-#[derive(Clone, Copy)]
-pub struct ShownTaskValue(pub TaskValue);
-
-impl fmt::Display for ShownTaskValue {
-    ghost output = { λ t. Some (task_value_text t.0) };
-
-    fn fmt<W: fmt::Write>(&self, f: &mut fmt::Formatter<W>) -> fmt::Result {
-        write!(f, "{}={}", self.0.task, ShownValue(self.0.value))
-    }
-}
-
-/// A task with how it ended: `K=ok:V`, `K=fail:F` or `K=none`.
-#[derive(Clone, Copy)]
-pub struct ShownTaskState(pub TaskState);
-
-impl fmt::Display for ShownTaskState {
-    ghost output = { λ t. Some (task_state_text t.0) };
-
-    fn fmt<W: fmt::Write>(&self, f: &mut fmt::Formatter<W>) -> fmt::Result {
-        write!(f, "{}={}", self.0.task, ShownEnd(self.0.state))
     }
 }
 

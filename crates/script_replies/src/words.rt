@@ -1,40 +1,29 @@
-//! The words of which a line is made.
+//! The words that stand for a stage, a state or a cause, each once.
 ghost use Rattle.std.specs.Prelude.{◌≡◌};
-ghost use Rattle.script_replies.specs.ReplyText.{closed_line, state_line, stage_line, kind_word};
+ghost use Rattle.script_replies.specs.Words.{state_word, stage_word, kind_word};
 
-use scope_rules::{CauseKind, Stage, State, Verdict};
-
-/// How a scope was closed.
-pub fn closed_line(verdict: Verdict) -> &'static str
-    ensures { result.now ≡ closed_line verdict }
-{
-    match verdict {
-        Verdict::Plain => "closed",
-        Verdict::NotJoined => "closed not-joined",
-        Verdict::Violated => "closed violated",
-    }
-}
-
-/// What can be read of a task.
-pub fn state_line(state: State) -> &'static str
-    ensures { result.now ≡ state_line state }
-{
-    match state {
-        State::Unavailable => "state unavailable",
-        State::Success(_) => "state success",
-        State::Failed(_) => "state failed",
-    }
-}
+use scope_rules::{CauseKind, Stage, State};
 
 /// How far a task has come.
-pub fn stage_line(stage: Stage) -> &'static str
-    ensures { result.now ≡ stage_line stage }
+pub fn stage_word(stage: Stage) -> &'static str
+    ensures { result.now ≡ stage_word stage }
 {
     match stage {
-        Stage::Never => "stage never",
-        Stage::Waiting => "stage waiting",
-        Stage::Running => "stage running",
-        Stage::Finished => "stage finished",
+        Stage::Never => "never",
+        Stage::Waiting => "waiting",
+        Stage::Running => "running",
+        Stage::Finished => "finished",
+    }
+}
+
+/// What can be read of a task, without its end.
+pub fn state_word(state: State) -> &'static str
+    ensures { result.now ≡ state_word state }
+{
+    match state {
+        State::Unavailable => "unavailable",
+        State::Success(_) => "success",
+        State::Failed(_) => "failed",
     }
 }
 

@@ -28,35 +28,32 @@ none_some o x none some = absurd cc
 false_true : {B : Type 0} (b : Bool) → b ≡ false → b ≡ true → B
 false_true b left right = absurd cc
 
--- ---- scopes
+-- what is answered is what is there
+ok_value : {A : Type 0} (c : Checked) (o : Option A) (r : Refusal) (x : A) → checked_then c (ok_or o r) ≡ Ok x → o ≡ Some x
+ok_value (Ok done) (Some y) r x e = cc
+ok_value (Ok done) None r x e = absurd cc
+ok_value (Err other) o r x e = absurd cc
 
-pub info_ok : (h : History) (s : ℕ) (i : ScopeInfo) → info_reply h s ≡ Ok i → info h s ≡ Some i
-info_ok h s i is = by (scope_check h s) (info h s) is
-  where
-    by : (c : Checked) (o : Option ScopeInfo) → checked_then c (ok_or o NoScope) ≡ Ok i → o ≡ Some i
-    by (Ok done) (Some x) e = cc
-    by (Ok done) None e = absurd cc
-    by (Err r) o e = absurd cc
+-- what is refused is not there, where all is answered that has a record
+refused_absent : {X A B : Type 0} (record_of : Option X) (reply : Result A Refusal) (there : Option B) (r : Refusal) → (record_of ≡ None → there ≡ None)
+    → ((x : X) → record_of ≡ Some x → (a : A) × (reply ≡ Ok a)) → reply ≡ Err r → there ≡ None
+refused_absent None reply there r absent answered is = absent refl
+refused_absent (Some x) reply there r absent answered is = let told = answered x refl in ok_err reply told.0 r told.1 is
+
+-- ---- scopes
 
 pub info_err : (h : History) (s : ℕ) (r : Refusal) → info_reply h s ≡ Err r → info h s ≡ None
 unfolding info
-info_err h s r is = by (opening h s) refl
-  where
-    by : (o : Option Opening) → opening h s ≡ o → option_map (info_of h s) (opening h s) ≡ None
-    by None e = ap (option_map (info_of h s)) e
-    by (Some o) e =
-        let told : info_reply h s ≡ Ok (info_of h s o) = ap (λ c. checked_then c (ok_or (info h s) NoScope)) (scope_passes h s o e) ∙ ap (λ x. ok_or (option_map (info_of h s) x) NoScope) e in
-        ok_err (info_reply h s) (info_of h s o) r told is
+info_err h s r is = refused_absent (opening h s) (info_reply h s) (info h s) r (ap (option_map (info_of h s)))
+    (λ o e. (info_of h s o, ap (λ c. checked_then c (ok_or (info h s) NoScope)) (scope_passes h s o e) ∙ ap (λ x. ok_or (option_map (info_of h s) x) NoScope) e)) is
 
 pub inner_err : (h : History) (s : ℕ) (r : Refusal) → inner_reply h s ≡ Err r → inner h s ≡ None
 unfolding inner
-inner_err h s r is = by (opening h s) refl
-  where
-    by : (o : Option Opening) → opening h s ≡ o → inner h s ≡ None
-    by None e = rw e refl
-    by (Some o) e =
-        let told : inner_reply h s ≡ Ok (inner h s) = ap (λ c. checked_then c (Ok (inner h s))) (scope_passes h s o e) in
-        ok_err (inner_reply h s) (inner h s) r told is
+inner_err h s r is = refused_absent (opening h s) (inner_reply h s) (inner h s) r (λ e. rw e refl)
+    (λ o e. (inner h s, ap (λ c. checked_then c (Ok (inner h s))) (scope_passes h s o e))) is
+
+pub info_ok : (h : History) (s : ℕ) (i : ScopeInfo) → info_reply h s ≡ Ok i → info h s ≡ Some i
+info_ok h s i is = ok_value (scope_check h s) (info h s) NoScope i is
 
 -- a scope of which there is something to say passes
 pub info_passes : (h : History) (s : ℕ) → IsSome (info h s) → scope_check h s ≡ Ok tt
@@ -77,22 +74,12 @@ label_passes h k l is = by (task_check h k) refl is
     by (Err r) same e = absurd cc
 
 pub label_ok : (h : History) (k : ℕ) (l : Label) → label_reply h k ≡ Ok l → label h k ≡ Some l
-label_ok h k l is = by (task_check h k) (label h k) is
-  where
-    by : (c : Checked) (o : Option Label) → checked_then c (ok_or o NoTask) ≡ Ok l → o ≡ Some l
-    by (Ok done) (Some x) e = cc
-    by (Ok done) None e = absurd cc
-    by (Err r) o e = absurd cc
+label_ok h k l is = ok_value (task_check h k) (label h k) NoTask l is
 
 pub label_err : (h : History) (k : ℕ) (r : Refusal) → label_reply h k ≡ Err r → label h k ≡ None
 unfolding label
-label_err h k r is = by (forking h k) refl
-  where
-    by : (o : Option Forking) → forking h k ≡ o → label h k ≡ None
-    by None e = ap (option_map (λ f. f.label)) e
-    by (Some f) e =
-        let told : label_reply h k ≡ Ok f.label = ap (λ c. checked_then c (ok_or (label h k) NoTask)) (task_passes h k f e) ∙ ap (λ x. ok_or (option_map (λ f. f.label) x) NoTask) e in
-        ok_err (label_reply h k) f.label r told is
+label_err h k r is = refused_absent (forking h k) (label_reply h k) (label h k) r (ap (option_map (λ f. f.label)))
+    (λ f e. (f.label, ap (λ c. checked_then c (ok_or (label h k) NoTask)) (task_passes h k f e) ∙ ap (λ x. ok_or (option_map (λ f. f.label) x) NoTask) e)) is
 
 filter_at : {A : Type 0} (p : A → Bool) (xs : List A) (i : ℕ) (x : A) → slice_get (filter p xs) i ≡ Some x → p x ≡ true
 filter_at p xs i x at =

@@ -4,9 +4,9 @@ use Rattle.scope_rules.specs.Names.{text_of}
 use Rattle.scope_rules.specs.declared.types.answers.Cause.{Cause}
 use Rattle.scope_rules.specs.declared.types.infos.ScopeInfo.{ScopeInfo}
 use Rattle.script_lines.specs.Spelling.{policy_word}
-use Rattle.script_replies.specs.ReplyText.{kind_word}
+use Rattle.script_replies.specs.Words.{kind_word, stage_word, state_word}
 use Rattle.serde_json.specs.Data.{Data, null, boolean, number, unsigned, string, array, object, Items, Members, member, no_members}
-use Rattle.tree_dump.specs.Words.{expiry_word, scope_stage_word, stage_word, state_word}
+use Rattle.tree_dump.specs.Words.{expiry_word, scope_stage_word}
 use Rattle.tree_dump.specs.declared.told.TaskTold.{TaskTold}
 
 -- a moment, where there is one

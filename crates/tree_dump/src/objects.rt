@@ -5,10 +5,10 @@ ghost use Rattle.serde_json.specs.View.{view, items_view};
 ghost use Rattle.tree_dump.specs.Objects.{number_or_null, cause_or_null, scope_object, task_object};
 
 use crate::told::TaskTold;
-use crate::words::{expiry_word, joiner_word, scope_stage_word, stage_word, state_word};
+use crate::words::{expiry_word, joiner_word, scope_stage_word};
 use scope_rules::Cause;
 use scope_rules::types::infos::ScopeInfo;
-use script_replies::{kind_word, name_text};
+use script_replies::{kind_word, name_text, stage_word, state_word};
 use serde_json::{Value, json};
 use std::alloc::{AllocError, Global};
 

@@ -1,10 +1,10 @@
-//! The words of a dump.
+//! The words of a dump that no reply has.
 ghost use Rattle.std.specs.Prelude.{◌≡◌, IfOk, string_bytes};
 ghost use Rattle.script_lines.specs.Spelling.{policy_word};
-ghost use Rattle.tree_dump.specs.Words.{expiry_word, scope_stage_word, stage_word, state_word};
+ghost use Rattle.tree_dump.specs.Words.{expiry_word, scope_stage_word};
 
 use scope_rules::types::infos::ScopeStage;
-use scope_rules::{Expiry, Policy, Rule, Stage, State};
+use scope_rules::{Expiry, Policy, Rule};
 use std::alloc::{AllocError, Global};
 
 /// The word of a joiner, as a script has it.
@@ -40,28 +40,5 @@ pub fn scope_stage_word(stage: ScopeStage) -> &'static str
         ScopeStage::Open => "open",
         ScopeStage::Closing => "closing",
         ScopeStage::Closed => "closed",
-    }
-}
-
-/// How far a task has come.
-pub fn stage_word(stage: Stage) -> &'static str
-    ensures { result.now ≡ stage_word stage }
-{
-    match stage {
-        Stage::Never => "never",
-        Stage::Waiting => "waiting",
-        Stage::Running => "running",
-        Stage::Finished => "finished",
-    }
-}
-
-/// What can be read of a task, without its end.
-pub fn state_word(state: State) -> &'static str
-    ensures { result.now ≡ state_word state }
-{
-    match state {
-        State::Unavailable => "unavailable",
-        State::Success(_) => "success",
-        State::Failed(_) => "failed",
     }
 }

@@ -63,37 +63,18 @@ pub fn run<R: Read + Drop, W: Write + Drop>(
     ensures write_failed { writer.new.failed ≡ true → IsErrOf result ScriptFault.Write }
 {
     let mut script = Script::new(alloc, limits);
-    match read_all(alloc, &mut script, reader, writer, mode) {
+    let Ok(mut replies) = Vec::with_capacity(alloc, PIECE) else {
+        return Err(ScriptFault::Memory);
+    };
+    let mut piece = [0; PIECE];
+    match read_pieces(&mut script, reader, writer, mode, &mut piece, &mut replies) {
         Ok(()) => Ok(script.into_book()),
         Err(fault) => Err(fault),
     }
 }
 
-/// Takes all of a script that begins. It keeps the piece that was read last, and the replies to it.
-fn read_all<R: Read + Drop, W: Write + Drop>(
-    alloc: Global,
-    script: &mut Script,
-    reader: &mut Watched<R>,
-    writer: &mut Watched<W>,
-    mode: Mode,
-) -> Result<(), ScriptFault>
-    requires reader { reader.old.failed ≡ false }
-    requires writer { writer.old.failed ≡ false }
-    ensures ok { (L : Limits) → session_of script.old ≡ the_beginning L → OnOk result (RunsToEnd (R.remaining reader.old.inner) (R.remaining reader.new.inner) (W.contents writer.old.inner) (W.contents writer.new.inner) mode L (session_of script.new).realm) }
-    ensures fault { (L : Limits) → session_of script.old ≡ the_beginning L → OnErr result (RunsPartly (R.remaining reader.old.inner) (R.remaining reader.new.inner) (W.contents writer.old.inner) (W.contents writer.new.inner) mode L) }
-    ensures read { IsErrOf result ScriptFault.Read → (reader.new.failed ≡ true) ⊎ (reader.new.reads ≡ u64.MAX) }
-    ensures read_failed { reader.new.failed ≡ true → IsErrOf result ScriptFault.Read }
-    ensures write { IsErrOf result ScriptFault.Write → writer.new.failed ≡ true }
-    ensures write_failed { writer.new.failed ≡ true → IsErrOf result ScriptFault.Write }
-{
-    let Ok(mut replies) = Vec::with_capacity(alloc, PIECE) else {
-        return Err(ScriptFault::Memory);
-    };
-    let mut piece = [0; PIECE];
-    read_pieces(script, reader, writer, mode, &mut piece, &mut replies)
-}
-
-/// Takes the pieces of a script that begins, and writes what each is answered, and then what the end is.
+/// Takes the pieces of a script that begins, and writes what each is answered, and then what the end is. The
+/// run keeps the piece that was read last, and the replies to it.
 fn read_pieces<R: Read + Drop, W: Write + Drop>(
     script: &mut Script,
     reader: &mut Watched<R>,

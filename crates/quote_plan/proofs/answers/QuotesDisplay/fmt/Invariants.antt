@@ -2,8 +2,8 @@
 use Rattle.std.proofs.Common.{take}
 use Rattle.std.specs.Fmt.{HasWritten, IsPlainFormatter}
 use Rattle.quote_plan.specs.AnswerText.{quotes_text}
-use Rattle.quote_plan.proofs.answers.ShownQuotesDisplay.fmt.Given as goal
+use Rattle.quote_plan.proofs.answers.QuotesDisplay.fmt.Given as goal
 
 abbrev pub invariant-loop-quote : goal.invariant-loop-quote
 invariant-loop-quote g l =
-    IsPlainFormatter l.fn.f → HasWritten g.W.Write.write_str_gives l.fn.f (quotes_text (take l.quote-index l.self.0.now)) l.f
+    IsPlainFormatter l.fn.f → HasWritten g.W.Write.write_str_gives l.fn.f (quotes_text (take l.quote-index l.self)) l.f

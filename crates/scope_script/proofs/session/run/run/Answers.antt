@@ -1,0 +1,8 @@
+-- Where there is no room for replies, nothing was read or written.
+use Rattle.std.proofs.KnownBytes.{Keeps-refl}
+use Rattle.scope_script.proofs.Progress.{begins_run, stops_reading}
+use Rattle.scope_script.proofs.session.run.run.Goals as goal
+
+pub returns-in_default-clause-fault : goal.returns-in_default-clause-fault
+returns-in_default-clause-fault g c =
+    stops_reading _ _ _ _ _ c.args.mode c.args.limits _ (begins_run _ _ c.args.mode c.args.limits _ c.new-script.ensures) (Keeps-refl _)
