@@ -1,17 +1,20 @@
 //! A book and the plain evaluator, which are told the same and have to answer the same.
 
+pub mod answers;
+mod dice;
 mod met;
 mod queries;
+pub mod scripts;
 
-use crate::answers::{told_book, told_plain};
 use crate::closures::joiner_of;
-use crate::dice::Dice;
-use crate::scripts::{Script, Step};
+use answers::{told_book, told_plain};
+use dice::Dice;
 use met::Met;
 use queries::Both;
 use scope_book::BookState;
 use scope_model::Plain;
 use scope_rules::{Event, Name};
+use scripts::{Script, Step};
 use std::alloc::Global;
 use std::process::Abort;
 use std::test::Fail;

@@ -4,18 +4,10 @@
 #![tactic(auto)]
 
 #[cfg(test)]
-mod answers;
-#[cfg(test)]
-mod asked_once;
-#[cfg(test)]
 mod beside;
 #[cfg(test)]
 mod calls;
 #[cfg(test)]
 mod closures;
 #[cfg(test)]
-mod dice;
-#[cfg(test)]
 mod memory;
-#[cfg(test)]
-mod scripts;

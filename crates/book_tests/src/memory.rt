@@ -3,9 +3,9 @@
 //! refused: the call that wanted it answers `Memory` and changes nothing, and is accepted when it is made
 //! again. Calls for which room was made, and questions, are never refused it.
 
-use crate::answers::{Said, told_book};
+use crate::beside::answers::{Answer, Book, told_book};
+use crate::beside::scripts::Step;
 use crate::closures::joiner_of;
-use crate::scripts::Step;
 use join_rules::Joiner;
 use scope_book::BookState;
 use scope_rules::{
@@ -15,8 +15,6 @@ use scope_rules::{
 use std::alloc::{AllocError, Global};
 use std::process::Abort;
 use std::test::Fail;
-
-type Book = BookState<AnyEnd>;
 
 /// What is asked of a scope.
 #[derive(Clone, Copy, PartialEq, Eq)]
@@ -209,7 +207,7 @@ fn joiner(alloc: Global, policy: Policy) -> Result<Joiner, AllocError> {
 }
 
 /// What the book answers to the command.
-fn told(alloc: Global, book: &mut Book, step: Step) -> Result<Result<Said, Refusal>, AllocError> {
+fn told(alloc: Global, book: &mut Book, step: Step) -> Result<Answer, AllocError> {
     let joiner = joiner(alloc, policy_in(step))?;
     Ok(told_book(book, step, Some(joiner)))
 }

@@ -1,266 +1,97 @@
 //! Answers to plans, for jobs that end in one order or another.
 
-use crate::joins::{Step, answered};
+use crate::joins::answered;
 use crate::plans::plan;
-use Step::{Cancel, Ends, Fails, Tick};
 use quote_plan::{Answer, NoAnswer, Plan, Quote, Quotes, answer};
 use scope_rules::{Expiry, Outcome, State, TaskState, Value};
-use std::process::Abort;
 use std::test::Fail;
 
-/// What is answered after the steps: a line, or the reason why there is none.
-struct Row {
-    plan: &'static str,
-    steps: &'static [Step],
-    wanted: Result<&'static str, NoAnswer>,
-}
-
-/// Whether the answer, or the reason why there is none, is the wanted one.
-fn is_wanted(found: &Result<String, NoAnswer>, wanted: Result<&str, NoAnswer>) -> bool {
-    match (found, wanted) {
-        (Ok(line), Ok(text)) => line.as_str() == text,
-        (Err(why), Err(reason)) => *why == reason,
-        _ => false,
-    }
-}
-
-fn check(rt: &(impl Abort + AllocGlobal), row: &Row, expiry: Expiry) -> Result<(), Fail> {
-    let plan = plan(rt, row.plan)?;
-    let found = answered(rt.alloc(), &plan, expiry, row.steps)?;
-    assert!(rt;
-        is_wanted(&found, row.wanted),
-        "{} has another answer",
-        row.plan
-    );
-    Ok(())
-}
+// A row is a plan, the steps before the join of its jobs, and what is answered then: a line, or the reason why
+// there is none.
 
 /// Each job that ends does so as its offer says, in an order by which the answer goes, or must not go; and plans
 /// whose answer must be the same where the scope would move on at a deadline.
-const ANSWERED: [Row; 15] = [
-    Row {
-        plan: "mode best / offer a 905 / offer b 899 / offer c 899",
-        steps: &[Ends(2), Ends(1), Ends(0)],
-        wanted: Ok("best b 899"),
-    },
-    Row {
-        plan: "mode best / offer a 3 / offer b 3 / offer c 3",
-        steps: &[Ends(1), Ends(2), Ends(0)],
-        wanted: Ok("best a 3"),
-    },
-    Row {
-        plan: "mode all / offer a 5 / offer b 0",
-        steps: &[Ends(1), Ends(0)],
-        wanted: Ok("all a=5 b=0"),
-    },
-    Row {
-        plan: "mode all / offer a 5 / offer b fail down",
-        steps: &[Ends(1)],
-        wanted: Ok("failed b down"),
-    },
-    Row {
-        plan: "mode all / offer a fail x / offer b fail y",
-        steps: &[Ends(1), Ends(0)],
-        wanted: Ok("failed b y"),
-    },
-    Row {
-        plan: "mode all / offer a fail x / offer b fail y",
-        steps: &[Ends(0)],
-        wanted: Ok("failed a x"),
-    },
-    Row {
-        plan: "mode first / offer a 5 / offer b fail down",
-        steps: &[Ends(1), Ends(0)],
-        wanted: Ok("first a 5"),
-    },
-    Row {
-        plan: "mode first / offer a 5 / offer b 4",
-        steps: &[Ends(1)],
-        wanted: Ok("first b 4"),
-    },
-    Row {
-        plan: "mode first / offer a 5 / offer b 4",
-        steps: &[Ends(0), Ends(1)],
-        wanted: Ok("first a 5"),
-    },
-    Row {
-        plan: "mode first / offer a fail x / offer b fail y",
-        steps: &[Ends(1), Ends(0)],
-        wanted: Ok("failed b y"),
-    },
-    Row {
-        plan: "mode best / offer a 5",
-        steps: &[Tick(9), Ends(0)],
-        wanted: Ok("best a 5"),
-    },
-    Row {
-        plan: "mode best / offer a fail x / offer b fail y",
-        steps: &[Ends(0), Ends(1)],
-        wanted: Ok("none"),
-    },
-    Row {
-        plan: "mode best",
-        steps: &[],
-        wanted: Ok("none"),
-    },
-    Row {
-        plan: "mode all",
-        steps: &[],
-        wanted: Ok("all"),
-    },
-    Row {
-        plan: "mode first",
-        steps: &[],
-        wanted: Ok("empty"),
-    },
+const ANSWERED: [&str; 15] = [
+    "mode best / offer a 905 / offer b 899 / offer c 899 > ends 2 / ends 1 / ends 0 > best b 899",
+    "mode best / offer a 3 / offer b 3 / offer c 3 > ends 1 / ends 2 / ends 0 > best a 3",
+    "mode all / offer a 5 / offer b 0 > ends 1 / ends 0 > all a=5 b=0",
+    "mode all / offer a 5 / offer b fail down > ends 1 > failed b down",
+    "mode all / offer a fail x / offer b fail y > ends 1 / ends 0 > failed b y",
+    "mode all / offer a fail x / offer b fail y > ends 0 > failed a x",
+    "mode first / offer a 5 / offer b fail down > ends 1 / ends 0 > first a 5",
+    "mode first / offer a 5 / offer b 4 > ends 1 > first b 4",
+    "mode first / offer a 5 / offer b 4 > ends 0 / ends 1 > first a 5",
+    "mode first / offer a fail x / offer b fail y > ends 1 / ends 0 > failed b y",
+    "mode best / offer a 5 > tick 9 / ends 0 > best a 5",
+    "mode best / offer a fail x / offer b fail y > ends 0 / ends 1 > none",
+    "mode best > - > none",
+    "mode all > - > all",
+    "mode first > - > empty",
 ];
-
-#[test]
-fn jobs_that_end_as_their_offers_say(rt: HostRuntime) -> Result<(), Fail> {
-    for row in &ANSWERED {
-        check(&rt, row, Expiry::Fail)?;
-        check(&rt, row, Expiry::MoveOn)?;
-    }
-    Ok(())
-}
 
 /// Some job ends with a fault that the runtime makes.
-const LOST: [Row; 9] = [
-    Row {
-        plan: "mode best / offer a 5 / offer b 6",
-        steps: &[Ends(0), Fails(1, "memory")],
-        wanted: Err(NoAnswer::Lost),
-    },
-    Row {
-        plan: "mode best / offer a fail x",
-        steps: &[Fails(0, "left-open")],
-        wanted: Err(NoAnswer::Lost),
-    },
-    Row {
-        plan: "mode all / offer a 5 / offer b fail x",
-        steps: &[Fails(0, "cancelled"), Ends(1)],
-        wanted: Err(NoAnswer::Lost),
-    },
-    Row {
-        plan: "mode all / offer a 5 / offer b fail x",
-        steps: &[Fails(1, "memory")],
-        wanted: Err(NoAnswer::Lost),
-    },
-    Row {
-        plan: "mode all / offer a 5 / offer b fail x",
-        steps: &[Ends(1), Fails(0, "memory")],
-        wanted: Ok("failed b x"),
-    },
-    Row {
-        plan: "mode first / offer a 5 / offer b fail x",
-        steps: &[Ends(1), Fails(0, "memory")],
-        wanted: Err(NoAnswer::Lost),
-    },
-    Row {
-        plan: "mode first / offer a fail x / offer b fail y",
-        steps: &[Ends(0), Fails(1, "memory")],
-        wanted: Err(NoAnswer::Lost),
-    },
-    Row {
-        plan: "mode first / offer a 5 / offer b fail x",
-        steps: &[Fails(1, "memory"), Ends(0)],
-        wanted: Ok("first a 5"),
-    },
-    Row {
-        plan: "mode first / offer a 5 / offer b 6",
-        steps: &[Fails(0, "left-open"), Ends(1)],
-        wanted: Ok("first b 6"),
-    },
+const LOST: [&str; 9] = [
+    "mode best / offer a 5 / offer b 6 > ends 0 / fails 1 memory > lost",
+    "mode best / offer a fail x > fails 0 left-open > lost",
+    "mode all / offer a 5 / offer b fail x > fails 0 cancelled / ends 1 > lost",
+    "mode all / offer a 5 / offer b fail x > fails 1 memory > lost",
+    "mode all / offer a 5 / offer b fail x > ends 1 / fails 0 memory > failed b x",
+    "mode first / offer a 5 / offer b fail x > ends 1 / fails 0 memory > lost",
+    "mode first / offer a fail x / offer b fail y > ends 0 / fails 1 memory > lost",
+    "mode first / offer a 5 / offer b fail x > fails 1 memory / ends 0 > first a 5",
+    "mode first / offer a 5 / offer b 6 > fails 0 left-open / ends 1 > first b 6",
 ];
-
-#[test]
-fn jobs_whose_ends_are_not_their_offers(rt: HostRuntime) -> Result<(), Fail> {
-    for row in &LOST {
-        check(&rt, row, Expiry::Fail)?;
-    }
-    Ok(())
-}
 
 /// The deadline passes, and the scope moves on.
-const PARTIAL: [Row; 8] = [
-    Row {
-        plan: "mode best / offer a 5 / offer b 6 / offer c fail x / offer d 7",
-        steps: &[Ends(3), Ends(0), Ends(2), Tick(10), Ends(1)],
-        wanted: Ok("partial a=5 d=7"),
-    },
-    Row {
-        plan: "mode all / offer a 5 / offer b 6",
-        steps: &[Ends(1), Tick(11)],
-        wanted: Ok("partial b=6"),
-    },
-    Row {
-        plan: "mode first / offer a 5 / offer b fail x",
-        steps: &[Ends(1), Tick(10)],
-        wanted: Ok("partial"),
-    },
-    Row {
-        plan: "mode best",
-        steps: &[Tick(10)],
-        wanted: Ok("partial"),
-    },
-    Row {
-        plan: "mode best / offer a 5 / offer b 6",
-        steps: &[Fails(0, "memory"), Tick(10)],
-        wanted: Err(NoAnswer::Lost),
-    },
-    Row {
-        plan: "mode best / offer a 5 / offer b 6",
-        steps: &[Ends(0), Tick(10), Fails(1, "memory")],
-        wanted: Ok("partial a=5"),
-    },
-    Row {
-        plan: "mode first / offer a 5",
-        steps: &[Ends(0), Tick(10)],
-        wanted: Ok("first a 5"),
-    },
-    Row {
-        plan: "mode best / offer a 5",
-        steps: &[Cancel, Tick(10)],
-        wanted: Err(NoAnswer::Cancelled),
-    },
+const PARTIAL: [&str; 8] = [
+    "mode best / offer a 5 / offer b 6 / offer c fail x / offer d 7 > ends 3 / ends 0 / ends 2 / tick 10 / ends 1 > partial a=5 d=7",
+    "mode all / offer a 5 / offer b 6 > ends 1 / tick 11 > partial b=6",
+    "mode first / offer a 5 / offer b fail x > ends 1 / tick 10 > partial",
+    "mode best > tick 10 > partial",
+    "mode best / offer a 5 / offer b 6 > fails 0 memory / tick 10 > lost",
+    "mode best / offer a 5 / offer b 6 > ends 0 / tick 10 / fails 1 memory > partial a=5",
+    "mode first / offer a 5 > ends 0 / tick 10 > first a 5",
+    "mode best / offer a 5 > cancel / tick 10 > cancelled",
 ];
-
-#[test]
-fn deadlines_that_move_on(rt: HostRuntime) -> Result<(), Fail> {
-    for row in &PARTIAL {
-        check(&rt, row, Expiry::MoveOn)?;
-    }
-    Ok(())
-}
 
 /// The scope is cancelled, or its time runs out.
-const CANCELLED: [Row; 4] = [
-    Row {
-        plan: "mode best / offer a 5 / offer b 6",
-        steps: &[Ends(0), Ends(1), Tick(10)],
-        wanted: Err(NoAnswer::Cancelled),
-    },
-    Row {
-        plan: "mode all / offer a 5 / offer b 6",
-        steps: &[Ends(0), Cancel],
-        wanted: Err(NoAnswer::Cancelled),
-    },
-    Row {
-        plan: "mode first / offer a fail x",
-        steps: &[Cancel, Ends(0)],
-        wanted: Err(NoAnswer::Cancelled),
-    },
-    Row {
-        plan: "mode first",
-        steps: &[Tick(10)],
-        wanted: Err(NoAnswer::Cancelled),
-    },
+const CANCELLED: [&str; 4] = [
+    "mode best / offer a 5 / offer b 6 > ends 0 / ends 1 / tick 10 > cancelled",
+    "mode all / offer a 5 / offer b 6 > ends 0 / cancel > cancelled",
+    "mode first / offer a fail x > cancel / ends 0 > cancelled",
+    "mode first > tick 10 > cancelled",
 ];
 
+/// The rows, and what their scopes do at the deadline.
+const ROWS: [(&[&str], Expiry); 5] = [
+    (&ANSWERED, Expiry::Fail),
+    (&ANSWERED, Expiry::MoveOn),
+    (&LOST, Expiry::Fail),
+    (&PARTIAL, Expiry::MoveOn),
+    (&CANCELLED, Expiry::Fail),
+];
+
+/// Whether the plan of the row is answered so.
+fn is_answered(rt: &impl AllocGlobal, row: &str, expiry: Expiry) -> Result<bool, Fail> {
+    let mut parts = row.split(" > ");
+    let (Some(text), Some(steps), Some(wanted)) = (parts.next(), parts.next(), parts.next()) else {
+        return Err("a row")?;
+    };
+    let plan = plan(rt, text)?;
+    Ok(match answered(rt.alloc(), &plan, expiry, steps)? {
+        Ok(line) => line.as_str() == wanted,
+        Err(NoAnswer::Lost) => wanted == "lost",
+        Err(NoAnswer::Cancelled) => wanted == "cancelled",
+        Err(NoAnswer::Memory) => false,
+    })
+}
+
 #[test]
-fn scopes_that_are_cancelled(rt: HostRuntime) -> Result<(), Fail> {
-    for row in &CANCELLED {
-        check(&rt, row, Expiry::Fail)?;
+fn plans_are_answered(rt: HostRuntime) -> Result<(), Fail> {
+    for (rows, expiry) in ROWS {
+        for row in rows {
+            assert!(rt; is_answered(&rt, row, expiry)?, "{row}");
+        }
     }
     Ok(())
 }

@@ -8,19 +8,6 @@ use scope_rules::{
 use std::alloc::Global;
 use std::test::Fail;
 
-/// What happens before the join. Offers go by their places, counted from 0.
-#[derive(Clone, Copy)]
-pub enum Step {
-    /// The job of the offer ends as the offer says.
-    Ends(usize),
-    /// The job of the offer ends with this fault.
-    Fails(usize, &'static str),
-    /// The moment is this one, in milliseconds.
-    Tick(u64),
-    /// The scope is cancelled.
-    Cancel,
-}
-
 /// A realm in which the jobs of a plan run, with the deadline 10.
 #[derive(Drop)]
 struct Running<'a> {
@@ -31,11 +18,6 @@ struct Running<'a> {
 }
 
 impl Running<'_> {
-    /// The task of the offer at this place.
-    fn task(&self, place: usize) -> Result<TaskId, Fail> {
-        Ok(*self.tasks.get(place).ok_or("a task")?)
-    }
-
     /// Forks one job an offer, and starts it.
     fn fork(&mut self) -> Result<(), Fail> {
         for place in 0..self.plan.len() {
@@ -49,24 +31,35 @@ impl Running<'_> {
         Ok(())
     }
 
-    fn step(&mut self, step: Step) -> Result<(), Fail> {
-        match step {
-            Step::Ends(place) => {
+    /// Makes the step. Offers go by their places, counted from 0: `ends 1`, the job of the second ends as its
+    /// offer says; `fails 0 x`, that of the first ends with the fault `x`; `tick 9`, the moment is 9 ms; `cancel`,
+    /// the scope is cancelled; `-`, nothing.
+    fn step(&mut self, step: &str) -> Result<(), Fail> {
+        let mut words = step.split(' ');
+        match (words.next(), words.next(), words.next()) {
+            (Some("ends"), Some(place), None) => {
+                let place: usize = place.parse()?;
                 let (_, offer) = self.plan.named_at(place).ok_or("an offer")?;
-                let task = self.task(place)?;
-                self.realm.finish(task, offer.end())?;
+                self.finish(place, offer.end())?;
             }
-            Step::Fails(place, fault) => {
+            (Some("fails"), Some(place), Some(fault)) => {
                 let name = Name::new(fault.as_bytes()).ok_or("a name")?;
-                let end: End = Err(Fault(name));
-                let task = self.task(place)?;
-                self.realm.finish(task, end)?;
+                self.finish(place.parse()?, Err(Fault(name)))?;
             }
-            Step::Tick(now) => self.realm.tick(now)?,
-            Step::Cancel => {
+            (Some("tick"), Some(now), None) => self.realm.tick(now.parse()?)?,
+            (Some("cancel"), None, None) => {
                 self.realm.cancel(self.scope)?;
             }
+            (Some("-"), None, None) => {}
+            _ => return Err("a step")?,
         }
+        Ok(())
+    }
+
+    /// Ends the job of the offer at this place.
+    fn finish(&mut self, place: usize, end: End) -> Result<(), Fail> {
+        let task = *self.tasks.get(place).ok_or("a task")?;
+        self.realm.finish(task, end)?;
         Ok(())
     }
 
@@ -84,12 +77,12 @@ impl Running<'_> {
     }
 }
 
-/// The line of the answer once the steps were made, or why there is none.
+/// The line of the answer once the steps were made that ` / ` parts, or why there is none.
 pub fn answered(
     alloc: Global,
     plan: &Plan,
     expiry: Expiry,
-    steps: &[Step],
+    steps: &str,
 ) -> Result<Result<String, NoAnswer>, Fail> {
     let mut realm = Plain::new(alloc, Limits::GREATEST);
     let options = Options {
@@ -105,8 +98,8 @@ pub fn answered(
         tasks: Vec::new(alloc),
     };
     running.fork()?;
-    for step in steps {
-        running.step(*step)?;
+    for step in steps.split(" / ") {
+        running.step(step)?;
     }
     let (outcome, states) = running.join(alloc)?;
     match answer(alloc, plan, &states, &outcome) {

@@ -1,6 +1,6 @@
 //! What random scripts met, so that a test can say that they met enough.
 
-use crate::scripts::Step;
+use super::scripts::Step;
 use scope_model::Plain;
 use scope_rules::{CauseKind, Event, ScopeId};
 use std::process::Abort;

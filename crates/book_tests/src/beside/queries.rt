@@ -1,6 +1,6 @@
 //! The questions, asked of both.
 
-use crate::scripts::Script;
+use super::scripts::Script;
 use scope_book::BookState;
 use scope_model::Plain;
 use scope_rules::{Actor, AnyEnd, Name, Outcome, Refusal, ScopeId, TaskId};

@@ -7,23 +7,25 @@ use super::boards::Board;
 use plain_ledger::Ledger;
 use scope_rules::{Label, Name, Value};
 use share_ledger::{RealmName, Seed, Ticket};
-use std::alloc::Global;
+use std::alloc::{AllocError, Global};
 use std::sync::{Arc, Wait};
 use std::thread;
 use thread_crew::{Ready, Spawns, Work};
 
+/// The place at which works are forked by one that does so until it is refused.
+pub const INNER: u32 = 30;
+
 /// What a work does once it was counted at its place. Each ends with a number.
 #[derive(Clone, Copy)]
 pub enum Kind {
-    /// It ends with its place.
-    Plain,
-    /// It looks so often at most for a run at the other place, and ends with 1 if there was one, else
-    /// with 0.
-    Meets { other: u32, looks: u32 },
+    /// It ends with this number.
+    Plain(i64),
+    /// It looks for a run at this place, so often at most, and ends with 1 if there was one, else with 0.
+    Meets(u32, u32),
     /// It forks two of its kind, one less deep, and joins them, unless it is 0 deep. It ends with the
     /// number of works that it and they were.
-    Tree { depth: u32 },
-    /// It forks plain works at the next place and joins each, until one is refused. It ends with 1 if
+    Tree(u32),
+    /// It forks plain works at the inner place and joins each, until one is refused. It ends with 1 if
     /// each of them ended as it was to, else with 0.
     UntilRefused,
 }
@@ -55,10 +57,10 @@ impl<N: RealmName, S: Spawns<N, CrewWork<N>>> Work<N, S> for CrewWork<N> {
         let token = board.ledger.lock(rt).start(&mut ticket);
         board.note(place);
         let end = match kind {
-            Kind::Plain => i64::from(place),
-            Kind::Meets { other, looks } => i64::from(is_seen(&board, other, looks)),
-            Kind::Tree { depth } => grow(rt, &mut spawner, &board, depth),
-            Kind::UntilRefused => fork_until_refused(rt, &mut spawner, &board, place),
+            Kind::Plain(number) => number,
+            Kind::Meets(other, looks) => i64::from(is_seen(&board, other, looks)),
+            Kind::Tree(depth) => grow(rt, &mut spawner, &board, depth),
+            Kind::UntilRefused => fork_until_refused(rt, &mut spawner, &board),
         };
         board
             .ledger
@@ -68,42 +70,50 @@ impl<N: RealmName, S: Spawns<N, CrewWork<N>>> Work<N, S> for CrewWork<N> {
     }
 }
 
-/// The board of a realm with no task. None where memory is refused.
-pub fn shared<N: RealmName>(alloc: Global, seed: Seed) -> Option<Shared<N>>
+/// The board of a realm with no task.
+pub fn shared<N: RealmName>(alloc: Global, seed: Seed) -> Result<Shared<N>, AllocError>
     requires { seed ≡ N.table }
 {
-    let name = Name::new(b"work")?;
+    let name = Name::new(b"work").ok_or(AllocError)?;
     let label = Label { name, due: None };
-    let board = Board::new(alloc, label, Ledger::new(seed)).ok()?;
-    Arc::new(alloc, board).ok()
+    Ok(Arc::new(alloc, Board::new(alloc, label, Ledger::new(seed))?)?)
 }
 
 /// Main forks a task.
-pub fn new_ticket<N: RealmName, R: Wait>(rt: &R, board: &Shared<N>) -> Option<Ticket>
+fn new_ticket<N: RealmName, R: Wait>(rt: &R, board: &Shared<N>) -> Option<Ticket>
     ensures { IfSome result (IsNew N.table) }
 {
     board.ledger.lock(rt).fork(&board.label)
 }
 
 /// A work at the place.
-pub fn work<N: RealmName>(board: &Shared<N>, kind: Kind, place: u32) -> Option<CrewWork<N>> {
+fn work<N: RealmName>(board: &Shared<N>, kind: Kind, place: u32) -> Option<CrewWork<N>> {
     let board = Arc::try_clone(board).ok()?;
     Some(CrewWork { kind, place, board })
 }
 
-/// Forks a work at the place. None where it is refused.
+/// Forks a work at the place, and once more the pair that comes back where it is refused. Gives how often
+/// it was refused, and its handle. None where another pair came back, or a refused work was run.
 pub fn fork<N: RealmName, S: Spawns<N, CrewWork<N>>, R: Wait>(
     rt: &R,
     spawner: &mut S,
     board: &Shared<N>,
     kind: Kind,
     place: u32,
-) -> Option<S::Handle> {
+) -> Option<(u32, Option<S::Handle>)> {
+    let runs = board.runs(place);
     let ticket = new_ticket(rt, board)?;
-    let work = work(board, kind, place)?;
+    let task = ticket.task();
+    let (ticket, work) = match spawner.spawn(rt, ticket, work(board, kind, place)?) {
+        Ok(handle) => return Some((0, Some(handle))),
+        Err(refused) => refused,
+    };
+    if ticket.task() != task || work.place != place || board.runs(place) != runs {
+        return None;
+    }
     match spawner.spawn(rt, ticket, work) {
-        Ok(handle) => Some(handle),
-        Err(_) => None,
+        Ok(handle) => Some((1, Some(handle))),
+        Err(_) => Some((2, None)),
     }
 }
 
@@ -141,27 +151,36 @@ fn grow<N: RealmName, S: Spawns<N, CrewWork<N>>, R: Wait>(
     let Some(less) = depth.checked_sub(1) else {
         return 1;
     };
-    let left = fork(rt, spawner, board, Kind::Tree { depth: less }, depth);
-    let right = fork(rt, spawner, board, Kind::Tree { depth: less }, depth);
+    let left = handle_of(fork(rt, spawner, board, Kind::Tree(less), less));
+    let right = handle_of(fork(rt, spawner, board, Kind::Tree(less), less));
     let left = join(rt, spawner, left).unwrap_or(0);
     let right = join(rt, spawner, right).unwrap_or(0);
     left.saturating_add(right).saturating_add(1)
 }
 
-/// Forks works at the next place and joins each, until one is refused. 1 if each ended with that place.
+/// The handle of what was forked, if it was.
+fn handle_of<H>(forked: Option<(u32, Option<H>)>) -> Option<H> {
+    match forked {
+        Some((_, handle)) => handle,
+        None => None,
+    }
+}
+
+/// Forks works at the inner place and joins each, until one is refused. 1 if each ended with that place.
 fn fork_until_refused<N: RealmName, S: Spawns<N, CrewWork<N>>, R: Wait>(
     rt: &R,
     spawner: &mut S,
     board: &Shared<N>,
-    place: u32,
 ) -> i64 {
-    let place = place.saturating_add(1);
     for _ in rt.forever() {
-        let handle = fork(rt, spawner, board, Kind::Plain, place);
-        match join(rt, spawner, handle) {
-            Some(end) if end == i64::from(place) => {}
-            Some(_) => return 0,
-            None => return 1,
+        match fork(rt, spawner, board, Kind::Plain(7), INNER) {
+            Some((_, Some(handle))) => {
+                if join(rt, spawner, Some(handle)) != Some(7) {
+                    return 0;
+                }
+            }
+            Some((_, None)) => return 1,
+            None => return 0,
         }
     }
     unreachable!()

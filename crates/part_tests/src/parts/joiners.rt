@@ -238,19 +238,12 @@ fn as_many_as_there_can_be_are_counted(rt: HostRuntime) -> Result<(), Fail> {
     Ok(())
 }
 
-/// Whether the list has two successes. It counts from the back, and stops at the second.
+/// Whether the list has two successes.
+#[tactic(auto, unfolding(scope_rules::specs::Joining::meets))]
 fn has_two_successes(list: &[Completion]) -> bool
     ensures { result ≡ meets (Rule.SuccessesAtLeast 2) list.now }
 {
-    let mut found = 0u32;
-    let mut left = list.len();
-    while left > 0 && found < 2 {
-        left -= 1;
-        if list[left].end.is_ok() {
-            found += 1;
-        }
-    }
-    found == 2
+    list.iter().filter(|done| done.end.is_ok()).count() >= 2
 }
 
 /// A joiner until two succeed, whose closure adds up how long the lists are that it is shown.

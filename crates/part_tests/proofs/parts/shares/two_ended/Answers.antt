@@ -12,15 +12,14 @@ use Rattle.realm_steps.specs.declared.steps.RealmStep.TheVariants.{Happened}
 use Rattle.realm_steps.specs.Steps.{history_of}
 use Rattle.realm_steps.specs.Tickets.{finished_in, end_in}
 use Rattle.share_ledger.specs.Values.{KeeperValue, TicketValue}
+use Rattle.part_tests.proofs.Fresh.{first_is_next, first_is_live}
 use Rattle.part_tests.proofs.parts.shares.two_ended.Goals as goal
 
 pub fork-one-requires-clause-number : goal.fork-one-requires-clause-number
-unfolding history_of
-fork-one-requires-clause-number c = subst (λ (xs : List RealmStep). 1 ≡ tasks (history_of xs) + 1) (sym c.requires.fresh) refl
+fork-one-requires-clause-number c = first_is_next _ c.requires.fresh
 
 pub fork-one-requires-clause-live : goal.fork-one-requires-clause-live
-unfolding history_of is_cancelled cut cut_by chain_by own earliest own_at opening outer
-fork-one-requires-clause-live c = subst (λ (xs : List RealmStep). is_cancelled (history_of xs) 1 ≡ false) (sym c.requires.fresh) refl
+fork-one-requires-clause-live c = first_is_live _ c.requires.fresh
 
 one_fork : (a s : ℕ) (label : Label) (xs ys : List RealmStep) → xs ≡ [] → ys ≡ xs ++ Happened (Fork a s label) ∷ [] → 2 ≡ tasks (history_of ys) + 1
 unfolding history_of

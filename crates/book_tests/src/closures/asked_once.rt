@@ -4,7 +4,7 @@
 ghost use Rattle.std.specs.Prelude.{◌≡◌};
 ghost use Rattle.scope_rules.specs.Joining.{meets};
 
-use crate::closures::has_successes;
+use super::has;
 use join_rules::{CompletionTest, Joiner, UntilTest};
 use scope_book::BookState;
 use scope_rules::{
@@ -52,7 +52,7 @@ impl Asked {
             {
                 times.fetch_add(1, Ordering::SeqCst);
                 shown.fetch_add(list.len() as u64, Ordering::SeqCst);
-                has_successes(list, 2)
+                has(list, false, 2)
             },
         )?;
         Ok(Joiner::Until(UntilTest::new(Rule::SuccessesAtLeast(2), test)))

@@ -1,6 +1,6 @@
 //! Random commands, of which most name scopes and tasks that there are.
 
-use crate::dice::Dice;
+use super::dice::Dice;
 use scope_model::Plain;
 use scope_rules::{
     Actor, Binding, CauseKind, End, Event, Expiry, Fault, Label, Limits, Name, Options, Policy,
