@@ -1,3 +1,4 @@
 pub mod Forked
 pub mod Seated
 pub mod Reported
+pub mod Ended

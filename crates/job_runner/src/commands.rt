@@ -14,8 +14,7 @@ use thread_crew::Spawner;
 impl<C: Catalog, S: Spawner<N>, N: RealmName> TaskCtx<C, S, N> {
     /// Binds the key above the actor's other bindings (JEP 506, `where`). Refused as `Realm::bind` is.
     pub fn bind<R: Wait>(&mut self, rt: &R, key: Name, value: Value) -> Result<(), Refusal>
-        ensures rest { self.new ≡ record self.old { token = record self.old.token { seen = self.new.token.seen } } }
-        ensures answer { DoesOrMemory self.old.token self.new.token (RealmStep.Happened (Event.Bind self.old.token.actor (record { key = key; value = value }))) (λ _. tt) result }
+        ensures answer { (self.new ≡ record self.old { token = self.new.token }) × DoesOrMemory self.old.token self.new.token (RealmStep.Happened (Event.Bind self.old.token.actor (record { key = key; value = value }))) (λ _. tt) result }
     {
         let token = &mut self.token;
         self.realm.lent().bind(rt, &mut token.held, key, value)
@@ -23,8 +22,7 @@ impl<C: Catalog, S: Spawner<N>, N: RealmName> TaskCtx<C, S, N> {
 
     /// Takes away the actor's last own binding. Refused as `Realm::unbind` is.
     pub fn unbind<R: Wait>(&mut self, rt: &R) -> Result<(), Refusal>
-        ensures rest { self.new ≡ record self.old { token = record self.old.token { seen = self.new.token.seen } } }
-        ensures answer { DoesOrMemory self.old.token self.new.token (RealmStep.Happened (Event.Unbind self.old.token.actor)) (λ _. tt) result }
+        ensures answer { (self.new ≡ record self.old { token = self.new.token }) × DoesOrMemory self.old.token self.new.token (RealmStep.Happened (Event.Unbind self.old.token.actor)) (λ _. tt) result }
     {
         let token = &mut self.token;
         self.realm.lent().unbind(rt, &mut token.held)
@@ -33,8 +31,7 @@ impl<C: Catalog, S: Spawner<N>, N: RealmName> TaskCtx<C, S, N> {
     /// Cancels the scope and all that it reaches, whoever's it is (Trio, `cancel`). Refused as
     /// `Realm::cancel` is.
     pub fn cancel<R: Wait>(&mut self, rt: &R, scope: ScopeId) -> Result<Cancelling, Refusal>
-        ensures rest { self.new ≡ record self.old { token = record self.old.token { seen = self.new.token.seen } } }
-        ensures answer { RecordsOrMemory self.old.token self.new.token (Event.Cancel scope) result }
+        ensures answer { (self.new ≡ record self.old { token = self.new.token }) × RecordsOrMemory self.old.token self.new.token (Event.Cancel scope) result }
     {
         let token = &mut self.token;
         self.realm.lent().cancel(rt, &mut token.held, scope)
@@ -42,8 +39,7 @@ impl<C: Catalog, S: Spawner<N>, N: RealmName> TaskCtx<C, S, N> {
 
     /// Sets the moment, in milliseconds. Refused as `Realm::tick` is.
     pub fn tick<R: Wait>(&mut self, rt: &R, now: u64) -> Result<(), Refusal>
-        ensures rest { self.new ≡ record self.old { token = record self.old.token { seen = self.new.token.seen } } }
-        ensures answer { DoesOrMemory self.old.token self.new.token (RealmStep.Asked self.old.token.actor (Ask.Tick now)) (λ _. tt) result }
+        ensures answer { (self.new ≡ record self.old { token = self.new.token }) × DoesOrMemory self.old.token self.new.token (RealmStep.Asked self.old.token.actor (Ask.Tick now)) (λ _. tt) result }
     {
         let token = &mut self.token;
         self.realm.lent().tick(rt, &mut token.held, now)
@@ -52,8 +48,7 @@ impl<C: Catalog, S: Spawner<N>, N: RealmName> TaskCtx<C, S, N> {
     /// Takes the events out and leaves a base, once main's outermost scope is closed. Refused as
     /// `Realm::retire` is, so in the context of a task always.
     pub fn retire<R: Wait>(&mut self, rt: &R) -> Result<Base, Refusal>
-        ensures rest { self.new ≡ record self.old { token = record self.old.token { seen = self.new.token.seen } } }
-        ensures answer { DoesOrMemory self.old.token self.new.token RealmStep.Retirement base_of result }
+        ensures answer { (self.new ≡ record self.old { token = self.new.token }) × DoesOrMemory self.old.token self.new.token RealmStep.Retirement base_of result }
         ensures base { IfOk result (λ base. history_seen self.new.token ≡ record { base = base; events = [] }) }
     {
         let token = &mut self.token;

@@ -2,31 +2,17 @@ ghost use Rattle.std.specs.Prelude.{◌≡◌};
 
 use crate::held::HeldRealm;
 use crate::markers::Marker;
-use realm_lock::{ActorToken, Realm, RealmName, Ticket};
+use realm_lock::{ActorToken, Realm, RealmName};
 use scope_rules::{Catalog, ScopeId};
 use share_ledger::OfRealm;
 use std::alloc::Global;
-use thread_crew::Spawner;
+use thread_crew::{Spawner, Team};
 
 /// A scope that was opened in a context and not closed there.
 #[derive(Drop)]
 pub(crate) struct OpenScope {
     pub(crate) scope: ScopeId,
     pub(crate) marker: Marker,
-}
-
-/// A thread that was made in a context, until it is joined.
-#[derive(Drop)]
-pub(crate) struct Thread<N: RealmName, S: Spawner<N>> {
-    pub(crate) scope: ScopeId,
-    pub(crate) handle: S::Handle,
-}
-
-/// The ticket of a thread that was joined, until its scope is closed.
-#[derive(Drop)]
-pub(crate) struct Returned<N: RealmName> {
-    pub(crate) scope: ScopeId,
-    pub(crate) ticket: OfRealm<N, Ticket>,
 }
 
 /// What an actor of a realm acts by: main, or the job of a task (JEP 505 ties such calls to the thread
@@ -42,10 +28,8 @@ pub struct TaskCtx<C: Catalog, S: Spawner<N>, N: RealmName> {
     pub(crate) around: Option<Marker>,
     /// The scopes that are open, the latest last.
     pub(crate) opened: Vec<OpenScope>,
-    /// The threads of these scopes that were not joined yet.
-    pub(crate) threads: Vec<Thread<N, S>>,
-    /// The tickets of those that were; there is room for the others' too.
-    pub(crate) returned: Vec<Returned<N>>,
+    /// The threads of these scopes, and the tickets of those that were joined.
+    pub(crate) team: Team<N, S>,
 }
 
 impl<C: Catalog, S: Spawner<N>, N: RealmName> TaskCtx<C, S, N> {
@@ -80,8 +64,7 @@ impl<C: Catalog, S: Spawner<N>, N: RealmName> TaskCtx<C, S, N> {
             spawner,
             around,
             opened: Vec::new(alloc),
-            threads: Vec::new(alloc),
-            returned: Vec::new(alloc),
+            team: Team::new(alloc),
         }
     }
 }

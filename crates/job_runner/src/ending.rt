@@ -1,23 +1,27 @@
-ghost use Rattle.std.specs.Prelude.{◌≡◌, Some, Ok, Err, vec_len, codes};
-ghost use Rattle.std.specs.Prelude.{if◌then◌else◌, ◌==◌};
+ghost use Rattle.std.specs.Prelude.{◌≡◌, Some, None, codes};
 ghost use Rattle.scope_rules.specs.Names.{text_of};
-ghost use Rattle.realm_core.specs.Tasks.{IsRunning};
+ghost use Rattle.scope_rules.specs.Scopes.{innermost};
+ghost use Rattle.realm_core.specs.Calls.{SeesMore, history_seen};
+ghost use Rattle.realm_core.specs.Tasks.{MayFinish};
 ghost use Rattle.realm_steps.specs.Tickets.{end_in};
 ghost use Rattle.thread_crew.specs.Returns.{Returns};
-ghost use Rattle.job_runner.specs.Endings.{Ended};
+ghost use Rattle.job_runner.specs.Endings.{Ended, LeavesNothing, NothingOpen, has_open};
 
 use crate::contexts::TaskCtx;
 use realm_lock::{ActorToken, Realm, RealmName, Ticket};
-use scope_rules::{Catalog, End, Fault, Name};
+use scope_rules::{Catalog, End, Fault, Name, ScopeId};
 use share_ledger::OfRealm;
 use std::sync::Wait;
 use thread_crew::Spawner;
 
-/// What happens at the end of a task. Nothing here takes memory.
+/// What happens at the end of a context. What is open then is asked of the realm itself, whose answer nobody
+/// else can change. Nothing here takes memory.
 impl<C: Catalog, S: Spawner<N>, N: RealmName> TaskCtx<C, S, N> {
-    /// Leaves main's context: closes what is open in it, the latest first, and gives token and spawner.
+    /// Leaves main's context: closes what is open, the latest first, and gives token and spawner. After it
+    /// every scope of the realm is closed, and no task waits or runs.
     pub fn leave<R: Wait>(self, rt: &R) -> (ActorToken, S)
-        ensures { result.0 ≡ record self.token { seen = result.0.seen } }
+        ensures token { SeesMore self.token result.0 }
+        ensures over { LeavesNothing result.0 }
     {
         let mut left = self;
         left.close_what_is_open(rt);
@@ -28,50 +32,62 @@ impl<C: Catalog, S: Spawner<N>, N: RealmName> TaskCtx<C, S, N> {
             spawner,
             around: _,
             opened: _,
-            threads: _,
-            returned: _,
+            team: _,
         } = left;
         (token.into_held(), spawner)
     }
 
     /// Ends the context's task, whose job has come to this end: closes what the job left open, the latest
-    /// first, and records the end, which is then the fault `left-open`. Gives the ticket and the spawner.
+    /// first, and records the end, which is the fault `left-open` exactly where there was such a scope. Gives
+    /// the ticket and the spawner.
     pub(crate) fn end_task<R: Wait>(self, rt: &R, ticket: Ticket, end: End) -> (Ticket, S)
-        requires named { ticket.table ≡ N.table }
-        requires running { IsRunning ticket }
-        requires actor { self.token.actor ≡ ticket.task }
-        requires fits { C.fitting ticket.label end }
+        requires { MayFinish N.table C.fitting ticket self.token end }
         ensures returns { Returns N.table ticket result.0 }
-        ensures ended { Ended (vec_len self.opened == 0) end result.0 }
+        ensures ended { Ended (has_open self.token) end result.0 }
     {
         let mut ctx = self;
-        let end = if ctx.opened.is_empty() {
-            end
+        if ctx.close_what_is_open(rt) {
+            ctx.finish(rt, ticket, Err(left_open()))
         } else {
-            Err(left_open())
-        };
-        ctx.close_what_is_open(rt);
-        ctx.finish(rt, ticket, end)
+            ctx.finish(rt, ticket, end)
+        }
     }
 
-    /// Closes the scopes that are open, the latest first: each close begins, joins the scope's threads,
-    /// and ends.
-    fn close_what_is_open<R: Wait>(&mut self, rt: &R)
-        ensures token { self.new.token ≡ record self.old.token { seen = self.new.token.seen } }
-        ensures closed { vec_len self.new.opened ≡ 0 }
+    /// Closes the scopes of the context's actor that are not closed, the latest first, and answers whether
+    /// there was one: each close begins, joins the scope's threads, and ends.
+    fn close_what_is_open<R: Wait>(&mut self, rt: &R) -> bool
+        ensures token { SeesMore self.old.token self.new.token }
+        ensures closed { NothingOpen self.new.token }
+        ensures found { result ≡ has_open self.old.token }
     {
-        while let Some(open) = self.opened.pop() {
-            let _how = self.close_scope_bare(rt, open.scope);
+        let Some(latest) = self.innermost(rt) else {
+            return false;
+        };
+        let mut next = latest;
+        for _ in rt.forever() {
+            let _how = self.close_scope_bare(rt, next);
+            match self.innermost(rt) {
+                Some(scope) => next = scope,
+                None => return true,
+            }
         }
+        unreachable!()
+    }
+
+    /// The scope that the context's actor opened last of those that it has not closed.
+    fn innermost<R: Wait>(&mut self, rt: &R) -> Option<ScopeId>
+        ensures token { SeesMore self.old.token self.new.token }
+        ensures legal { result ≡ None → NothingOpen self.new.token }
+        ensures answer { result ≡ innermost (history_seen self.old.token) self.old.token.actor }
+    {
+        let token = &mut self.token;
+        self.realm.lent().innermost(rt, &mut token.held)
     }
 
     /// Records the end of the context's task, all scopes of which are closed.
     fn finish<R: Wait>(self, rt: &R, ticket: Ticket, end: End) -> (Ticket, S)
-        requires closed { vec_len self.opened ≡ 0 }
-        requires named { ticket.table ≡ N.table }
-        requires running { IsRunning ticket }
-        requires actor { self.token.actor ≡ ticket.task }
-        requires fits { C.fitting ticket.label end }
+        requires closed { NothingOpen self.token }
+        requires task { MayFinish N.table C.fitting ticket self.token end }
         ensures returns { Returns N.table ticket result.0 }
         ensures ended { end_in result.0.task result.0.seen ≡ Some end }
     {
@@ -82,15 +98,13 @@ impl<C: Catalog, S: Spawner<N>, N: RealmName> TaskCtx<C, S, N> {
             spawner,
             around: _,
             opened: _,
-            threads: _,
-            returned: _,
+            team: _,
         } = self;
         (record_end(rt, realm.lent(), ticket, token, end), spawner)
     }
 }
 
-/// Records the end of the ticket's task. It would be tried again where it is refused, for a scope that is
-/// not closed, which no run meets.
+/// Records the end of the ticket's task, whose actor has no scope that is not closed: so it is not refused.
 fn record_end<C: Catalog, N: RealmName, R: Wait>(
     rt: &R,
     realm: &Realm<C, N>,
@@ -98,25 +112,15 @@ fn record_end<C: Catalog, N: RealmName, R: Wait>(
     token: OfRealm<N, ActorToken>,
     end: End,
 ) -> Ticket
-    requires named { ticket.table ≡ N.table }
-    requires running { IsRunning ticket }
-    requires actor { token.actor ≡ ticket.task }
-    requires fits { C.fitting ticket.label end }
+    requires closed { NothingOpen token }
+    requires task { MayFinish N.table C.fitting ticket token end }
     ensures returns { Returns N.table ticket result }
     ensures ended { end_in result.task result.seen ≡ Some end }
 {
-    let mut ticket = ticket;
-    let mut token = token.into_held();
-    for _ in rt.forever() {
-        match realm.finish(rt, ticket, token, end) {
-            Ok(ended) => return ended,
-            Err((_, back, its)) => {
-                ticket = back;
-                token = its;
-            }
-        }
+    match realm.finish(rt, ticket, token.into_held(), end) {
+        Ok(ended) => ended,
+        Err(_) => unreachable!(),
     }
-    unreachable!()
 }
 
 /// The fault of a task whose job left a scope open.

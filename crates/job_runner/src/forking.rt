@@ -1,8 +1,10 @@
-ghost use Rattle.std.specs.Prelude.{◌≡◌, ◌<◌, IfOk, IfErr, OnSome, vec_len, vec_capacity};
+ghost use Rattle.std.specs.Prelude.{◌≡◌, IfOk, IfErr, OnSome};
+ghost use Rattle.realm_core.specs.Calls.{SeesMore};
 ghost use Rattle.realm_core.specs.Tasks.{IsNewTicket};
 ghost use Rattle.job_runner.specs.Forks.{ForksJob, KeepsThread, SpawnsJob, refusal_of, why_alone};
+ghost use Rattle.thread_crew.specs.Teams.{HasRoom, IsSameTeam};
 
-use crate::contexts::{TaskCtx, Thread};
+use crate::contexts::TaskCtx;
 use crate::held::HeldRealm;
 use crate::markers::Marker;
 use crate::works::JobWork;
@@ -50,7 +52,7 @@ impl<C: Catalog, S: Spawner<N>, N: RealmName> TaskCtx<C, S, N> {
         ensures token { self.new.token ≡ record self.old.token { seen = self.new.token.seen } }
         ensures answer { ForksJob self.old.token self.new.token scope job.label (why_alone result) }
         ensures handed_back { IfErr result (λ e. e.1 ≡ job) }
-        ensures kept { IfOk result (λ reply. KeepsThread reply (vec_len self.old.threads) (vec_len self.new.threads)) }
+        ensures kept { IfOk result (λ reply. KeepsThread scope reply self.old.team self.new.team) }
     {
         let Some((realm, around)) = self.room_for_a_thread(scope) else {
             return Err((ForkRefusal::Before(Refusal::Memory), job));
@@ -81,22 +83,23 @@ impl<C: Catalog, S: Spawner<N>, N: RealmName> TaskCtx<C, S, N> {
     ) -> Result<ForkReply, (ForkRefusal, NamedJob<C, J>)>
     where
         S: Spawns<N, JobWork<C, N, J>>,
-        requires room { vec_len self.old.threads < vec_capacity self.old.threads }
+        requires room { HasRoom self.old.team }
         requires named { ticket.table ≡ N.table }
         requires fresh { IsNewTicket self.old.token ticket.scope work.job.label ticket }
-        ensures token { self.new.token ≡ self.old.token }
-        ensures answer { SpawnsJob ticket (why_alone result) }
+        ensures token { SeesMore self.old.token self.new.token }
+        ensures answer { SpawnsJob self.old.token self.new.token ticket (why_alone result) }
         ensures handed_back { IfErr result (λ e. e.1 ≡ work.job) }
-        ensures kept { IfOk result (λ reply. KeepsThread reply (vec_len self.old.threads) (vec_len self.new.threads)) }
+        ensures kept { IfOk result (λ reply. KeepsThread ticket.scope reply self.old.team self.new.team) }
     {
         let (task, scope) = (ticket.task(), ticket.scope());
         match self.spawner.spawn(rt, ticket, work) {
             Ok(handle) => {
-                self.threads.push_reserved(Thread { scope, handle });
+                self.team.add(scope, handle);
                 Ok(ForkReply::Thread(task))
             }
             Err((ticket, work)) => {
-                let _rejected = self.realm.lent().reject(rt, ticket);
+                let token = &mut self.token;
+                let _rejected = self.realm.lent().reject_with(rt, &mut token.held, ticket);
                 let JobWork { job, .. } = work;
                 Err((ForkRefusal::Rejected(task), job))
             }
@@ -107,17 +110,15 @@ impl<C: Catalog, S: Spawner<N>, N: RealmName> TaskCtx<C, S, N> {
     /// begins with.
     fn room_for_a_thread(&mut self, scope: ScopeId) -> Option<(HeldRealm<C, N>, Option<Marker>)>
         ensures token { self.new.token ≡ self.old.token }
-        ensures threads { vec_len self.new.threads ≡ vec_len self.old.threads }
-        ensures room { OnSome result (vec_len self.new.threads < vec_capacity self.new.threads) }
+        ensures team { IsSameTeam self.old.team self.new.team }
+        ensures room { OnSome result (HasRoom self.new.team) }
     {
         let realm = self.realm.again()?;
         let around = match self.marker_of(scope) {
             Some(marker) => Some(marker.fresh()?),
             None => None,
         };
-        self.threads.reserve(1).ok()?;
-        let returns = self.threads.len().saturating_add(1);
-        self.returned.reserve(returns).ok()?;
+        self.team.reserve().ok()?;
         Some((realm, around))
     }
 

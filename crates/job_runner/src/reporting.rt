@@ -1,16 +1,15 @@
-ghost use Rattle.std.specs.Prelude.{◌≡◌, ◌<◌, ◌⊎◌, List, IfOk, IfErr, IfSome, length};
-ghost use Rattle.std.specs.List.{All};
+ghost use Rattle.std.specs.Prelude.{◌≡◌, ◌⊎◌, List, IfOk, IfErr, IsOk, MatchResult};
 ghost use Rattle.scope_rules.specs.declared.types.refusals.Refusal.TheVariants.{Memory, NotReady};
 ghost use Rattle.share_ledger.specs.Values.{TicketValue};
 ghost use Rattle.realm_core.specs.Calls.{history_seen};
 ghost use Rattle.realm_close.specs.Waiting.{IsOpenOf};
 ghost use Rattle.realm_close.specs.Closes.{IsBegun, EndsReported};
 ghost use Rattle.job_runner.specs.Reports.{ClosesHere, StaysHere, Held};
+ghost use Rattle.thread_crew.specs.Teams.{AreJoined};
 
-use crate::contexts::{Returned, TaskCtx};
-use realm_lock::{CloseReport, RealmName, Ticket};
+use crate::contexts::TaskCtx;
+use realm_lock::{CloseReport, RealmName};
 use scope_rules::{Catalog, Refusal, ScopeId};
-use share_ledger::OfRealm;
 use std::sync::Wait;
 use thread_crew::Spawner;
 
@@ -23,8 +22,8 @@ impl<C: Catalog, S: Spawner<N>, N: RealmName> TaskCtx<C, S, N> {
     /// call.
     pub fn close_scope<R: Wait>(&mut self, rt: &R, scope: ScopeId) -> Result<CloseReport, Refusal>
         ensures token { self.new.token ≡ record self.old.token { seen = self.new.token.seen } }
-        ensures closed { IfOk result (λ report. ClosesHere self.old.token self.new.token scope report) }
-        ensures refused { IfErr result (λ refusal. StaysHere self.old.token self.new.token scope refusal) }
+        ensures answer { MatchResult result (λ report. ClosesHere self.old.token self.new.token scope report) (λ refusal. StaysHere self.old.token self.new.token scope refusal) }
+        ensures joined { IsOk result → AreJoined scope self.new.team }
         ensures sure { IsOpenOf (history_seen self.old.token) self.old.token.actor scope → IfErr result (λ refusal. (refusal ≡ NotReady) ⊎ (refusal ≡ Memory)) }
     {
         let token = &mut self.token;
@@ -39,10 +38,11 @@ impl<C: Catalog, S: Spawner<N>, N: RealmName> TaskCtx<C, S, N> {
     fn end_with_report<R: Wait>(&mut self, rt: &R, scope: ScopeId) -> Result<CloseReport, Refusal>
         requires begun { IsBegun (history_seen self.old.token) self.old.token.actor scope }
         ensures token { self.new.token ≡ record self.old.token { seen = self.new.token.seen } }
+        ensures running { self.new.team.running ≡ self.old.team.running }
         ensures closed { IfOk result (λ report. (tickets : List TicketValue) × EndsReported self.old.token self.new.token scope tickets report) }
         ensures refused { IfErr result (λ refusal. Held self.old.token self.new.token scope refusal) }
     {
-        let Some(mut tickets) = self.take_returned(scope) else {
+        let Some(mut tickets) = self.team.take_from(self.alloc, scope) else {
             return Err(Refusal::Memory);
         };
         let token = &mut self.token;
@@ -56,48 +56,9 @@ impl<C: Catalog, S: Spawner<N>, N: RealmName> TaskCtx<C, S, N> {
                 Ok(report)
             }
             Err(refusal) => {
-                self.put_back(tickets);
+                self.team.put_back(tickets);
                 Err(refusal)
             }
         }
     }
-
-    /// Takes the tickets of the scope, and of what was opened later. None where there is no room to list
-    /// them.
-    fn take_returned(&mut self, scope: ScopeId) -> Option<Vec<Ticket>>
-        ensures token { self.new.token ≡ self.old.token }
-        ensures named { IfSome result (λ tickets. All (λ (t : TicketValue). t.table ≡ N.table) tickets.items) }
-    {
-        let mut tickets = Vec::new(self.alloc);
-        tickets.reserve(self.returned.len()).ok()?;
-        while let Some(place) = last_returned(self.returned.as_slice(), scope) {
-            let Returned { scope: _, ticket } = self.returned.swap_remove(place);
-            tickets.push(ticket.into_held()).ok()?;
-        }
-        Some(tickets)
-    }
-
-    /// Puts the tickets back, for which there is room.
-    fn put_back(&mut self, tickets: Vec<Ticket>)
-        requires { All (λ (t : TicketValue). t.table ≡ N.table) tickets.items }
-        ensures { self.new.token ≡ self.old.token }
-    {
-        let mut tickets = tickets;
-        while let Some(ticket) = tickets.pop() {
-            let scope = ticket.scope();
-            self.keep(scope, OfRealm::new(ticket));
-        }
-    }
-}
-
-/// The place of the last ticket of the scope, or of one that was opened later.
-fn last_returned<N: RealmName>(returned: &[Returned<N>], scope: ScopeId) -> Option<usize>
-    ensures { IfSome result (λ place. place < length returned.now) }
-{
-    for place in (0..returned.len()).rev() {
-        if returned[place].scope >= scope {
-            return Some(place);
-        }
-    }
-    None
 }

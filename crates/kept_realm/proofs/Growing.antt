@@ -17,6 +17,12 @@ pub fitting_at_start : (F : LabelValue → EndValue → Type 0) (b : Origin) →
 unfolding Fitting
 fitting_at_start F b i e at = absurd cc
 
+pub fitting_at_base : (F : LabelValue → EndValue → Type 0) (h : History) → h.events ≡ [] → Fitting F h
+unfolding Fitting
+fitting_at_base F h none i e is =
+    let here : slice_get [] i ≡ Some e = rw none at is in
+    absurd cc
+
 pub fitting_push : (F : LabelValue → EndValue → Type 0) (h : History) (e : Event) → Fitting F h → FitsEvent F h e → Fitting F (followed h e)
 unfolding Fitting
 fitting_push F h e fitting ok i x at =

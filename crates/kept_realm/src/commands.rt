@@ -1,9 +1,7 @@
 ghost use Rattle.std.specs.Prelude.{◌≡◌, Ok};
-ghost use Rattle.scope_rules.specs.Table.{check_of, retire_check};
-ghost use Rattle.scope_rules.specs.declared.types.events.Options.{Options};
-ghost use Rattle.scope_rules.specs.declared.types.joiners.Policy.{Policy};
-ghost use Rattle.scope_rules.specs.Replies.{AnswersOrMemory, after_retiring, base_of};
-ghost use Rattle.scope_checks.specs.Telling.{Performs, after_telling, noted, told_of};
+ghost use Rattle.scope_rules.specs.Table.{check_of};
+ghost use Rattle.scope_checks.specs.Entering.{Retires, Tells};
+ghost use Rattle.scope_checks.specs.Telling.{noted, told_of};
 
 use crate::realm::KeptRealm;
 use join_rules::StoredTest;
@@ -30,8 +28,7 @@ impl KeptRealm {
         listed: bool,
         test: Option<&StoredTest>,
     ) -> Result<Told, Refusal>
-        ensures answer { Performs self.old.limits self.old.history event result }
-        ensures history { self.new ≡ after_telling self.old event result }
+        ensures { Tells self.old event result self.new }
     {
         table::row(self, &self.limits(), &event)?;
         let told = self.told(&event);
@@ -68,21 +65,12 @@ impl KeptRealm {
         }
     }
 
-    /// What an open by the actor is refused for, if for anything but want of memory. It goes by the actor
-    /// alone, whatever the scope would be opened with.
-    pub fn open_check(&self, actor: Actor) -> Result<(), Refusal>
-        ensures { (policy : Policy) (options : Options) → result ≡ check_of self.now.limits self.now.history (Event.Open actor policy options) }
-    {
-        table::open_row(self, &self.limits(), actor)
-    }
-
     /// Takes the events out and leaves a base, once main's outermost scope is closed; what is left goes
     /// on, with numbers after the base's. It is no event. Refused where the actor is no running task or
     /// main, is not main (`NotOwner`), while main has a scope that is not closed (`Structure`), and where
     /// memory is refused (`Memory`).
     pub fn retire(&mut self, actor: Actor) -> Result<Base, Refusal>
-        ensures answer { AnswersOrMemory (retire_check self.old.history actor) (base_of self.old.history) result }
-        ensures history { self.new ≡ after_retiring self.old result }
+        ensures { Retires self.old actor result self.new }
     {
         table::retire_check(self, actor)?;
         let alloc = self.allocator();

@@ -1,9 +1,6 @@
-ghost use Rattle.std.specs.Prelude.{◌≡◌, ℕ, List, slice_get};
-ghost use Rattle.scope_rules.specs.Legal.{Legal, IsWithin};
-ghost use Rattle.scope_rules.specs.Origin.{the_start};
-ghost use Rattle.scope_rules.specs.Replies.{starting, base_check, base_of, after_retiring, AnswersOrMemory};
-ghost use Rattle.scope_rules.specs.Table.{retire_check};
-ghost use Rattle.scope_checks.specs.Telling.{Performs, after_telling};
+ghost use Rattle.std.specs.Prelude.{◌≡◌, ℕ, [], List, slice_get};
+ghost use Rattle.scope_checks.specs.Entering.{Retires, Tells};
+ghost use Rattle.scope_checks.specs.Ruled.{IsRuled};
 ghost use Rattle.scope_cuts.specs.CutsOf.{IsCancelOrderOf};
 ghost use Rattle.kept_realm.specs.Fits.{FitsEvent, Fitting};
 
@@ -11,7 +8,6 @@ use crate::realm::KeptRealm;
 use join_rules::StoredTest;
 use scope_checks::Told;
 use scope_rules::{Actor, Base, Catalog, Event, Limits, Refusal, ScopeId};
-use std::alloc::Global;
 use std::marker::{Model, PhantomData};
 
 /// A kept realm whose ends fit: its history is legal, and each end in it fits its task's label by the
@@ -34,36 +30,22 @@ impl<C: Catalog> Model for FittingRealm<C> {
 }
 
 impl<C: Catalog> FittingRealm<C> {
-    /// A fresh realm. It takes no memory; that of later calls comes from `alloc`.
-    #[tactic(auto, using(crate::proofs::Growing::fitting_at_start))]
-    pub fn new(alloc: Global, limits: Limits) -> FittingRealm<C>
-        ensures { result ≡ starting limits the_start }
+    /// A kept realm in which nothing has happened since its base.
+    #[tactic(auto, using(crate::proofs::Growing::fitting_at_base))]
+    pub fn over(kept: KeptRealm) -> FittingRealm<C>
+        requires { kept.history.events ≡ [] }
+        ensures { result ≡ kept }
     {
         FittingRealm {
-            kept: KeptRealm::new(alloc, limits),
-            catalog: PhantomData,
-        }
-    }
-
-    /// A realm that begins with the base, as a retirement leaves it. Refused where the base has more
-    /// pairs than the limit of load (`TooMany`), and where memory is refused (`Memory`).
-    #[tactic(auto, using(crate::proofs::Growing::fitting_at_start))]
-    pub fn with_base(alloc: Global, limits: Limits, base: Base) -> Result<FittingRealm<C>, Refusal>
-        ensures { AnswersOrMemory (base_check limits base) (starting limits base) result }
-    {
-        let kept = KeptRealm::with_base(alloc, limits, base)?;
-        Ok(FittingRealm {
             kept,
             catalog: PhantomData,
-        })
+        }
     }
 
     /// The realm's limits. It also says of the history that it is legal, within the limits (the load and
     /// the numbers too, the base's counted) and fitting.
     pub fn limits(&self) -> Limits
-        ensures limits { result ≡ self.now.limits }
-        ensures legal { Legal self.now.limits self.now.history }
-        ensures within { IsWithin self.now.limits self.now.history }
+        ensures ruled { IsRuled self.now result }
         ensures fitting { Fitting C.fitting self.now.history }
     {
         self.kept.limits()
@@ -94,8 +76,7 @@ impl<C: Catalog> FittingRealm<C> {
         test: Option<&StoredTest>,
     ) -> Result<Told, Refusal>
         requires fits { FitsEvent C.fitting self.old.history event }
-        ensures answer { Performs self.old.limits self.old.history event result }
-        ensures history { self.new ≡ after_telling self.old event result }
+        ensures { Tells self.old event result self.new }
     {
         self.kept.perform(event, listed, test)
     }
@@ -103,8 +84,7 @@ impl<C: Catalog> FittingRealm<C> {
     /// Lets the past go, and leaves its base (`KeptRealm::retire`).
     #[tactic(auto, using(crate::proofs::Growing::fitting_after_retiring))]
     pub fn retire(&mut self, actor: Actor) -> Result<Base, Refusal>
-        ensures answer { AnswersOrMemory (retire_check self.old.history actor) (base_of self.old.history) result }
-        ensures history { self.new ≡ after_retiring self.old result }
+        ensures { Retires self.old actor result self.new }
     {
         self.kept.retire(actor)
     }

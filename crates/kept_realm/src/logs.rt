@@ -38,7 +38,7 @@ impl KeptRealm {
     pub fn join_preview(&self, actor: Actor, scope: ScopeId) -> Result<Preview, Refusal>
         ensures { AnswersValue (check_of self.now.limits self.now.history (Event.Join actor scope)) (preview self.now.history actor scope) result }
     {
-        let _limits = self.limits();
+        let _legal = self.limits();
         table::join_row(self, actor, scope)?;
         let log = self.log(scope)?;
         match log.into_preview(self.allocator(), actor) {
@@ -80,7 +80,7 @@ impl KeptRealm {
         ensures entries { IfOk result (λ v. v.items ≡ entries self.now.history scope) }
         ensures small { IfOk result (λ v. length v.items + 1 < 2 ^ 32) }
     {
-        let _limits = self.limits();
+        let _legal = self.limits();
         let places = self.trails.places(self.allocator(), scope)?;
         let said = self.said_at(scope, &places)?;
         with_mark(said, &places, questions::cancellation(self, scope))
@@ -92,7 +92,7 @@ impl KeptRealm {
         requires places { places.now ≡ places_of self.now.history scope }
         ensures { IfOk result (λ v. v.items ≡ filter_map (entry_at self.now.history scope) places.now) }
     {
-        let _limits = self.limits();
+        let _legal = self.limits();
         let events = self.journal.events();
         let tasks = self.tasks_of(scope);
         let mut entries = Vec::new(self.allocator());

@@ -29,43 +29,38 @@ use std::alloc::{AllocError, Global};
 impl KeptRealm {
     /// The rows of scopes and tasks.
     fn rows(&self) -> &Rows
-        ensures agrees { AreRowsOf self.now.history result.now }
-        ensures legal { Legal self.now.limits self.now.history }
+        ensures { AreRowsOf self.now.history result.now × Legal self.now.limits self.now.history }
     {
-        let _limits = self.journal.limits();
+        let _legal = self.journal.limits();
         self.kept.rows()
     }
 
     /// What is cancelled, and the moment.
     fn cuts(&self) -> &Cuts
-        ensures agrees { AreCutsOf self.now.history result.now }
-        ensures legal { Legal self.now.limits self.now.history }
+        ensures { AreCutsOf self.now.history result.now × Legal self.now.limits self.now.history }
     {
-        let _limits = self.journal.limits();
+        let _legal = self.journal.limits();
         self.kept.cuts()
     }
 
     /// What the actors see bound.
     fn envs(&self) -> &Envs
-        ensures agrees { AreEnvsOf self.now.history result.now }
-        ensures legal { Legal self.now.limits self.now.history }
+        ensures { AreEnvsOf self.now.history result.now × Legal self.now.limits self.now.history }
     {
-        let _limits = self.journal.limits();
+        let _legal = self.journal.limits();
         self.kept.envs()
     }
 
     /// The row of the scope, if it was opened since the base.
     fn scope_row(&self, scope: ScopeId) -> Option<&ScopeRow>
-        ensures agrees { MatchOption result (opening self.now.history scope ≡ None) (λ row. IsScopeRow self.now.history scope row.now) }
-        ensures legal { Legal self.now.limits self.now.history }
+        ensures { MatchOption result (opening self.now.history scope ≡ None) (λ row. IsScopeRow self.now.history scope row.now) × Legal self.now.limits self.now.history }
     {
         self.rows().scope(scope)
     }
 
     /// The row of the task, if it was forked since the base.
     fn task_row(&self, task: TaskId) -> Option<&TaskRow>
-        ensures agrees { MatchOption result (forking self.now.history task ≡ None) (λ row. IsTaskRow self.now.history task row.now) }
-        ensures legal { Legal self.now.limits self.now.history }
+        ensures { MatchOption result (forking self.now.history task ≡ None) (λ row. IsTaskRow self.now.history task row.now) × Legal self.now.limits self.now.history }
     {
         self.rows().task(task)
     }
@@ -82,8 +77,7 @@ impl KeptRealm {
     /// The scope that lies around whatever the actor opens next.
     #[tactic(auto, unfolding(scope_rules::specs::Scopes::surrounding))]
     fn surrounding(&self, actor: Actor) -> Option<ScopeId>
-        ensures agrees { result ≡ surrounding self.now.history actor }
-        ensures legal { Legal self.now.limits self.now.history }
+        ensures { (result ≡ surrounding self.now.history actor) × Legal self.now.limits self.now.history }
     {
         match self.rows().innermost(actor) {
             Some(scope) => Some(scope),

@@ -1,12 +1,13 @@
 ghost use Rattle.std.specs.Prelude.{◌≡◌, ℕ, [], List, drop, IfOk, MatchResult};
 ghost use Rattle.std.specs.Borrow.{sem};
-ghost use Rattle.scope_rules.specs.Legal.{Accepts, Legal, IsWithin};
+ghost use Rattle.scope_rules.specs.Legal.{Accepts, Legal};
 ghost use Rattle.scope_rules.specs.Load.{weight};
 ghost use Rattle.scope_rules.specs.Replies.{with_event, starting, base_check, base_of, AnswersOrMemory};
 ghost use Rattle.scope_cuts.specs.CutsOf.{IsCancelOrderOf};
 ghost use Rattle.scope_cuts.specs.Lent.{scopes_of};
 ghost use Rattle.scope_kept.specs.KeptTables.{IsKeptOf};
 ghost use Rattle.kept_realm.specs.Lending.{KeepsRealm};
+ghost use Rattle.scope_checks.specs.Ruled.{IsRuled};
 
 use crate::telling::{make_room, scope_of_event, tell};
 use join_rules::StoredTest;
@@ -71,16 +72,14 @@ impl KeptRealm {
     }
 
     /// The allocator that the realm grows by.
-    pub fn allocator(&self) -> Global {
+    pub(crate) fn allocator(&self) -> Global {
         self.journal.allocator()
     }
 
     /// The realm's limits. It also says of the history that it is legal, and within the limits: the load
     /// and the numbers too, the base's counted.
     pub fn limits(&self) -> Limits
-        ensures limits { result ≡ self.now.limits }
-        ensures legal { Legal self.now.limits self.now.history }
-        ensures within { IsWithin self.now.limits self.now.history }
+        ensures { IsRuled self.now result }
     {
         self.journal.limits()
     }
@@ -103,7 +102,7 @@ impl KeptRealm {
         ensures* kept { sem 𝓛 (KeepsRealm self.entry) }
         ensures order { (list : List ℕ) × IsCancelOrderOf self.old.history list × (scopes_of result ≡ drop n list) }
     {
-        let _limits = self.journal.limits();
+        let _legal = self.journal.limits();
         self.kept.cancelled_since(n)
     }
 }
@@ -116,7 +115,7 @@ impl KeptRealm {
         requires { Accepts self.old.limits self.old.history event }
         ensures answer { MatchResult result (λ _. self.new ≡ with_event self.old event) (λ refusal. (refusal ≡ Refusal.Memory) × (self.new ≡ self.old)) }
     {
-        let _limits = self.journal.limits();
+        let _legal = self.journal.limits();
         let place = self.journal.events().len();
         let cost = weight(&event);
         if self.journal.reserve(cost).is_err() {
@@ -142,7 +141,7 @@ impl KeptRealm {
         ensures added { self.new ≡ with_event self.old event }
         ensures legal { Legal self.new.limits self.new.history }
     {
-        let _limits = self.journal.limits();
+        let _legal = self.journal.limits();
         let place = self.journal.events().len();
         let scope = scope_of_event(self.kept.rows(), &event);
         match follow(&mut self.kept, &event, false, test, place) {

@@ -23,23 +23,28 @@ chosen false new one other is so = absurd cc
 pub onward : (old mid new : OwnerValue) → mid ≡ record old { seen = mid.seen } → new ≡ record mid { seen = new.seen } → new ≡ record old { seen = new.seen }
 onward old mid new first second = second ∙ ap (λ (m : OwnerValue). record m { seen = new.seen }) first
 
+-- this holds of what the join gave
+after_join : (name : TableId) (before after : OwnerValue) (scope : ℕ) (joined : Joined) (tasks : List TaskState) → before.table ≡ name → Joins before after scope (Ok joined) → All (WasRead name) tasks
+    → (Holds : List TaskState → Outcome → Type 0) → Holds tasks joined.outcome → AfterJoin name Holds
+after_join name before after scope joined tasks named joins read Holds holds = record {
+  before = before;
+  after = after;
+  named = named;
+  scope = scope;
+  joined = joined;
+  joins = joins;
+  tasks = tasks;
+  read = read;
+  holds = holds;
+}
+
 -- the answer is made of the join, or there is none for a cause that it gave
 pub by_join : (name : TableId) (plan : PlanValue) (Expired : Type 0) (before after : OwnerValue) (scope : ℕ) (joined : Joined) (tasks : List TaskState) (result : Result Answer GatewayFault) → before.table ≡ name → Joins before after scope (Ok joined) → All (WasRead name) tasks → MatchResult result (λ a. Answers plan.mode plan.offers tasks joined.outcome a) (MakesNone plan Expired tasks joined.outcome) → MatchResult result (RestsOnJoin name plan) (Fails name plan Expired)
 by_join name plan Expired before after scope joined tasks result named joins read =
     by result
   where
     joins_so : (Holds : List TaskState → Outcome → Type 0) → Holds tasks joined.outcome → AfterJoin name Holds
-    joins_so Holds holds = record {
-      before = before;
-      after = after;
-      named = named;
-      scope = scope;
-      joined = joined;
-      joins = joins;
-      tasks = tasks;
-      read = read;
-      holds = holds;
-    }
+    joins_so Holds holds = after_join name before after scope joined tasks named joins read Holds holds
 
     by : (result : Result Answer GatewayFault) → MatchResult result (λ a. Answers plan.mode plan.offers tasks joined.outcome a) (MakesNone plan Expired tasks joined.outcome) → MatchResult result (RestsOnJoin name plan) (Fails name plan Expired)
     by (Ok a) rests = joins_so _ rests
@@ -69,17 +74,7 @@ in_other_words name other plan Expired Past result same back came =
     by : (result : Result Answer GatewayFault) → MatchResult result (RestsOnJoin other plan) (Fails other plan Expired) → MatchResult result (RestsOnJoin other plan) (Fails other plan Past)
     by (Ok a) rests = rests
     by (Err fault.Lost) none = none
-    by (Err fault.Cancelled) none = record {
-      before = none.before;
-      after = none.after;
-      named = none.named;
-      scope = none.scope;
-      joined = none.joined;
-      joins = none.joins;
-      tasks = none.tasks;
-      read = none.read;
-      holds = cancelled none.joined.outcome none.holds;
-    }
+    by (Err fault.Cancelled) none = after_join other none.before none.after none.scope none.joined none.tasks none.named none.joins none.read _ (cancelled none.joined.outcome none.holds)
     by (Err fault.Memory) none = none
     by (Err fault.Rejected) none = none
     by (Err fault.Strange) none = none

@@ -2,7 +2,6 @@
 use Rattle.std.proofs.Common.{◌≡◌, ℕ, ◌==◌, ◌||◌, Bool, true, false, Some, None, Result, Ok, Err, List, [], ◌∷◌, ◌++◌, refl, sym, ap, ◌∙◌, subst}
 use Rattle.std.specs.Prelude.{IfOk, MatchResult}
 use Rattle.std.proofs.lemmas.Bool.{both_ways, eq-eqb, or_from, false_from_ne_true}
-use Rattle.std.specs.List.{list_any}
 use Rattle.scope_rules.specs.declared.types.answers.Cancelling.{Cancelling}
 use Rattle.scope_rules.specs.declared.types.answers.Cancelling.TheVariants.{Recorded, Already}
 use Rattle.scope_rules.specs.declared.types.capacity.Limits.{Limits}
@@ -28,23 +27,20 @@ use Rattle.realm_steps.specs.declared.steps.Ask.{Ask}
 use Rattle.realm_steps.specs.declared.steps.Ask.TheVariants as ask
 use Rattle.realm_steps.specs.declared.steps.Holder.TheVariants.{TokenOf}
 use Rattle.realm_steps.specs.Holders.{is_own, Agrees, Looks}
-use Rattle.realm_steps.specs.Steps.{advance, advanced, asked, step_by, history_of, Passes, LegalFrom, IsLegal}
-use Rattle.realm_steps.proofs.Histories.{advanced-append, history-push, legal_advance, legal_beginning, beginning_legal, legal_history, retired_without_scopes}
+use Rattle.realm_steps.specs.Steps.{advance, asked, step_by, history_of, Passes, IsLegal}
+use Rattle.realm_steps.proofs.Histories.{history-push, beginning_legal, legal_history, retired_without_scopes}
 use Rattle.share_ledger.specs.Values.{OwnerValue, TicketValue}
-use Rattle.realm_core.specs.Calls.{history_seen, Looked, Added, Refused, FoundSo, Records}
+use Rattle.realm_core.specs.Calls.{history_seen, HasLooked, Added, Refused, FoundSo, DidRecord}
 use Rattle.realm_core.specs.Endings.{CanClose}
 use Rattle.realm_core.proofs.Ended.{actor_passes}
 use Rattle.realm_core.proofs.Joining.{agrees_on}
+use Rattle.realm_core.proofs.Others.{still}
 use Rattle.realm_close.specs.Closes.{IsBegun, EndsLater, WaitsOn, IsDone, IsLeft, MayReport}
 use Rattle.realm_close.specs.Ends.{Ends}
 use Rattle.realm_close.specs.declared.reports.CloseReport.{CloseReport}
 use Rattle.realm_close.specs.Waiting.{IsOpenOf, HoldsUp, FoundUnsettled}
 
 -- ---- one step of another's
-
-not_or : (b c : Bool) → (b || c) ≡ false → (b ≡ false) × (c ≡ false)
-not_or false false so = (refl, refl)
-not_or _ _ so = absurd cc
 
 -- no event of another closes it
 not_ended : (L : Limits) (h : History) (a s : ℕ) (e : Event) → IsOpenOf h a s → Accepts L h e → is_own (TokenOf a) (Happened e) ≡ false → ends s e ≡ false
@@ -84,43 +80,11 @@ begun_step L h a s Retirement legal it ok other = absurd (both_ways (closed h s)
 
 -- ---- and any number of them
 
-open_past : (L : Limits) (h : History) (a s : ℕ) (later : List RealmStep) → Legal L h → IsOpenOf h a s → LegalFrom L h later → list_any (is_own (TokenOf a)) later ≡ false → IsOpenOf (advanced h later) a s
-open_past L h a s [] legal it lawful others = it
-open_past L h a s (x ∷ later) legal it lawful others =
-    let both = not_or (is_own (TokenOf a) x) (list_any (is_own (TokenOf a)) later) others in
-    open_past L (advance h x) a s later (legal_advance L h x legal lawful.0) (open_step L h a s x legal it lawful.0 both.0) lawful.1 both.1
-
-begun_past : (L : Limits) (h : History) (a s : ℕ) (later : List RealmStep) → Legal L h → IsBegun h a s → LegalFrom L h later → list_any (is_own (TokenOf a)) later ≡ false → IsBegun (advanced h later) a s
-begun_past L h a s [] legal it lawful others = it
-begun_past L h a s (x ∷ later) legal it lawful others =
-    let both = not_or (is_own (TokenOf a) x) (list_any (is_own (TokenOf a)) later) others in
-    begun_past L (advance h x) a s later (legal_advance L h x legal lawful.0) (begun_step L h a s x legal it lawful.0 both.0) lawful.1 both.1
-
-legal_rest : (L : Limits) (h : History) (xs ys : List RealmStep) → LegalFrom L h (xs ++ ys) → LegalFrom L (advanced h xs) ys
-legal_rest L h [] ys lawful = lawful
-legal_rest L h (x ∷ xs) ys lawful = legal_rest L (advance h x) xs ys lawful.1
-
-lawful_later : (L : Limits) (a : ℕ) (old new : List RealmStep) (agrees : Agrees (TokenOf a) old new) → IsLegal L new → LegalFrom L (history_of old) agrees.later
-unfolding history_of IsLegal
-lawful_later L a old new agrees lawful = legal_rest L _ old agrees.later (subst (λ (xs : List RealmStep). IsLegal L xs) agrees.is lawful)
-
-legal_old : (L : Limits) (a : ℕ) (old new : List RealmStep) (agrees : Agrees (TokenOf a) old new) → IsLegal L new → Legal L (history_of old)
-unfolding IsLegal
-legal_old L a old new agrees lawful = legal_history L old (legal_beginning L _ old agrees.later (subst (λ (xs : List RealmStep). IsLegal L xs) agrees.is lawful))
-
-history_later : (a : ℕ) (old new : List RealmStep) (agrees : Agrees (TokenOf a) old new) → advanced (history_of old) agrees.later ≡ history_of new
-unfolding history_of
-history_later a old new agrees = sym (ap history_of agrees.is ∙ advanced-append _ old agrees.later)
-
 pub open_still : (L : Limits) (a s : ℕ) (old new : List RealmStep) → Agrees (TokenOf a) old new → IsLegal L new → IsOpenOf (history_of old) a s → IsOpenOf (history_of new) a s
-open_still L a s old new agrees lawful it =
-    subst (λ (h : History). IsOpenOf h a s) (history_later a old new agrees)
-    (open_past L (history_of old) a s agrees.later (legal_old L a old new agrees lawful) it (lawful_later L a old new agrees lawful) agrees.others)
+open_still L a s = still L a (λ h. IsOpenOf h a s) (λ h x. open_step L h a s x)
 
 pub begun_still : (L : Limits) (a s : ℕ) (old new : List RealmStep) → Agrees (TokenOf a) old new → IsLegal L new → IsBegun (history_of old) a s → IsBegun (history_of new) a s
-begun_still L a s old new agrees lawful it =
-    subst (λ (h : History). IsBegun h a s) (history_later a old new agrees)
-    (begun_past L (history_of old) a s agrees.later (legal_old L a old new agrees lawful) it (lawful_later L a old new agrees lawful) agrees.others)
+begun_still L a s = still L a (λ h. IsBegun h a s) (λ h x. begun_step L h a s x)
 
 -- ---- the beginning of a close
 
@@ -164,17 +128,17 @@ begun_recorded old new s it =
     subst (λ (h : History). IsBegun h old.actor s) (sym (ap history_of it.is ∙ history-push it.there x)) here
 
 -- which of the two a call did
-pub did_record : (old new : OwnerValue) (e : Event) (result : Result Cancelling Refusal) (how : Cancelling) → result ≡ Ok how → how ≡ Recorded → Records old new e result → Added old new (step_by old.actor e)
+pub did_record : (old new : OwnerValue) (e : Event) (result : Result Cancelling Refusal) (how : Cancelling) → result ≡ Ok how → how ≡ Recorded → DidRecord old new e result → Added old new (step_by old.actor e)
 did_record old new e (Ok Recorded) how is same said = said
 did_record old new e (Ok Already) how is same said = absurd (cc (is, same))
 did_record old new e (Err r) how is same said = absurd (cc is)
 
-pub did_find : (old new : OwnerValue) (e : Event) (result : Result Cancelling Refusal) (how : Cancelling) → result ≡ Ok how → how ≡ Already → Records old new e result → FoundSo old new e
+pub did_find : (old new : OwnerValue) (e : Event) (result : Result Cancelling Refusal) (how : Cancelling) → result ≡ Ok how → how ≡ Already → DidRecord old new e result → FoundSo old new e
 did_find old new e (Ok Already) how is same said = said
 did_find old new e (Ok Recorded) how is same said = absurd (cc (is, same))
 did_find old new e (Err r) how is same said = absurd (cc is)
 
-pub did_refuse : (old new : OwnerValue) (e : Event) (result : Result Cancelling Refusal) (r : Refusal) → result ≡ Err r → Records old new e result → Refused old new (step_by old.actor e) r
+pub did_refuse : (old new : OwnerValue) (e : Event) (result : Result Cancelling Refusal) (r : Refusal) → result ≡ Err r → DidRecord old new e result → Refused old new (step_by old.actor e) r
 did_refuse old new e (Ok Recorded) r is said = absurd (cc is)
 did_refuse old new e (Ok Already) r is said = absurd (cc is)
 did_refuse old new e (Err q) r is said = let same : q ≡ r = cc in subst (λ (x : Refusal). Refused old new (step_by old.actor e) x) same said
@@ -206,13 +170,13 @@ pub begun_looked : (L : Limits) (a s : ℕ) (old new : List RealmStep) → Looks
 begun_looked L a s old new looks it = begun_still L a s old new looks.agrees looks.legal it
 
 -- what was looked up holds of what the token has seen by then
-pub can_close_now : (old new : OwnerValue) (s : ℕ) (steps : List RealmStep) → new ≡ record old { seen = new.seen } → steps ≡ new.seen → Looked old new → IsBegun (history_seen old) old.actor s → FoundUnsettled (history_of steps) s None → CanClose (history_of steps) new.actor s
+pub can_close_now : (old new : OwnerValue) (s : ℕ) (steps : List RealmStep) → new ≡ record old { seen = new.seen } → steps ≡ new.seen → HasLooked old new → IsBegun (history_seen old) old.actor s → FoundUnsettled (history_of steps) s None → CanClose (history_of steps) new.actor s
 can_close_now old new s steps same is looks it found =
     let begun = begun_looked old.limits old.actor s old.seen new.seen looks it in
     let here = subst (λ (xs : List RealmStep). IsBegun (history_of xs) old.actor s) (sym is) begun in
     subst (λ (a : ℕ). CanClose (history_of steps) a s) (sym (ap (λ (t : OwnerValue). t.actor) same)) (can_close (history_of steps) old.actor s here found)
 
-pub waits_on : (old new : OwnerValue) (s busy : ℕ) (steps : List RealmStep) → steps ≡ new.seen → Looked old new → IsBegun (history_seen old) old.actor s → FoundUnsettled (history_of steps) s (Some busy) → WaitsOn old new s
+pub waits_on : (old new : OwnerValue) (s busy : ℕ) (steps : List RealmStep) → steps ≡ new.seen → HasLooked old new → IsBegun (history_seen old) old.actor s → FoundUnsettled (history_of steps) s (Some busy) → WaitsOn old new s
 waits_on old new s busy steps is looks it found =
     let begun = begun_looked old.limits old.actor s old.seen new.seen looks it in
     record {
@@ -223,12 +187,12 @@ waits_on old new s busy steps is looks it found =
     }
 
 -- what a hold did that ended the close with a report, or left it
-pub reported_or_left : (old there new : OwnerValue) (s : ℕ) (tickets left : List TicketValue) (result : Result CloseReport Refusal) → there ≡ record old { seen = there.seen } → Looked old there → IsBegun (history_seen old) old.actor s
+pub reported_or_left : (old there new : OwnerValue) (s : ℕ) (tickets left : List TicketValue) (result : Result CloseReport Refusal) → there ≡ record old { seen = there.seen } → HasLooked old there → IsBegun (history_seen old) old.actor s
     → IfOk result (λ report. IsDone there new s tickets report) → MatchResult result (λ _. Unit {0}) (λ refusal. IsLeft there new s tickets left refusal) → MayReport old new s tickets left (Some result)
 reported_or_left old there new s tickets left (Ok report) same looks it done unless = record { there = there; looks = looks; same = same; done = done }
 reported_or_left old there new s tickets left (Err refusal) same looks it done unless =
     let here = unless.same in
-    let seen : Looked old new = subst (λ (t : OwnerValue). Looked old t) (sym here) looks in
+    let seen : HasLooked old new = subst (λ (t : OwnerValue). HasLooked old t) (sym here) looks in
     record {
       looks = seen;
       begun = begun_looked old.limits old.actor s old.seen new.seen seen it;

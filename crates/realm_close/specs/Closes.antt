@@ -15,7 +15,7 @@ use Rattle.realm_steps.specs.declared.steps.RealmStep.TheVariants.{Happened}
 use Rattle.realm_steps.specs.declared.steps.Holder.TheVariants.{TokenOf}
 use Rattle.realm_steps.specs.Holders.{Agrees}
 use Rattle.share_ledger.specs.Values.{OwnerValue, TicketValue}
-use Rattle.realm_core.specs.Calls.{history_seen, Looked, Refused, FoundSo, Records}
+use Rattle.realm_core.specs.Calls.{history_seen, SeesMore, HasLooked, Refused, FoundSo, DidRecord}
 use Rattle.realm_close.specs.Ends.{Ends}
 use Rattle.realm_close.specs.Reports.{numbers, IsReported, AreReported}
 use Rattle.realm_close.specs.Runs.{IsShown}
@@ -31,7 +31,7 @@ pub record IsBegun (h : History) (a s : ℕ) : Type 0 where
 -- what the hold did that begins the actor's close of scope s: by then it has begun, and isn't over. It is
 -- refused as the beginning of a close is, and for a scope that is closed.
 abbrev pub Begins : OwnerValue → OwnerValue → ℕ → Result Cancelling Refusal → Type 0
-Begins old new s (Ok how) = Records old new (BeginClose old.actor s) (Ok how) × IsBegun (history_seen new) old.actor s
+Begins old new s (Ok how) = DidRecord old new (BeginClose old.actor s) (Ok how) × IsBegun (history_seen new) old.actor s
 Begins old new s (Err refusal) = Refused old new (Happened (BeginClose old.actor s)) refusal ⊎ (FoundSo old new (BeginClose old.actor s) × (closed (history_seen new) s ≡ true) × (refusal ≡ Closed))
 
 -- what the hold did that ends it: steps of others, and then exactly the ends
@@ -43,7 +43,7 @@ pub record EndsLater (old new : OwnerValue) (s : ℕ) (nested : List ℕ) : Type
 -- what a hold did that found that the close can't end yet: nothing, since a task of a scope waits or runs
 -- that it covers
 pub record WaitsOn (old new : OwnerValue) (s : ℕ) : Type 0 where
-  pub looks : Looked old new
+  pub looks : HasLooked old new
   pub begun : IsBegun (history_seen new) old.actor s
   pub busy : ℕ
   pub holds_up : HoldsUp (history_seen new) old.actor s busy
@@ -57,7 +57,7 @@ MayEnd old new s (Some how) = ((nested : List ℕ) × EndsLater old new s nested
 pub record ClosesDown (old new : OwnerValue) (s : ℕ) (nested : List ℕ) : Type 0 where
   pub begun : OwnerValue
   pub how : Cancelling
-  pub same : begun ≡ record old { seen = begun.seen }
+  pub same : SeesMore old begun
   pub begins : Begins old begun s (Ok how)
   pub ends : EndsLater begun new s nested
 
@@ -85,13 +85,13 @@ pub record IsLeft (old new : OwnerValue) (s : ℕ) (tickets left : List TicketVa
 -- what a hold did that ends a close with a report: it looked, and then come exactly the ends
 pub record EndsReported (old new : OwnerValue) (s : ℕ) (tickets : List TicketValue) (report : CloseReport) : Type 0 where
   pub there : OwnerValue
-  pub looks : Looked old there
-  pub same : there ≡ record old { seen = there.seen }
+  pub looks : HasLooked old there
+  pub same : SeesMore old there
   pub done : IsDone there new s tickets report
 
 -- what one did that could not end it with a report: nothing
 pub record HoldsBack (old new : OwnerValue) (s : ℕ) (tickets left : List TicketValue) (refusal : Refusal) : Type 0 where
-  pub looks : Looked old new
+  pub looks : HasLooked old new
   pub begun : IsBegun (history_seen new) old.actor s
   pub still : IsLeft new new s tickets left refusal
 
@@ -105,7 +105,7 @@ MayReport old new s tickets left (Some (Err refusal)) = HoldsBack old new s tick
 pub record ClosesWith (old new : OwnerValue) (s : ℕ) (tickets : List TicketValue) (report : CloseReport) : Type 0 where
   pub begun : OwnerValue
   pub how : Cancelling
-  pub same : begun ≡ record old { seen = begun.seen }
+  pub same : SeesMore old begun
   pub begins : Begins old begun s (Ok how)
   pub ends : EndsReported begun new s tickets report
 
@@ -113,7 +113,7 @@ pub record ClosesWith (old new : OwnerValue) (s : ℕ) (tickets : List TicketVal
 pub record StaysBegun (old new : OwnerValue) (s : ℕ) (tickets left : List TicketValue) (refusal : Refusal) : Type 0 where
   pub begun : OwnerValue
   pub how : Cancelling
-  pub same : begun ≡ record old { seen = begun.seen }
+  pub same : SeesMore old begun
   pub begins : Begins old begun s (Ok how)
   pub held : HoldsBack begun new s tickets left refusal
 

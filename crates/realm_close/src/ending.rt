@@ -2,6 +2,7 @@ ghost use Rattle.std.specs.Prelude.{◌≡◌, ℕ, List};
 ghost use Rattle.scope_rules.specs.Verdicts.{verdict};
 ghost use Rattle.realm_steps.specs.Steps.{history_of};
 ghost use Rattle.realm_core.specs.Endings.{CanClose};
+ghost use Rattle.realm_core.specs.Telling.{SeesAll};
 ghost use Rattle.realm_close.specs.Ends.{Ends, EndsInnermost};
 
 use realm_core::{RealmCore, RealmName};
@@ -25,12 +26,11 @@ pub fn end_innermost<C: Catalog, N: RealmName>(
 ) -> Ended
     requires named { token.old.table ≡ N.table }
     requires can { CanClose (history_of core.old.steps) token.old.actor scope }
-    ensures token { token.new ≡ record token.old { seen = token.new.seen } }
-    ensures core { core.new ≡ record core.old { steps = token.new.seen } }
+    ensures seen { SeesAll core.old core.new token.old token.new }
     ensures end { EndsInnermost token.old.limits token.old.actor scope result.scope core.old.steps token.new.seen }
     ensures verdict { result.verdict ≡ verdict (history_of token.new.seen) result.scope }
 {
-    let _limits = core.limits();
+    let _legal = core.limits();
     let Some(innermost) = core.realm().innermost(token.actor()) else {
         unreachable!()
     };
@@ -53,8 +53,7 @@ pub fn end_all<C: Catalog, N: RealmName>(
 ) -> Verdict
     requires named { token.old.table ≡ N.table }
     requires can { CanClose (history_of core.old.steps) token.old.actor scope }
-    ensures token { token.new ≡ record token.old { seen = token.new.seen } }
-    ensures core { core.new ≡ record core.old { steps = token.new.seen } }
+    ensures seen { SeesAll core.old core.new token.old token.new }
     ensures ends { (nested : List ℕ) × Ends token.old.limits token.old.actor scope nested core.old.steps token.new.seen }
     ensures verdict { result ≡ verdict (history_of token.new.seen) scope }
 {

@@ -3,6 +3,7 @@ ghost use Rattle.std.specs.List.{All};
 ghost use Rattle.realm_steps.specs.Steps.{history_of};
 ghost use Rattle.share_ledger.specs.Values.{TicketValue};
 ghost use Rattle.realm_core.specs.Endings.{CanClose};
+ghost use Rattle.realm_core.specs.Telling.{SeesAll};
 ghost use Rattle.realm_close.specs.Waiting.{IsOpenOf};
 ghost use Rattle.realm_close.specs.Closes.{IsBegun, Begins, MayEnd, IsDone, IsLeft, MayReport};
 
@@ -26,8 +27,7 @@ pub fn begin<C: Catalog, N: RealmName>(
     scope: ScopeId,
 ) -> Result<Cancelling, Refusal>
     requires named { token.old.table ≡ N.table }
-    ensures token { token.new ≡ record token.old { seen = token.new.seen } }
-    ensures core { core.new ≡ record core.old { steps = token.new.seen } }
+    ensures seen { SeesAll core.old core.new token.old token.new }
     ensures answer { Begins token.old token.new scope result }
     ensures sure { IsOpenOf (history_of token.old.seen) token.old.actor scope → IsOk result }
 {
@@ -53,8 +53,7 @@ pub fn end_if_settled<C: Catalog, N: RealmName>(
 ) -> Option<Verdict>
     requires named { token.old.table ≡ N.table }
     requires begun { IsBegun (history_of token.old.seen) token.old.actor scope }
-    ensures token { token.new ≡ record token.old { seen = token.new.seen } }
-    ensures core { core.new ≡ record core.old { steps = token.new.seen } }
+    ensures seen { SeesAll core.old core.new token.old token.new }
     ensures answer { MayEnd token.old token.new scope result }
 {
     core.look(token);
@@ -78,8 +77,7 @@ pub fn report_if_settled<C: Catalog, N: RealmName>(
     requires named { token.old.table ≡ N.table }
     requires tickets { All (λ (t : TicketValue). t.table ≡ N.table) tickets.old.items }
     requires begun { IsBegun (history_of token.old.seen) token.old.actor scope }
-    ensures token { token.new ≡ record token.old { seen = token.new.seen } }
-    ensures core { core.new ≡ record core.old { steps = token.new.seen } }
+    ensures seen { SeesAll core.old core.new token.old token.new }
     ensures answer { MayReport token.old token.new scope tickets.old.items tickets.new.items result }
 {
     core.look(token);
@@ -101,8 +99,7 @@ fn end_with_tickets<C: Catalog, N: RealmName>(
     requires tickets { All (λ (t : TicketValue). t.table ≡ N.table) tickets.old.items }
     requires shown { token.old.seen ≡ core.old.steps }
     requires can { CanClose (history_of core.old.steps) token.old.actor scope }
-    ensures token { token.new ≡ record token.old { seen = token.new.seen } }
-    ensures core { core.new ≡ record core.old { steps = token.new.seen } }
+    ensures seen { SeesAll core.old core.new token.old token.new }
     ensures done { IfOk result (λ report. IsDone token.old token.new scope tickets.old.items report) }
     ensures not { MatchResult result (λ _. Unit {0}) (λ refusal. IsLeft token.old token.new scope tickets.old.items tickets.new.items refusal) }
 {

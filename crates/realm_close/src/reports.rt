@@ -4,6 +4,7 @@ ghost use Rattle.scope_rules.specs.Scopes.{closed, closing};
 ghost use Rattle.scope_log.specs.Log.{log};
 ghost use Rattle.realm_steps.specs.Steps.{history_of};
 ghost use Rattle.realm_core.specs.Endings.{CanClose};
+ghost use Rattle.realm_core.specs.Telling.{SeesAll};
 ghost use Rattle.realm_close.specs.Ends.{InEndOrder, Ends};
 ghost use Rattle.realm_close.specs.Reports.{numbers, with_end, IsPrepared, ArePrepared, IsReported, AreReported};
 
@@ -37,8 +38,7 @@ pub fn close_with_report<C: Catalog, N: RealmName>(
     requires named { token.old.table ≡ N.table }
     requires shown { token.old.seen ≡ core.old.steps }
     requires can { CanClose (history_of core.old.steps) token.old.actor scope }
-    ensures token { token.new ≡ record token.old { seen = token.new.seen } }
-    ensures core { core.new ≡ record core.old { steps = token.new.seen } }
+    ensures seen { SeesAll core.old core.new token.old token.new }
     ensures ends { IfOk result (λ report. Ends token.old.limits token.old.actor scope (numbers report.nested.items) token.old.seen token.new.seen) }
     ensures report { IfOk result (λ report. IsReported (history_of token.new.seen) scope report.verdict report.log × AreReported (history_of token.new.seen) report.nested.items) }
     ensures refused { MatchResult result (λ _. Unit {0}) (λ refusal. (refusal ≡ Memory) × (token.new ≡ token.old)) }
@@ -82,7 +82,7 @@ fn nested_logs(
     ensures prepared { IfOk result (λ v. ArePrepared realm.now.history actor v.items) }
     ensures refused { MatchResult result (λ _. Unit {0}) (λ refusal. refusal ≡ Memory) }
 {
-    let _limits = realm.limits();
+    let _legal = realm.limits();
     let mut shown = Vec::new(alloc);
     let mut next = realm.inner(scope);
     while let Some(here) = next {
@@ -107,7 +107,7 @@ fn closing_log(
     ensures log { IfOk result (λ l. option_map (with_end actor) (log realm.now.history scope) ≡ Some l) }
     ensures refused { MatchResult result (λ _. Unit {0}) (λ refusal. refusal ≡ Memory) }
 {
-    let _limits = realm.limits();
+    let _legal = realm.limits();
     let Ok(log) = realm.project(scope) else {
         return Err(Refusal::Memory);
     };

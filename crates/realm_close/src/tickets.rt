@@ -24,7 +24,7 @@ pub fn are_tickets_of(realm: &KeptRealm, scope: ScopeId, tickets: &mut Vec<Ticke
     ensures yes { result ≡ true → AreTicketsOf realm.now.history scope tickets.old.items }
     ensures no { result ≡ false → AreTicketsOf realm.now.history scope tickets.old.items → ⊥ }
 {
-    let _limits = realm.limits();
+    let _legal = realm.limits();
     let mut placed = 0;
     let mut next = Some(scope);
     while let Some(here) = next {
@@ -125,7 +125,7 @@ pub fn take_back<C: Catalog, N: RealmName>(core: &mut RealmCore<C, N>, tickets: 
     ensures agreed { All (BearsOut core.old.steps) tickets.old.items }
 {
     while let Some(mut ticket) = tickets.pop() {
-        let _label = ticket.label();
+        let _granted = ticket.label();
         core.look_with_ticket(&mut ticket);
     }
 }

@@ -1,5 +1,5 @@
 -- How what calls did is put together, where one follows another.
-use Rattle.std.proofs.Common.{◌≡◌, List, [], ◌∷◌, ◌++◌, refl, ap, ◌∙◌}
+use Rattle.std.proofs.Common.{◌≡◌, ℕ, Result, Ok, Err, List, [], ◌∷◌, ◌++◌, refl, ap, subst, ◌∙◌, inl, inr}
 use Rattle.std.proofs.lemmas.List.{append_assoc}
 use Rattle.std.proofs.lemmas.List.Folds.{list_any-append}
 use Rattle.std.proofs.lemmas.Bool.{or_from}
@@ -7,7 +7,15 @@ use Rattle.std.specs.List.{list_any}
 use Rattle.scope_rules.specs.declared.types.capacity.Limits.{Limits}
 use Rattle.realm_steps.specs.declared.steps.RealmStep.{RealmStep}
 use Rattle.realm_steps.specs.declared.steps.Holder.{Holder}
+use Rattle.scope_rules.specs.declared.types.events.Event.TheVariants.{Join}
+use Rattle.scope_rules.specs.declared.types.refusals.Refusal.{Refusal}
+use Rattle.realm_steps.specs.declared.steps.RealmStep.TheVariants.{Happened}
+use Rattle.realm_steps.specs.declared.steps.Holder.TheVariants.{TokenOf}
 use Rattle.realm_steps.specs.Holders.{is_own, Agrees, Looks, Adds}
+use Rattle.share_ledger.specs.Values.{OwnerValue}
+use Rattle.realm_core.specs.Calls.{SeesMore}
+use Rattle.realm_core.specs.Views.{Joins}
+use Rattle.realm_core.specs.declared.joins.Joined.{Joined}
 
 nothing_more : {A : Type 0} (xs : List A) → xs ≡ xs ++ []
 nothing_more [] = refl
@@ -34,3 +42,18 @@ adds_on who L xs ys zs x first second = record {
   accepted = second.accepted;
   legal = second.legal;
 }
+
+joins_on : (old new : OwnerValue) (xs : List RealmStep) (s : ℕ) (result : Result Joined Refusal) → Agrees (TokenOf old.actor) old.seen xs → Joins (record old { seen = xs }) new s result → Joins old new s result
+joins_on old new xs s (Ok joined) agrees it =
+    (it.0, (adds_on (TokenOf old.actor) old.limits old.seen xs new.seen (Happened (Join old.actor s)) agrees it.1.0, it.1.1))
+joins_on old new xs s (Err refusal) agrees it = (
+  it.0,
+  elim it.1 [
+    | inl by ↦ inl (record { looks = looks_on (TokenOf old.actor) old.limits old.seen xs new.seen agrees by.looks; by = by.by })
+    | inr none ↦ inr (record { looks = looks_on (TokenOf old.actor) old.limits old.seen xs new.seen agrees none.looks; passed = none.passed; memory = none.memory })
+  ],
+)
+
+-- a join after looks is a join
+pub joins_later : (old now new : OwnerValue) (s : ℕ) (result : Result Joined Refusal) → SeesMore old now → Agrees (TokenOf old.actor) old.seen now.seen → Joins now new s result → Joins old new s result
+joins_later old now new s result same agrees it = joins_on old new now.seen s result agrees (subst (λ (t : OwnerValue). Joins t new s result) same it)

@@ -9,3 +9,5 @@ pub mod Ended
 pub mod Closes
 mod Done
 pub mod ToldCalls
+pub mod Others
+pub mod Unopened

@@ -30,7 +30,7 @@ use Rattle.atomic_table.specs.Seated.{TableId}
 use Rattle.share_ledger.specs.Values.{KeeperValue, OwnerValue, OwnerAgrees, is_recorded_by}
 use Rattle.kept_realm.specs.Fits.{FitsEvent}
 use Rattle.realm_core.specs.Cores.{Tied}
-use Rattle.realm_core.specs.Calls.{history_seen, step_check, Accepted, Refused, OutOfMemory, FoundSo, DoesOrMemory, Performed}
+use Rattle.realm_core.specs.Calls.{history_seen, step_check, Accepted, Refused, OutOfMemory, FoundSo, DidOrMemory, DidPerform}
 use Rattle.realm_core.specs.Telling.{told as told_of_keeper}
 use Rattle.realm_core.proofs.Steps.{stepped, tied_next, same_limits, looks_now, passes_here, adds_now}
 
@@ -164,7 +164,7 @@ module _ (name : TableId) (realm : Realm) (keeper : KeeperValue) (tied : Tied na
     no_memory_now x r passed is = record { looks = looks_now name realm keeper tied (TokenOf old.actor) old.limits old.seen agrees; passed = check_here x ∙ passed; memory = is }
 
     -- what the token was shown is what the command did
-    pub does_now : {A : Type 0} (x : RealmStep) (reply : History → A) (result : Result A Refusal) (keeper' : KeeperValue) (new : OwnerValue) → Passing old.actor x → AnswersOrMemory (step_check realm.limits old.actor x realm.history) (reply realm.history) result → keeper' ≡ told_of_keeper keeper x (is_ok result) → new ≡ record old { seen = keeper'.steps } → DoesOrMemory old new x reply result
+    pub does_now : {A : Type 0} (x : RealmStep) (reply : History → A) (result : Result A Refusal) (keeper' : KeeperValue) (new : OwnerValue) → Passing old.actor x → AnswersOrMemory (step_check realm.limits old.actor x realm.history) (reply realm.history) result → keeper' ≡ told_of_keeper keeper x (is_ok result) → new ≡ record old { seen = keeper'.steps } → DidOrMemory old new x reply result
     does_now x reply (Ok answer) keeper' new passing said keeper_is new_is =
         let it = answered _ (reply realm.history) answer said in
         let added = adds_now name realm keeper tied (TokenOf old.actor) old.limits old.seen agrees x (passing realm.limits realm.history it.0) in
@@ -198,7 +198,7 @@ module _ (name : TableId) (realm : Realm) (keeper : KeeperValue) (tied : Tied na
         }
 
     -- what the command of an event did with the token
-    pub performed_now : (e : Event) (result : Result Told Refusal) (keeper' : KeeperValue) (new : OwnerValue) → Performs realm.limits realm.history e result → keeper' ≡ told_of_keeper keeper (step_by old.actor e) (records result) → new ≡ record old { seen = keeper'.steps } → Performed old new e result
+    pub performed_now : (e : Event) (result : Result Told Refusal) (keeper' : KeeperValue) (new : OwnerValue) → Performs realm.limits realm.history e result → keeper' ≡ told_of_keeper keeper (step_by old.actor e) (records result) → new ≡ record old { seen = keeper'.steps } → DidPerform old new e result
     performed_now e (Ok told.Already) keeper' new said keeper_is new_is = rw (new_is, keeper_is) (found_now e said.0 (told_already realm.history e said.1))
     performed_now e (Ok answer) keeper' new said keeper_is new_is =
         rw (new_is, keeper_is) (told_now e answer (record { passed = said.0; recorded = told_new realm.history e answer said.1 refl }) said.1)
@@ -219,7 +219,7 @@ module _ (name : TableId) (realm : Realm) (keeper : KeeperValue) (tied : Tied na
     base_seen (Err r) keeper' new said keeper_is new_is = tt
 
 -- a command that wants no memory is never refused any
-pub refused_surely : (old new : OwnerValue) (e : Event) (r : Refusal) → wants_memory (history_seen new) e ≡ false → Performed old new e (Err r) → Refused old new (step_by old.actor e) r
+pub refused_surely : (old new : OwnerValue) (e : Event) (r : Refusal) → wants_memory (history_seen new) e ≡ false → DidPerform old new e (Err r) → Refused old new (step_by old.actor e) r
 refused_surely old new e r none (inl by) = by
 refused_surely old new e r none (inr memory) = absurd (cc (memory.1, none))
 
@@ -231,7 +231,7 @@ fork_told old new a s label x reply did = record { adds = did.adds; replied = th
     the_same r q is = cc
 
 -- what the end of a close is told is the verdict
-pub closed_told : (old new : OwnerValue) (a s : ℕ) (v : Verdict) → Performed old new (EndClose a s) (Ok (told.Closed v)) → Accepted old new (Happened (EndClose a s)) (λ h. verdict h s) v
+pub closed_told : (old new : OwnerValue) (a s : ℕ) (v : Verdict) → DidPerform old new (EndClose a s) (Ok (told.Closed v)) → Accepted old new (Happened (EndClose a s)) (λ h. verdict h s) v
 closed_told old new a s v did = record { adds = did.adds; replied = the_same v (verdict (history_of did.adds.there) s) did.replied }
   where
     the_same : (v w : Verdict) → told.Closed v ≡ told.Closed w → v ≡ w

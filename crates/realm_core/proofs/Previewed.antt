@@ -20,7 +20,7 @@ use Rattle.atomic_table.specs.Seated.{TableId}
 use Rattle.share_ledger.specs.Values.{KeeperValue, OwnerValue, OwnerAgrees}
 use Rattle.realm_core.specs.Cores.{Tied}
 use Rattle.realm_core.specs.Telling.{told}
-use Rattle.realm_core.specs.Views.{Joins}
+use Rattle.realm_core.specs.Views.{DidJoin}
 use Rattle.realm_core.proofs.Steps.{adds_now}
 use Rattle.realm_core.proofs.Taken.{accepted_ok}
 use Rattle.scope_log.specs.declared.previews.Preview.{Preview}
@@ -49,7 +49,7 @@ previewed h a s p is = parts (outcome (followed h (Join a s)) s) (log (followed 
 
 module _ (name : TableId) (realm : Realm) (keeper : KeeperValue) (tied : Tied name realm keeper) (old : OwnerValue) (agrees : OwnerAgrees old keeper) where
   -- what was made before the join is what there is with it
-  pub joins_now : (s : ℕ) (p : Preview) (result : Result (Unit {0}) Refusal) (keeper' : KeeperValue) (new : OwnerValue) → AnswersValue (check_of realm.limits realm.history (Join old.actor s)) (preview realm.history old.actor s) (Ok p) → Answers (check_of realm.limits realm.history (Join old.actor s)) tt result → keeper' ≡ told keeper (Happened (Join old.actor s)) (is_ok result) → new ≡ record old { seen = keeper'.steps } → Joins old new s (Ok (record { outcome = p.outcome; log = p.log }))
+  pub joins_now : (s : ℕ) (p : Preview) (result : Result (Unit {0}) Refusal) (keeper' : KeeperValue) (new : OwnerValue) → AnswersValue (check_of realm.limits realm.history (Join old.actor s)) (preview realm.history old.actor s) (Ok p) → Answers (check_of realm.limits realm.history (Join old.actor s)) tt result → keeper' ≡ told keeper (Happened (Join old.actor s)) (is_ok result) → new ≡ record old { seen = keeper'.steps } → DidJoin old new s (Ok (record { outcome = p.outcome; log = p.log }))
   joins_now s p result keeper' new made said keeper_is new_is =
       let it = value_told _ _ p made in
       let shown = previewed realm.history old.actor s p it.1 in

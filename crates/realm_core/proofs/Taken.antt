@@ -104,4 +104,4 @@ module _ (name : TableId) (realm : Realm) (keeper : KeeperValue) (tied : Tied na
       rw (realm_is, accepted, keeper_is) (tied_next name realm keeper tied (Happened e) ok)
 
   pub adds_taken : (e : Event) (new : TicketValue) → Accepts realm.limits realm.history e → new ≡ record ticket { seen = keeper.steps ++ Happened e ∷ [] } → TicketAdded ticket new (Happened e)
-  adds_taken e new ok new_is = rw new_is (adds_now name realm keeper tied (TicketOf ticket.task) ticket.limits ticket.seen agrees (Happened e) ok)
+  adds_taken e new ok new_is = rw new_is (refl, adds_now name realm keeper tied (TicketOf ticket.task) ticket.limits ticket.seen agrees (Happened e) ok)

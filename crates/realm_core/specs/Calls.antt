@@ -24,20 +24,35 @@ use Rattle.share_ledger.specs.Values.{OwnerValue, TicketValue}
 abbrev pub history_seen : OwnerValue → History
 history_seen token = history_of token.seen
 
--- a call on a token that added nothing: the token has seen what it had seen, and steps of others
-abbrev pub Looked : OwnerValue → OwnerValue → Type 0
-Looked old new = Looks (TokenOf old.actor) old.limits old.seen new.seen
+-- what a call may change of a token, and of a ticket: what it has seen
+abbrev pub SeesMore : OwnerValue → OwnerValue → Type 0
+SeesMore old new = new ≡ record old { seen = new.seen }
 
--- a call on a token that added exactly the step, where it was accepted
+abbrev pub TicketSeesMore : TicketValue → TicketValue → Type 0
+TicketSeesMore old new = new ≡ record old { seen = new.seen }
+
+-- it added nothing: the token has seen what it had seen, and steps of others
+abbrev pub HasLooked : OwnerValue → OwnerValue → Type 0
+HasLooked old new = Looks (TokenOf old.actor) old.limits old.seen new.seen
+
+-- it added exactly the step, where it was accepted
 abbrev pub Added : OwnerValue → OwnerValue → RealmStep → Type 0
 Added old new x = Adds (TokenOf old.actor) old.limits old.seen x new.seen
 
+-- a call on a token that added nothing, and changed nothing else of it
+abbrev pub Looked : OwnerValue → OwnerValue → Type 0
+Looked old new = SeesMore old new × HasLooked old new
+
+-- such a call, of which this is so by what the token has seen then
+abbrev pub Reads : OwnerValue → OwnerValue → (History → Type 0) → Type 0
+Reads old new said = Looked old new × said (history_seen new)
+
 -- the same of a ticket
 abbrev pub TicketLooked : TicketValue → TicketValue → Type 0
-TicketLooked old new = Looks (TicketOf old.task) old.limits old.seen new.seen
+TicketLooked old new = TicketSeesMore old new × Looks (TicketOf old.task) old.limits old.seen new.seen
 
 abbrev pub TicketAdded : TicketValue → TicketValue → RealmStep → Type 0
-TicketAdded old new x = Adds (TicketOf old.task) old.limits old.seen x new.seen
+TicketAdded old new x = TicketSeesMore old new × Adds (TicketOf old.task) old.limits old.seen x new.seen
 
 -- what the rules refuse the step for, taken by the actor after h
 abbrev pub step_check : Limits → ℕ → RealmStep → History → Checked
@@ -52,48 +67,65 @@ pub record Accepted {A : Type 0} (old new : OwnerValue) (x : RealmStep) (reply :
 
 -- the call added nothing, and refused what the rules refuse on what is seen by then
 pub record Refused (old new : OwnerValue) (x : RealmStep) (refusal : Refusal) : Type 0 where
-  pub looks : Looked old new
+  pub looks : HasLooked old new
   pub by : step_check old.limits old.actor x (history_seen new) ≡ Err refusal
 
 -- the call added nothing: the step would be accepted on what is seen by then, but memory was refused
 pub record OutOfMemory (old new : OwnerValue) (x : RealmStep) (refusal : Refusal) : Type 0 where
-  pub looks : Looked old new
+  pub looks : HasLooked old new
   pub passed : step_check old.limits old.actor x (history_seen new) ≡ Ok tt
   pub memory : refusal ≡ Memory
 
 -- the call added nothing, since all is so already on what is seen by then
 pub record FoundSo (old new : OwnerValue) (e : Event) : Type 0 where
-  pub looks : Looked old new
+  pub looks : HasLooked old new
   pub passed : check_of old.limits (history_seen new) e ≡ Ok tt
   pub already : is_already (history_seen new) e ≡ true
 
 -- what a command did that takes no memory
-abbrev pub Does : {A : Type 0} → OwnerValue → OwnerValue → RealmStep → (History → A) → Result A Refusal → Type 0
-Does old new x reply (Ok answer) = Accepted old new x reply answer
-Does old new x reply (Err refusal) = Refused old new x refusal
+abbrev pub Did : {A : Type 0} → OwnerValue → OwnerValue → RealmStep → (History → A) → Result A Refusal → Type 0
+Did old new x reply (Ok answer) = Accepted old new x reply answer
+Did old new x reply (Err refusal) = Refused old new x refusal
 
 -- and what one did that takes memory
-abbrev pub DoesOrMemory : {A : Type 0} → OwnerValue → OwnerValue → RealmStep → (History → A) → Result A Refusal → Type 0
-DoesOrMemory old new x reply (Ok answer) = Accepted old new x reply answer
-DoesOrMemory old new x reply (Err refusal) = Refused old new x refusal ⊎ OutOfMemory old new x refusal
+abbrev pub DidOrMemory : {A : Type 0} → OwnerValue → OwnerValue → RealmStep → (History → A) → Result A Refusal → Type 0
+DidOrMemory old new x reply (Ok answer) = Accepted old new x reply answer
+DidOrMemory old new x reply (Err refusal) = Refused old new x refusal ⊎ OutOfMemory old new x refusal
 
 -- what a command did that takes none, and may find that all is so already
-abbrev pub Records : OwnerValue → OwnerValue → Event → Result Cancelling Refusal → Type 0
-Records old new e (Ok Recorded) = Added old new (step_by old.actor e)
-Records old new e (Ok Already) = FoundSo old new e
-Records old new e (Err refusal) = Refused old new (step_by old.actor e) refusal
+abbrev pub DidRecord : OwnerValue → OwnerValue → Event → Result Cancelling Refusal → Type 0
+DidRecord old new e (Ok Recorded) = Added old new (step_by old.actor e)
+DidRecord old new e (Ok Already) = FoundSo old new e
+DidRecord old new e (Err refusal) = Refused old new (step_by old.actor e) refusal
 
 -- the same of one that takes memory
-abbrev pub RecordsOrMemory : OwnerValue → OwnerValue → Event → Result Cancelling Refusal → Type 0
-RecordsOrMemory old new e (Ok Recorded) = Added old new (step_by old.actor e)
-RecordsOrMemory old new e (Ok Already) = FoundSo old new e
-RecordsOrMemory old new e (Err refusal) = Refused old new (step_by old.actor e) refusal ⊎ OutOfMemory old new (step_by old.actor e) refusal
+abbrev pub DidRecordOrMemory : OwnerValue → OwnerValue → Event → Result Cancelling Refusal → Type 0
+DidRecordOrMemory old new e (Ok Recorded) = Added old new (step_by old.actor e)
+DidRecordOrMemory old new e (Ok Already) = FoundSo old new e
+DidRecordOrMemory old new e (Err refusal) = Refused old new (step_by old.actor e) refusal ⊎ OutOfMemory old new (step_by old.actor e) refusal
 
 -- what the command of the event did with the actor's token, and what it answered: said of every event at once
+abbrev pub DidPerform : OwnerValue → OwnerValue → Event → Result Told Refusal → Type 0
+DidPerform old new e (Ok told.Already) = FoundSo old new e
+DidPerform old new e (Ok answer) = Accepted old new (step_by old.actor e) (λ h. told_of h e) answer
+DidPerform old new e (Err refusal) = Refused old new (step_by old.actor e) refusal ⊎ (OutOfMemory old new (step_by old.actor e) refusal × (wants_memory (history_seen new) e ≡ true))
+
+-- ---- the words of the calls' clauses: what was done, and that nothing else of the token has changed
+
+abbrev pub Does : {A : Type 0} → OwnerValue → OwnerValue → RealmStep → (History → A) → Result A Refusal → Type 0
+Does old new x reply result = SeesMore old new × Did old new x reply result
+
+abbrev pub DoesOrMemory : {A : Type 0} → OwnerValue → OwnerValue → RealmStep → (History → A) → Result A Refusal → Type 0
+DoesOrMemory old new x reply result = SeesMore old new × DidOrMemory old new x reply result
+
+abbrev pub Records : OwnerValue → OwnerValue → Event → Result Cancelling Refusal → Type 0
+Records old new e result = SeesMore old new × DidRecord old new e result
+
+abbrev pub RecordsOrMemory : OwnerValue → OwnerValue → Event → Result Cancelling Refusal → Type 0
+RecordsOrMemory old new e result = SeesMore old new × DidRecordOrMemory old new e result
+
 abbrev pub Performed : OwnerValue → OwnerValue → Event → Result Told Refusal → Type 0
-Performed old new e (Ok told.Already) = FoundSo old new e
-Performed old new e (Ok answer) = Accepted old new (step_by old.actor e) (λ h. told_of h e) answer
-Performed old new e (Err refusal) = Refused old new (step_by old.actor e) refusal ⊎ (OutOfMemory old new (step_by old.actor e) refusal × (wants_memory (history_seen new) e ≡ true))
+Performed old new e result = SeesMore old new × DidPerform old new e result
 
 -- what was answered, where there is no more to say than that it was done
 abbrev pub done : Result Told Refusal → Result (Unit {0}) Refusal

@@ -8,6 +8,7 @@ use Rattle.scope_rules.specs.declared.types.refusals.Refusal.TheVariants.{Struct
 use Rattle.scope_rules.specs.Ends.{LabelValue, EndValue}
 use Rattle.realm_steps.specs.declared.steps.RealmStep.TheVariants.{Happened}
 use Rattle.realm_steps.specs.Tickets.{given_in, started_in, end_in, finished_in}
+use Rattle.atomic_table.specs.Seated.{TableId}
 use Rattle.share_ledger.specs.Values.{OwnerValue, TicketValue, IsWaiting}
 use Rattle.realm_core.specs.declared.forking.Forked.{Forked}
 use Rattle.realm_core.specs.declared.forking.Forked.TheVariants.{Thread, Never}
@@ -40,6 +41,13 @@ pub record IsRunning (t : TicketValue) : Type 0 where
   pub given : given_in t.task t.seen ≡ true
   pub started : started_in t.task t.seen ≡ true
   pub unfinished : finished_in t.task t.seen ≡ false
+
+-- the ticket is of the realm of this name, its task runs, the token is that task's, and the end fits its label
+pub record MayFinish (name : TableId) (fitting : LabelValue → EndValue → Type 0) (t : TicketValue) (token : OwnerValue) (end : EndValue) : Type 0 where
+  pub named : t.table ≡ name
+  pub actor : token.actor ≡ t.task
+  pub running : IsRunning t
+  pub fits : fitting t.label end
 
 -- what the end of a ticket's task did: it is there, and is all that was added for the ticket and with the
 -- token; or it was refused since the task has a scope that is

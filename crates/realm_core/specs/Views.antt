@@ -14,7 +14,7 @@ use Rattle.realm_steps.specs.declared.steps.RealmStep.TheVariants.{Happened}
 use Rattle.share_ledger.specs.Values.{OwnerValue}
 use Rattle.realm_core.specs.declared.views.View.{View}
 use Rattle.realm_core.specs.declared.joins.Joined.{Joined}
-use Rattle.realm_core.specs.Calls.{history_seen, Added, Refused, OutOfMemory}
+use Rattle.realm_core.specs.Calls.{SeesMore, history_seen, Added, Refused, OutOfMemory}
 
 -- the view is of scope s after h
 pub record IsViewOf (h : History) (s : ℕ) (view : View) : Type 0 where
@@ -44,6 +44,10 @@ pub record IsJoinOf (h : History) (s : ℕ) (joined : Joined) : Type 0 where
   pub decided : outcome h s ≡ Some joined.outcome
 
 -- what a join of scope s did: it is there, and the log and the outcome are those with it
+abbrev pub DidJoin : OwnerValue → OwnerValue → ℕ → Result Joined Refusal → Type 0
+DidJoin old new s (Ok joined) = Added old new (Happened (Join old.actor s)) × IsJoinOf (history_seen new) s joined
+DidJoin old new s (Err refusal) = Refused old new (Happened (Join old.actor s)) refusal ⊎ OutOfMemory old new (Happened (Join old.actor s)) refusal
+
+-- and nothing else of the token has changed
 abbrev pub Joins : OwnerValue → OwnerValue → ℕ → Result Joined Refusal → Type 0
-Joins old new s (Ok joined) = Added old new (Happened (Join old.actor s)) × IsJoinOf (history_seen new) s joined
-Joins old new s (Err refusal) = Refused old new (Happened (Join old.actor s)) refusal ⊎ OutOfMemory old new (Happened (Join old.actor s)) refusal
+Joins old new s result = SeesMore old new × DidJoin old new s result

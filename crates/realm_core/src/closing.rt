@@ -1,9 +1,9 @@
-ghost use Rattle.std.specs.Prelude.{◌≡◌, ◌++◌, ◌∷◌, [], is_ok, IsOk};
+ghost use Rattle.std.specs.Prelude.{◌≡◌, is_ok, IsOk};
 ghost use Rattle.scope_rules.specs.Verdicts.{verdict};
 ghost use Rattle.realm_steps.specs.Steps.{history_of};
 ghost use Rattle.realm_core.specs.Calls.{Does};
 ghost use Rattle.realm_core.specs.Endings.{CanEnd};
-ghost use Rattle.realm_core.specs.Telling.{stepping};
+ghost use Rattle.realm_core.specs.Telling.{Stepped};
 
 use crate::RealmName;
 use crate::state::RealmCore;
@@ -22,15 +22,12 @@ impl<C: Catalog, N: RealmName> RealmCore<C, N> {
     /// is never refused.
     pub fn end_close(&mut self, share: &mut OwnerShare, scope: ScopeId) -> Result<Verdict, Refusal>
         requires named { share.old.table ≡ N.table }
-        ensures token { share.new ≡ record share.old { seen = share.new.seen } }
-        ensures core { self.new ≡ record self.old { steps = share.new.seen } }
         ensures answer { Does share.old share.new (RealmStep.Happened (Event.EndClose share.old.actor scope)) (λ h. verdict h scope) result }
-        ensures steps { self.new ≡ stepping self.old (RealmStep.Happened (Event.EndClose share.old.actor scope)) (is_ok result) }
+        ensures steps { Stepped self.old self.new share.new (RealmStep.Happened (Event.EndClose share.old.actor scope)) (is_ok result) }
         ensures sure { CanEnd (history_of self.old.steps) share.old.actor scope → IsOk result }
-        ensures next { IsOk result → share.new.seen ≡ self.old.steps ++ RealmStep.Happened (Event.EndClose share.old.actor scope) ∷ [] }
     {
         let actor = share.actor();
-        let _limits = self.realm.limits();
+        let _legal = self.realm.limits();
         match self.perform(share, &Event::EndClose { actor, scope })? {
             Told::Closed(verdict) => Ok(verdict),
             _ => unreachable!(),

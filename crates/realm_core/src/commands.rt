@@ -1,10 +1,10 @@
 ghost use Rattle.std.specs.Prelude.{◌≡◌, true, [], IfOk, is_ok};
-ghost use Rattle.scope_rules.specs.Replies.{base_of};
+ghost use Rattle.scope_rules.specs.Replies.{base_of, recorded};
 ghost use Rattle.scope_checks.specs.Telling.{records};
 ghost use Rattle.realm_steps.specs.Steps.{step_by};
 ghost use Rattle.share_ledger.specs.Values.{is_recorded_by};
 ghost use Rattle.realm_core.specs.Calls.{DoesOrMemory, Performed, Records, history_seen};
-ghost use Rattle.realm_core.specs.Telling.{stepping};
+ghost use Rattle.realm_core.specs.Telling.{Stepped};
 
 use crate::RealmName;
 use crate::answers::told_noted;
@@ -26,9 +26,7 @@ impl<C: Catalog, N: RealmName> RealmCore<C, N> {
     pub fn perform(&mut self, share: &mut OwnerShare, event: &Event) -> Result<Told, Refusal>
         requires named { share.old.table ≡ N.table }
         requires event { is_recorded_by share.old.actor event.now ≡ true }
-        ensures token { share.new ≡ record share.old { seen = share.new.seen } }
-        ensures core { self.new ≡ record self.old { steps = share.new.seen } }
-        ensures steps { self.new ≡ stepping self.old (step_by share.old.actor event.now) (records result) }
+        ensures steps { Stepped self.old self.new share.new (step_by share.old.actor event.now) (records result) }
         ensures answer { Performed share.old share.new event.now result }
     {
         let result = self.realm.perform(*event, false, None);
@@ -44,8 +42,7 @@ impl<C: Catalog, N: RealmName> RealmCore<C, N> {
         scope: ScopeId,
     ) -> Result<Cancelling, Refusal>
         requires named { share.old.table ≡ N.table }
-        ensures token { share.new ≡ record share.old { seen = share.new.seen } }
-        ensures core { self.new ≡ record self.old { steps = share.new.seen } }
+        ensures steps { Stepped self.old self.new share.new (RealmStep.Happened (Event.BeginClose share.old.actor scope)) (recorded result) }
         ensures answer { Records share.old share.new (Event.BeginClose share.old.actor scope) result }
     {
         let actor = share.actor();
@@ -58,9 +55,7 @@ impl<C: Catalog, N: RealmName> RealmCore<C, N> {
     /// (`Structure`).
     pub fn retire(&mut self, share: &mut OwnerShare) -> Result<Base, Refusal>
         requires named { share.old.table ≡ N.table }
-        ensures token { share.new ≡ record share.old { seen = share.new.seen } }
-        ensures core { self.new ≡ record self.old { steps = share.new.seen } }
-        ensures steps { self.new ≡ stepping self.old RealmStep.Retirement (is_ok result) }
+        ensures steps { Stepped self.old self.new share.new RealmStep.Retirement (is_ok result) }
         ensures answer { DoesOrMemory share.old share.new RealmStep.Retirement base_of result }
         ensures base { IfOk result (λ base. history_seen share.new ≡ record { base = base; events = [] }) }
     {

@@ -1,8 +1,8 @@
 ghost use Rattle.std.specs.Prelude.{◌≡◌, false};
 ghost use Rattle.scope_rules.specs.History.{History};
 ghost use Rattle.scope_rules.specs.Load.{weight};
-ghost use Rattle.scope_rules.specs.Table.{check_of, is_already};
-ghost use Rattle.scope_rules.specs.Replies.{Answers, after};
+ghost use Rattle.scope_rules.specs.Table.{is_already};
+ghost use Rattle.scope_checks.specs.Entering.{Enters};
 ghost use Rattle.kept_realm.specs.Fits.{FitsEvent};
 
 use kept_realm::FittingRealm;
@@ -14,8 +14,7 @@ pub(crate) fn done<C: Catalog>(realm: &mut FittingRealm<C>, event: Event) -> Res
     requires fits { FitsEvent C.fitting realm.old.history event }
     requires free { weight event ≡ 0 }
     requires new { (h : History) → is_already h event ≡ false }
-    ensures answer { Answers (check_of realm.old.limits realm.old.history event) tt result }
-    ensures history { realm.new ≡ after realm.old event result }
+    ensures { Enters realm.old event tt result realm.new }
 {
     realm.perform(event, false, None)?;
     Ok(())

@@ -1,7 +1,7 @@
 ghost use Rattle.std.specs.Prelude.{◌≡◌, is_ok};
 ghost use Rattle.scope_rules.specs.Replies.{fork_reply};
 ghost use Rattle.realm_core.specs.Calls.{DoesOrMemory};
-ghost use Rattle.realm_core.specs.Telling.{stepping};
+ghost use Rattle.realm_core.specs.Telling.{Stepped};
 ghost use Rattle.realm_core.specs.Tasks.{ticket_aside, GivesTicket};
 
 use crate::RealmName;
@@ -33,9 +33,7 @@ impl<C: Catalog, N: RealmName> RealmCore<C, N> {
         label: Label,
     ) -> Result<Forked, Refusal>
         requires named { share.old.table ≡ N.table }
-        ensures token { share.new ≡ record share.old { seen = share.new.seen } }
-        ensures core { self.new ≡ record self.old { steps = share.new.seen } }
-        ensures steps { self.new ≡ stepping self.old (RealmStep.Happened (Event.Fork share.old.actor scope label)) (is_ok result) }
+        ensures steps { Stepped self.old self.new share.new (RealmStep.Happened (Event.Fork share.old.actor scope label)) (is_ok result) }
         ensures answer { DoesOrMemory share.old share.new (RealmStep.Happened (Event.Fork share.old.actor scope label)) (λ h. fork_reply h scope) (ticket_aside result) }
         ensures ticket { GivesTicket share.new scope label result }
     {

@@ -1,5 +1,5 @@
 ghost use Rattle.std.specs.Prelude.{◌≡◌, is_ok};
-ghost use Rattle.realm_core.specs.Telling.{stepping};
+ghost use Rattle.realm_core.specs.Telling.{Stepped};
 ghost use Rattle.realm_core.specs.Views.{Joins};
 
 use crate::RealmName;
@@ -28,9 +28,7 @@ impl<C: Catalog, N: RealmName> RealmCore<C, N> {
     /// ended (`NotReady`).
     pub fn join(&mut self, share: &mut OwnerShare, scope: ScopeId) -> Result<Joined, Refusal>
         requires named { share.old.table ≡ N.table }
-        ensures token { share.new ≡ record share.old { seen = share.new.seen } }
-        ensures core { self.new ≡ record self.old { steps = share.new.seen } }
-        ensures steps { self.new ≡ stepping self.old (RealmStep.Happened (Event.Join share.old.actor scope)) (is_ok result) }
+        ensures steps { Stepped self.old self.new share.new (RealmStep.Happened (Event.Join share.old.actor scope)) (is_ok result) }
         ensures answer { Joins share.old share.new scope result }
     {
         let actor = share.actor();

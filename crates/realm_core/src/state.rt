@@ -40,7 +40,7 @@ impl<C: Catalog, N: RealmName> RealmCore<C, N> {
     {
         let (keeper, share) = seed.begin(limits);
         let core = RealmCore {
-            realm: FittingRealm::new(alloc, limits),
+            realm: FittingRealm::over(KeptRealm::new(alloc, limits)),
             keeper,
             name: PhantomData,
         };

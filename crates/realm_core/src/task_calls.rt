@@ -1,8 +1,10 @@
-ghost use Rattle.std.specs.Prelude.{◌≡◌, true, false};
-ghost use Rattle.realm_steps.specs.Tickets.{given_in, started_in};
+ghost use Rattle.std.specs.Prelude.{◌≡◌, true, false, None, IsOk, is_ok};
+ghost use Rattle.scope_rules.specs.Scopes.{innermost};
+ghost use Rattle.realm_steps.specs.Tickets.{given_in};
 ghost use Rattle.share_ledger.specs.Values.{IsWaiting};
-ghost use Rattle.realm_core.specs.Calls.{TicketAdded};
-ghost use Rattle.realm_core.specs.Tasks.{IsRunning, Finishes};
+ghost use Rattle.realm_core.specs.Calls.{TicketAdded, history_seen};
+ghost use Rattle.realm_core.specs.Telling.{TicketStepped};
+ghost use Rattle.realm_core.specs.Tasks.{IsRunning, MayFinish, Finishes};
 
 use crate::RealmName;
 use crate::events::done;
@@ -18,8 +20,7 @@ impl<C: Catalog, N: RealmName> RealmCore<C, N> {
     pub fn reject(&mut self, ticket: &mut Ticket)
         requires named { ticket.old.table ≡ N.table }
         requires waiting { IsWaiting ticket.old }
-        ensures ticket { ticket.new ≡ record ticket.old { seen = ticket.new.seen } }
-        ensures core { self.new ≡ record self.old { steps = ticket.new.seen } }
+        ensures steps { TicketStepped self.old self.new ticket.new (RealmStep.Happened (Event.Reject ticket.old.task)) true }
         ensures added { TicketAdded ticket.old ticket.new (RealmStep.Happened (Event.Reject ticket.old.task)) }
         ensures given { given_in ticket.new.task ticket.new.seen ≡ false }
     {
@@ -33,10 +34,8 @@ impl<C: Catalog, N: RealmName> RealmCore<C, N> {
     pub fn start(&mut self, ticket: &mut Ticket) -> OwnerShare
         requires named { ticket.old.table ≡ N.table }
         requires waiting { IsWaiting ticket.old }
-        ensures ticket { ticket.new ≡ record ticket.old { seen = ticket.new.seen } }
-        ensures core { self.new ≡ record self.old { steps = ticket.new.seen } }
+        ensures steps { TicketStepped self.old self.new ticket.new (RealmStep.Happened (Event.Start ticket.old.task)) true }
         ensures added { TicketAdded ticket.old ticket.new (RealmStep.Happened (Event.Start ticket.old.task)) }
-        ensures started { started_in ticket.new.task ticket.new.seen ≡ true }
         ensures running { IsRunning ticket.new }
         ensures token { result ≡ record { table = N.table; limits = ticket.old.limits; actor = ticket.old.task; seen = ticket.new.seen } }
     {
@@ -48,23 +47,21 @@ impl<C: Catalog, N: RealmName> RealmCore<C, N> {
     }
 
     /// Records the end of the ticket's task, which runs, and takes the task's token, with which nothing else
-    /// is added. Refused only while the task has a scope that is not closed (`Structure`); then the token is
-    /// handed back, and the task runs on.
+    /// is added. Refused only while the task has a scope that is not closed (`Structure`), so never where the
+    /// token shows that it has none; then the token is handed back, and the task runs on.
     pub fn finish(
         &mut self,
         ticket: &mut Ticket,
         mut share: OwnerShare,
         end: End,
     ) -> Result<(), (Refusal, OwnerShare)>
-        requires named { (ticket.old.table ≡ N.table) × (share.table ≡ N.table) }
-        requires actor { share.actor ≡ ticket.old.task }
-        requires running { IsRunning ticket.old }
-        requires fits { C.fitting ticket.old.label end }
-        ensures ticket { ticket.new ≡ record ticket.old { seen = ticket.new.seen } }
-        ensures core { self.new ≡ record self.old { steps = ticket.new.seen } }
+        requires token { share.table ≡ N.table }
+        requires task { MayFinish N.table C.fitting ticket.old share end }
+        ensures steps { TicketStepped self.old self.new ticket.new (RealmStep.Happened (Event.Finish ticket.old.task end)) (is_ok result) }
         ensures answer { Finishes ticket.old ticket.new share end result }
+        ensures sure { innermost (history_seen share) share.actor ≡ None → IsOk result }
     {
-        let _label = ticket.label();
+        let _granted = ticket.label();
         self.keeper.follow_ticket(ticket);
         let task = ticket.task();
         match done(&mut self.realm, Event::Finish { task, end }) {

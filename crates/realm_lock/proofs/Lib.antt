@@ -1,2 +1,4 @@
 pub mod NoRoom
 pub mod Reported
+pub mod Rejecting
+pub mod Waiting

@@ -1,5 +1,5 @@
 -- What the end of a task answers, where ticket and token are handed in and handed back.
-use Rattle.std.specs.Prelude.{◌≡◌, Result, Ok, Err}
+use Rattle.std.specs.Prelude.{Result, Ok, Err}
 use Rattle.scope_rules.specs.declared.types.refusals.Refusal.{Refusal}
 use Rattle.scope_rules.specs.Ends.{EndValue}
 use Rattle.share_ledger.specs.Values.{OwnerValue, TicketValue}
@@ -7,5 +7,5 @@ use Rattle.realm_core.specs.Tasks.{Finishes}
 
 -- the ticket says that the end is there; or both are handed back, and the task runs on
 abbrev pub Ends : TicketValue → OwnerValue → EndValue → Result TicketValue (Refusal × TicketValue × OwnerValue) → Type 0
-Ends ticket token end (Ok new) = (new ≡ record ticket { seen = new.seen }) × Finishes ticket new token end (Ok tt)
-Ends ticket token end (Err back) = (back.1 ≡ record ticket { seen = back.1.seen }) × Finishes ticket back.1 token end (Err (back.0, back.2))
+Ends ticket token end (Ok new) = Finishes ticket new token end (Ok tt)
+Ends ticket token end (Err back) = Finishes ticket back.1 token end (Err (back.0, back.2))

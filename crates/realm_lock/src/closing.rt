@@ -3,7 +3,8 @@ ghost use Rattle.std.specs.List.{All};
 ghost use Rattle.scope_rules.specs.declared.types.refusals.Refusal.TheVariants.{Memory, NotReady};
 ghost use Rattle.scope_rules.specs.Verdicts.{verdict};
 ghost use Rattle.share_ledger.specs.Values.{TicketValue};
-ghost use Rattle.realm_core.specs.Calls.{history_seen};
+ghost use Rattle.kept_realm.specs.Fits.{Fitting};
+ghost use Rattle.realm_core.specs.Calls.{SeesMore, history_seen};
 ghost use Rattle.realm_close.specs.Waiting.{IsOpenOf};
 ghost use Rattle.realm_close.specs.Closes.{IsBegun, Begins, EndsLater, ClosesBare, EndsReported, HoldsBack, ClosesWith, StaysOpen};
 
@@ -28,7 +29,7 @@ impl<C: Catalog, N: RealmName> Realm<C, N> {
         scope: ScopeId,
     ) -> Result<Verdict, Refusal>
         requires named { token.old.table ≡ N.table }
-        ensures token { token.new ≡ record token.old { seen = token.new.seen } }
+        ensures seen { SeesMore token.old token.new × Fitting C.fitting (history_seen token.new) }
         ensures answer { ClosesBare token.old token.new scope result }
         ensures sure { IsOpenOf (history_seen token.old) token.old.actor scope → IsOk result }
     {
@@ -53,7 +54,7 @@ impl<C: Catalog, N: RealmName> Realm<C, N> {
     ) -> Result<CloseReport, (Refusal, Vec<Ticket>)>
         requires named { token.old.table ≡ N.table }
         requires tickets { All (λ (t : TicketValue). t.table ≡ N.table) tickets.items }
-        ensures token { token.new ≡ record token.old { seen = token.new.seen } }
+        ensures seen { SeesMore token.old token.new × Fitting C.fitting (history_seen token.new) }
         ensures closed { IfOk result (λ report. ClosesWith token.old token.new scope tickets.items report) }
         ensures refused { IfErr result (λ back. StaysOpen token.old token.new scope tickets.items back.1.items back.0) }
         ensures sure { IsOpenOf (history_seen token.old) token.old.actor scope → IfErr result (λ back. (back.0 ≡ NotReady) ⊎ (back.0 ≡ Memory)) }
@@ -75,12 +76,13 @@ impl<C: Catalog, N: RealmName> Realm<C, N> {
         scope: ScopeId,
     ) -> Result<Cancelling, Refusal>
         requires named { token.old.table ≡ N.table }
-        ensures token { token.new ≡ record token.old { seen = token.new.seen } }
+        ensures seen { SeesMore token.old token.new × Fitting C.fitting (history_seen token.new) }
         ensures answer { Begins token.old token.new scope result }
         ensures sure { IsOpenOf (history_seen token.old) token.old.actor scope → IsOk result }
     {
         let mut locked = self.room.locked.lock(rt);
         let answer = begin(&mut locked.core, token, scope);
+        let _fitting = locked.core.limits();
         locked.set_marks();
         self.room.changed.notify_all();
         answer
@@ -90,7 +92,7 @@ impl<C: Catalog, N: RealmName> Realm<C, N> {
     pub fn end_closing<R: Wait>(&self, rt: &R, token: &mut OwnerShare, scope: ScopeId) -> Verdict
         requires named { token.old.table ≡ N.table }
         requires begun { IsBegun (history_seen token.old) token.old.actor scope }
-        ensures token { token.new ≡ record token.old { seen = token.new.seen } }
+        ensures seen { SeesMore token.old token.new × Fitting C.fitting (history_seen token.new) }
         ensures ends { (nested : List ℕ) × EndsLater token.old token.new scope nested }
         ensures verdict { result ≡ verdict (history_seen token.new) scope }
     {
@@ -98,6 +100,7 @@ impl<C: Catalog, N: RealmName> Realm<C, N> {
         for _ in rt.forever() {
             match end_if_settled(&mut locked.core, token, scope) {
                 Some(verdict) => {
+                    let _fitting = locked.core.limits();
                     self.room.changed.notify_all();
                     return verdict;
                 }
@@ -119,7 +122,7 @@ impl<C: Catalog, N: RealmName> Realm<C, N> {
         requires named { token.old.table ≡ N.table }
         requires tickets { All (λ (t : TicketValue). t.table ≡ N.table) tickets.old.items }
         requires begun { IsBegun (history_seen token.old) token.old.actor scope }
-        ensures token { token.new ≡ record token.old { seen = token.new.seen } }
+        ensures seen { SeesMore token.old token.new × Fitting C.fitting (history_seen token.new) }
         ensures done { IfOk result (λ report. EndsReported token.old token.new scope tickets.old.items report) }
         ensures not { IfErr result (λ refusal. HoldsBack token.old token.new scope tickets.old.items tickets.new.items refusal) }
     {
@@ -128,6 +131,7 @@ impl<C: Catalog, N: RealmName> Realm<C, N> {
         for _ in rt.forever() {
             match report_if_settled(&mut locked.core, alloc, token, scope, tickets) {
                 Some(answer) => {
+                    let _fitting = locked.core.limits();
                     self.room.changed.notify_all();
                     return answer;
                 }

@@ -31,7 +31,6 @@ impl<C: Catalog, N: RealmName> Realm<C, N> {
         label: Label,
     ) -> Result<Forked, Refusal>
         requires named { token.old.table ≡ N.table }
-        ensures token { token.new ≡ record token.old { seen = token.new.seen } }
         ensures answer { DoesOrMemory token.old token.new (RealmStep.Happened (Event.Fork token.old.actor scope label)) (λ h. fork_reply h scope) (ticket_aside result) }
         ensures ticket { GivesTicket token.new scope label result }
     {
@@ -49,7 +48,6 @@ impl<C: Catalog, N: RealmName> Realm<C, N> {
         value: Value,
     ) -> Result<(), Refusal>
         requires named { token.old.table ≡ N.table }
-        ensures token { token.new ≡ record token.old { seen = token.new.seen } }
         ensures answer { DoesOrMemory token.old token.new (RealmStep.Happened (Event.Bind token.old.actor (record { key = key; value = value }))) (λ _. tt) result }
     {
         let actor = token.actor();
@@ -63,7 +61,6 @@ impl<C: Catalog, N: RealmName> Realm<C, N> {
     /// stood (`Structure`), and where the limit of load is met (`TooMany`).
     pub fn unbind<R: Wait>(&self, rt: &R, token: &mut OwnerShare) -> Result<(), Refusal>
         requires named { token.old.table ≡ N.table }
-        ensures token { token.new ≡ record token.old { seen = token.new.seen } }
         ensures answer { DoesOrMemory token.old token.new (RealmStep.Happened (Event.Unbind token.old.actor)) (λ _. tt) result }
     {
         let actor = token.actor();
@@ -82,7 +79,6 @@ impl<C: Catalog, N: RealmName> Realm<C, N> {
         scope: ScopeId,
     ) -> Result<Cancelling, Refusal>
         requires named { token.old.table ≡ N.table }
-        ensures token { token.new ≡ record token.old { seen = token.new.seen } }
         ensures answer { Records token.old token.new (Event.BeginClose token.old.actor scope) result }
     {
         let mut locked = self.room.locked.lock(rt);
@@ -102,7 +98,6 @@ impl<C: Catalog, N: RealmName> Realm<C, N> {
         scope: ScopeId,
     ) -> Result<Cancelling, Refusal>
         requires named { token.old.table ≡ N.table }
-        ensures token { token.new ≡ record token.old { seen = token.new.seen } }
         ensures answer { RecordsOrMemory token.old token.new (Event.Cancel scope) result }
     {
         let mut locked = self.room.locked.lock(rt);
@@ -124,7 +119,6 @@ impl<C: Catalog, N: RealmName> Realm<C, N> {
         deadline: Option<u64>,
     ) -> Result<(), Refusal>
         requires named { token.old.table ≡ N.table }
-        ensures token { token.new ≡ record token.old { seen = token.new.seen } }
         ensures answer { DoesOrMemory token.old token.new (RealmStep.Asked token.old.actor (Ask.Move scope deadline)) (λ _. tt) result }
     {
         let mut locked = self.room.locked.lock(rt);
@@ -138,7 +132,6 @@ impl<C: Catalog, N: RealmName> Realm<C, N> {
     /// one (`ClockBack`), and where the limit of load is met (`TooMany`).
     pub fn tick<R: Wait>(&self, rt: &R, token: &mut OwnerShare, now: u64) -> Result<(), Refusal>
         requires named { token.old.table ≡ N.table }
-        ensures token { token.new ≡ record token.old { seen = token.new.seen } }
         ensures answer { DoesOrMemory token.old token.new (RealmStep.Asked token.old.actor (Ask.Tick now)) (λ _. tt) result }
     {
         let mut locked = self.room.locked.lock(rt);
@@ -154,7 +147,6 @@ impl<C: Catalog, N: RealmName> Realm<C, N> {
     /// (`Structure`).
     pub fn retire<R: Wait>(&self, rt: &R, token: &mut OwnerShare) -> Result<Base, Refusal>
         requires named { token.old.table ≡ N.table }
-        ensures token { token.new ≡ record token.old { seen = token.new.seen } }
         ensures answer { DoesOrMemory token.old token.new RealmStep.Retirement base_of result }
         ensures base { IfOk result (λ base. history_seen token.new ≡ record { base = base; events = [] }) }
     {

@@ -1,4 +1,6 @@
 ghost use Rattle.std.specs.Prelude.{◌≡◌, Err};
+ghost use Rattle.kept_realm.specs.Fits.{Fitting};
+ghost use Rattle.realm_core.specs.Calls.{history_seen};
 ghost use Rattle.realm_core.specs.Views.{Joins};
 
 use crate::realm::Realm;
@@ -21,15 +23,22 @@ impl<C: Catalog, N: RealmName> Realm<C, N> {
         scope: ScopeId,
     ) -> Result<Joined, Refusal>
         requires named { token.old.table ≡ N.table }
-        ensures token { token.new ≡ record token.old { seen = token.new.seen } }
         ensures answer { Joins token.old token.new scope result }
+        ensures fitting { Fitting C.fitting (history_seen token.new) }
         ensures waited { result ≡ Err Refusal.NotReady → ⊥ }
     {
         let mut locked = self.room.locked.lock(rt);
         for _ in rt.forever() {
             match locked.core.join(token, scope) {
                 Err(Refusal::NotReady) => locked = self.room.changed.wait(rt, locked),
-                answer => return answer,
+                Err(refusal) => {
+                    let _fitting = locked.core.limits();
+                    return Err(refusal);
+                }
+                Ok(joined) => {
+                    let _fitting = locked.core.limits();
+                    return Ok(joined);
+                }
             }
         }
         unreachable!()

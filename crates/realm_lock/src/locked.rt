@@ -1,17 +1,20 @@
-ghost use Rattle.std.specs.Prelude.{◌≡◌, Err, IfErr};
+ghost use Rattle.std.specs.Prelude.{◌≡◌, ◌<◌, false, None, Err, IfErr, IsOk, OnSome, vec_len, vec_capacity};
 ghost use Rattle.scope_rules.specs.declared.types.events.Options.{Options};
 ghost use Rattle.scope_rules.specs.declared.types.joiners.Policy.{Policy};
+ghost use Rattle.scope_rules.specs.Scopes.{innermost};
 ghost use Rattle.scope_rules.specs.Replies.{next_scope};
 ghost use Rattle.join_rules.specs.Joiners.{policy_of};
-ghost use Rattle.realm_core.specs.Calls.{DoesOrMemory};
-ghost use Rattle.realm_core.specs.Tasks.{IsRunning, Finishes};
+ghost use Rattle.realm_steps.specs.Tickets.{given_in};
+ghost use Rattle.share_ledger.specs.Values.{IsWaiting};
+ghost use Rattle.realm_core.specs.Calls.{Added, DoesOrMemory, SeesMore, TicketAdded, history_seen};
+ghost use Rattle.realm_core.specs.Tasks.{MayFinish, Finishes};
 ghost use Rattle.realm_lock.specs.Openings.{scope_alone, refusal_of};
 
 use cancel_marks::{MarkCell, MarkSetter};
 use join_rules::Joiner;
 use realm_core::{RealmCore, RealmName};
 use realm_steps::RealmStep;
-use scope_checks::{Readings, Told, questions};
+use scope_checks::{Readings, Told, questions, table};
 use scope_rules::{Catalog, End, Event, Options, Refusal, ScopeId};
 use share_ledger::{OwnerShare, Ticket};
 use std::alloc::Global;
@@ -40,7 +43,6 @@ impl<C: Catalog, N: RealmName> Locked<RealmCore<C, N>> {
         options: Options,
     ) -> Result<(ScopeId, MarkCell), (Refusal, Joiner)>
         requires named { token.old.table ≡ N.table }
-        ensures token { token.new ≡ record token.old { seen = token.new.seen } }
         ensures answer { DoesOrMemory token.old token.new (RealmStep.Happened (Event.Open token.old.actor (policy_of joiner) options)) next_scope (scope_alone result) }
         ensures handed_back { IfErr result (λ e. e.1 ≡ joiner) }
     {
@@ -64,18 +66,19 @@ impl<C: Catalog, N: RealmName> Locked<RealmCore<C, N>> {
 
     /// What an open is refused for where there is no room for it: what the rules refuse it for, or else
     /// want of memory.
-    #[tactic(auto, using(crate::proofs::NoRoom::no_room))]
     fn refusal_without_room(&mut self, token: &mut OwnerShare) -> Refusal
         requires named { token.old.table ≡ N.table }
-        ensures token { token.new ≡ record token.old { seen = token.new.seen } }
-        ensures answer { (policy : Policy) (options : Options) → DoesOrMemory token.old token.new (RealmStep.Happened (Event.Open token.old.actor policy options)) next_scope (Err result) }
+        ensures { (policy : Policy) (options : Options) → DoesOrMemory token.old token.new (RealmStep.Happened (Event.Open token.old.actor policy options)) next_scope (Err result) }
     {
-        let answer = self.core.may_open(token);
-        refusal_or_memory(answer)
+        self.core.look(token);
+        let limits = self.core.limits();
+        refusal_or_memory(table::open_row(self.core.realm(), &limits, token.actor()))
     }
 
     /// Room for what is kept of one scope more, and its cell, with one share of it.
-    fn room_for_a_scope(&mut self) -> Option<(MarkSetter, MarkCell)> {
+    fn room_for_a_scope(&mut self) -> Option<(MarkSetter, MarkCell)>
+        ensures { OnSome result (vec_len self.new.setters < vec_capacity self.new.setters) }
+    {
         let setter = MarkSetter::new(self.alloc).ok()?;
         let cell = setter.cell().ok()?;
         self.setters.reserve(1).ok()?;
@@ -83,11 +86,24 @@ impl<C: Catalog, N: RealmName> Locked<RealmCore<C, N>> {
     }
 
     /// Keeps what belongs to a scope that was opened, for which there is room.
-    fn add(&mut self, setter: MarkSetter) {
-        if self.setters.len() < self.setters.capacity() {
-            self.setters.push_reserved(setter);
-        }
+    fn add(&mut self, setter: MarkSetter)
+        requires { vec_len self.old.setters < vec_capacity self.old.setters }
+    {
+        self.setters.push_reserved(setter);
         self.set_marks();
+    }
+
+    /// Records that no thread was had for the ticket's task, and lets the token see it.
+    pub(crate) fn reject_with(&mut self, token: &mut OwnerShare, ticket: &mut Ticket)
+        requires named { (token.old.table ≡ N.table) × (ticket.old.table ≡ N.table) }
+        requires waiting { IsWaiting ticket.old }
+        ensures added { TicketAdded ticket.old ticket.new (RealmStep.Happened (Event.Reject ticket.old.task)) }
+        ensures given { given_in ticket.new.task ticket.new.seen ≡ false }
+        ensures token { SeesMore token.old token.new × Added token.old token.new (RealmStep.Happened (Event.Reject ticket.old.task)) }
+    {
+        self.core.look(token);
+        self.core.reject(ticket);
+        self.core.look(token);
     }
 
     /// Records the end of the ticket's task.
@@ -97,12 +113,10 @@ impl<C: Catalog, N: RealmName> Locked<RealmCore<C, N>> {
         token: OwnerShare,
         end: End,
     ) -> Result<(), (Refusal, OwnerShare)>
-        requires named { (ticket.old.table ≡ N.table) × (token.table ≡ N.table) }
-        requires actor { token.actor ≡ ticket.old.task }
-        requires running { IsRunning ticket.old }
-        requires fits { C.fitting ticket.old.label end }
-        ensures ticket { ticket.new ≡ record ticket.old { seen = ticket.new.seen } }
+        requires token { token.table ≡ N.table }
+        requires task { MayFinish N.table C.fitting ticket.old token end }
         ensures answer { Finishes ticket.old ticket.new token end result }
+        ensures sure { innermost (history_seen token) token.actor ≡ None → IsOk result }
     {
         let result = self.core.finish(ticket, token, end);
         self.set_marks();

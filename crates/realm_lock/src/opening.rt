@@ -2,7 +2,7 @@ ghost use Rattle.std.specs.Prelude.{◌≡◌, IfOk, IfErr};
 ghost use Rattle.scope_rules.specs.Replies.{next_scope};
 ghost use Rattle.scope_book.specs.Books.{refusal_alone};
 ghost use Rattle.join_rules.specs.Joiners.{policy_of};
-ghost use Rattle.realm_core.specs.Calls.{DoesOrMemory, Looked, history_seen};
+ghost use Rattle.realm_core.specs.Calls.{DoesOrMemory, Reads};
 ghost use Rattle.realm_lock.specs.Openings.{scope_marked};
 ghost use Rattle.realm_lock.specs.Cells.{CellAnswers, IsFresh};
 
@@ -30,7 +30,6 @@ impl<C: Catalog, N: RealmName> Realm<C, N> {
         options: Options,
     ) -> Result<ScopeId, (Refusal, Joiner)>
         requires named { token.old.table ≡ N.table }
-        ensures token { token.new ≡ record token.old { seen = token.new.seen } }
         ensures answer { DoesOrMemory token.old token.new (RealmStep.Happened (Event.Open token.old.actor (policy_of joiner) options)) next_scope (refusal_alone result) }
         ensures handed_back { IfErr result (λ e. e.1 ≡ joiner) }
     {
@@ -50,7 +49,6 @@ impl<C: Catalog, N: RealmName> Realm<C, N> {
         options: Options,
     ) -> Result<(ScopeId, MarkCell, Seat), (Refusal, Joiner)>
         requires named { token.old.table ≡ N.table }
-        ensures token { token.new ≡ record token.old { seen = token.new.seen } }
         ensures answer { DoesOrMemory token.old token.new (RealmStep.Happened (Event.Open token.old.actor (policy_of joiner) options)) next_scope (scope_marked result) }
         ensures seat { IfOk result (λ opened. IsFresh opened.1 opened.2) }
         ensures handed_back { IfErr result (λ e. e.1 ≡ joiner) }
@@ -75,9 +73,7 @@ impl<C: Catalog, N: RealmName> Realm<C, N> {
         scope: ScopeId,
     ) -> Result<(MarkCell, Seat), Refusal>
         requires named { token.old.table ≡ N.table }
-        ensures token { token.new ≡ record token.old { seen = token.new.seen } }
-        ensures looks { Looked token.old token.new }
-        ensures answer { CellAnswers (history_seen token.new) scope result }
+        ensures { Reads token.old token.new (λ h. CellAnswers h scope result) }
     {
         let mut locked = self.room.locked.lock(rt);
         locked.core.look(token);

@@ -1,14 +1,15 @@
 ghost use Rattle.std.specs.Prelude.{◌≡◌};
+ghost use Rattle.scope_rules.specs.Scopes.{innermost};
 ghost use Rattle.scope_rules.specs.Cancels.{effective};
 ghost use Rattle.scope_rules.specs.Tasks.{state};
 ghost use Rattle.scope_rules.specs.Checks.{task_check};
 ghost use Rattle.scope_rules.specs.Table.{answering, until_check};
 ghost use Rattle.scope_rules.specs.Replies.{result_reply, fault_reply, binding_reply};
-ghost use Rattle.realm_core.specs.Calls.{Looked, history_seen};
+ghost use Rattle.realm_core.specs.Calls.{Reads};
 
 use crate::realm::Realm;
 use realm_core::RealmName;
-use scope_checks::questions;
+use scope_checks::{Readings, questions};
 use scope_rules::{Catalog, Effective, Fault, Name, Refusal, ScopeId, State, TaskId, Value};
 use share_ledger::OwnerShare;
 use std::sync::Wait;
@@ -20,9 +21,7 @@ impl<C: Catalog, N: RealmName> Realm<C, N> {
     /// is no running task or main, and where nothing is bound to the key (`NotBound`).
     pub fn get<R: Wait>(&self, rt: &R, token: &mut OwnerShare, key: &Name) -> Result<Value, Refusal>
         requires named { token.old.table ≡ N.table }
-        ensures token { token.new ≡ record token.old { seen = token.new.seen } }
-        ensures looks { Looked token.old token.new }
-        ensures answer { result ≡ binding_reply (history_seen token.new) token.new.actor key.now }
+        ensures { Reads token.old token.new (λ h. result ≡ binding_reply h token.new.actor key.now) }
     {
         let mut locked = self.room.locked.lock(rt);
         locked.core.look(token);
@@ -40,9 +39,7 @@ impl<C: Catalog, N: RealmName> Realm<C, N> {
         task: TaskId,
     ) -> Result<Value, Refusal>
         requires named { token.old.table ≡ N.table }
-        ensures token { token.new ≡ record token.old { seen = token.new.seen } }
-        ensures looks { Looked token.old token.new }
-        ensures answer { result ≡ result_reply (history_seen token.new) token.new.actor task }
+        ensures { Reads token.old token.new (λ h. result ≡ result_reply h token.new.actor task) }
     {
         let mut locked = self.room.locked.lock(rt);
         locked.core.look(token);
@@ -58,13 +55,21 @@ impl<C: Catalog, N: RealmName> Realm<C, N> {
         task: TaskId,
     ) -> Result<Fault, Refusal>
         requires named { token.old.table ≡ N.table }
-        ensures token { token.new ≡ record token.old { seen = token.new.seen } }
-        ensures looks { Looked token.old token.new }
-        ensures answer { result ≡ fault_reply (history_seen token.new) token.new.actor task }
+        ensures { Reads token.old token.new (λ h. result ≡ fault_reply h token.new.actor task) }
     {
         let mut locked = self.room.locked.lock(rt);
         locked.core.look(token);
         questions::fault(locked.core.realm(), token.actor(), task)
+    }
+
+    /// The scope that the token's actor opened last of those that it has not closed, if there is one.
+    pub fn innermost<R: Wait>(&self, rt: &R, token: &mut OwnerShare) -> Option<ScopeId>
+        requires named { token.old.table ≡ N.table }
+        ensures { Reads token.old token.new (λ h. result ≡ innermost h token.new.actor) }
+    {
+        let mut locked = self.room.locked.lock(rt);
+        locked.core.look(token);
+        locked.core.realm().innermost(token.actor())
     }
 
     /// What can be read of the task, with any actor's token (JEP 505, `Subtask.state`). Refused for an
@@ -76,9 +81,7 @@ impl<C: Catalog, N: RealmName> Realm<C, N> {
         task: TaskId,
     ) -> Result<State, Refusal>
         requires named { token.old.table ≡ N.table }
-        ensures token { token.new ≡ record token.old { seen = token.new.seen } }
-        ensures looks { Looked token.old token.new }
-        ensures answer { result ≡ answering (task_check (history_seen token.new) task) (state (history_seen token.new) task) }
+        ensures { Reads token.old token.new (λ h. result ≡ answering (task_check h task) (state h task)) }
     {
         let mut locked = self.room.locked.lock(rt);
         locked.core.look(token);
@@ -95,9 +98,7 @@ impl<C: Catalog, N: RealmName> Realm<C, N> {
         scope: ScopeId,
     ) -> Result<Effective, Refusal>
         requires named { token.old.table ≡ N.table }
-        ensures token { token.new ≡ record token.old { seen = token.new.seen } }
-        ensures looks { Looked token.old token.new }
-        ensures answer { result ≡ answering (until_check (history_seen token.new) scope) (effective (history_seen token.new) scope) }
+        ensures { Reads token.old token.new (λ h. result ≡ answering (until_check h scope) (effective h scope)) }
     {
         let mut locked = self.room.locked.lock(rt);
         locked.core.look(token);

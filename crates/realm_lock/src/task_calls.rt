@@ -1,8 +1,9 @@
-ghost use Rattle.std.specs.Prelude.{◌≡◌, true, false};
-ghost use Rattle.realm_steps.specs.Tickets.{given_in, started_in};
+ghost use Rattle.std.specs.Prelude.{◌≡◌, false, None, IsOk};
+ghost use Rattle.scope_rules.specs.Scopes.{innermost};
+ghost use Rattle.realm_steps.specs.Tickets.{given_in};
 ghost use Rattle.share_ledger.specs.Values.{IsWaiting};
-ghost use Rattle.realm_core.specs.Calls.{TicketAdded};
-ghost use Rattle.realm_core.specs.Tasks.{IsRunning};
+ghost use Rattle.realm_core.specs.Calls.{Added, SeesMore, TicketAdded, history_seen};
+ghost use Rattle.realm_core.specs.Tasks.{IsRunning, MayFinish};
 ghost use Rattle.realm_lock.specs.Endings.{Ends};
 
 use crate::realm::Realm;
@@ -19,7 +20,6 @@ impl<C: Catalog, N: RealmName> Realm<C, N> {
     pub fn reject<R: Wait>(&self, rt: &R, mut ticket: Ticket) -> Ticket
         requires named { ticket.table ≡ N.table }
         requires waiting { IsWaiting ticket }
-        ensures ticket { result ≡ record ticket { seen = result.seen } }
         ensures added { TicketAdded ticket result (RealmStep.Happened (Event.Reject ticket.task)) }
         ensures given { given_in result.task result.seen ≡ false }
     {
@@ -29,13 +29,25 @@ impl<C: Catalog, N: RealmName> Realm<C, N> {
         ticket
     }
 
+    /// The same, and lets the actor's token see it: the reject is then the last step of what it has seen.
+    pub fn reject_with<R: Wait>(&self, rt: &R, token: &mut OwnerShare, mut ticket: Ticket) -> Ticket
+        requires named { (token.old.table ≡ N.table) × (ticket.table ≡ N.table) }
+        requires waiting { IsWaiting ticket }
+        ensures added { TicketAdded ticket result (RealmStep.Happened (Event.Reject ticket.task)) }
+        ensures given { given_in result.task result.seen ≡ false }
+        ensures token { SeesMore token.old token.new × Added token.old token.new (RealmStep.Happened (Event.Reject ticket.task)) }
+    {
+        let mut locked = self.room.locked.lock(rt);
+        locked.reject_with(token, &mut ticket);
+        self.room.changed.notify_all();
+        ticket
+    }
+
     /// Starts the ticket's task, whose thread has come, and gives the task's token.
     pub fn start<R: Wait>(&self, rt: &R, mut ticket: Ticket) -> (Ticket, OwnerShare)
         requires named { ticket.table ≡ N.table }
         requires waiting { IsWaiting ticket }
-        ensures ticket { result.0 ≡ record ticket { seen = result.0.seen } }
         ensures added { TicketAdded ticket result.0 (RealmStep.Happened (Event.Start ticket.task)) }
-        ensures started { started_in result.0.task result.0.seen ≡ true }
         ensures running { IsRunning result.0 }
         ensures token { result.1 ≡ record { table = N.table; limits = ticket.limits; actor = ticket.task; seen = result.0.seen } }
     {
@@ -45,8 +57,8 @@ impl<C: Catalog, N: RealmName> Realm<C, N> {
     }
 
     /// Records the end of the ticket's task, which runs, and takes the task's token. Refused only while
-    /// the task has a scope that is not closed (`Structure`); then ticket and token are handed back, and the
-    /// task runs on.
+    /// the task has a scope that is not closed (`Structure`), so never where the token shows that it has none;
+    /// then ticket and token are handed back, and the task runs on.
     pub fn finish<R: Wait>(
         &self,
         rt: &R,
@@ -54,11 +66,10 @@ impl<C: Catalog, N: RealmName> Realm<C, N> {
         token: OwnerShare,
         end: End,
     ) -> Result<Ticket, (Refusal, Ticket, OwnerShare)>
-        requires named { (ticket.table ≡ N.table) × (token.table ≡ N.table) }
-        requires actor { token.actor ≡ ticket.task }
-        requires running { IsRunning ticket }
-        requires fits { C.fitting ticket.label end }
+        requires token { token.table ≡ N.table }
+        requires task { MayFinish N.table C.fitting ticket token end }
         ensures answer { Ends ticket token end result }
+        ensures sure { innermost (history_seen token) token.actor ≡ None → IsOk result }
     {
         let mut locked = self.room.locked.lock(rt);
         match locked.finish(&mut ticket, token, end) {

@@ -1,6 +1,7 @@
 ghost use Rattle.std.specs.Prelude.{◌≡◌, MatchResult};
-ghost use Rattle.realm_core.specs.Calls.{Looked, history_seen};
+ghost use Rattle.realm_core.specs.Calls.{Reads};
 ghost use Rattle.realm_core.specs.Views.{ViewAnswers, MarkedViewAnswers};
+ghost use Rattle.kept_realm.specs.Fits.{Fitting};
 
 use crate::realm::Realm;
 use cancel_marks::Mark;
@@ -20,12 +21,11 @@ impl<C: Catalog, N: RealmName> Realm<C, N> {
         scope: ScopeId,
     ) -> Result<View, Refusal>
         requires named { token.old.table ≡ N.table }
-        ensures token { token.new ≡ record token.old { seen = token.new.seen } }
-        ensures looks { Looked token.old token.new }
-        ensures answer { ViewAnswers (history_seen token.new) scope result }
+        ensures { Reads token.old token.new (λ h. ViewAnswers h scope result × Fitting C.fitting h) }
     {
         let mut locked = self.room.locked.lock(rt);
         locked.core.look(token);
+        let _fitting = locked.core.limits();
         view_of(locked.core.realm(), scope)
     }
 
@@ -40,12 +40,11 @@ impl<C: Catalog, N: RealmName> Realm<C, N> {
         mark: &Mark,
     ) -> Result<View, Refusal>
         requires named { token.old.table ≡ N.table }
-        ensures token { token.new ≡ record token.old { seen = token.new.seen } }
-        ensures looks { Looked token.old token.new }
-        ensures answer { MarkedViewAnswers (history_seen token.new) scope mark.now.cause mark.now.number result }
+        ensures { Reads token.old token.new (λ h. MarkedViewAnswers h scope mark.now.cause mark.now.number result × Fitting C.fitting h) }
     {
         let mut locked = self.room.locked.lock(rt);
         locked.core.look(token);
+        let _fitting = locked.core.limits();
         marked_view_of(locked.core.realm(), scope, mark.cause, mark.number)
     }
 
@@ -53,13 +52,12 @@ impl<C: Catalog, N: RealmName> Realm<C, N> {
     /// has seen then, read in one hold. Refused where memory is (`Memory`).
     pub fn history<R: Wait>(&self, rt: &R, token: &mut OwnerShare) -> Result<Vec<Event>, Refusal>
         requires named { token.old.table ≡ N.table }
-        ensures token { token.new ≡ record token.old { seen = token.new.seen } }
-        ensures looks { Looked token.old token.new }
-        ensures answer { MatchResult result (λ events. events.items ≡ (history_seen token.new).events) (λ refusal. refusal ≡ Refusal.Memory) }
+        ensures { Reads token.old token.new (λ h. MatchResult result (λ events. events.items ≡ h.events) (λ refusal. refusal ≡ Refusal.Memory) × Fitting C.fitting h) }
     {
         let mut locked = self.room.locked.lock(rt);
         let alloc = locked.alloc;
         locked.core.look(token);
+        let _fitting = locked.core.limits();
         match Vec::from_slice(alloc, locked.core.realm().events()) {
             Ok(events) => Ok(events),
             Err(_) => Err(Refusal::Memory),

@@ -1,5 +1,5 @@
 -- What counting a completion makes of the account, and what may be asked of it then.
-use Rattle.std.proofs.Common.{◌≡◌, ℕ, ◌+◌, ◌-◌, ◌<◌, ◌≤◌, Bool, Some, List, [], ◌∷◌, ◌++◌, length, slice_get, refl, ap, sym, subst, ◌∙◌, arith}
+use Rattle.std.proofs.Common.{◌≡◌, ℕ, ◌+◌, ◌-◌, ◌<◌, ◌≤◌, Bool, cond, Some, List, [], ◌∷◌, ◌++◌, length, slice_get, refl, ap, sym, subst, ◌∙◌, arith}
 use Rattle.std.specs.Option.{IfSome}
 use Rattle.scope_rules.specs.declared.types.capacity.TheConstants.{TASK_LIMIT}
 use Rattle.scope_rules.specs.declared.types.values.Completion.{Completion}
@@ -9,7 +9,9 @@ use Rattle.cancel_tree.specs.Rows.{IsLatest}
 use Rattle.join_rules.specs.Totals.{Totals, counted}
 use Rattle.join_rules.specs.JoinerStanding.{JoinerStanding, StandsFor}
 use Rattle.join_rules.proofs.StandingLemmas.{stands-push}
-use Rattle.scope_cuts.specs.CutTables.{CutTable, HasRow, HasCounted, IsCounted, account_at}
+use Rattle.scope_rules.specs.declared.types.answers.CauseKind.TheVariants.{Joiner}
+use Rattle.scope_cuts.specs.CutTables.{CutTable, HasRow, HasCounted, IsCounted, account_at, cancelled}
+use Rattle.scope_kept.specs.Completing.{IsCompleted}
 
 -- the account, before the completion was counted
 pub record CountedFrom (old : CutTable) (s : ℕ) (d : Completion) (a : JoinerStanding) : Type 0 where
@@ -51,3 +53,14 @@ fires_counted old mid s d a b step at says x list is stands =
     let one : from.was ≡ x = some_same _ _ (sym from.is ∙ is) in
     let then = stands-push from.was a list d from.by.totals from.by.seen from.by.joiner (subst (λ w. StandsFor w list) (sym one) stands) in
     says (list ++ d ∷ []) then ∙ ap (λ p. fires p (list ++ d ∷ [])) (from.by.joiner.policy ∙ ap (λ (w : JoinerStanding). w.policy) one)
+
+-- it is counted, and cancels the scope where that answer is yes
+pub completed_so : (old mid new : CutTable) (s place : ℕ) (d : Completion) (a : JoinerStanding) (b answer : Bool) → HasCounted old mid s d → account_at mid s ≡ Some a → ((list : List Completion) → StandsFor a list → answer ≡ fires a.policy list) → answer ≡ b
+    → new ≡ cond b (cancelled mid s Joiner place) mid → IsCompleted old new s d place
+completed_so old mid new s place d a b answer step at says same is = record {
+  counted_one = mid;
+  fired = b;
+  counted = step;
+  fires = fires_counted old mid s d a b step at (λ list stands. sym same ∙ says list stands);
+  is = is;
+}

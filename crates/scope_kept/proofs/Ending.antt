@@ -29,13 +29,16 @@ use Rattle.scope_rows.proofs.Frames.{tallies_of}
 use Rattle.scope_rows.proofs.Keeping.{count_same}
 use Rattle.scope_rows.proofs.Places.{scope_of_is}
 use Rattle.scope_rows.proofs.WantsMet.{can_finish, counts_are}
+use Rattle.cancel_tree.specs.Rows.{IsLatest}
 use Rattle.scope_cuts.specs.CutTables.{CutTable, HasRow, HasCounted, account_at, cancelled}
 use Rattle.scope_cuts.specs.CutsOf.{IsAccountOf, AreCutsOf}
 use Rattle.scope_cuts.proofs.FinishSteps.{finished_next}
 use Rattle.scope_cuts.proofs.Readings.{has_row}
 use Rattle.scope_kept.specs.KeptTables.{KeptTable, IsKeptOf, HasRoomForEnds, forks_in, forks_of}
 use Rattle.scope_kept.specs.Completing.{IsCompleted}
+use Rattle.scope_kept.specs.Events.{IsReadyAt}
 use Rattle.scope_kept.proofs.Balance.{MayComplete, may_complete}
+use Rattle.scope_kept.proofs.Wanted.{latest}
 
 -- a task of scope s may end
 pub record EndsIn (h : History) (t : KeptTable) (k s : ℕ) : Type 0 where
@@ -105,6 +108,25 @@ few_ended h t k s kept ends = by (account_at t.cuts s) refl
         let it = account_here h t.cuts s a kept.cuts kept.room ends.row is in
         let count : a.totals.completions ≡ length (completions h s) = ap (λ (x : Totals). x.completions) (sym it.stands.totals) ∙ counted_length (completions h s) in
         omega (arith, count, ends.may.few)
+
+-- what the end of task k in scope s wants
+pub record MayEnd (t : KeptTable) (k s place : ℕ) : Type 0 where
+  pub row : HasRow t.cuts s
+  pub room : IfSome (account_at t.cuts s) (λ a. HasRoom a 1)
+  pub few : IfSome (account_at t.cuts s) (λ a. a.totals.completions < TASK_LIMIT)
+  pub latest : IsLatest t.cuts.told place
+
+pub may_end : (t now : KeptTable) (k : ℕ) (end : EndValue) (s place : ℕ) → t ≡ now → IsReadyAt now (Finish k end) place → s ≡ scope_of now.rows k → MayEnd t k s place
+may_end t now k end s place is given of =
+    let all = subst (λ x. IsReadyAt x (Finish k end) place) (sym is) given in
+    let ready = all.0 in
+    let ends = ends_in ready.limits ready.history t k end s ready.legal ready.accepted ready.kept (of ∙ ap (λ (x : KeptTable). scope_of x.rows k) (sym is)) in
+    record {
+      row = ends.row;
+      room = room_for_end ready.history t k s ready.kept ends;
+      few = few_ended ready.history t k s ready.kept ends;
+      latest = latest t (Finish k end) place all;
+    }
 
 -- ---- after the end
 

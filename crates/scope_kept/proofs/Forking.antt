@@ -64,18 +64,6 @@ unforked L h s legal none = by (forks_of h s) refl
 
 -- ---- tables with more room
 
--- rows with more room are rows of the same history
-pub rows_roomier : (h : History) (old new : RowTable) → new ≡ record old { task_room = new.task_room } → AreRowsOf h old → AreRowsOf h new
-rows_roomier h old new is are = subst (AreRowsOf h) (sym is) (record {
-  scopes_before = are.scopes_before;
-  tasks_before = are.tasks_before;
-  main = are.main;
-  scope_count = are.scope_count;
-  task_count = are.task_count;
-  scopes = are.scopes;
-  tasks = are.tasks;
-})
-
 -- the account at a place, before more room was made in that of scope s
 pub record Was (old : CutTable) (s more i : ℕ) (a : JoinerStanding) : Type 0 where
   pub account : JoinerStanding

@@ -8,3 +8,4 @@ pub mod Forking
 pub mod Counting
 pub mod Ending
 pub mod Covering
+pub mod Roomier

@@ -24,18 +24,6 @@ use Rattle.scope_outcomes.specs.ForkTable.{ForkTable}
 use Rattle.scope_outcomes.specs.ForksOf.{AreForksOf}
 use Rattle.scope_kept.specs.KeptTables.{HasRoomForEnds, forks_in, forks_of}
 
--- rows with more room are rows of the same history
-pub rows_roomier : (h : History) (old new : RowTable) → new ≡ record old { scope_room = new.scope_room } → AreRowsOf h old → AreRowsOf h new
-rows_roomier h old new is are = subst (AreRowsOf h) (sym is) (record {
-  scopes_before = are.scopes_before;
-  tasks_before = are.tasks_before;
-  main = are.main;
-  scope_count = are.scope_count;
-  task_count = are.task_count;
-  scopes = are.scopes;
-  tasks = are.tasks;
-})
-
 -- an accepted fork is in an opened scope
 fork_opened : (L : Limits) (h : History) (e : Event) (s : ℕ) → Accepts L h e → forks_in s e ≡ true → IsOpened h s
 fork_opened L h (Fork a t label) s ok it =

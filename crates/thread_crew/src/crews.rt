@@ -1,7 +1,7 @@
 ghost use Rattle.std.specs.Prelude.{◌≡◌, ◌↔◌, IsTrue, IfSome, MatchResult};
 ghost use Rattle.thread_crew.specs.Returns.{Returns};
 
-use crate::desks::Desk;
+use crate::offices::Office;
 use crate::orders::{Finished, Order, WayBack};
 use crate::spawning::{Ready, Spawner, Spawns};
 use crate::trays::Tray;
@@ -16,7 +16,7 @@ use std::sync::{Arc, Wait};
 #[derive(Drop)]
 pub struct OsThreads<N: RealmName, W: Ready> {
     pub(crate) alloc: Global,
-    pub(crate) desk: Arc<Desk<Order<N, W>>, Global>,
+    pub(crate) office: Arc<Office<Order<N, W>>, Global>,
 }
 
 /// What is kept of a work that a thread of a crew runs: by which way its ticket comes back, and which
@@ -105,11 +105,11 @@ impl<N: RealmName, W: Ready + Drop> Spawns<N, W> for OsThreads<N, W> {
         let Some((way_back, way)) = two_ends(self.alloc) else {
             return Err((ticket, work));
         };
-        let Some(place) = self.desk.find(rt) else {
+        let Some(tray) = self.office.find(rt) else {
             return Err((ticket, work));
         };
         let handle = CrewHandle::new(&ticket, way_back);
-        place.put(rt, Order::new(work, ticket, way));
+        tray.put(rt, Order::new(work, ticket, way));
         Ok(handle)
     }
 }

@@ -24,19 +24,19 @@ impl<L> Inline<L> {
 
 /// What is kept of a work that has ended.
 #[derive(Drop)]
-pub struct Ended<N: RealmName> {
+pub struct InlineHandle<N: RealmName> {
     ticket: OfRealm<N, Ticket>,
     first: Snapshot<Ticket>,
     ghost returns: { Returns N.table first.value ticket },
 }
 
-impl<N: RealmName> Ended<N> {
+impl<N: RealmName> InlineHandle<N> {
     /// Of the work that was given the first ticket, and gave back the last.
-    fn new(first: Snapshot<Ticket>, ticket: Ticket) -> Ended<N>
+    fn new(first: Snapshot<Ticket>, ticket: Ticket) -> InlineHandle<N>
         requires { Returns N.table first.value ticket }
         ensures { result.first.value ≡ first.value }
     {
-        Ended {
+        InlineHandle {
             ticket: OfRealm::new(ticket),
             first,
         }
@@ -51,23 +51,28 @@ impl<N: RealmName> Ended<N> {
 }
 
 impl<N: RealmName, L> Spawner<N> for Inline<L> {
-    type Handle = Ended<N>;
+    type Handle = InlineHandle<N>;
 
     ghost first_of = { λ handle. handle.first.value };
 
-    fn join<R: Wait>(&mut self, _rt: &R, handle: Ended<N>) -> Ticket {
+    fn join<R: Wait>(&mut self, _rt: &R, handle: InlineHandle<N>) -> Ticket {
         handle.into_ticket()
     }
 }
 
 impl<N: RealmName, L: Drop, W: Ready + Work<N, L>> Spawns<N, W> for Inline<L> {
-    fn spawn<R: Wait>(&mut self, rt: &R, ticket: Ticket, work: W) -> Result<Ended<N>, (Ticket, W)> {
+    fn spawn<R: Wait>(
+        &mut self,
+        rt: &R,
+        ticket: Ticket,
+        work: W,
+    ) -> Result<InlineHandle<N>, (Ticket, W)> {
         let Some(lent) = self.lent.take() else {
             return Err((ticket, work));
         };
         let first = Snapshot::of(&ticket);
         let (ticket, lent) = work.run(rt, lent, ticket);
         self.lent = Some(lent);
-        Ok(Ended::new(first, ticket))
+        Ok(InlineHandle::new(first, ticket))
     }
 }

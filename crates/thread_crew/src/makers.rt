@@ -1,8 +1,8 @@
 use crate::crews::OsThreads;
-use crate::desks::Desk;
+use crate::offices::Office;
 use crate::orders::Order;
 use crate::spawning::{Ready, Work};
-use crate::staff::Place;
+use crate::staff::SharedTray;
 use crate::trays::Tray;
 use share_ledger::RealmName;
 use slab::Slab;
@@ -21,7 +21,7 @@ type Joins = Slab<JoinHandle<()>>;
 
 /// What the maker of threads does: it makes one for each fork that wants one, until the crew is closed,
 /// and then joins all. It alone has the threads' join handles, which can't be sent.
-pub(crate) fn make_threads<N, W, R>(rt: &R, alloc: Global, desk: Arc<Desk<Order<N, W>>, Global>)
+pub(crate) fn make_threads<N, W, R>(rt: &R, alloc: Global, office: Arc<Office<Order<N, W>>, Global>)
 where
     N: RealmName + Send + Sync + 'static,
     W: Ready + Work<N, OsThreads<N, W>> + Send + Drop + 'static,
@@ -29,12 +29,12 @@ where
 {
     let mut joins = Slab::new(alloc);
     for _ in rt.forever() {
-        if !desk.is_thread_wanted(rt) {
+        if !office.is_thread_wanted(rt) {
             break;
         }
-        join_ended(rt, &desk, &mut joins);
-        let made = make_thread(rt, alloc, &desk, &mut joins).ok();
-        desk.tell(rt, made);
+        join_ended(rt, &office, &mut joins);
+        let made = make_thread(rt, alloc, &office, &mut joins).ok();
+        office.tell(rt, made);
     }
     for (_, thread) in joins {
         thread.join(rt);
@@ -42,9 +42,9 @@ where
 }
 
 /// Joins the threads that have ended.
-fn join_ended<O: Drop, R: Threads + Wait>(rt: &R, desk: &Desk<O>, joins: &mut Joins) {
+fn join_ended<O: Drop, R: Threads + Wait>(rt: &R, office: &Office<O>, joins: &mut Joins) {
     for _ in rt.forever() {
-        let Some(number) = desk.next_ended(rt) else {
+        let Some(number) = office.next_ended(rt) else {
             return;
         };
         if let Some(thread) = joins.try_remove(number) {
@@ -53,24 +53,24 @@ fn join_ended<O: Drop, R: Threads + Wait>(rt: &R, desk: &Desk<O>, joins: &mut Jo
     }
 }
 
-/// Makes a thread, and gives its place. Refused where memory or a thread is.
+/// Makes a thread, and gives its tray. Refused where memory or a thread is.
 fn make_thread<N, W, R>(
     rt: &R,
     alloc: Global,
-    desk: &Arc<Desk<Order<N, W>>, Global>,
+    office: &Arc<Office<Order<N, W>>, Global>,
     joins: &mut Joins,
-) -> Result<Place<Order<N, W>>, AllocError>
+) -> Result<SharedTray<Order<N, W>>, AllocError>
 where
     N: RealmName + Send + Sync + 'static,
     W: Ready + Work<N, OsThreads<N, W>> + Send + Drop + 'static,
     R: CrewRuntime,
 {
     joins.reserve(1)?;
-    desk.reserve(rt, joins.len().saturating_add(1))?;
-    let place = Arc::new(alloc, Tray::new())?;
-    let theirs = Arc::try_clone(&place)?;
-    let own = Arc::try_clone(desk)?;
-    let lent = Arc::try_clone(desk)?;
+    office.reserve(rt, joins.len().saturating_add(1))?;
+    let tray = Arc::new(alloc, Tray::new())?;
+    let theirs = Arc::try_clone(&tray)?;
+    let own = Arc::try_clone(office)?;
+    let lent = Arc::try_clone(office)?;
     let (runtime, number) = (*rt, joins.vacant_key());
     let thread = thread::spawn(rt, move || {
         serve(
@@ -78,20 +78,23 @@ where
             &own,
             &theirs,
             number,
-            OsThreads { alloc, desk: lent },
+            OsThreads {
+                alloc,
+                office: lent,
+            },
         )
     })?;
     joins.insert_reserved(thread);
-    Ok(place)
+    Ok(tray)
 }
 
-/// What a thread of a crew does: it runs the work of each order that it finds at its place, and puts the
+/// What a thread of a crew does: it runs the work of each order that it finds at its tray, and puts the
 /// ticket into the order's way back. It comes to rest before that, so that who waits for the ticket
 /// finds it at rest.
 fn serve<N, W, R>(
     rt: &R,
-    desk: &Desk<Order<N, W>>,
-    place: &Place<Order<N, W>>,
+    office: &Office<Order<N, W>>,
+    tray: &SharedTray<Order<N, W>>,
     number: usize,
     mut threads: OsThreads<N, W>,
 )
@@ -101,12 +104,12 @@ where
     R: Wait,
 {
     for _ in rt.forever() {
-        let Some(order) = place.wait(rt) else {
+        let Some(order) = tray.wait(rt) else {
             return;
         };
         let (finished, way_back, lent) = order.run(rt, threads);
         threads = lent;
-        let rests = desk.rest(rt, place, number);
+        let rests = office.rest(rt, tray, number);
         way_back.put(rt, finished);
         if !rests {
             return;

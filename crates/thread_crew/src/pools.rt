@@ -1,6 +1,6 @@
 use crate::crews::OsThreads;
-use crate::desks::Desk;
 use crate::makers::{CrewRuntime, make_threads};
+use crate::offices::Office;
 use crate::orders::Order;
 use crate::spawning::{Ready, Work};
 use share_ledger::RealmName;
@@ -14,7 +14,7 @@ use std::thread::{JoinHandle, Threads};
 /// A crew can't be let go: its owner closes it, else the program is refused.
 pub struct Crew<N: RealmName, W: Ready + Work<N, OsThreads<N, W>>> {
     alloc: Global,
-    desk: Arc<Desk<Order<N, W>>, Global>,
+    office: Arc<Office<Order<N, W>>, Global>,
     maker: JoinHandle<()>,
 }
 
@@ -30,19 +30,23 @@ impl<N: RealmName, W: Ready + Work<N, OsThreads<N, W>>> Crew<N, W> {
         N: Send + Sync + 'static,
         W: Send + Drop + 'static,
     {
-        let desk = Arc::new(alloc, Desk::new(alloc, keep))?;
-        let theirs = Arc::try_clone(&desk)?;
+        let office = Arc::new(alloc, Office::new(alloc, keep))?;
+        let theirs = Arc::try_clone(&office)?;
         let runtime = *rt;
         let maker = thread::spawn(rt, move || make_threads(&runtime, alloc, theirs))?;
-        Ok(Crew { alloc, desk, maker })
+        Ok(Crew {
+            alloc,
+            office,
+            maker,
+        })
     }
 
     /// The crew's threads, as a spawner. Refused only where std's count of holders is full.
     pub fn threads(&self) -> Result<OsThreads<N, W>, AllocError> {
-        let desk = Arc::try_clone(&self.desk)?;
+        let office = Arc::try_clone(&self.office)?;
         Ok(OsThreads {
             alloc: self.alloc,
-            desk,
+            office,
         })
     }
 
@@ -54,10 +58,10 @@ impl<N: RealmName, W: Ready + Work<N, OsThreads<N, W>>> Crew<N, W> {
     {
         let Crew {
             alloc: _,
-            desk,
+            office,
             maker,
         } = self;
-        desk.close(rt);
+        office.close(rt);
         maker.join(rt);
     }
 }

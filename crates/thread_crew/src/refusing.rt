@@ -1,7 +1,7 @@
 ghost use Rattle.std.specs.Prelude.{◌≡◌};
 ghost use Rattle.thread_crew.specs.Returns.{Returns};
 
-use crate::inline::Ended;
+use crate::inline::InlineHandle;
 use crate::spawning::{Ready, Spawner, Spawns};
 use share_ledger::{RealmName, Ticket};
 use std::sync::Wait;
@@ -11,11 +11,11 @@ use std::sync::Wait;
 pub struct Nobody;
 
 impl<N: RealmName> Spawner<N> for Nobody {
-    type Handle = Ended<N>;
+    type Handle = InlineHandle<N>;
 
     ghost first_of = { λ handle. handle.first.value };
 
-    fn join<R: Wait>(&mut self, _rt: &R, handle: Ended<N>) -> Ticket {
+    fn join<R: Wait>(&mut self, _rt: &R, handle: InlineHandle<N>) -> Ticket {
         handle.into_ticket()
     }
 }
@@ -26,7 +26,7 @@ impl<N: RealmName, W: Ready> Spawns<N, W> for Nobody {
         _rt: &R,
         ticket: Ticket,
         work: W,
-    ) -> Result<Ended<N>, (Ticket, W)> {
+    ) -> Result<InlineHandle<N>, (Ticket, W)> {
         Err((ticket, work))
     }
 }

@@ -3,12 +3,12 @@ use std::alloc::{AllocError, Global};
 use std::sync::Arc;
 
 /// The tray of a thread, in which it finds its next order.
-pub(crate) type Place<O> = Arc<Tray<O>, Global>;
+pub(crate) type SharedTray<O> = Arc<Tray<O>, Global>;
 
 /// What a fork is told at first.
 pub(crate) enum Found<O> {
-    /// A thread that rests, of this place.
-    Resting(Place<O>),
+    /// A thread that rests, of this tray.
+    Resting(SharedTray<O>),
     /// A thread was asked for, and the answer is to be waited for.
     Asked,
     /// The crew is closed.
@@ -30,12 +30,12 @@ pub(crate) enum Wish {
 pub(crate) struct Staff<O> {
     /// How many threads may rest.
     keep: usize,
-    /// The places of the threads that rest, the last to rest last: it is the one most likely awake.
-    resting: Vec<Place<O>>,
+    /// The trays of the threads that rest, the last to rest last: it is the one most likely awake.
+    resting: Vec<SharedTray<O>>,
     /// How many forks wait for a thread whose making was not begun yet.
     wanted: u64,
-    /// The places of threads that were made for forks, one for each.
-    made: Vec<Place<O>>,
+    /// The trays of threads that were made for forks, one for each.
+    made: Vec<SharedTray<O>>,
     /// How many forks are to be told that no thread could be made.
     unmade: u64,
     /// The numbers of the threads that ended and are to be joined.
@@ -63,7 +63,7 @@ impl<O: Drop> Staff<O> {
             return Found::Closed;
         }
         match self.resting.pop() {
-            Some(place) => Found::Resting(place),
+            Some(tray) => Found::Resting(tray),
             None => {
                 self.wanted = self.wanted.saturating_add(1);
                 Found::Asked
@@ -71,12 +71,12 @@ impl<O: Drop> Staff<O> {
         }
     }
 
-    /// What a fork that asked is told: the place of a thread, or that there is none. Nothing as long as
+    /// What a fork that asked is told: the tray of a thread, or that there is none. Nothing as long as
     /// the maker gave no answer that is left. It takes none of the threads that came to rest, unless
     /// none could be made, so that each answer is for one fork.
-    pub(crate) fn answer(&mut self) -> Option<Option<Place<O>>> {
-        if let Some(place) = self.made.pop() {
-            return Some(Some(place));
+    pub(crate) fn answer(&mut self) -> Option<Option<SharedTray<O>>> {
+        if let Some(tray) = self.made.pop() {
+            return Some(Some(tray));
         }
         if self.unmade == 0 {
             return None;
@@ -105,9 +105,9 @@ impl<O: Drop> Staff<O> {
     }
 
     /// A fork is to be told of the thread that was made, or that none could be.
-    pub(crate) fn tell(&mut self, made: Option<Place<O>>) {
-        if let Some(place) = made {
-            match self.made.push(place) {
+    pub(crate) fn tell(&mut self, made: Option<SharedTray<O>>) {
+        if let Some(tray) = made {
+            match self.made.push(tray) {
                 Ok(()) => return,
                 Err(refused) => refused.value.ring(),
             }
@@ -115,12 +115,12 @@ impl<O: Drop> Staff<O> {
         self.unmade = self.unmade.saturating_add(1);
     }
 
-    /// A thread has done its work. Answers whether it comes to rest at this place; else it is to end.
-    pub(crate) fn rest(&mut self, place: Option<Place<O>>, number: usize) -> bool {
-        if let Some(place) = place
+    /// A thread has done its work. Answers whether it comes to rest at this tray; else it is to end.
+    pub(crate) fn rest(&mut self, tray: Option<SharedTray<O>>, number: usize) -> bool {
+        if let Some(tray) = tray
             && !self.closed
             && self.resting.len() < self.keep
-            && self.resting.push(place).is_ok()
+            && self.resting.push(tray).is_ok()
         {
             return true;
         }
@@ -139,8 +139,8 @@ impl<O: Drop> Staff<O> {
     pub(crate) fn close(&mut self) {
         self.closed = true;
         for _ in 0..self.resting.len() {
-            if let Some(place) = self.resting.pop() {
-                place.ring();
+            if let Some(tray) = self.resting.pop() {
+                tray.ring();
             }
         }
     }

@@ -1,9 +1,9 @@
 ghost use Rattle.std.specs.Prelude.{◌≡◌, ℕ, List, slice_get, vec_len};
-ghost use Rattle.scope_rules.specs.Legal.{Legal, IsWithin};
 ghost use Rattle.scope_rules.specs.Origin.{the_start};
 ghost use Rattle.scope_rules.specs.Replies.{starting, base_check, AnswersOrMemory};
 ghost use Rattle.scope_cuts.specs.CutsOf.{IsCancelOrderOf};
 ghost use Rattle.kept_realm.specs.Fits.{Fitting};
+ghost use Rattle.scope_checks.specs.Ruled.{IsRuled};
 
 use join_rules::StoredTest;
 use kept_realm::{FittingRealm, KeptRealm};
@@ -22,7 +22,7 @@ pub struct BookState<C: Catalog> {
 }
 
 impl<C: Catalog> BookState<C> {
-    ghost use Rattle.scope_book.specs.Books.{realm_of, limits_of, history_of, realm_given};
+    ghost use Rattle.scope_book.specs.Books.{realm_of, history_of, realm_given};
 
     /// The book of a fresh realm. It takes no memory.
     pub fn new(alloc: Global, limits: Limits) -> BookState<C>
@@ -38,7 +38,7 @@ impl<C: Catalog> BookState<C> {
         requires { vec_len tests ≡ 0 }
         ensures { realm_of result ≡ starting limits the_start }
     {
-        let realm = FittingRealm::new(alloc, limits);
+        let realm = FittingRealm::over(KeptRealm::new(alloc, limits));
         BookState { realm, tests }
     }
 
@@ -47,7 +47,7 @@ impl<C: Catalog> BookState<C> {
     pub fn with_base(alloc: Global, limits: Limits, base: Base) -> Result<BookState<C>, Refusal>
         ensures { AnswersOrMemory (base_check limits base) (starting limits base) (realm_given result) }
     {
-        let realm = FittingRealm::with_base(alloc, limits, base)?;
+        let realm = FittingRealm::over(KeptRealm::with_base(alloc, limits, base)?);
         let tests = Vec::new(alloc);
         Ok(BookState { realm, tests })
     }
@@ -55,9 +55,7 @@ impl<C: Catalog> BookState<C> {
     /// The realm's limits. It also says of the history that it is legal, within the limits (the load and
     /// the numbers too, the base's counted) and fitting.
     pub fn limits(&self) -> Limits
-        ensures limits { result ≡ limits_of self.now }
-        ensures legal { Legal (limits_of self.now) (history_of self.now) }
-        ensures within { IsWithin (limits_of self.now) (history_of self.now) }
+        ensures ruled { IsRuled (realm_of self.now) result }
         ensures fitting { Fitting C.fitting (history_of self.now) }
     {
         self.realm.limits()

@@ -1,17 +1,16 @@
-ghost use Rattle.std.specs.Prelude.{◌≡◌, true, Ok, OnOk, OnErr, IfErr};
-ghost use Rattle.scope_rules.specs.Table.{check_of, is_already, retire_check};
+ghost use Rattle.std.specs.Prelude.{◌≡◌, OnOk, IfErr};
 ghost use Rattle.scope_rules.specs.Verdicts.{verdict};
 ghost use Rattle.scope_rules.specs.ClosingLaws.{IsWhole};
-ghost use Rattle.scope_rules.specs.Replies.{Answers, AnswersOrMemory, after, after_recording, after_retiring, next_scope, fork_reply, recording, base_of};
+ghost use Rattle.scope_rules.specs.Replies.{next_scope, fork_reply};
 ghost use Rattle.join_rules.specs.Joiners.{policy_of};
-ghost use Rattle.scope_book.specs.Books.{realm_of, limits_of, history_of, refusal_alone};
-ghost use Rattle.scope_checks.specs.Telling.{Performs, after_telling};
+ghost use Rattle.scope_book.specs.Books.{realm_of, history_of, refusal_alone};
+ghost use Rattle.scope_checks.specs.Entering.{Enters, EntersOrMemory, Notes, NotesOrMemory, Retires, Tells};
 ghost use Rattle.kept_realm.specs.Fits.{FitsTask, FitsEvent};
 
 use crate::state::book::BookState;
 use join_rules::{Joiner, StoredTest};
 use kept_realm::KeptRealm;
-use scope_checks::{Readings, Told};
+use scope_checks::{Readings, Told, table};
 use scope_rules::{
     Actor, Base, Binding, Cancelling, Catalog, End, Event, ForkReply, Label, Name, Options,
     Refusal, ScopeId, TaskId, Value, Verdict,
@@ -30,11 +29,10 @@ impl<C: Catalog> BookState<C> {
         joiner: Joiner,
         options: Options,
     ) -> Result<ScopeId, (Refusal, Joiner)>
-        ensures answer { AnswersOrMemory (check_of (limits_of self.old) (history_of self.old) (Event.Open actor (policy_of joiner) options)) (next_scope (history_of self.old)) (refusal_alone result) }
-        ensures history { realm_of self.new ≡ after (realm_of self.old) (Event.Open actor (policy_of joiner) options) (refusal_alone result) }
+        ensures entered { EntersOrMemory (realm_of self.old) (Event.Open actor (policy_of joiner) options) (next_scope (history_of self.old)) (refusal_alone result) (realm_of self.new) }
         ensures handed_back { IfErr result (λ e. e.1 ≡ joiner) }
     {
-        if let Err(refusal) = self.realm().open_check(actor) {
+        if let Err(refusal) = table::open_row(self.realm(), &self.limits(), actor) {
             return Err((refusal, joiner));
         }
         if self.tests.reserve(1).is_err() {
@@ -67,8 +65,7 @@ impl<C: Catalog> BookState<C> {
     /// (`AlreadyJoined`), while the actor's bindings are not those at the scope's opening (`Structure`;
     /// JEP 506), and where a limit is met (`TooMany`).
     pub fn fork(&mut self, actor: Actor, scope: ScopeId, label: Label) -> Result<ForkReply, Refusal>
-        ensures answer { AnswersOrMemory (check_of (limits_of self.old) (history_of self.old) (Event.Fork actor scope label)) (fork_reply (history_of self.old) scope) result }
-        ensures history { realm_of self.new ≡ after (realm_of self.old) (Event.Fork actor scope label) result }
+        ensures { EntersOrMemory (realm_of self.old) (Event.Fork actor scope label) (fork_reply (history_of self.old) scope) result (realm_of self.new) }
     {
         let event = Event::Fork {
             actor,
@@ -84,8 +81,7 @@ impl<C: Catalog> BookState<C> {
     /// Records that no thread was had for a task. Refused where the task does not wait (`WrongStage`),
     /// or is unknown (`NoTask`, `Retired`).
     pub fn reject(&mut self, task: TaskId) -> Result<(), Refusal>
-        ensures answer { Answers (check_of (limits_of self.old) (history_of self.old) (Event.Reject task)) tt result }
-        ensures history { realm_of self.new ≡ after (realm_of self.old) (Event.Reject task) result }
+        ensures { Enters (realm_of self.old) (Event.Reject task) tt result (realm_of self.new) }
     {
         self.perform(Event::Reject { task })?;
         Ok(())
@@ -94,8 +90,7 @@ impl<C: Catalog> BookState<C> {
     /// Starts a task whose thread has come. Refused where the task does not wait (`WrongStage`), or is
     /// unknown (`NoTask`, `Retired`).
     pub fn start(&mut self, task: TaskId) -> Result<(), Refusal>
-        ensures answer { Answers (check_of (limits_of self.old) (history_of self.old) (Event.Start task)) tt result }
-        ensures history { realm_of self.new ≡ after (realm_of self.old) (Event.Start task) result }
+        ensures { Enters (realm_of self.old) (Event.Start task) tt result (realm_of self.new) }
     {
         self.perform(Event::Start { task })?;
         Ok(())
@@ -105,8 +100,7 @@ impl<C: Catalog> BookState<C> {
     /// unknown (`NoTask`, `Retired`), or has a scope that is not closed (`Structure`).
     pub fn finish(&mut self, task: TaskId, end: End) -> Result<(), Refusal>
         requires { FitsTask C.fitting (history_of self.old) task end }
-        ensures answer { Answers (check_of (limits_of self.old) (history_of self.old) (Event.Finish task end)) tt result }
-        ensures history { realm_of self.new ≡ after (realm_of self.old) (Event.Finish task end) result }
+        ensures { Enters (realm_of self.old) (Event.Finish task end) tt result (realm_of self.new) }
     {
         let test = test_of(&self.tests, self.realm.realm(), task);
         self.realm
@@ -118,9 +112,7 @@ impl<C: Catalog> BookState<C> {
     /// stays as it is. Refused for a scope that is unknown (`NoScope`, `Retired`), or closing or closed
     /// (`Closed`), and where the limit of load is met (`TooMany`).
     pub fn cancel(&mut self, scope: ScopeId) -> Result<Cancelling, Refusal>
-        ensures answer { AnswersOrMemory (check_of (limits_of self.old) (history_of self.old) (Event.Cancel scope)) (recording (history_of self.old) (Event.Cancel scope)) result }
-        ensures already { is_already (history_of self.old) (Event.Cancel scope) ≡ true → Answers (check_of (limits_of self.old) (history_of self.old) (Event.Cancel scope)) Cancelling.Already result }
-        ensures history { realm_of self.new ≡ after_recording (realm_of self.old) (Event.Cancel scope) result }
+        ensures { NotesOrMemory (realm_of self.old) (Event.Cancel scope) result (realm_of self.new) }
     {
         Ok(self.perform(Event::Cancel { scope })?.noting())
     }
@@ -129,8 +121,7 @@ impl<C: Catalog> BookState<C> {
     /// deadline may be moved). Refused for a scope that is unknown (`NoScope`, `Retired`), closing or
     /// closed (`Closed`) or joined (`AlreadyJoined`), and where the limit of load is met (`TooMany`).
     pub fn move_deadline(&mut self, scope: ScopeId, deadline: Option<u64>) -> Result<(), Refusal>
-        ensures answer { AnswersOrMemory (check_of (limits_of self.old) (history_of self.old) (Event.Move scope deadline)) tt result }
-        ensures history { realm_of self.new ≡ after (realm_of self.old) (Event.Move scope deadline) result }
+        ensures { EntersOrMemory (realm_of self.old) (Event.Move scope deadline) tt result (realm_of self.new) }
     {
         self.perform(Event::Move { scope, deadline })?;
         Ok(())
@@ -139,8 +130,7 @@ impl<C: Catalog> BookState<C> {
     /// Sets the moment, in milliseconds. Refused for a moment before the present one (`ClockBack`), and
     /// where the limit of load is met (`TooMany`).
     pub fn tick(&mut self, now: u64) -> Result<(), Refusal>
-        ensures answer { AnswersOrMemory (check_of (limits_of self.old) (history_of self.old) (Event.Tick now)) tt result }
-        ensures history { realm_of self.new ≡ after (realm_of self.old) (Event.Tick now) result }
+        ensures { EntersOrMemory (realm_of self.old) (Event.Tick now) tt result (realm_of self.new) }
     {
         self.perform(Event::Tick { now })?;
         Ok(())
@@ -149,8 +139,7 @@ impl<C: Catalog> BookState<C> {
     /// Binds the key above the actor's other bindings (JEP 506, `where`). Refused where the actor is no
     /// running task or main, and where the limit of load is met (`TooMany`).
     pub fn bind(&mut self, actor: Actor, key: Name, value: Value) -> Result<(), Refusal>
-        ensures answer { AnswersOrMemory (check_of (limits_of self.old) (history_of self.old) (Event.Bind actor (record { key = key; value = value }))) tt result }
-        ensures history { realm_of self.new ≡ after (realm_of self.old) (Event.Bind actor (record { key = key; value = value })) result }
+        ensures { EntersOrMemory (realm_of self.old) (Event.Bind actor (record { key = key; value = value })) tt result (realm_of self.new) }
     {
         let binding = Binding { key, value };
         self.perform(Event::Bind { actor, binding })?;
@@ -161,8 +150,7 @@ impl<C: Catalog> BookState<C> {
     /// no own binding (`NotBound`), or has a scope open or closing that was opened while the binding
     /// stood (`Structure`), and where the limit of load is met (`TooMany`).
     pub fn unbind(&mut self, actor: Actor) -> Result<(), Refusal>
-        ensures answer { AnswersOrMemory (check_of (limits_of self.old) (history_of self.old) (Event.Unbind actor)) tt result }
-        ensures history { realm_of self.new ≡ after (realm_of self.old) (Event.Unbind actor) result }
+        ensures { EntersOrMemory (realm_of self.old) (Event.Unbind actor) tt result (realm_of self.new) }
     {
         self.perform(Event::Unbind { actor })?;
         Ok(())
@@ -173,8 +161,7 @@ impl<C: Catalog> BookState<C> {
     /// another's (`NotOwner`), closing or closed (`Closed`) or joined (`AlreadyJoined`), and while it is
     /// neither cancelled nor all its tasks have ended (`NotReady`).
     pub fn join_now(&mut self, actor: Actor, scope: ScopeId) -> Result<(), Refusal>
-        ensures answer { Answers (check_of (limits_of self.old) (history_of self.old) (Event.Join actor scope)) tt result }
-        ensures history { realm_of self.new ≡ after (realm_of self.old) (Event.Join actor scope) result }
+        ensures { Enters (realm_of self.old) (Event.Join actor scope) tt result (realm_of self.new) }
     {
         self.perform(Event::Join { actor, scope })?;
         Ok(())
@@ -185,8 +172,7 @@ impl<C: Catalog> BookState<C> {
     /// Refused where the actor is no running task or main, and for a scope that is unknown (`NoScope`,
     /// `Retired`) or another's (`NotOwner`).
     pub fn begin_close(&mut self, actor: Actor, scope: ScopeId) -> Result<Cancelling, Refusal>
-        ensures answer { Answers (check_of (limits_of self.old) (history_of self.old) (Event.BeginClose actor scope)) (recording (history_of self.old) (Event.BeginClose actor scope)) result }
-        ensures history { realm_of self.new ≡ after_recording (realm_of self.old) (Event.BeginClose actor scope) result }
+        ensures { Notes (realm_of self.old) (Event.BeginClose actor scope) result (realm_of self.new) }
     {
         Ok(self.perform(Event::BeginClose { actor, scope })?.noting())
     }
@@ -197,8 +183,7 @@ impl<C: Catalog> BookState<C> {
     /// of the scope waits or runs (`NotReady`). A closed scope is whole: none of its tasks waits or runs,
     /// and each scope inside it, by parents at any depth, is closed.
     pub fn end_close(&mut self, actor: Actor, scope: ScopeId) -> Result<Verdict, Refusal>
-        ensures answer { Answers (check_of (limits_of self.old) (history_of self.old) (Event.EndClose actor scope)) (verdict (history_of self.old) scope) result }
-        ensures history { realm_of self.new ≡ after (realm_of self.old) (Event.EndClose actor scope) result }
+        ensures entered { Enters (realm_of self.old) (Event.EndClose actor scope) (verdict (history_of self.old) scope) result (realm_of self.new) }
         ensures whole { OnOk result (IsWhole (history_of self.new) scope) }
     {
         let told = self.perform(Event::EndClose { actor, scope })?;
@@ -212,8 +197,7 @@ impl<C: Catalog> BookState<C> {
     /// Performs a command to which no closure of a caller's belongs.
     fn perform(&mut self, event: Event) -> Result<Told, Refusal>
         requires fits { FitsEvent C.fitting (history_of self.old) event }
-        ensures answer { Performs (limits_of self.old) (history_of self.old) event result }
-        ensures history { realm_of self.new ≡ after_telling (realm_of self.old) event result }
+        ensures { Tells (realm_of self.old) event result (realm_of self.new) }
     {
         self.realm.perform(event, false, None)
     }
@@ -223,8 +207,7 @@ impl<C: Catalog> BookState<C> {
     /// main, is not main (`NotOwner`), while main has a scope that is not closed (`Structure`), and where
     /// memory is refused (`Memory`).
     pub fn retire(&mut self, actor: Actor) -> Result<Base, Refusal>
-        ensures answer { AnswersOrMemory (retire_check (history_of self.old) actor) (base_of (history_of self.old)) result }
-        ensures history { realm_of self.new ≡ after_retiring (realm_of self.old) result }
+        ensures { Retires (realm_of self.old) actor result (realm_of self.new) }
     {
         let base = self.realm.retire(actor)?;
         self.tests.clear();

@@ -104,7 +104,7 @@ impl<C: Catalog> BookState<C> {
     pub fn outcome(&self, scope: ScopeId) -> Result<Outcome, Refusal>
         ensures { AnswersValue (outcome_check (history_of self.now) scope) (outcome (history_of self.now) scope) result }
     {
-        questions::outcome(self.realm(), self.realm().allocator(), scope)
+        questions::outcome(self.realm(), *self.tests.allocator(), scope)
     }
 
     /// The log of the scope: its own events since the base, in order, with the mark of its cancellation

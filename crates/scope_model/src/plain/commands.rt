@@ -1,8 +1,8 @@
-ghost use Rattle.std.specs.Prelude.{◌≡◌, true, ◌+◌, Ok, OnOk};
-ghost use Rattle.scope_rules.specs.Table.{check_of, is_already, retire_check};
+ghost use Rattle.std.specs.Prelude.{OnOk};
 ghost use Rattle.scope_rules.specs.Verdicts.{verdict};
 ghost use Rattle.scope_rules.specs.ClosingLaws.{IsWhole};
-ghost use Rattle.scope_rules.specs.Replies.{Answers, AnswersOrMemory, after, after_recording, after_retiring, next_scope, fork_reply, recording, base_of};
+ghost use Rattle.scope_rules.specs.Replies.{next_scope, fork_reply};
+ghost use Rattle.scope_checks.specs.Entering.{Enters, EntersOrMemory, Notes, NotesOrMemory, Retires};
 
 use crate::plain::evaluator::Plain;
 use scope_checks::table;
@@ -27,8 +27,7 @@ impl Plain {
         policy: Policy,
         options: Options,
     ) -> Result<ScopeId, Refusal>
-        ensures answer { AnswersOrMemory (check_of self.old.limits self.old.history (Event.Open actor policy options)) (next_scope self.old.history) result }
-        ensures history { self.new ≡ after self.old (Event.Open actor policy options) result }
+        ensures { EntersOrMemory self.old (Event.Open actor policy options) (next_scope self.old.history) result self.new }
     {
         let view = self.view();
         table::open_row(&view, &self.limits(), actor)?;
@@ -47,8 +46,7 @@ impl Plain {
     /// (`AlreadyJoined`), while the actor's bindings are not those at the scope's opening (`Structure`;
     /// JEP 506), and where a limit is met (`TooMany`).
     pub fn fork(&mut self, actor: Actor, scope: ScopeId, label: Label) -> Result<ForkReply, Refusal>
-        ensures answer { AnswersOrMemory (check_of self.old.limits self.old.history (Event.Fork actor scope label)) (fork_reply self.old.history scope) result }
-        ensures history { self.new ≡ after self.old (Event.Fork actor scope label) result }
+        ensures { EntersOrMemory self.old (Event.Fork actor scope label) (fork_reply self.old.history scope) result self.new }
     {
         let view = self.view();
         table::fork_row(&view, &self.limits(), actor, scope)?;
@@ -69,8 +67,7 @@ impl Plain {
     /// Records that no thread was had for a task. Refused where the task does not wait (`WrongStage`),
     /// or is unknown (`NoTask`, `Retired`).
     pub fn reject(&mut self, task: TaskId) -> Result<(), Refusal>
-        ensures answer { Answers (check_of self.old.limits self.old.history (Event.Reject task)) tt result }
-        ensures history { self.new ≡ after self.old (Event.Reject task) result }
+        ensures { Enters self.old (Event.Reject task) tt result self.new }
     {
         table::waiting_row(&self.view(), task)?;
         self.record(Event::Reject { task });
@@ -80,8 +77,7 @@ impl Plain {
     /// Starts a task whose thread has come. Refused where the task does not wait (`WrongStage`), or is
     /// unknown (`NoTask`, `Retired`).
     pub fn start(&mut self, task: TaskId) -> Result<(), Refusal>
-        ensures answer { Answers (check_of self.old.limits self.old.history (Event.Start task)) tt result }
-        ensures history { self.new ≡ after self.old (Event.Start task) result }
+        ensures { Enters self.old (Event.Start task) tt result self.new }
     {
         table::waiting_row(&self.view(), task)?;
         self.record(Event::Start { task });
@@ -91,8 +87,7 @@ impl Plain {
     /// Records the end of a running task. Refused where the task does not run (`WrongStage`), is
     /// unknown (`NoTask`, `Retired`), or has a scope that is not closed (`Structure`).
     pub fn finish(&mut self, task: TaskId, end: End) -> Result<(), Refusal>
-        ensures answer { Answers (check_of self.old.limits self.old.history (Event.Finish task end)) tt result }
-        ensures history { self.new ≡ after self.old (Event.Finish task end) result }
+        ensures { Enters self.old (Event.Finish task end) tt result self.new }
     {
         table::finish_row(&self.view(), task)?;
         self.record(Event::Finish { task, end });
@@ -103,9 +98,7 @@ impl Plain {
     /// stays as it is. Refused for a scope that is unknown (`NoScope`, `Retired`), or closing or closed
     /// (`Closed`), and where the limit of load is met (`TooMany`).
     pub fn cancel(&mut self, scope: ScopeId) -> Result<Cancelling, Refusal>
-        ensures answer { AnswersOrMemory (check_of self.old.limits self.old.history (Event.Cancel scope)) (recording self.old.history (Event.Cancel scope)) result }
-        ensures already { is_already self.old.history (Event.Cancel scope) ≡ true → Answers (check_of self.old.limits self.old.history (Event.Cancel scope)) Cancelling.Already result }
-        ensures history { self.new ≡ after_recording self.old (Event.Cancel scope) result }
+        ensures { NotesOrMemory self.old (Event.Cancel scope) result self.new }
     {
         let view = self.view();
         table::cancel_row(&view, &self.limits(), scope)?;
@@ -120,8 +113,7 @@ impl Plain {
     /// deadline may be moved). Refused for a scope that is unknown (`NoScope`, `Retired`), closing or
     /// closed (`Closed`) or joined (`AlreadyJoined`), and where the limit of load is met (`TooMany`).
     pub fn move_deadline(&mut self, scope: ScopeId, deadline: Option<u64>) -> Result<(), Refusal>
-        ensures answer { AnswersOrMemory (check_of self.old.limits self.old.history (Event.Move scope deadline)) tt result }
-        ensures history { self.new ≡ after self.old (Event.Move scope deadline) result }
+        ensures { EntersOrMemory self.old (Event.Move scope deadline) tt result self.new }
     {
         table::move_row(&self.view(), &self.limits(), scope)?;
         self.try_append(Event::Move { scope, deadline })
@@ -130,8 +122,7 @@ impl Plain {
     /// Sets the moment, in milliseconds. Refused for a moment before the present one (`ClockBack`), and
     /// where the limit of load is met (`TooMany`).
     pub fn tick(&mut self, now: u64) -> Result<(), Refusal>
-        ensures answer { AnswersOrMemory (check_of self.old.limits self.old.history (Event.Tick now)) tt result }
-        ensures history { self.new ≡ after self.old (Event.Tick now) result }
+        ensures { EntersOrMemory self.old (Event.Tick now) tt result self.new }
     {
         table::tick_row(&self.view(), &self.limits(), now)?;
         self.try_append(Event::Tick { now })
@@ -140,8 +131,7 @@ impl Plain {
     /// Binds the key above the actor's other bindings (JEP 506, `where`). Refused where the actor is no
     /// running task or main, and where the limit of load is met (`TooMany`).
     pub fn bind(&mut self, actor: Actor, key: Name, value: Value) -> Result<(), Refusal>
-        ensures answer { AnswersOrMemory (check_of self.old.limits self.old.history (Event.Bind actor (record { key = key; value = value }))) tt result }
-        ensures history { self.new ≡ after self.old (Event.Bind actor (record { key = key; value = value })) result }
+        ensures { EntersOrMemory self.old (Event.Bind actor (record { key = key; value = value })) tt result self.new }
     {
         table::bind_row(&self.view(), &self.limits(), actor)?;
         self.try_append(Event::Bind {
@@ -154,8 +144,7 @@ impl Plain {
     /// no own binding (`NotBound`), or has a scope open or closing that was opened while the binding
     /// stood (`Structure`), and where the limit of load is met (`TooMany`).
     pub fn unbind(&mut self, actor: Actor) -> Result<(), Refusal>
-        ensures answer { AnswersOrMemory (check_of self.old.limits self.old.history (Event.Unbind actor)) tt result }
-        ensures history { self.new ≡ after self.old (Event.Unbind actor) result }
+        ensures { EntersOrMemory self.old (Event.Unbind actor) tt result self.new }
     {
         table::unbind_row(&self.view(), &self.limits(), actor)?;
         self.try_append(Event::Unbind { actor })
@@ -166,8 +155,7 @@ impl Plain {
     /// another's (`NotOwner`), closing or closed (`Closed`) or joined (`AlreadyJoined`), and while it is
     /// neither cancelled nor all its tasks have ended (`NotReady`).
     pub fn join_now(&mut self, actor: Actor, scope: ScopeId) -> Result<(), Refusal>
-        ensures answer { Answers (check_of self.old.limits self.old.history (Event.Join actor scope)) tt result }
-        ensures history { self.new ≡ after self.old (Event.Join actor scope) result }
+        ensures { Enters self.old (Event.Join actor scope) tt result self.new }
     {
         table::join_row(&self.view(), actor, scope)?;
         self.record(Event::Join { actor, scope });
@@ -179,8 +167,7 @@ impl Plain {
     /// Refused where the actor is no running task or main, and for a scope that is unknown (`NoScope`,
     /// `Retired`) or another's (`NotOwner`).
     pub fn begin_close(&mut self, actor: Actor, scope: ScopeId) -> Result<Cancelling, Refusal>
-        ensures answer { Answers (check_of self.old.limits self.old.history (Event.BeginClose actor scope)) (recording self.old.history (Event.BeginClose actor scope)) result }
-        ensures history { self.new ≡ after_recording self.old (Event.BeginClose actor scope) result }
+        ensures { Notes self.old (Event.BeginClose actor scope) result self.new }
     {
         let view = self.view();
         table::begin_close_row(&view, actor, scope)?;
@@ -197,8 +184,7 @@ impl Plain {
     /// of the scope waits or runs (`NotReady`). A closed scope is whole: none of its tasks waits or runs,
     /// and each scope inside it, by parents at any depth, is closed.
     pub fn end_close(&mut self, actor: Actor, scope: ScopeId) -> Result<Verdict, Refusal>
-        ensures answer { Answers (check_of self.old.limits self.old.history (Event.EndClose actor scope)) (verdict self.old.history scope) result }
-        ensures history { self.new ≡ after self.old (Event.EndClose actor scope) result }
+        ensures entered { Enters self.old (Event.EndClose actor scope) (verdict self.old.history scope) result self.new }
         ensures whole { OnOk result (IsWhole self.new.history scope) }
     {
         let view = self.view();
@@ -213,8 +199,7 @@ impl Plain {
     /// main, is not main (`NotOwner`), while main has a scope that is not closed (`Structure`), and where
     /// memory is refused (`Memory`).
     pub fn retire(&mut self, actor: Actor) -> Result<Base, Refusal>
-        ensures answer { AnswersOrMemory (retire_check self.old.history actor) (base_of self.old.history) result }
-        ensures history { self.new ≡ after_retiring self.old result }
+        ensures { Retires self.old actor result self.new }
     {
         let view = self.view();
         table::retire_check(&view, actor)?;

@@ -1,7 +1,8 @@
 ghost use Rattle.std.specs.Prelude.{◌≡◌, MatchResult};
 ghost use Rattle.scope_rules.specs.Load.{weight};
-ghost use Rattle.scope_rules.specs.Legal.{Accepts, Legal, IsWithin};
+ghost use Rattle.scope_rules.specs.Legal.{Accepts, Legal};
 ghost use Rattle.scope_rules.specs.Replies.{with_event, starting, base_check, base_of, AnswersOrMemory};
+ghost use Rattle.scope_checks.specs.Ruled.{IsRuled};
 
 use crate::scan::view::HistoryView;
 use scope_journal::Journal;
@@ -56,9 +57,7 @@ impl Plain {
     /// The realm's limits. It also says of the history that it is legal, and within the limits: the
     /// load and the numbers too, the base's counted.
     pub fn limits(&self) -> Limits
-        ensures limits { result ≡ self.now.limits }
-        ensures legal { Legal self.now.limits self.now.history }
-        ensures within { IsWithin self.now.limits self.now.history }
+        ensures { IsRuled self.now result }
     {
         self.journal.limits()
     }

@@ -124,7 +124,7 @@ impl Plain {
     pub fn join_preview(&self, actor: Actor, scope: ScopeId) -> Result<Preview, Refusal>
         ensures { AnswersValue (check_of self.now.limits self.now.history (Event.Join actor scope)) (preview self.now.history actor scope) result }
     {
-        let _history_is_legal = self.limits();
+        let _legal = self.limits();
         table::join_row(&self.view(), actor, scope)?;
         let log = self.log(scope)?;
         match log.into_preview(self.allocator(), actor) {
@@ -139,7 +139,7 @@ impl Plain {
         ensures log { AnswersValue (Ok tt) (log self.now.history scope) result }
         ensures small { IfOk result (λ l. length l.entries + 1 < 2 ^ 32) }
     {
-        let _history_is_legal = self.limits();
+        let _legal = self.limits();
         match self.view().log(self.allocator(), scope) {
             Ok(Some(log)) => Ok(log),
             Ok(None) => unreachable!(),

@@ -124,7 +124,7 @@ pub fn perform(book: &mut BookState<AnyEnd>, command: Command) -> Result<Reply, 
     ensures told { IfOk result (λ said. said ≢ Reply.Refused Refusal.Memory) }
     ensures stopped { OnErr result (realm_of book.new ≡ realm_stopped (realm_of book.old) command) }
 {
-    let _limits = book.limits();
+    let _legal = book.limits();
     match answer(book, command) {
         Reply::Refused(Refusal::Memory) => Err(AllocError),
         said => Ok(said),

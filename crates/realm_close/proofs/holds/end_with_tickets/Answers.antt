@@ -20,7 +20,7 @@ returns-clause-done g c =
     let report = c.in_ok-report.report in
     let ends = c.in_ok-report.ensures.ends in
     let given = subst (λ steps. AreTicketsOf (history_of steps) c.args.scope tickets) (sym c.requires.shown) (subst (λ (r : Realm). AreTicketsOf r.history c.args.scope tickets) c.realm.ensures (c.are_tickets_of.ensures.yes c.if-not-are_tickets_of.false)) in
-    let after = ap (λ (k : CoreValue). k.steps) c.in_ok-report.ensures.core in
+    let after = ap (λ (k : CoreValue). k.steps) c.in_ok-report.ensures.seen.1 in
     let bear = All-permutation (BearsOut new) c.are_tickets_of.new.tickets.items tickets (IsPermutation-sym tickets c.are_tickets_of.new.tickets.items c.are_tickets_of.ensures.same) (subst (λ steps. All (BearsOut steps) c.are_tickets_of.new.tickets.items) after c.take_back.ensures.agreed) in
     record {
       ends = ends;

@@ -10,13 +10,13 @@ pub closing_log-requires : goal.closing_log-requires
 closing_log-requires c =
     let h = c.args.realm.now.history in
     let so_far = subst (IsPreparing h c.args.actor c.args.scope (reverse c.loop-next.shown.items)) c.in-Some.is c.loop-next.invariant in
-    record { begun = next_begun _ h c.args.actor c.args.scope c.limits-limits.ensures.legal c.requires.can (reverse c.loop-next.shown.items) c.in-Some.here so_far }
+    record { begun = next_begun _ h c.args.actor c.args.scope c.limits-legal.ensures.legal c.requires.can (reverse c.loop-next.shown.items) c.in-Some.here so_far }
 
 pub verdict-requires : goal.verdict-requires
 verdict-requires c =
     let h = c.args.realm.now.history in
     let so_far = subst (IsPreparing h c.args.actor c.args.scope (reverse c.loop-next.shown.items)) c.in-Some.is c.loop-next.invariant in
-    next_opened _ h c.args.actor c.args.scope c.limits-limits.ensures.legal c.requires.can (reverse c.loop-next.shown.items) c.in-Some.here so_far
+    next_opened _ h c.args.actor c.args.scope c.limits-legal.ensures.legal c.requires.can (reverse c.loop-next.shown.items) c.in-Some.here so_far
 
 pub loop-next-smaller : goal.loop-next-smaller
 loop-next-smaller c =
@@ -27,7 +27,7 @@ pub loop-next-preserved : goal.loop-next-preserved
 loop-next-preserved c =
     let h = c.args.realm.now.history in
     let so_far = subst (IsPreparing h c.args.actor c.args.scope (reverse c.loop-next.shown.items)) c.in-Some.is c.loop-next.invariant in
-    let legal = c.limits-limits.ensures.legal in
+    let legal = c.limits-legal.ensures.legal in
     rw c.in-Ok.ensures.items
     (one_more h c.args.actor c.args.scope c.loop-next.shown.items (c.in-Some.here, c.verdict.result, c.in_ok-log.log) c.inner-next-in-Some.result
     (preparing_goes_on _ h c.args.actor c.args.scope legal c.requires.can (reverse c.loop-next.shown.items) c.in-Some.here c.verdict.result c.in_ok-log.log c.inner-next-in-Some.result so_far c.verdict.ensures c.in_ok-log.ensures.log c.inner-next-in-Some.ensures))
@@ -35,7 +35,7 @@ loop-next-preserved c =
 pub returns-clause-order : goal.returns-clause-order
 returns-clause-order c =
     let h = c.args.realm.now.history in
-    let legal = c.limits-limits.ensures.legal in
+    let legal = c.limits-legal.ensures.legal in
     rw c.reverse.ensures.items
     (all_ordered _ h c.args.actor c.args.scope legal c.requires.can (reverse c.loop-next.shown.items)
     (subst (IsPreparing h c.args.actor c.args.scope (reverse c.loop-next.shown.items)) c.in_default.is c.loop-next.invariant))

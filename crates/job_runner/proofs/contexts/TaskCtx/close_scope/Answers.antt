@@ -1,27 +1,20 @@
-use Rattle.std.proofs.Common.{◌≡◌, subst}
+use Rattle.std.proofs.Common.{subst}
 use Rattle.std.specs.Prelude.{List, IfOk, IfErr}
 use Rattle.share_ledger.specs.Values.{OwnerValue, TicketValue}
+use Rattle.realm_core.specs.Calls.{SeesMore}
 use Rattle.realm_close.specs.Closes.{Begins, EndsReported}
 use Rattle.job_runner.specs.Reports.{Held}
-use Rattle.job_runner.proofs.Reported.{closes_here, stays_here, held_why}
+use Rattle.job_runner.proofs.Reported.{comes_here, held_why}
 use Rattle.job_runner.proofs.contexts.TaskCtx.close_scope.Goals as goal
 
-pub returns-clause-closed : goal.returns-clause-closed
-returns-clause-closed g c =
+pub returns-clause-answer : goal.returns-clause-answer
+returns-clause-answer g c =
     let begun = c.begin_closing.new.token in
     let begins = subst (λ (t : OwnerValue). Begins t begun c.args.scope c.begin_closing.result) c.token.view_is c.begin_closing.ensures.answer in
-    closes_here c.args.self.now.token begun c.end_with_report.new.self.token c.in_default.field-0 c.args.scope c.end_with_report.result
-    (subst (λ (t : OwnerValue). begun ≡ record t { seen = begun.seen }) c.token.view_is c.begin_closing.ensures.token)
+    comes_here c.args.self.now.token begun c.end_with_report.new.self.token c.in_default.field-0 c.args.scope c.end_with_report.result
+    (subst (λ (t : OwnerValue). SeesMore t begun) c.token.view_is c.begin_closing.ensures.seen.0)
     (subst (λ result. Begins c.args.self.now.token begun c.args.scope result) c.in_default.is begins)
     (subst (λ (t : OwnerValue). IfOk c.end_with_report.result (λ report. (tickets : List TicketValue) × EndsReported t c.end_with_report.new.self.token c.args.scope tickets report)) c.join_threads.ensures.token c.end_with_report.ensures.closed)
-
-pub returns-clause-refused : goal.returns-clause-refused
-returns-clause-refused g c =
-    let begun = c.begin_closing.new.token in
-    let begins = subst (λ (t : OwnerValue). Begins t begun c.args.scope c.begin_closing.result) c.token.view_is c.begin_closing.ensures.answer in
-    stays_here c.args.self.now.token begun c.end_with_report.new.self.token c.in_default.field-0 c.args.scope c.end_with_report.result
-    (subst (λ (t : OwnerValue). begun ≡ record t { seen = begun.seen }) c.token.view_is c.begin_closing.ensures.token)
-    (subst (λ result. Begins c.args.self.now.token begun c.args.scope result) c.in_default.is begins)
     (subst (λ (t : OwnerValue). IfErr c.end_with_report.result (λ refusal. Held t c.end_with_report.new.self.token c.args.scope refusal)) c.join_threads.ensures.token c.end_with_report.ensures.refused)
 
 pub returns-clause-sure : goal.returns-clause-sure

@@ -16,7 +16,7 @@ returns-clause-answer g c =
     record {
       begun = begun;
       how = c.in_default.field-0;
-      same = subst (λ (t : OwnerValue). begun ≡ record t { seen = begun.seen }) c.token.view_is c.begin_closing.ensures.token;
+      same = subst (λ (t : OwnerValue). begun ≡ record t { seen = begun.seen }) c.token.view_is c.begin_closing.ensures.seen.0;
       begins = subst (λ result. Begins old begun c.args.scope result) c.in_default.is begins;
       ends = subst (λ (t : OwnerValue). EndsLater t ended c.args.scope c.end_closing-verdict.ensures.ends.0) (c.token-2.view_is ∙ c.join_threads.ensures.token) c.end_closing-verdict.ensures.ends.1;
     } in

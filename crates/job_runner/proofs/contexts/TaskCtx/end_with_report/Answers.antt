@@ -1,6 +1,6 @@
-use Rattle.std.proofs.Common.{◌≡◌, ◌∙◌, sym, subst, inl}
+use Rattle.std.proofs.Common.{◌≡◌, sym, subst, inl, arith}
 use Rattle.std.specs.List.{All}
-use Rattle.std.proofs.lemmas.List.Sorted.{All-permutation}
+use Rattle.std.proofs.lemmas.List.Sorted.{All-permutation, length_permutation}
 use Rattle.share_ledger.specs.Values.{OwnerValue, TicketValue}
 use Rattle.realm_close.specs.Closes.{EndsReported, HoldsBack}
 use Rattle.job_runner.proofs.contexts.TaskCtx.end_with_report.Goals as goal
@@ -8,22 +8,23 @@ use Rattle.job_runner.proofs.contexts.TaskCtx.end_with_report.Goals as goal
 pub returns-in-Ok-clause-closed : goal.returns-in-Ok-clause-closed
 returns-in-Ok-clause-closed g c =
     let tickets = c.in-Some.tickets.items in
-    let ended = subst (λ (t : OwnerValue). EndsReported t c.end_reporting.new.token c.args.scope tickets c.in-Ok.report) (c.token.view_is ∙ c.take_returned.ensures.token) c.in-Ok.ensures.done in (
+    let ended = subst (λ (t : OwnerValue). EndsReported t c.end_reporting.new.token c.args.scope tickets c.in-Ok.report) c.token.view_is c.in-Ok.ensures.done in (
       tickets,
       subst (λ (t : OwnerValue). EndsReported c.args.self.now.token t c.args.scope tickets c.in-Ok.report) (sym c.forget.ensures.token) ended,
     )
 
 pub put_back-requires : goal.put_back-requires
 put_back-requires g c =
-    All-permutation (λ (t : TicketValue). t.table ≡ g.N.RealmName.table) _ _ c.in-Err.ensures.not.still.back c.in-Some.ensures.named
+    let back = c.in-Err.ensures.not.still.back in
+    let few = length_permutation _ _ back in
+    record {
+      named = All-permutation (λ (t : TicketValue). t.table ≡ g.N.RealmName.table) _ _ back c.in-Some.ensures.named;
+      room = omega (arith, few, c.in-Some.ensures.room);
+    }
 
 pub returns-in-Err-clause-refused : goal.returns-in-Err-clause-refused
 returns-in-Err-clause-refused g c =
     let tickets = c.in-Some.tickets.items in
     let left = c.end_reporting.new.tickets.items in
-    let held = subst (λ (t : OwnerValue). HoldsBack t c.end_reporting.new.token c.args.scope tickets left c.in-Err.refusal) (c.token.view_is ∙ c.take_returned.ensures.token) c.in-Err.ensures.not in
-    inl (
-      tickets,
-      left,
-      subst (λ (t : OwnerValue). HoldsBack c.args.self.now.token t c.args.scope tickets left c.in-Err.refusal) (sym c.put_back.ensures) held,
-    )
+    let held = subst (λ (t : OwnerValue). HoldsBack t c.end_reporting.new.token c.args.scope tickets left c.in-Err.refusal) c.token.view_is c.in-Err.ensures.not in
+    inl (tickets, left, held)

@@ -1,11 +1,11 @@
-use Rattle.std.proofs.Common.{◌≡◌, sym, ◌∙◌}
+use Rattle.std.proofs.Common.{ap}
 use Rattle.scope_rules.specs.declared.types.answers.ForkReply.TheVariants.{Thread}
 use Rattle.scope_rules.specs.declared.types.events.Event.TheVariants.{Fork}
 use Rattle.realm_steps.specs.declared.steps.RealmStep.TheVariants.{Happened}
-use Rattle.realm_core.specs.Calls.{Accepted}
-use Rattle.realm_core.specs.Tasks.{IsNewTicket}
+use Rattle.realm_core.specs.Calls.{Accepted, SeesMore}
+use Rattle.share_ledger.specs.Values.{TicketValue}
 use Rattle.job_runner.specs.Forks.{reply_there, why_alone}
-use Rattle.job_runner.proofs.Forked.{forked_job}
+use Rattle.job_runner.proofs.Forked.{forked_job, keeps_thread}
 use Rattle.job_runner.proofs.contexts.TaskCtx.fork_job.Goals as goal
 
 pub returns-in-Ok-Thread-clause-answer : goal.returns-in-Ok-Thread-clause-answer
@@ -15,10 +15,15 @@ returns-in-Ok-Thread-clause-answer g c =
     let ticket = c.in-Ok-Thread.ticket in
     let scope = c.args.scope in
     let label = c.args.job.label in
-    let accepted : Accepted old mid (Happened (Fork old.actor scope label)) (reply_there scope) (Thread ticket.task) = rw (← c.label-label.ensures, ← c.room_for_a_thread.ensures.token, ← c.token.view_is) (rw c.in-Ok-Thread.field-0-is at c.in-Ok-Thread.ensures.answer) in
-    let fresh : IsNewTicket mid scope label ticket = rw (← c.label-label.ensures) (rw c.in-Ok-Thread.field-0-is at c.in-Ok-Thread.ensures.ticket) in
-    forked_job old mid c.start_thread.new.self.token scope label ticket (why_alone c.start_thread.result) accepted fresh c.start_thread.ensures.token c.start_thread.ensures.answer
+    let accepted : Accepted old mid (Happened (Fork old.actor scope label)) (reply_there scope) (Thread ticket.task) = rw (← c.label-label.ensures, ← c.room_for_a_thread.ensures.token, ← c.token.view_is) (rw c.in-Ok-Thread.field-0-is at c.in-Ok-Thread.ensures.answer.1) in
+    let sees : SeesMore old mid = rw (← c.room_for_a_thread.ensures.token, ← c.token.view_is) c.in-Ok-Thread.ensures.answer.0 in
+    forked_job old mid c.start_thread.new.self.token scope label ticket (why_alone c.start_thread.result) sees accepted c.start_thread.ensures.answer
+
+pub returns-in-Ok-Thread-clause-kept : goal.returns-in-Ok-Thread-clause-kept
+returns-in-Ok-Thread-clause-kept g c =
+    let fresh = rw c.in-Ok-Thread.field-0-is at c.in-Ok-Thread.ensures.ticket in
+    keeps_thread c.in-Ok-Thread.ticket.scope c.args.scope c.args.self.now.team c.room_for_a_thread.new.self.team c.start_thread.new.self.team c.start_thread.result (ap (λ (t : TicketValue). t.scope) fresh.is) c.room_for_a_thread.ensures.team c.start_thread.ensures.kept
 
 pub returns-in-Ok-Never-clause-answer : goal.returns-in-Ok-Never-clause-answer
 returns-in-Ok-Never-clause-answer g c =
-    rw (← c.label-label.ensures, ← c.room_for_a_thread.ensures.token, ← c.token.view_is) (rw c.in-Ok-Never.field-0-is at c.in-Ok-Never.ensures.answer)
+    rw (← c.label-label.ensures, ← c.room_for_a_thread.ensures.token, ← c.token.view_is) (rw c.in-Ok-Never.field-0-is at c.in-Ok-Never.ensures.answer.1)

@@ -1,16 +1,14 @@
 use Rattle.std.proofs.Common.{subst}
-use Rattle.share_ledger.specs.Values.{TicketValue}
-use Rattle.job_runner.specs.Forks.{WasRejected}
+use Rattle.scope_rules.specs.declared.types.events.Event.TheVariants.{Reject}
+use Rattle.realm_steps.specs.declared.steps.RealmStep.TheVariants.{Happened}
+use Rattle.share_ledger.specs.Values.{OwnerValue, TicketValue}
+use Rattle.realm_core.specs.Calls.{Added}
 use Rattle.job_runner.proofs.contexts.TaskCtx.start_thread.Goals as goal
 
 pub returns-in-Err-clause-answer : goal.returns-in-Err-clause-answer
 returns-in-Err-clause-answer g c =
-    let rejected = c.reject-rejected.ensures in (
+    let seen = c.reject_with-rejected.new.token in
+    let rejected = subst (λ (t : OwnerValue). Added t seen (Happened (Reject c.in-Err.ticket.task))) c.token.view_is c.reject_with-rejected.ensures.token.1 in (
       c.task-task.ensures,
-      subst (λ (t : TicketValue). WasRejected t) c.in-Err.ensures.0 (record {
-        back = c.reject-rejected.result;
-        same = rejected.ticket;
-        rejected = rejected.added;
-        ungiven = rejected.given;
-      }),
+      subst (λ (t : TicketValue). Added c.args.self.now.token seen (Happened (Reject t.task))) c.in-Err.ensures.0 rejected,
     )

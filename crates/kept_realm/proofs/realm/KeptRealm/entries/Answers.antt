@@ -36,5 +36,5 @@ returns-clause-entries c =
 
 pub returns-clause-small : goal.returns-clause-small
 returns-clause-small c =
-    let facts = c.limits-limits.ensures in
+    let facts = c.limits-legal.ensures in
     IfOk-weaker c.with_mark.result _ _ (λ v made. made_small _ _ c.args.self.now.history c.args.scope v.items facts.limits facts.legal facts.within made) (returns-clause-entries c)

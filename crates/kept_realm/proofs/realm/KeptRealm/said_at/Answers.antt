@@ -32,7 +32,7 @@ loop-place-preserved c =
     let tasks = c.tasks_of-tasks.ensures in
     let within = subst (λ es. get_or ps n 0 < length es) (sym events) (place_there h c.args.scope ps n c.requires.places c.loop-place-test.true) in
     let at = ap (λ es. slice_get es (get_or ps n 0)) (sym events) ∙ slice_get_read c.events-events.result.now (length c.events-events.result.now) (get_or ps n 0) c.index-events-place.result refl within c.index-events-place.is in
-    let says = c.said.ensures ∙ said_next c.limits-limits.result h c.args.scope ps c.tasks_of-tasks.result.now n c.loop-place.forked c.loop-place.entries.items c.index-events-place.result (subst (λ L. Legal L h) (sym c.limits-limits.ensures.limits) c.limits-limits.ensures.legal) c.requires.places tasks c.loop-place-test.true so at in
+    let says = c.said.ensures ∙ said_next c.limits-legal.result h c.args.scope ps c.tasks_of-tasks.result.now n c.loop-place.forked c.loop-place.entries.items c.index-events-place.result (subst (λ L. Legal L h) (sym c.limits-legal.ensures.limits) c.limits-legal.ensures.legal) c.requires.places tasks c.loop-place-test.true so at in
     elim c.match-said.branch [
       | in-Some+in_ok-push w ↦
           subst (λ k. AreSaid h c.args.scope ps (n + 1) c.match-said.entries.items k) (sym w.forked-is)

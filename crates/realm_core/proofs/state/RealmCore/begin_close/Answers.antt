@@ -1,13 +1,23 @@
 -- The beginning of a close wants no memory.
-use Rattle.std.proofs.Common.{ℕ, refl, subst}
+use Rattle.std.proofs.Common.{ℕ, Bool, refl, sym, subst}
+use Rattle.scope_rules.specs.Replies.{recorded}
 use Rattle.scope_rules.specs.declared.types.events.Event.TheVariants.{BeginClose}
-use Rattle.realm_core.specs.Calls.{Performed}
-use Rattle.realm_core.proofs.ToldCalls.{records_surely}
+use Rattle.realm_steps.specs.declared.steps.RealmStep.TheVariants.{Happened}
+use Rattle.realm_core.specs.Calls.{DidPerform}
+use Rattle.realm_core.specs.Telling.{Stepped}
+use Rattle.realm_core.proofs.ToldCalls.{records_surely, recorded_told}
 use Rattle.realm_core.proofs.state.RealmCore.begin_close.Goals as goal
 
 pub returns-clause-answer : goal.returns-clause-answer
 returns-clause-answer g c =
     let old = c.args.share.now in
     let new = c.perform.new.share in
-    let Q : ℕ → Type 0 = λ a. Performed old new (BeginClose a c.args.scope) c.perform.result in
-    rw c.told_noted.ensures (records_surely old new (BeginClose old.actor c.args.scope) c.perform.result refl (subst Q c.actor-actor.ensures c.perform.ensures.answer))
+    let Q : ℕ → Type 0 = λ a. DidPerform old new (BeginClose a c.args.scope) c.perform.result in
+    (c.perform.ensures.answer.0, rw c.told_noted.ensures (records_surely old new (BeginClose old.actor c.args.scope) c.perform.result refl (subst Q c.actor-actor.ensures c.perform.ensures.answer.1)))
+
+pub returns-clause-steps : goal.returns-clause-steps
+returns-clause-steps g c =
+    let old = c.args.share.now in
+    let new = c.perform.new.share in
+    let P : ℕ → Type 0 = λ a. Stepped c.args.self.now c.perform.new.self new (Happened (BeginClose a c.args.scope)) (recorded c.told_noted.result) in
+    subst P c.actor-actor.ensures (rw (c.told_noted.ensures, recorded_told c.perform.result) c.perform.ensures.steps)

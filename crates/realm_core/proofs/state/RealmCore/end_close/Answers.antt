@@ -5,7 +5,7 @@ use Rattle.realm_steps.specs.declared.steps.RealmStep.{RealmStep}
 use Rattle.realm_steps.specs.Steps.{history_of}
 use Rattle.realm_steps.proofs.Histories.{legal_history}
 use Rattle.scope_checks.specs.declared.told.Told.{Told}
-use Rattle.realm_core.specs.Calls.{Performed}
+use Rattle.realm_core.specs.Calls.{DidPerform}
 use Rattle.realm_core.specs.Cores.{CoreValue}
 use Rattle.realm_core.specs.Endings.{CanEnd}
 use Rattle.realm_core.proofs.Ended.{end_passes}
@@ -17,9 +17,9 @@ returns-in_err-verdict-clause-sure g c =
     λ can.
     let old = c.args.share.now in
     let new = c.perform.new.share in
-    let did = rw c.actor-actor.ensures at c.in_err-verdict.ensures.answer in
+    let did = rw c.actor-actor.ensures at c.in_err-verdict.ensures.answer.1 in
     let refused = refused_surely old new (EndClose old.actor c.args.scope) _ refl did in
-    let same : c.args.self.now.steps ≡ new.seen = ap (λ (k : CoreValue). k.steps) (sym c.in_err-verdict.ensures.steps ∙ c.in_err-verdict.ensures.core) in
+    let same : c.args.self.now.steps ≡ new.seen = ap (λ (k : CoreValue). k.steps) (sym c.in_err-verdict.ensures.steps.1 ∙ c.in_err-verdict.ensures.steps.0) in
     let here = subst (λ (xs : List RealmStep). CanEnd (history_of xs) old.actor c.args.scope) same can in
     absurd (cc (end_passes old.limits (history_of new.seen) old.actor c.args.scope (legal_history old.limits new.seen refused.looks.legal) here, refused.by))
 
@@ -27,7 +27,7 @@ pub returns-clause-answer : goal.returns-clause-answer
 returns-clause-answer g c =
     let old = c.args.share.now in
     let new = c.perform.new.share in
-    let Q : ℕ → Type 0 = λ a. Performed old new (EndClose a c.args.scope) (Ok c.in_ok-verdict.field-0) in
-    let did = subst Q c.actor-actor.ensures c.in_ok-verdict.ensures.answer in
-    let P : Told → Type 0 = λ t. Performed old new (EndClose old.actor c.args.scope) (Ok t) in
-    closed_told old new old.actor c.args.scope c.in-Closed.verdict (subst P c.in-Closed.is did)
+    let Q : ℕ → Type 0 = λ a. DidPerform old new (EndClose a c.args.scope) (Ok c.in_ok-verdict.field-0) in
+    let did = subst Q c.actor-actor.ensures c.in_ok-verdict.ensures.answer.1 in
+    let P : Told → Type 0 = λ t. DidPerform old new (EndClose old.actor c.args.scope) (Ok t) in
+    (c.in_ok-verdict.ensures.answer.0, closed_told old new old.actor c.args.scope c.in-Closed.verdict (subst P c.in-Closed.is did))

@@ -3,7 +3,7 @@ use Rattle.std.proofs.Common.{ℕ, Ok, subst}
 use Rattle.scope_rules.specs.declared.types.events.Event.TheVariants.{Open}
 use Rattle.scope_rules.specs.declared.types.joiners.Policy.{Policy}
 use Rattle.scope_checks.specs.declared.told.Told.{Told}
-use Rattle.realm_core.specs.Calls.{Performed}
+use Rattle.realm_core.specs.Calls.{DidPerform}
 use Rattle.join_rules.specs.Joiners.{policy_of}
 use Rattle.realm_core.proofs.ToldCalls.{open_told}
 use Rattle.realm_lock.proofs.locked.Locked+RealmCore+C+N.open.Goals as goal
@@ -14,8 +14,11 @@ returns-in-Ok-Scope-clause-answer g c =
     let new = c.perform.new.share in
     let told = c.in-Ok-Scope.field-0 in
     let policy = policy_of c.args.joiner in
-    let Q : ℕ → Type 0 = λ a. Performed old new (Open a c.policy.result c.args.options) (Ok told) in
-    let P : Policy → Type 0 = λ p. Performed old new (Open old.actor p c.args.options) (Ok told) in
-    let R : Told → Type 0 = λ t. Performed old new (Open old.actor policy c.args.options) (Ok t) in
-    let did = subst P c.policy.ensures (subst Q c.actor.ensures c.in-Ok-Scope.ensures.answer) in
-    open_told old new old.actor policy c.args.options c.in-Ok-Scope.scope (subst R c.in-Ok-Scope.field-0-is did)
+    let Q : ℕ → Type 0 = λ a. DidPerform old new (Open a c.policy.result c.args.options) (Ok told) in
+    let P : Policy → Type 0 = λ p. DidPerform old new (Open old.actor p c.args.options) (Ok told) in
+    let R : Told → Type 0 = λ t. DidPerform old new (Open old.actor policy c.args.options) (Ok t) in
+    let did = subst P c.policy.ensures (subst Q c.actor.ensures c.in-Ok-Scope.ensures.answer.1) in
+    (c.in-Ok-Scope.ensures.answer.0, open_told old new old.actor policy c.args.options c.in-Ok-Scope.scope (subst R c.in-Ok-Scope.field-0-is did))
+
+pub returns-in_default-clause-answer : goal.returns-in_default-clause-answer
+returns-in_default-clause-answer g c = c.refusal_without_room.ensures (policy_of c.args.joiner) c.args.options

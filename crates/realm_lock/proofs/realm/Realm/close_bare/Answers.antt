@@ -9,7 +9,7 @@ returns-in-Ok-clause-answer g c = (
     record {
       begun = c.begin_closing.new.token;
       how = c.in-Ok.field-0;
-      same = c.begin_closing.ensures.token;
+      same = c.begin_closing.ensures.seen.0;
       begins = subst (λ result. Begins c.args.token.now c.begin_closing.new.token c.args.scope result) c.in-Ok.is c.begin_closing.ensures.answer;
       ends = c.end_closing.ensures.ends.1;
     },

@@ -8,9 +8,8 @@ use Rattle.scope_outcomes.proofs.ForkSteps.{forks_stay}
 use Rattle.scope_rows.proofs.DeadlineSteps.{deadlines_stay}
 use Rattle.scope_kept.specs.KeptTables.{KeptTable, IsKeptOf}
 use Rattle.scope_kept.specs.Events.{IsReadyAt, HasFollowedAt}
-use Rattle.scope_kept.proofs.Ending.{ends_in, room_for_end, few_ended, cuts_ended, room_ended}
+use Rattle.scope_kept.proofs.Ending.{ends_in, may_end, cuts_ended, room_ended}
 use Rattle.scope_kept.proofs.Following.{alike_next_at}
-use Rattle.scope_kept.proofs.Wanted.{latest}
 use Rattle.scope_kept.proofs.kept.Kept.finish.Goals as goal
 
 pub scope_of-scope-requires : goal.scope_of-scope-requires
@@ -19,32 +18,16 @@ scope_of-scope-requires g c =
     (can_finish ready.limits ready.history c.args.self.now.rows c.args.task c.args.end ready.legal ready.accepted ready.kept.rows).task
 
 pub complete-requires-clause-row : goal.complete-requires-clause-row
-complete-requires-clause-row g c =
-    let old : KeptTable = record { rows = c.self.inside.rows; cuts = c.self.inside.cuts; envs = c.self.inside.envs; forks = c.self.inside.forks; deadlines = c.self.inside.deadlines } in
-    let ready = (subst (λ t. IsReadyAt t (Finish c.args.task c.args.end) c.args.place) (sym c.self.view_is) c.requires).0 in
-    let scope : c.scope_of-scope.result ≡ scope_of old.rows c.args.task = c.scope_of-scope.ensures.row ∙ ap (λ (t : KeptTable). scope_of t.rows c.args.task) (sym c.self.view_is) in
-    (ends_in ready.limits ready.history old c.args.task c.args.end c.scope_of-scope.result ready.legal ready.accepted ready.kept scope).row
+complete-requires-clause-row g c = (may_end _ _ c.args.task c.args.end c.scope_of-scope.result c.args.place c.self.view_is c.requires c.scope_of-scope.ensures.row).row
 
 pub complete-requires-clause-room : goal.complete-requires-clause-room
-complete-requires-clause-room g c =
-    let old : KeptTable = record { rows = c.self.inside.rows; cuts = c.self.inside.cuts; envs = c.self.inside.envs; forks = c.self.inside.forks; deadlines = c.self.inside.deadlines } in
-    let ready = (subst (λ t. IsReadyAt t (Finish c.args.task c.args.end) c.args.place) (sym c.self.view_is) c.requires).0 in
-    let scope : c.scope_of-scope.result ≡ scope_of old.rows c.args.task = c.scope_of-scope.ensures.row ∙ ap (λ (t : KeptTable). scope_of t.rows c.args.task) (sym c.self.view_is) in
-    room_for_end ready.history old c.args.task c.scope_of-scope.result ready.kept
-    (ends_in ready.limits ready.history old c.args.task c.args.end c.scope_of-scope.result ready.legal ready.accepted ready.kept scope)
+complete-requires-clause-room g c = (may_end _ _ c.args.task c.args.end c.scope_of-scope.result c.args.place c.self.view_is c.requires c.scope_of-scope.ensures.row).room
 
 pub complete-requires-clause-few : goal.complete-requires-clause-few
-complete-requires-clause-few g c =
-    let old : KeptTable = record { rows = c.self.inside.rows; cuts = c.self.inside.cuts; envs = c.self.inside.envs; forks = c.self.inside.forks; deadlines = c.self.inside.deadlines } in
-    let ready = (subst (λ t. IsReadyAt t (Finish c.args.task c.args.end) c.args.place) (sym c.self.view_is) c.requires).0 in
-    let scope : c.scope_of-scope.result ≡ scope_of old.rows c.args.task = c.scope_of-scope.ensures.row ∙ ap (λ (t : KeptTable). scope_of t.rows c.args.task) (sym c.self.view_is) in
-    few_ended ready.history old c.args.task c.scope_of-scope.result ready.kept
-    (ends_in ready.limits ready.history old c.args.task c.args.end c.scope_of-scope.result ready.legal ready.accepted ready.kept scope)
+complete-requires-clause-few g c = (may_end _ _ c.args.task c.args.end c.scope_of-scope.result c.args.place c.self.view_is c.requires c.scope_of-scope.ensures.row).few
 
 pub complete-requires-clause-latest : goal.complete-requires-clause-latest
-complete-requires-clause-latest g c =
-    let old : KeptTable = record { rows = c.self.inside.rows; cuts = c.self.inside.cuts; envs = c.self.inside.envs; forks = c.self.inside.forks; deadlines = c.self.inside.deadlines } in
-    latest old (Finish c.args.task c.args.end) c.args.place (subst (λ t. IsReadyAt t (Finish c.args.task c.args.end) c.args.place) (sym c.self.view_is) c.requires)
+complete-requires-clause-latest g c = (may_end _ _ c.args.task c.args.end c.scope_of-scope.result c.args.place c.self.view_is c.requires c.scope_of-scope.ensures.row).latest
 
 pub finish-requires : goal.finish-requires
 finish-requires g c =

@@ -10,8 +10,9 @@ use Rattle.scope_rows.proofs.DeadlineSteps.{deadlines_stay}
 use Rattle.scope_kept.specs.KeptTables.{KeptTable, IsKeptOf, HasRoomForEnds, HasRoomToFork}
 use Rattle.scope_kept.specs.Events.{IsReadyAt, HasFollowedAt}
 use Rattle.scope_kept.proofs.Following.{alike_next_at}
-use Rattle.scope_kept.proofs.Forking.{fork_row, fork_env, fork_numbers, fork_list, rows_roomier, cuts_roomier, room_reserved, room_forked}
+use Rattle.scope_kept.proofs.Forking.{fork_row, fork_env, fork_numbers, fork_list, cuts_roomier, room_reserved, room_forked}
 use Rattle.scope_kept.proofs.Opening.{on_err_anyway}
+use Rattle.scope_kept.proofs.Roomier.{task_rows_roomier, kept_for_fork}
 use Rattle.scope_kept.proofs.kept.Kept.fork.Goals as goal
 
 pub room_to_fork-more-requires : goal.room_to_fork-more-requires
@@ -42,14 +43,7 @@ returns-in_err-reserve-clause-refused c =
     on_err_anyway c.from_residual-in_err-reserve.result
     (λ L h legal kept.
     let was = subst (IsKeptOf h) (sym c.self.view_is) kept in
-    record {
-      rows = rows_roomier h c.self.inside.rows c.reserve_task.new.self c.reserve_task.ensures.kept was.rows;
-      cuts = was.cuts;
-      envs = was.envs;
-      forks = c.reserve.ensures.agrees h was.forks;
-      deadlines = was.deadlines;
-      room = was.room;
-    })
+    kept_for_fork h _ _ _ _ (task_rows_roomier h c.self.inside.rows c.reserve_task.new.self c.reserve_task.ensures.kept was.rows) was.cuts was.room (c.reserve.ensures.agrees h was.forks) was)
 
 pub reserve-requires-2 : goal.reserve-requires-2
 reserve-requires-2 c =
@@ -61,14 +55,7 @@ returns-in_err-reserve-2-clause-refused c =
     on_err_anyway c.from_residual-in_err-reserve-2.result
     (λ L h legal kept.
     let was = subst (IsKeptOf h) (sym c.self.view_is) kept in
-    record {
-      rows = rows_roomier h c.self.inside.rows c.reserve_task.new.self c.reserve_task.ensures.kept was.rows;
-      cuts = subst (AreCutsOf h) (sym c.in_err-reserve-2.ensures.refused) was.cuts;
-      envs = was.envs;
-      forks = c.reserve.ensures.agrees h was.forks;
-      deadlines = was.deadlines;
-      room = subst (HasRoomForEnds h) (sym c.in_err-reserve-2.ensures.refused) was.room;
-    })
+    kept_for_fork h _ _ _ _ (task_rows_roomier h c.self.inside.rows c.reserve_task.new.self c.reserve_task.ensures.kept was.rows) (subst (AreCutsOf h) (sym c.in_err-reserve-2.ensures.refused) was.cuts) (subst (HasRoomForEnds h) (sym c.in_err-reserve-2.ensures.refused) was.room) (c.reserve.ensures.agrees h was.forks) was)
 
 pub fork-requires : goal.fork-requires
 fork-requires c =
@@ -85,7 +72,7 @@ returns-in_err-fork-clause-refused c =
     let was = subst (IsKeptOf h) (sym c.self.view_is) kept in
     let enough = subst (λ (t : KeptTable). HasRoomToFork h t.cuts c.args.scope c.room_to_fork-more.result) (sym c.self.view_is) (c.room_to_fork-more.ensures L h legal kept) in
     record {
-      rows = rows_roomier h c.self.inside.rows c.reserve_task.new.self c.reserve_task.ensures.kept was.rows;
+      rows = task_rows_roomier h c.self.inside.rows c.reserve_task.new.self c.reserve_task.ensures.kept was.rows;
       cuts = cuts_roomier h old.cuts c.reserve-2.new.self c.args.scope c.room_to_fork-more.result c.in_ok-reserve-2.ensures.reserved was.cuts;
       envs = subst (AreEnvsOf h) (sym c.in_err-fork.ensures.err) was.envs;
       forks = c.reserve.ensures.agrees h was.forks;
@@ -97,7 +84,7 @@ pub fork-requires-2-clause-there : goal.fork-requires-2-clause-there
 fork-requires-2-clause-there c =
     let ready = (subst (λ t. IsReadyAt t (Fork c.args.actor c.args.scope c.args.label) c.args.place) (sym c.self.view_is) c.requires).0 in
     can_fork ready.limits ready.history c.reserve_task.new.self c.args.actor c.args.scope c.args.label ready.legal ready.accepted
-    (rows_roomier ready.history c.self.inside.rows c.reserve_task.new.self c.reserve_task.ensures.kept ready.kept.rows)
+    (task_rows_roomier ready.history c.self.inside.rows c.reserve_task.new.self c.reserve_task.ensures.kept ready.kept.rows)
 
 pub fork-requires-3-clause-list : goal.fork-requires-3-clause-list
 fork-requires-3-clause-list c =
@@ -113,7 +100,7 @@ returns-clause-followed c =
     (λ L h legal ok kept at.
     let whole = subst (IsKeptOf h) c.self.view_is kept in
     let enough = subst (λ (t : KeptTable). HasRoomToFork h t.cuts c.args.scope c.room_to_fork-more.result) (sym c.self.view_is) (c.room_to_fork-more.ensures L h legal whole) in
-    let rows = rows_roomier h c.self.inside.rows c.reserve_task.new.self c.reserve_task.ensures.kept kept.rows in
+    let rows = task_rows_roomier h c.self.inside.rows c.reserve_task.new.self c.reserve_task.ensures.kept kept.rows in
     let cuts = cuts_roomier h old.cuts new.cuts c.args.scope c.room_to_fork-more.result c.in_ok-reserve-2.ensures.reserved kept.cuts in
     record {
       rows = c.fork-2.ensures.agrees L h legal ok rows at (c.is_cancelled-cancelled.ensures L h legal whole);

@@ -2,11 +2,11 @@ use Rattle.std.proofs.Common.{refl, sym, subst, ◌∙◌}
 use Rattle.scope_rules.specs.declared.types.events.Event.TheVariants.{Open}
 use Rattle.scope_rows.proofs.WantsMet.{can_open}
 use Rattle.scope_envs.proofs.Steps.{envs_stay}
-use Rattle.scope_cuts.specs.CutsOf.{AreCutsOf}
-use Rattle.scope_kept.specs.KeptTables.{KeptTable, IsKeptOf, HasRoomForEnds}
+use Rattle.scope_kept.specs.KeptTables.{KeptTable, IsKeptOf}
 use Rattle.scope_kept.specs.Events.{IsReadyAt, HasFollowedAt}
 use Rattle.scope_kept.proofs.Following.{alike_next_at}
-use Rattle.scope_kept.proofs.Opening.{rows_roomier, forks_roomier, room_opened, on_err_anyway}
+use Rattle.scope_kept.proofs.Opening.{forks_roomier, room_opened, on_err_anyway}
+use Rattle.scope_kept.proofs.Roomier.{scope_rows_roomier, kept_for_open}
 use Rattle.scope_kept.proofs.Wanted.{open_env, around_row, open_level, open_numbers, latest}
 use Rattle.scope_kept.proofs.kept.Kept.open.Goals as goal
 
@@ -41,49 +41,29 @@ pub open-requires-2-clause-there : goal.open-requires-2-clause-there
 open-requires-2-clause-there c =
     let ready = (subst (λ t. IsReadyAt t (Open c.args.actor c.args.policy c.args.options) c.args.place) (sym c.self.view_is) c.requires).0 in
     can_open ready.limits ready.history c.reserve_scope.new.self c.args.actor c.args.policy c.args.options ready.accepted
-    (rows_roomier ready.history c.self.inside.rows c.reserve_scope.new.self c.reserve_scope.ensures.kept ready.kept.rows)
+    (scope_rows_roomier ready.history c.self.inside.rows c.reserve_scope.new.self c.reserve_scope.ensures.kept ready.kept.rows)
 
 pub returns-in_err-reserve_scope-2-clause-refused : goal.returns-in_err-reserve_scope-2-clause-refused
 returns-in_err-reserve_scope-2-clause-refused c =
     on_err_anyway c.from_residual-in_err-reserve_scope-2.result
     (λ L h legal kept.
     let was = subst (IsKeptOf h) (sym c.self.view_is) kept in
-    record {
-      rows = rows_roomier h c.self.inside.rows c.reserve_scope.new.self c.reserve_scope.ensures.kept was.rows;
-      cuts = was.cuts;
-      envs = was.envs;
-      forks = forks_roomier h c.self.inside.forks c.reserve_scope-2.new.self c.reserve_scope-2.ensures.kept was.forks;
-      deadlines = was.deadlines;
-      room = was.room;
-    })
+    kept_for_open h _ _ _ _ (scope_rows_roomier h c.self.inside.rows c.reserve_scope.new.self c.reserve_scope.ensures.kept was.rows) (forks_roomier h c.self.inside.forks c.reserve_scope-2.new.self c.reserve_scope-2.ensures.kept was.forks) (was.deadlines) was)
 
 pub returns-in_err-reserve_scope-3-clause-refused : goal.returns-in_err-reserve_scope-3-clause-refused
 returns-in_err-reserve_scope-3-clause-refused c =
     on_err_anyway c.from_residual-in_err-reserve_scope-3.result
     (λ L h legal kept.
     let was = subst (IsKeptOf h) (sym c.self.view_is) kept in
-    record {
-      rows = rows_roomier h c.self.inside.rows c.reserve_scope.new.self c.reserve_scope.ensures.kept was.rows;
-      cuts = was.cuts;
-      envs = was.envs;
-      forks = forks_roomier h c.self.inside.forks c.reserve_scope-2.new.self c.reserve_scope-2.ensures.kept was.forks;
-      deadlines = c.reserve_scope-3.ensures.agrees h was.deadlines;
-      room = was.room;
-    })
+    kept_for_open h _ _ _ _ (scope_rows_roomier h c.self.inside.rows c.reserve_scope.new.self c.reserve_scope.ensures.kept was.rows) (forks_roomier h c.self.inside.forks c.reserve_scope-2.new.self c.reserve_scope-2.ensures.kept was.forks) (c.reserve_scope-3.ensures.agrees h was.deadlines) was)
 
 pub returns-in_err-open-clause-refused : goal.returns-in_err-open-clause-refused
 returns-in_err-open-clause-refused c =
     on_err_anyway c.from_residual-in_err-open.result
     (λ L h legal kept.
     let was = subst (IsKeptOf h) (sym c.self.view_is) kept in
-    record {
-      rows = rows_roomier h c.self.inside.rows c.reserve_scope.new.self c.reserve_scope.ensures.kept was.rows;
-      cuts = subst (AreCutsOf h) (sym c.in_err-open.ensures.refused) was.cuts;
-      envs = was.envs;
-      forks = forks_roomier h c.self.inside.forks c.reserve_scope-2.new.self c.reserve_scope-2.ensures.kept was.forks;
-      deadlines = c.reserve_scope-3.ensures.agrees h was.deadlines;
-      room = subst (HasRoomForEnds h) (sym c.in_err-open.ensures.refused) was.room;
-    })
+    rw c.in_err-open.ensures.refused
+    (kept_for_open h _ _ _ _ (scope_rows_roomier h c.self.inside.rows c.reserve_scope.new.self c.reserve_scope.ensures.kept was.rows) (forks_roomier h c.self.inside.forks c.reserve_scope-2.new.self c.reserve_scope-2.ensures.kept was.forks) (c.reserve_scope-3.ensures.agrees h was.deadlines) was))
 
 pub returns-clause-followed : goal.returns-clause-followed
 returns-clause-followed c =
@@ -92,7 +72,7 @@ returns-clause-followed c =
     subst (λ t. HasFollowedAt t (Open c.args.actor c.args.policy c.args.options) c.args.place new) c.self.view_is
     (λ L h legal ok kept at.
     let parent = c.surrounding-parent.ensures L h legal (subst (IsKeptOf h) c.self.view_is kept) in
-    let rows = rows_roomier h c.self.inside.rows c.reserve_scope.new.self c.reserve_scope.ensures.kept kept.rows in
+    let rows = scope_rows_roomier h c.self.inside.rows c.reserve_scope.new.self c.reserve_scope.ensures.kept kept.rows in
     let cuts = c.in_ok-open.ensures.opened L h c.args.actor legal kept.cuts at parent in
     record {
       rows = c.open-2.ensures.agrees L h legal ok rows at parent (c.stack_len-height.ensures.agrees h kept.envs);

@@ -6,4 +6,4 @@ use Rattle.scope_script.proofs.Answered.{adds}
 use Rattle.scope_script.proofs.performing.commands.open_by.Goals as goal
 
 pub returns : goal.returns
-returns g c = adds _ _ (event.Open c.args.actor (policy_of c.args.joiner) c.args.options) reply.Scope _ _ _ refl refl refl c.opened.ensures c.open.ensures.answer c.open.ensures.history
+returns g c = adds _ _ (event.Open c.args.actor (policy_of c.args.joiner) c.args.options) reply.Scope _ _ _ refl refl refl c.opened.ensures c.open.ensures.entered.0 c.open.ensures.entered.1

@@ -15,4 +15,4 @@ log-requires c =
 pub returns-in-Ok : goal.returns-in-Ok
 returns-in-Ok c =
     let passed : check_of c.args.self.now.limits c.args.self.now.history (Join c.args.actor c.args.scope) ≡ Ok tt = rw c.view.ensures at (sym (c.join_row.ensures c.args.self.now.limits) ∙ c.in_ok-join_row.was) in
-    rw passed (preview_told _ _ c.args.actor c.args.scope _ c.limits-history_is_legal.ensures.legal passed c.in_ok-log.ensures.log ∙ ap Some (sym c.in-Ok.ensures))
+    rw passed (preview_told _ _ c.args.actor c.args.scope _ c.limits-legal.ensures.legal passed c.in_ok-log.ensures.log ∙ ap Some (sym c.in-Ok.ensures))

@@ -15,7 +15,7 @@ short L M h s same legal within = entries_small L h s legal within (subst (λ (x
 
 pub log-requires : goal.log-requires
 log-requires c =
-    let facts = c.limits-history_is_legal.ensures in
+    let facts = c.limits-legal.ensures in
     rw c.view.ensures (omega (arith, short _ _ _ c.args.scope facts.limits facts.legal facts.within))
 
 pub unreachable-requires : goal.unreachable-requires
@@ -24,5 +24,5 @@ unreachable-requires c =
 
 pub returns-in-Ok-Some-clause-small : goal.returns-in-Ok-Some-clause-small
 returns-in-Ok-Some-clause-small c =
-    let facts = c.limits-history_is_legal.ensures in
+    let facts = c.limits-legal.ensures in
     rw (entries_there _ _ _ (rw c.view.ensures at (sym c.in-Ok-Some.ensures ∙ c.in-Ok-Some.field-0-is))) (short _ _ _ c.args.scope facts.limits facts.legal facts.within)

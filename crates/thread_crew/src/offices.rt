@@ -1,33 +1,33 @@
-use crate::staff::{Found, Place, Staff, Wish};
+use crate::staff::{Found, SharedTray, Staff, Wish};
 use std::alloc::{AllocError, Global};
 use std::sync::{Arc, Condvar, Mutex, Wait};
 use std::thread::Parker;
 
-/// The desk of a crew, which all its threads share: its staff under a lock, what the maker of threads
+/// The office of a crew, which all its threads share: its staff under a lock, what the maker of threads
 /// sleeps on, and what those forks sleep on that wait for a thread.
 #[derive(Drop)]
-pub(crate) struct Desk<O> {
+pub(crate) struct Office<O> {
     staff: Mutex<Staff<O>>,
     maker: Parker,
     answered: Condvar,
 }
 
-impl<O: Drop> Desk<O> {
-    /// The desk of a crew with no thread, of which so many may rest.
-    pub(crate) fn new(alloc: Global, keep: usize) -> Desk<O> {
-        Desk {
+impl<O: Drop> Office<O> {
+    /// The office of a crew with no thread, of which so many may rest.
+    pub(crate) fn new(alloc: Global, keep: usize) -> Office<O> {
+        Office {
             staff: Mutex::new(Staff::new(alloc, keep)),
             maker: Parker::new(),
             answered: Condvar::new(),
         }
     }
 
-    /// The place of a thread that waits for an order: of one that rests, or of one that is made now.
+    /// The tray of a thread that waits for an order: of one that rests, or of one that is made now.
     /// None where the crew is closed or no thread could be made.
-    pub(crate) fn find<R: Wait>(&self, rt: &R) -> Option<Place<O>> {
+    pub(crate) fn find<R: Wait>(&self, rt: &R) -> Option<SharedTray<O>> {
         let found = self.staff.lock(rt).find();
         match found {
-            Found::Resting(place) => Some(place),
+            Found::Resting(tray) => Some(tray),
             Found::Closed => None,
             Found::Asked => {
                 self.maker.unpark();
@@ -36,7 +36,7 @@ impl<O: Drop> Desk<O> {
         }
     }
 
-    fn wait_for_answer<R: Wait>(&self, rt: &R) -> Option<Place<O>> {
+    fn wait_for_answer<R: Wait>(&self, rt: &R) -> Option<SharedTray<O>> {
         let mut staff = self.staff.lock(rt);
         for _ in rt.forever() {
             match staff.answer() {
@@ -47,10 +47,10 @@ impl<O: Drop> Desk<O> {
         unreachable!()
     }
 
-    /// A thread has done its work. Answers whether it comes to rest at its place; else it is to end.
-    pub(crate) fn rest<R: Wait>(&self, rt: &R, place: &Place<O>, number: usize) -> bool {
-        match Arc::try_clone(place) {
-            Ok(place) => self.staff.lock(rt).rest(Some(place), number),
+    /// A thread has done its work. Answers whether it comes to rest at its tray; else it is to end.
+    pub(crate) fn rest<R: Wait>(&self, rt: &R, tray: &SharedTray<O>, number: usize) -> bool {
+        match Arc::try_clone(tray) {
+            Ok(tray) => self.staff.lock(rt).rest(Some(tray), number),
             Err(_) => self.staff.lock(rt).rest(None, number),
         }
     }
@@ -80,7 +80,7 @@ impl<O: Drop> Desk<O> {
     }
 
     /// Tells a fork of the thread that was made, or that none could be.
-    pub(crate) fn tell<R: Wait>(&self, rt: &R, made: Option<Place<O>>) {
+    pub(crate) fn tell<R: Wait>(&self, rt: &R, made: Option<SharedTray<O>>) {
         self.staff.lock(rt).tell(made);
         self.answered.notify_one();
     }

@@ -1,0 +1,8 @@
+use Rattle.std.proofs.Common.{sym, subst}
+use Rattle.share_ledger.specs.Values.{OwnerValue}
+use Rattle.job_runner.specs.Endings.{NothingOpen}
+use Rattle.job_runner.proofs.Ended.{leaves_nothing}
+use Rattle.job_runner.proofs.contexts.TaskCtx.leave.Goals as goal
+
+pub returns-clause-over : goal.returns-clause-over
+returns-clause-over g c = leaves_nothing c.into_held.result (subst (λ (t : OwnerValue). NothingOpen t) (sym c.into_held.ensures.same) c.close_what_is_open.ensures.closed)

@@ -1,0 +1,42 @@
+-- What is kept with more room is kept of the same history.
+use Rattle.std.proofs.Common.{◌≡◌, ℕ, sym, subst}
+use Rattle.scope_rules.specs.History.{History}
+use Rattle.scope_rows.specs.Table.{RowTable}
+use Rattle.scope_rows.specs.Agreement.{AreRowsOf}
+use Rattle.scope_rows.specs.DeadlineTable.{DeadlineTable}
+use Rattle.scope_rows.specs.DeadlinesOf.{AreDeadlinesOf}
+use Rattle.scope_envs.specs.EnvTable.{EnvTable}
+use Rattle.scope_envs.specs.Agreement.{AreEnvsOf}
+use Rattle.scope_outcomes.specs.ForkTable.{ForkTable}
+use Rattle.scope_outcomes.specs.ForksOf.{AreForksOf}
+use Rattle.scope_cuts.specs.CutTables.{CutTable}
+use Rattle.scope_cuts.specs.CutsOf.{AreCutsOf}
+use Rattle.scope_kept.specs.KeptTables.{KeptTable, IsKeptOf, HasRoomForEnds}
+
+-- rows, whatever room they have
+pub rows_with_room : (h : History) (rows : RowTable) (n m : ℕ) → AreRowsOf h rows → AreRowsOf h (record rows { scope_room = n; task_room = m })
+rows_with_room h rows n m are = record {
+  scopes_before = are.scopes_before;
+  tasks_before = are.tasks_before;
+  main = are.main;
+  scope_count = are.scope_count;
+  task_count = are.task_count;
+  scopes = are.scopes;
+  tasks = are.tasks;
+}
+
+pub scope_rows_roomier : (h : History) (old new : RowTable) → new ≡ record old { scope_room = new.scope_room } → AreRowsOf h old → AreRowsOf h new
+scope_rows_roomier h old new is are = subst (AreRowsOf h) (sym is) (rows_with_room h old new.scope_room old.task_room are)
+
+pub task_rows_roomier : (h : History) (old new : RowTable) → new ≡ record old { task_room = new.task_room } → AreRowsOf h old → AreRowsOf h new
+task_rows_roomier h old new is are = subst (AreRowsOf h) (sym is) (rows_with_room h old old.scope_room new.task_room are)
+
+-- an open that was refused room, after it made some
+pub kept_for_open : (h : History) (old : KeptTable) (rows : RowTable) (forks : ForkTable) (deadlines : DeadlineTable) → AreRowsOf h rows → AreForksOf h forks → AreDeadlinesOf h deadlines → IsKeptOf h old
+    → IsKeptOf h (record old { rows = rows; forks = forks; deadlines = deadlines })
+kept_for_open h old rows forks deadlines are have last kept = record { rows = are; cuts = kept.cuts; envs = kept.envs; forks = have; deadlines = last; room = kept.room }
+
+-- a fork that was refused it
+pub kept_for_fork : (h : History) (old : KeptTable) (rows : RowTable) (cuts : CutTable) (forks : ForkTable) → AreRowsOf h rows → AreCutsOf h cuts → HasRoomForEnds h cuts → AreForksOf h forks → IsKeptOf h old
+    → IsKeptOf h (record old { rows = rows; cuts = cuts; forks = forks })
+kept_for_fork h old rows cuts forks are cut room have kept = record { rows = are; cuts = cut; envs = kept.envs; forks = have; deadlines = kept.deadlines; room = room }

@@ -1,0 +1,16 @@
+-- What was taken is of the realm, and each ticket that was leaves its room; each turn takes one.
+use Rattle.std.proofs.Common.{◌≡◌, ◌+◌, ◌≤◌, length, vec_len}
+use Rattle.std.specs.Prelude.{vec_capacity}
+use Rattle.std.specs.List.{All}
+use Rattle.share_ledger.specs.Values.{TicketValue}
+use Rattle.thread_crew.proofs.teams.Team.take_from.Given as goal
+
+abbrev pub invariant-loop-place : goal.invariant-loop-place
+invariant-loop-place g l =
+    All (λ (t : TicketValue). t.table ≡ g.N.RealmName.table) l.tickets.items
+    × (vec_len l.tickets + vec_len l.self-inside.returned ≤ vec_capacity l.tickets)
+    × (vec_len l.tickets + (vec_len l.self-inside.running + vec_len l.self-inside.returned) ≤ vec_capacity l.self-inside.returned)
+    × (l.self-inside.running ≡ l.initial.self-inside.running)
+
+abbrev pub decreases-loop-place : goal.decreases-loop-place
+decreases-loop-place g l = vec_len l.self-inside.returned

@@ -1,0 +1,33 @@
+-- The threads that an owner makes, and the tickets of those that it joined.
+use Rattle.std.specs.Prelude.{◌≡◌, ℕ, ◌<◌, ◌≤◌, ◌+◌, List, [], ◌∷◌, ◌++◌}
+use Rattle.std.specs.List.{All}
+
+-- the scopes of the threads that were not joined, how many these are, and how many tickets came back of others;
+-- and for how many threads more there is room, for their handles and for their tickets
+pub record TeamValue : Type 0 where
+  pub running : List ℕ
+  pub threads : ℕ
+  pub returned : ℕ
+  pub handles : ℕ
+  pub tickets : ℕ
+
+-- there is room for a thread more, and for its return
+abbrev pub HasRoom : TeamValue → Type 0
+HasRoom t = (1 ≤ t.handles) × (1 ≤ t.tickets)
+
+-- the same threads and tickets, whatever room there is
+abbrev pub IsSameTeam : TeamValue → TeamValue → Type 0
+IsSameTeam old new = (new.running ≡ old.running) × (new.threads ≡ old.threads) × (new.returned ≡ old.returned)
+
+-- a thread of scope s more
+abbrev pub HasThreadMore : ℕ → TeamValue → TeamValue → Type 0
+HasThreadMore s old new = (new.running ≡ old.running ++ s ∷ []) × (new.threads ≡ old.threads + 1) × (new.returned ≡ old.returned)
+
+-- no thread is left of scope s, or of one that was opened later
+abbrev pub AreJoined : ℕ → TeamValue → Type 0
+AreJoined s t = All (λ (of : ℕ). of < s) t.running
+
+-- the threads of scope s and of what was opened later were joined, and each gave its ticket
+pub record Joins (s : ℕ) (old new : TeamValue) : Type 0 where
+  pub none : AreJoined s new
+  pub sum : new.threads + new.returned ≡ old.threads + old.returned

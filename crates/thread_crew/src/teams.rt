@@ -1,0 +1,148 @@
+//! The threads that one owner makes, and the tickets of those that it joined.
+
+ghost use Rattle.std.specs.Prelude.{◌≡◌, ◌<◌, ◌≤◌, ℕ, [], OnOk, IfSome, MatchOption, length, map};
+ghost use Rattle.std.specs.List.{All};
+ghost use Rattle.share_ledger.specs.Values.{TicketValue};
+ghost use Rattle.thread_crew.specs.Teams.{HasRoom, HasThreadMore, IsSameTeam, Joins};
+
+use crate::spawning::Spawner;
+use scope_rules::types::values::ScopeId;
+use share_ledger::{OfRealm, RealmName, Ticket};
+use std::alloc::{AllocError, Global};
+use std::marker::Model;
+use std::sync::Wait;
+
+/// A thread that was made, until it is joined.
+#[derive(Drop)]
+struct Thread<N: RealmName, S: Spawner<N>> {
+    scope: ScopeId,
+    handle: S::Handle,
+}
+
+/// The ticket of a thread that was joined, until its scope is closed.
+#[derive(Drop)]
+struct Returned<N: RealmName> {
+    scope: ScopeId,
+    ticket: OfRealm<N, Ticket>,
+}
+
+/// The threads that an owner made and did not join yet, and the tickets of those that it joined, until it
+/// forgets them. There is always room for the ticket of each thread, so no join takes memory.
+#[derive(Drop)]
+pub struct Team<N: RealmName, S: Spawner<N>> {
+    running: Vec<Thread<N, S>>,
+    returned: Vec<Returned<N>>,
+}
+
+impl<N: RealmName, S: Spawner<N>> Model for Team<N, S> {
+    ghost use Rattle.std.specs.Prelude.{◌-◌, ◌+◌, ◌≤◌, map, vec_len, vec_capacity};
+    ghost use Rattle.thread_crew.specs.Teams.{TeamValue};
+
+    ghost Value = { TeamValue };
+
+    ghost view = { λ t. record { running = map (λ x. x.scope) t.running.items; threads = vec_len t.running; returned = vec_len t.returned; handles = vec_capacity t.running - vec_len t.running; tickets = vec_capacity t.returned - (vec_len t.running + vec_len t.returned) } };
+
+    ghost invariant = { λ t. vec_len t.running + vec_len t.returned ≤ vec_capacity t.returned };
+}
+
+impl<N: RealmName, S: Spawner<N>> Team<N, S> {
+    /// No threads, and no tickets.
+    pub fn new(alloc: Global) -> Team<N, S>
+        ensures { (result.running ≡ []) × (result.returned ≡ 0) }
+    {
+        Team {
+            running: Vec::new(alloc),
+            returned: Vec::new(alloc),
+        }
+    }
+
+    /// Makes room for a thread more, and for its return. Refused where memory is.
+    pub fn reserve(&mut self) -> Result<(), AllocError>
+        ensures same { IsSameTeam self.old self.new }
+        ensures room { OnOk result (HasRoom self.new) }
+    {
+        self.running.reserve(1)?;
+        let returns = self.running.len().saturating_add(1);
+        self.returned.reserve(returns)
+    }
+
+    /// Adds a thread of the scope, for which there is room.
+    pub fn add(&mut self, scope: ScopeId, handle: S::Handle)
+        requires { HasRoom self.old }
+        ensures { HasThreadMore scope self.old self.new }
+    {
+        self.running.push_reserved(Thread { scope, handle });
+    }
+
+    /// Joins the threads of the scope, and of what was opened later, the latest first. It takes no memory.
+    pub fn join_from<R: Wait>(&mut self, rt: &R, spawner: &mut S, scope: ScopeId)
+        ensures { Joins scope self.old self.new }
+    {
+        while let Some(place) = last_from(self.running.as_slice(), scope) {
+            let Thread { scope: of, handle } = self.running.swap_remove(place);
+            let ticket = OfRealm::new(spawner.join(rt, handle));
+            self.returned.push_reserved(Returned { scope: of, ticket });
+        }
+    }
+
+    /// Forgets the tickets of the scope, and of what was opened later.
+    pub fn forget(&mut self, scope: ScopeId)
+        ensures { self.new.running ≡ self.old.running }
+    {
+        self.returned.retain(|returned| returned.scope < scope);
+    }
+
+    /// Takes the tickets of the scope, and of what was opened later. None where there is no room to list
+    /// them.
+    pub fn take_from(&mut self, alloc: Global, scope: ScopeId) -> Option<Vec<Ticket>>
+        ensures running { self.new.running ≡ self.old.running }
+        ensures named { IfSome result (λ tickets. All (λ (t : TicketValue). t.table ≡ N.table) tickets.items) }
+        ensures room { IfSome result (λ tickets. length tickets.items ≤ self.new.tickets) }
+    {
+        let mut tickets = Vec::new(alloc);
+        tickets.reserve(self.returned.len()).ok()?;
+        while let Some(place) = last_returned(self.returned.as_slice(), scope) {
+            let Returned { scope: _, ticket } = self.returned.swap_remove(place);
+            tickets.push_reserved(ticket.into_held());
+        }
+        Some(tickets)
+    }
+
+    /// Puts such tickets back, for which there is room.
+    pub fn put_back(&mut self, tickets: Vec<Ticket>)
+        requires named { All (λ (t : TicketValue). t.table ≡ N.table) tickets.items }
+        requires room { length tickets.items ≤ self.old.tickets }
+        ensures { self.new.running ≡ self.old.running }
+    {
+        let mut tickets = tickets;
+        while let Some(ticket) = tickets.pop() {
+            let scope = ticket.scope();
+            let ticket = OfRealm::new(ticket);
+            self.returned.push_reserved(Returned { scope, ticket });
+        }
+    }
+}
+
+/// The place of the last thread of the scope, or of one that was opened later.
+fn last_from<N: RealmName, S: Spawner<N>>(running: &[Thread<N, S>], scope: ScopeId) -> Option<usize>
+    ensures { MatchOption result (All (λ (of : ℕ). of < scope) (map (λ t. t.scope) running.now)) (λ place. place < length running.now) }
+{
+    for place in (0..running.len()).rev() {
+        if running[place].scope >= scope {
+            return Some(place);
+        }
+    }
+    None
+}
+
+/// The place of the last ticket of the scope, or of one that was opened later.
+fn last_returned<N: RealmName>(returned: &[Returned<N>], scope: ScopeId) -> Option<usize>
+    ensures { IfSome result (λ place. place < length returned.now) }
+{
+    for place in (0..returned.len()).rev() {
+        if returned[place].scope >= scope {
+            return Some(place);
+        }
+    }
+    None
+}
