@@ -125,7 +125,7 @@ impl Both {
             self.ask_of(rt, number, line)?;
             self.compare_log(rt, number, line)?;
         }
-        dumps::compare(rt, &self.book, &self.plain, line)
+        dumps::compare(rt, &self.plain, &self.book, line)
     }
 
     /// Tells both the lines that ` / ` parts.

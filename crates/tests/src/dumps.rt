@@ -10,8 +10,8 @@ use tree_dump::{dump, dump_of};
 /// Compares the dump of the book with what the plain evaluator's view makes of its own.
 pub fn compare(
     rt: &(impl Abort + AllocGlobal),
-    book: &BookState<AnyEnd>,
     plain: &Plain,
+    book: &BookState<AnyEnd>,
     line: &str,
 ) -> Result<(), Fail> {
     let by_book = dump(rt.alloc(), book)?;

@@ -18,6 +18,8 @@ mod plain;
 #[cfg(test)]
 mod readers;
 #[cfg(test)]
+mod runs;
+#[cfg(test)]
 mod scripts;
 #[cfg(test)]
 mod streams;

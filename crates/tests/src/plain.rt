@@ -18,52 +18,49 @@ pub fn reply_of(realm: &mut Plain, command: Command) -> Reply {
 }
 
 fn tried(realm: &mut Plain, event: Event) -> Result<Reply, Refusal> {
-    match event {
+    Ok(match event {
         Event::Open {
             actor,
             policy,
             options,
-        } => Ok(Reply::Scope(realm.open(actor, policy, options)?)),
+        } => Reply::Scope(realm.open(actor, policy, options)?),
         Event::Fork {
             actor,
             scope,
             label,
-        } => Ok(Reply::Task(realm.fork(actor, scope, label)?)),
-        Event::Reject { task } => done(realm.reject(task), Reply::Rejected),
-        Event::Start { task } => done(realm.start(task), Reply::Started),
-        Event::Finish { task, end } => done(realm.finish(task, end), Reply::Finished),
-        Event::Cancel { scope } => recorded(realm.cancel(scope), Reply::Cancelled),
-        Event::Move { scope, deadline } => done(realm.move_deadline(scope, deadline), Reply::Moved),
-        Event::Tick { now } => done(realm.tick(now), Reply::Moment(now)),
-        Event::Bind { actor, binding } => done(
-            realm.bind(actor, binding.key, binding.value),
-            Reply::Bound,
+        } => Reply::Task(realm.fork(actor, scope, label)?),
+        Event::Reject { task } => said(realm.reject(task)?, Reply::Rejected),
+        Event::Start { task } => said(realm.start(task)?, Reply::Started),
+        Event::Finish { task, end } => said(realm.finish(task, end)?, Reply::Finished),
+        Event::Cancel { scope } => recorded(realm.cancel(scope)?, Reply::Cancelled),
+        Event::Move { scope, deadline } => said(
+            realm.move_deadline(scope, deadline)?,
+            Reply::Moved,
         ),
-        Event::Unbind { actor } => done(realm.unbind(actor), Reply::Unbound),
+        Event::Tick { now } => said(realm.tick(now)?, Reply::Moment(now)),
+        Event::Bind { actor, binding } => {
+            said(realm.bind(actor, binding.key, binding.value)?, Reply::Bound)
+        }
+        Event::Unbind { actor } => said(realm.unbind(actor)?, Reply::Unbound),
         Event::Join { actor, scope } => {
             realm.join_now(actor, scope)?;
-            Ok(Reply::Outcome(realm.outcome(scope)?))
+            Reply::Outcome(realm.outcome(scope)?)
         }
-        Event::BeginClose { actor, scope } => recorded(
-            realm.begin_close(actor, scope),
-            Reply::Closing,
-        ),
-        Event::EndClose { actor, scope } => Ok(Reply::Closed(realm.end_close(actor, scope)?)),
-    }
+        Event::BeginClose { actor, scope } => {
+            recorded(realm.begin_close(actor, scope)?, Reply::Closing)
+        }
+        Event::EndClose { actor, scope } => Reply::Closed(realm.end_close(actor, scope)?),
+    })
 }
 
-fn done(answer: Result<(), Refusal>, said: Reply) -> Result<Reply, Refusal> {
-    match answer {
-        Ok(()) => Ok(said),
-        Err(refusal) => Err(refusal),
-    }
+fn said(_done: (), said: Reply) -> Reply {
+    said
 }
 
-fn recorded(answer: Result<Cancelling, Refusal>, said: Reply) -> Result<Reply, Refusal> {
-    match answer {
-        Ok(Cancelling::Recorded) => Ok(said),
-        Ok(Cancelling::Already) => Ok(Reply::Already),
-        Err(refusal) => Err(refusal),
+fn recorded(cancelling: Cancelling, said: Reply) -> Reply {
+    match cancelling {
+        Cancelling::Recorded => said,
+        Cancelling::Already => Reply::Already,
     }
 }
 

@@ -1,13 +1,13 @@
 //! What the readers of the tree of scopes answer, each asked by itself: of a realm with scopes inside one
 //! another and inside a task, and of one that was retired.
 
+use crate::runs::run_to_end;
 use crate::texts::lines;
 use scope_book::BookState;
 use scope_rules::{
-    AnyEnd, Cause, CauseKind, Expiry, Limits, Policy, Refusal, Rule, ScopeId, ScopeInfo,
-    ScopeStage, TaskId,
+    AnyEnd, Cause, CauseKind, Expiry, Policy, Refusal, Rule, ScopeId, ScopeInfo, ScopeStage, TaskId,
 };
-use scope_script::{Mode, Watched, run};
+use scope_script::Mode;
 use std::test::Fail;
 
 type Book = BookState<AnyEnd>;
@@ -174,21 +174,17 @@ enum Asked {
 /// Whether the readers answer what they should of the realm that the lines leave.
 fn answers_so(rt: &impl AllocGlobal, script: &str, asked: Asked) -> Result<bool, Fail> {
     let whole = lines(rt, script)?;
-    let mut reader = Watched::new(whole.as_bytes());
-    let mut writer = Watched::new(Vec::new(rt.alloc()));
-    match run(
+    let ran = run_to_end(
         rt.alloc(),
-        &mut reader,
-        &mut writer,
-        Limits::GREATEST,
+        whole.as_bytes(),
+        Vec::new(rt.alloc()),
         Mode::Quiet,
-    ) {
-        Ok(book) => Ok(match asked {
-            Asked::Tree => tree_is_so(&book),
-            Asked::Past => past_is_refused(&book),
-        }),
-        Err(_) => Err(Fail::from("the run ends well")),
-    }
+    );
+    let book = ran.into_book().ok_or("the run ends well")?;
+    Ok(match asked {
+        Asked::Tree => tree_is_so(&book),
+        Asked::Past => past_is_refused(&book),
+    })
 }
 
 #[test]

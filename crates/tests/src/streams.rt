@@ -3,10 +3,11 @@
 ghost use Rattle.std.specs.Prelude.{◌≤◌, length};
 
 use crate::doubles::{FullWriter, LateWriter, ShortWriter, SlowReader};
+use crate::runs::run_to_end;
 use crate::texts::lines;
-use scope_rules::{Limits, State};
-use scope_script::{Mode, ScriptFault, Watched, run};
-use std::process::Abort;
+use scope_rules::State;
+use scope_script::{Mode, ScriptFault};
+use std::alloc::Global;
 use std::test::Fail;
 
 const SHIELDED: &str =
@@ -15,47 +16,28 @@ const SHIELDED: &str =
 const SHIELDED_REPLIES: &str =
     "scope 1 / task 1 thread / started / scope 2 / task 2 thread / started / cancelled / finished / outcome all 2=5";
 
-/// What a writer with this room, that takes so many bytes at a time, has of the replies to the script;
-/// and how the run ended.
-fn written(
-    rt: &(impl Abort + AllocGlobal),
-    script: &[u8],
-    room: usize,
-    at_a_time: usize,
-) -> Result<(Vec<u8>, Option<ScriptFault>), Fail> {
-    let alloc = rt.alloc();
-    let mut reader = Watched::new(script);
-    let mut writer = Watched::new(ShortWriter {
-        room,
-        at_a_time,
-        taken: Vec::new(alloc),
-    });
-    let ended = run(
-        alloc,
-        &mut reader,
-        &mut writer,
-        Limits::GREATEST,
-        Mode::Replies,
-    );
-    assert!(rt; !reader.has_failed() && !reader.has_given_up());
-    assert!(rt; writer.has_failed() == ended.is_err());
-    Ok((writer.into_inner().taken, ended.err()))
-}
-
 /// A failed write is told, in mid-run and at the last line, which is cut; a write that takes a byte at
-/// a time is none.
+/// a time is none. So many bytes are taken of the replies.
 #[test]
 fn writers_that_take_little(rt: HostRuntime) -> Result<(), Fail> {
-    let script = b"open 0 await\njoin 0 1\njoin";
-    let replies = b"scope 1\noutcome done\nrefused 18 bad-word\n";
-    for room in 0..replies.len() {
-        let (taken, fault) = written(&rt, script, room, 4096)?;
-        assert_eq!(rt; fault, Some(ScriptFault::Write), "with room for {room}");
-        assert!(rt; taken.as_slice() == &replies[..room]);
+    let script = b"open 0 await\njoin 0 1\njoin".as_slice();
+    let replies = b"scope 1\noutcome done\nrefused 18 bad-word\n".as_slice();
+    for room in 0..replies.len() + 1 {
+        let writer = ShortWriter {
+            room,
+            at_a_time: if room < replies.len() { 4096 } else { 1 },
+            taken: Vec::new(rt.alloc()),
+        };
+        let ran = run_to_end(rt.alloc(), script, writer, Mode::Replies);
+        let is_whole = room == replies.len();
+        let fault = if is_whole {
+            None
+        } else {
+            Some(ScriptFault::Write)
+        };
+        let is_taken = ran.writer.taken.as_slice() == &replies[..room];
+        assert!(rt; ran.has(fault) && is_taken, "with room for {room}");
     }
-    let (taken, fault) = written(&rt, script, 4096, 1)?;
-    assert_eq!(rt; fault, None);
-    assert!(rt; taken.as_slice() == replies.as_slice());
     Ok(())
 }
 
@@ -66,51 +48,29 @@ fn writers_that_deliver_late(rt: HostRuntime) -> Result<(), Fail> {
         (false, None, "scope 1\noutcome done\n"),
         (true, Some(ScriptFault::Write), ""),
     ] {
-        let alloc = rt.alloc();
-        let mut reader = Watched::new(b"open 0 await\njoin 0 1\n".as_slice());
-        let mut writer = Watched::new(LateWriter {
-            kept: Vec::new(alloc),
-            delivered: Vec::new(alloc),
+        let writer = LateWriter {
+            kept: Vec::new(rt.alloc()),
+            delivered: Vec::new(rt.alloc()),
             fails,
-        });
-        let ended = run(
-            alloc,
-            &mut reader,
-            &mut writer,
-            Limits::GREATEST,
-            Mode::Replies,
-        );
-        assert_eq!(rt; ended.err(), fault);
-        assert!(rt; writer.into_inner().delivered.as_slice() == wanted.as_bytes());
+        };
+        let script = b"open 0 await\njoin 0 1\n".as_slice();
+        let ran = run_to_end(rt.alloc(), script, writer, Mode::Replies);
+        let is_delivered = ran.writer.delivered.as_slice() == wanted.as_bytes();
+        assert!(rt; ran.has(fault) && is_delivered);
     }
     Ok(())
 }
 
-/// Runs the bytes from a reader that gives so many at a time, and may fail after them; answers what
-/// was written, and how the run ended.
-fn read_slowly(
-    rt: &(impl Abort + AllocGlobal),
-    bytes: &[u8],
-    at_a_time: usize,
-    fails: bool,
-) -> Result<(Vec<u8>, Option<ScriptFault>), Fail> {
-    let alloc = rt.alloc();
-    let mut reader = Watched::new(SlowReader {
-        bytes,
-        at_a_time,
-        fails,
-    });
-    let mut writer = Watched::new(Vec::new(alloc));
-    let ended = run(
-        alloc,
-        &mut reader,
-        &mut writer,
-        Limits::GREATEST,
-        Mode::Replies,
-    );
-    assert!(rt; reader.has_failed() == fails);
-    assert!(rt; !writer.has_failed() && !reader.has_given_up());
-    Ok((writer.into_inner(), ended.err()))
+/// Whether a run of the bytes, of which the reader gives so many at a time, ends by the fault of the reader
+/// where it fails after them, and by none where it does not, and writes this.
+fn writes(alloc: Global, reader: SlowReader, wanted: &[u8]) -> bool {
+    let fault = if reader.fails {
+        Some(ScriptFault::Read)
+    } else {
+        None
+    };
+    let ran = run_to_end(alloc, reader, Vec::new(alloc), Mode::Replies);
+    ran.has(fault) && ran.writer.as_slice() == wanted
 }
 
 /// How many bytes the replies to the whole lines of the script have.
@@ -137,12 +97,13 @@ fn readers_that_fail(rt: HostRuntime) -> Result<(), Fail> {
     for cut in 0..script.len() + 1 {
         let bytes = &script.as_bytes()[..cut];
         let whole = replied(bytes, replies.as_bytes());
-        let (written, fault) = read_slowly(&rt, bytes, 7, true)?;
-        let is_begun = written.as_slice() == &replies.as_bytes()[..whole];
-        assert!(rt;
-            is_begun && fault == Some(ScriptFault::Read),
-            "after {cut} bytes"
-        );
+        let reader = SlowReader {
+            bytes,
+            at_a_time: 7,
+            fails: true,
+        };
+        let is_begun = writes(rt.alloc(), reader, &replies.as_bytes()[..whole]);
+        assert!(rt; is_begun, "after {cut} bytes");
     }
     Ok(())
 }
@@ -155,9 +116,16 @@ fn many_reads(rt: HostRuntime) -> Result<(), Fail> {
         script.push(b'x')?;
     }
     script.extend_from_slice(b"\ntick 5\n".as_slice())?;
-    let (written, fault) = read_slowly(&rt, &script, 1, false)?;
-    let is_whole = written.as_slice() == b"refused 18 bad-word\nmoment 5\n".as_slice();
-    assert!(rt; is_whole && fault.is_none(), "it wrote other replies");
+    let reader = SlowReader {
+        bytes: &script,
+        at_a_time: 1,
+        fails: false,
+    };
+    let replies = b"refused 18 bad-word\nmoment 5\n".as_slice();
+    assert!(rt;
+        writes(rt.alloc(), reader, replies),
+        "it wrote other replies"
+    );
     Ok(())
 }
 
@@ -165,20 +133,9 @@ fn many_reads(rt: HostRuntime) -> Result<(), Fail> {
 #[test]
 fn quiet_runs(rt: HostRuntime) -> Result<(), Fail> {
     let script = lines(&rt, SHIELDED)?;
-    let mut reader = Watched::new(script.as_bytes());
-    let mut writer = Watched::new(FullWriter);
-    let ended = run(
-        rt.alloc(),
-        &mut reader,
-        &mut writer,
-        Limits::GREATEST,
-        Mode::Quiet,
-    );
-    let state = match ended {
-        Ok(book) => book.state(2).ok(),
-        Err(_) => None,
-    };
-    assert!(rt; !writer.has_failed());
-    assert!(rt; matches!(state, Some(State::Success(_))));
+    let ran = run_to_end(rt.alloc(), script.as_bytes(), FullWriter, Mode::Quiet);
+    assert!(rt; ran.has(None));
+    let book = ran.into_book().ok_or("no book")?;
+    assert!(rt; matches!(book.state(2), Ok(State::Success(_))));
     Ok(())
 }
