@@ -4,3 +4,4 @@ pub mod Forks
 pub mod Endings
 pub mod Reports
 pub mod Readiness
+pub mod Lists

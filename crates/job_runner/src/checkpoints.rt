@@ -1,4 +1,5 @@
 ghost use Rattle.std.specs.Prelude.{◌≡◌, IsSome};
+ghost use Rattle.job_runner.specs.Lists.{KeepsOthers};
 ghost use Rattle.job_runner.specs.Marks.{seat_here, Shows};
 
 use crate::contexts::{OpenScope, TaskCtx};
@@ -15,7 +16,7 @@ impl<C: Catalog, S: Spawner<N>, N: RealmName> TaskCtx<C, S, N> {
     /// was shown once is shown at each later checkpoint of that scope. It takes no lock and no memory, and
     /// waits for nobody; when a cancel is seen is not promised.
     pub fn checkpoint(&mut self) -> Option<Mark>
-        ensures token { self.new.token ≡ self.old.token }
+        ensures rest { (self.new ≡ record self.old { around = self.new.around; opened = self.new.opened }) × KeepsOthers self.old.around self.new.around self.old.opened.items self.new.opened.items }
         ensures shows { Shows (seat_here self.old.around self.old.opened.items) (seat_here self.new.around self.new.opened.items) result }
     {
         match self.opened.pop() {
@@ -34,7 +35,7 @@ impl<C: Catalog, S: Spawner<N>, N: RealmName> TaskCtx<C, S, N> {
     /// main without an open scope. That it returns else is not promised: where that scope is never
     /// cancelled it doesn't.
     pub fn wait_cancelled<R: Wait>(&mut self, rt: &R) -> Option<Mark>
-        ensures token { self.new.token ≡ self.old.token }
+        ensures rest { (self.new ≡ record self.old { around = self.new.around; opened = self.new.opened }) × KeepsOthers self.old.around self.new.around self.old.opened.items self.new.opened.items }
         ensures shows { Shows (seat_here self.old.around self.old.opened.items) (seat_here self.new.around self.new.opened.items) result }
         ensures waits { IsSome (seat_here self.old.around self.old.opened.items) → IsSome result }
     {

@@ -1,7 +1,8 @@
-ghost use Rattle.std.specs.Prelude.{◌≡◌, ◌≤◌, IsOk, vec_len};
+ghost use Rattle.std.specs.Prelude.{◌≡◌, IsOk, MatchResult};
 ghost use Rattle.realm_core.specs.Calls.{SeesMore, history_seen};
 ghost use Rattle.realm_close.specs.Waiting.{IsOpenOf};
 ghost use Rattle.realm_close.specs.Closes.{ClosesBare};
+ghost use Rattle.job_runner.specs.Lists.{ListsBelow};
 ghost use Rattle.thread_crew.specs.Teams.{AreJoined, Joins};
 
 use crate::contexts::TaskCtx;
@@ -16,10 +17,10 @@ impl<C: Catalog, S: Spawner<N>, N: RealmName> TaskCtx<C, S, N> {
     /// joins their threads, and ends it. It takes no memory. Refused as `Realm::close_bare` is, so never
     /// for a scope that the token shows as its actor's and not closed. That it returns is not promised.
     pub fn close_scope_bare<R: Wait>(&mut self, rt: &R, scope: ScopeId) -> Result<Verdict, Refusal>
-        ensures token { SeesMore self.old.token self.new.token }
+        ensures rest { (self.new ≡ record self.old { token = self.new.token; spawner = self.new.spawner; opened = self.new.opened; team = self.new.team }) × SeesMore self.old.token self.new.token }
         ensures answer { ClosesBare self.old.token self.new.token scope result }
         ensures sure { IsOpenOf (history_seen self.old.token) self.old.token.actor scope → IsOk result }
-        ensures joined { IsOk result → AreJoined scope self.new.team }
+        ensures left { MatchResult result (λ _. AreJoined scope self.new.team × ListsBelow scope self.old.opened.items self.new.opened.items) (λ _. (self.new.team ≡ self.old.team) × (self.new.opened ≡ self.old.opened)) }
     {
         let token = &mut self.token;
         if let Err(refusal) = self.realm.lent().begin_closing(rt, &mut token.held, scope) {
@@ -34,8 +35,7 @@ impl<C: Catalog, S: Spawner<N>, N: RealmName> TaskCtx<C, S, N> {
 
     /// Joins the threads of the scope, and of the scopes that were opened later, the latest first.
     pub(crate) fn join_threads<R: Wait>(&mut self, rt: &R, scope: ScopeId)
-        ensures token { self.new.token ≡ self.old.token }
-        ensures opened { self.new.opened ≡ self.old.opened }
+        ensures rest { self.new ≡ record self.old { spawner = self.new.spawner; team = self.new.team } }
         ensures team { Joins scope self.old.team self.new.team }
     {
         self.team.join_from(rt, &mut self.spawner, scope);
@@ -43,8 +43,8 @@ impl<C: Catalog, S: Spawner<N>, N: RealmName> TaskCtx<C, S, N> {
 
     /// Forgets what belongs to the scope, which is closed, and to what was opened later.
     pub(crate) fn forget(&mut self, scope: ScopeId)
-        ensures token { self.new.token ≡ self.old.token }
-        ensures fewer { vec_len self.new.opened ≤ vec_len self.old.opened }
+        ensures rest { self.new ≡ record self.old { opened = self.new.opened; team = self.new.team } }
+        ensures opened { ListsBelow scope self.old.opened.items self.new.opened.items }
         ensures running { self.new.team.running ≡ self.old.team.running }
     {
         self.opened.retain(|open| open.scope < scope);

@@ -1,4 +1,4 @@
-ghost use Rattle.std.specs.Prelude.{◌≡◌};
+ghost use Rattle.std.specs.Prelude.{◌≡◌, [], None};
 
 use crate::held::HeldRealm;
 use crate::markers::Marker;
@@ -33,7 +33,7 @@ pub struct TaskCtx<C: Catalog, S: Spawner<N>, N: RealmName> {
 }
 
 impl<C: Catalog, S: Spawner<N>, N: RealmName> TaskCtx<C, S, N> {
-    /// Main's context, with main's token of the realm.
+    /// Main's context, with main's token of the realm: it has no scope listed, and no thread.
     pub fn main(
         alloc: Global,
         realm: Realm<C, N>,
@@ -41,7 +41,7 @@ impl<C: Catalog, S: Spawner<N>, N: RealmName> TaskCtx<C, S, N> {
         spawner: S,
     ) -> TaskCtx<C, S, N>
         requires { token.table ≡ N.table }
-        ensures { result.token ≡ token }
+        ensures { (result.token ≡ token) × (result.opened.items ≡ []) × (result.team.running ≡ []) × (result.around ≡ None) }
     {
         TaskCtx::of_actor(alloc, HeldRealm::new(realm), token, spawner, None)
     }
@@ -55,7 +55,7 @@ impl<C: Catalog, S: Spawner<N>, N: RealmName> TaskCtx<C, S, N> {
         around: Option<Marker>,
     ) -> TaskCtx<C, S, N>
         requires { token.table ≡ N.table }
-        ensures { result.token ≡ token }
+        ensures { (result.token ≡ token) × (result.opened.items ≡ []) × (result.team.running ≡ []) × (result.around ≡ around) }
     {
         TaskCtx {
             alloc,

@@ -49,7 +49,7 @@ impl<C: Catalog, S: Spawner<N>, N: RealmName> TaskCtx<C, S, N> {
     ) -> Result<ForkReply, (ForkRefusal, NamedJob<C, J>)>
     where
         S: Spawns<N, JobWork<C, N, J>>,
-        ensures token { self.new.token ≡ record self.old.token { seen = self.new.token.seen } }
+        ensures rest { (self.new ≡ record self.old { token = self.new.token; spawner = self.new.spawner; team = self.new.team }) × SeesMore self.old.token self.new.token }
         ensures answer { ForksJob self.old.token self.new.token scope job.label (why_alone result) }
         ensures handed_back { IfErr result (λ e. e.1 ≡ job) }
         ensures kept { IfOk result (λ reply. KeepsThread scope reply self.old.team self.new.team) }
@@ -86,7 +86,7 @@ impl<C: Catalog, S: Spawner<N>, N: RealmName> TaskCtx<C, S, N> {
         requires room { HasRoom self.old.team }
         requires named { ticket.table ≡ N.table }
         requires fresh { IsNewTicket self.old.token ticket.scope work.job.label ticket }
-        ensures token { SeesMore self.old.token self.new.token }
+        ensures rest { (self.new ≡ record self.old { token = self.new.token; spawner = self.new.spawner; team = self.new.team }) × SeesMore self.old.token self.new.token }
         ensures answer { SpawnsJob self.old.token self.new.token ticket (why_alone result) }
         ensures handed_back { IfErr result (λ e. e.1 ≡ work.job) }
         ensures kept { IfOk result (λ reply. KeepsThread ticket.scope reply self.old.team self.new.team) }
@@ -109,7 +109,7 @@ impl<C: Catalog, S: Spawner<N>, N: RealmName> TaskCtx<C, S, N> {
     /// Room for a thread of the scope: for its handle, and for its return, with what its own context
     /// begins with.
     fn room_for_a_thread(&mut self, scope: ScopeId) -> Option<(HeldRealm<C, N>, Option<Marker>)>
-        ensures token { self.new.token ≡ self.old.token }
+        ensures rest { self.new ≡ record self.old { team = self.new.team } }
         ensures team { IsSameTeam self.old.team self.new.team }
         ensures room { OnSome result (HasRoom self.new.team) }
     {

@@ -1,8 +1,8 @@
-ghost use Rattle.std.specs.Prelude.{◌≡◌, IfErr};
+ghost use Rattle.std.specs.Prelude.{◌≡◌, MatchResult};
 ghost use Rattle.scope_rules.specs.Replies.{next_scope};
 ghost use Rattle.scope_book.specs.Books.{refusal_alone};
 ghost use Rattle.join_rules.specs.Joiners.{policy_of};
-ghost use Rattle.job_runner.specs.Rooms.{DoesInRoom};
+ghost use Rattle.realm_core.specs.Calls.{SeesMore};
 
 use crate::contexts::{OpenScope, TaskCtx};
 use crate::markers::Marker;
@@ -14,6 +14,9 @@ use std::sync::Wait;
 use thread_crew::Spawner;
 
 impl<C: Catalog, S: Spawner<N>, N: RealmName> TaskCtx<C, S, N> {
+    ghost use Rattle.job_runner.specs.Lists.{ListsOne};
+    ghost use Rattle.job_runner.specs.Rooms.{DoesInRoom};
+
     /// Opens a scope for the context's actor, inside what lies around it (JEP 505, `open`). Refused as
     /// `Realm::open` is, and before anything is done where there is no room to keep it (`Memory`); the
     /// joiner is then handed back.
@@ -23,9 +26,9 @@ impl<C: Catalog, S: Spawner<N>, N: RealmName> TaskCtx<C, S, N> {
         joiner: Joiner,
         options: Options,
     ) -> Result<ScopeId, (Refusal, Joiner)>
-        ensures token { self.new.token ≡ record self.old.token { seen = self.new.token.seen } }
+        ensures rest { (self.new ≡ record self.old { token = self.new.token; opened = self.new.opened }) × SeesMore self.old.token self.new.token }
         ensures answer { DoesInRoom self.old.token self.new.token (RealmStep.Happened (Event.Open self.old.token.actor (policy_of joiner) options)) next_scope (refusal_alone result) }
-        ensures handed_back { IfErr result (λ e. e.1 ≡ joiner) }
+        ensures listed { MatchResult result (λ scope. ListsOne scope self.old.opened.items self.new.opened.items) (λ back. (self.new.opened.items ≡ self.old.opened.items) × (back.1 ≡ joiner)) }
     {
         if self.opened.reserve(1).is_err() {
             return Err((Refusal::Memory, joiner));

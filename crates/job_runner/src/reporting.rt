@@ -1,9 +1,10 @@
-ghost use Rattle.std.specs.Prelude.{◌≡◌, ◌⊎◌, List, IfOk, IfErr, IsOk, MatchResult};
+ghost use Rattle.std.specs.Prelude.{◌≡◌, ◌⊎◌, List, IfOk, IfErr, MatchResult};
 ghost use Rattle.scope_rules.specs.declared.types.refusals.Refusal.TheVariants.{Memory, NotReady};
 ghost use Rattle.share_ledger.specs.Values.{TicketValue};
-ghost use Rattle.realm_core.specs.Calls.{history_seen};
+ghost use Rattle.realm_core.specs.Calls.{SeesMore, history_seen};
 ghost use Rattle.realm_close.specs.Waiting.{IsOpenOf};
 ghost use Rattle.realm_close.specs.Closes.{IsBegun, EndsReported};
+ghost use Rattle.job_runner.specs.Lists.{ListsBelow};
 ghost use Rattle.job_runner.specs.Reports.{ClosesHere, StaysHere, Held};
 ghost use Rattle.thread_crew.specs.Teams.{AreJoined};
 
@@ -21,9 +22,9 @@ impl<C: Catalog, S: Spawner<N>, N: RealmName> TaskCtx<C, S, N> {
     /// meets. Then the scope is closing, its threads are joined, and their tickets are kept for the next
     /// call.
     pub fn close_scope<R: Wait>(&mut self, rt: &R, scope: ScopeId) -> Result<CloseReport, Refusal>
-        ensures token { self.new.token ≡ record self.old.token { seen = self.new.token.seen } }
+        ensures rest { (self.new ≡ record self.old { token = self.new.token; spawner = self.new.spawner; opened = self.new.opened; team = self.new.team }) × SeesMore self.old.token self.new.token }
         ensures answer { MatchResult result (λ report. ClosesHere self.old.token self.new.token scope report) (λ refusal. StaysHere self.old.token self.new.token scope refusal) }
-        ensures joined { IsOk result → AreJoined scope self.new.team }
+        ensures left { MatchResult result (λ _. AreJoined scope self.new.team × ListsBelow scope self.old.opened.items self.new.opened.items) (λ _. self.new.opened ≡ self.old.opened) }
         ensures sure { IsOpenOf (history_seen self.old.token) self.old.token.actor scope → IfErr result (λ refusal. (refusal ≡ NotReady) ⊎ (refusal ≡ Memory)) }
     {
         let token = &mut self.token;
@@ -37,8 +38,9 @@ impl<C: Catalog, S: Spawner<N>, N: RealmName> TaskCtx<C, S, N> {
     /// Ends the close that has begun, with a report.
     fn end_with_report<R: Wait>(&mut self, rt: &R, scope: ScopeId) -> Result<CloseReport, Refusal>
         requires begun { IsBegun (history_seen self.old.token) self.old.token.actor scope }
-        ensures token { self.new.token ≡ record self.old.token { seen = self.new.token.seen } }
+        ensures rest { (self.new ≡ record self.old { token = self.new.token; opened = self.new.opened; team = self.new.team }) × SeesMore self.old.token self.new.token }
         ensures running { self.new.team.running ≡ self.old.team.running }
+        ensures listed { MatchResult result (λ _. ListsBelow scope self.old.opened.items self.new.opened.items) (λ _. self.new.opened ≡ self.old.opened) }
         ensures closed { IfOk result (λ report. (tickets : List TicketValue) × EndsReported self.old.token self.new.token scope tickets report) }
         ensures refused { IfErr result (λ refusal. Held self.old.token self.new.token scope refusal) }
     {

@@ -1,6 +1,11 @@
-use Rattle.job_runner.proofs.Seated.{shows_last}
+use Rattle.std.proofs.Common.{refl}
+use Rattle.job_runner.proofs.Seated.{shows_last, keeps_others}
 use Rattle.job_runner.proofs.contexts.TaskCtx.checkpoint.Goals as goal
 
 pub returns-in-Some-clause-shows : goal.returns-in-Some-clause-shows
 returns-in-Some-clause-shows g c =
     shows_last c.args.self.now.around c.args.self.now.opened.items c.push_reserved.new.self.items c.pop.new.self.items c.in-Some.open (record { scope = c.in-Some.open.scope; marker = c.look-mark.new.self }) c.look-mark.result c.in-Some.ensures.items c.push_reserved.ensures.items c.look-mark.ensures.cell c.look-mark.ensures.mark
+
+pub returns-in-Some-clause-rest : goal.returns-in-Some-clause-rest
+returns-in-Some-clause-rest g c =
+    (refl, keeps_others c.args.self.now.around c.args.self.now.opened.items c.push_reserved.new.self.items c.pop.new.self.items c.in-Some.open (record { scope = c.in-Some.open.scope; marker = c.look-mark.new.self }) c.in-Some.ensures.items c.push_reserved.ensures.items refl)

@@ -1,4 +1,4 @@
-use Rattle.std.proofs.Common.{◌≡◌, ℕ, List, sym, subst, ◌∙◌}
+use Rattle.std.proofs.Common.{◌≡◌, ℕ, List, ap, sym, subst, ◌∙◌}
 use Rattle.share_ledger.specs.Values.{OwnerValue}
 use Rattle.scope_rules.specs.Verdicts.{verdict}
 use Rattle.realm_core.specs.Calls.{history_seen}
@@ -18,9 +18,9 @@ returns-clause-answer g c =
       how = c.in_default.field-0;
       same = subst (λ (t : OwnerValue). begun ≡ record t { seen = begun.seen }) c.token.view_is c.begin_closing.ensures.seen.0;
       begins = subst (λ result. Begins old begun c.args.scope result) c.in_default.is begins;
-      ends = subst (λ (t : OwnerValue). EndsLater t ended c.args.scope c.end_closing-verdict.ensures.ends.0) (c.token-2.view_is ∙ c.join_threads.ensures.token) c.end_closing-verdict.ensures.ends.1;
+      ends = subst (λ (t : OwnerValue). EndsLater t ended c.args.scope c.end_closing-verdict.ensures.ends.0) (c.token-2.view_is ∙ ap (λ x. x.token) c.join_threads.ensures.rest) c.end_closing-verdict.ensures.ends.1;
     } in
     subst
     (λ (t : OwnerValue). ((nested : List ℕ) × ClosesDown old t c.args.scope nested) × (c.end_closing-verdict.result ≡ verdict (history_seen t) c.args.scope))
-    (sym c.forget.ensures.token)
+    (sym (ap (λ x. x.token) c.forget.ensures.rest))
     ((c.end_closing-verdict.ensures.ends.0, closes), c.end_closing-verdict.ensures.verdict)

@@ -1,4 +1,4 @@
-use Rattle.std.proofs.Common.{◌≡◌, sym, subst, inl, arith}
+use Rattle.std.proofs.Common.{◌≡◌, ap, sym, subst, inl, arith}
 use Rattle.std.specs.List.{All}
 use Rattle.std.proofs.lemmas.List.Sorted.{All-permutation, length_permutation}
 use Rattle.share_ledger.specs.Values.{OwnerValue, TicketValue}
@@ -10,7 +10,7 @@ returns-in-Ok-clause-closed g c =
     let tickets = c.in-Some.tickets.items in
     let ended = subst (λ (t : OwnerValue). EndsReported t c.end_reporting.new.token c.args.scope tickets c.in-Ok.report) c.token.view_is c.in-Ok.ensures.done in (
       tickets,
-      subst (λ (t : OwnerValue). EndsReported c.args.self.now.token t c.args.scope tickets c.in-Ok.report) (sym c.forget.ensures.token) ended,
+      subst (λ (t : OwnerValue). EndsReported c.args.self.now.token t c.args.scope tickets c.in-Ok.report) (sym (ap (λ x. x.token) c.forget.ensures.rest)) ended,
     )
 
 pub put_back-requires : goal.put_back-requires

@@ -15,8 +15,8 @@ returns-in-Ok-Thread-clause-answer g c =
     let ticket = c.in-Ok-Thread.ticket in
     let scope = c.args.scope in
     let label = c.args.job.label in
-    let accepted : Accepted old mid (Happened (Fork old.actor scope label)) (reply_there scope) (Thread ticket.task) = rw (← c.label-label.ensures, ← c.room_for_a_thread.ensures.token, ← c.token.view_is) (rw c.in-Ok-Thread.field-0-is at c.in-Ok-Thread.ensures.answer.1) in
-    let sees : SeesMore old mid = rw (← c.room_for_a_thread.ensures.token, ← c.token.view_is) c.in-Ok-Thread.ensures.answer.0 in
+    let accepted : Accepted old mid (Happened (Fork old.actor scope label)) (reply_there scope) (Thread ticket.task) = rw (← c.label-label.ensures, ← (ap (λ x. x.token) c.room_for_a_thread.ensures.rest), ← c.token.view_is) (rw c.in-Ok-Thread.field-0-is at c.in-Ok-Thread.ensures.answer.1) in
+    let sees : SeesMore old mid = rw (← (ap (λ x. x.token) c.room_for_a_thread.ensures.rest), ← c.token.view_is) c.in-Ok-Thread.ensures.answer.0 in
     forked_job old mid c.start_thread.new.self.token scope label ticket (why_alone c.start_thread.result) sees accepted c.start_thread.ensures.answer
 
 pub returns-in-Ok-Thread-clause-kept : goal.returns-in-Ok-Thread-clause-kept
@@ -26,4 +26,4 @@ returns-in-Ok-Thread-clause-kept g c =
 
 pub returns-in-Ok-Never-clause-answer : goal.returns-in-Ok-Never-clause-answer
 returns-in-Ok-Never-clause-answer g c =
-    rw (← c.label-label.ensures, ← c.room_for_a_thread.ensures.token, ← c.token.view_is) (rw c.in-Ok-Never.field-0-is at c.in-Ok-Never.ensures.answer.1)
+    rw (← c.label-label.ensures, ← (ap (λ x. x.token) c.room_for_a_thread.ensures.rest), ← c.token.view_is) (rw c.in-Ok-Never.field-0-is at c.in-Ok-Never.ensures.answer.1)
