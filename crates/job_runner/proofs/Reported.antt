@@ -1,24 +1,22 @@
 -- What a close with a report comes to in a context, once it has begun.
 use Rattle.std.proofs.Common.{◌≡◌, ℕ, List, Result, Ok, Err, inl, inr}
 use Rattle.std.specs.Prelude.{◌⊎◌, IfOk, IfErr, MatchResult}
-use Rattle.scope_rules.specs.declared.types.answers.Cancelling.{Cancelling}
 use Rattle.scope_rules.specs.declared.types.refusals.Refusal.{Refusal}
 use Rattle.scope_rules.specs.declared.types.refusals.Refusal.TheVariants.{Memory, NotReady}
 use Rattle.share_ledger.specs.Values.{OwnerValue, TicketValue}
-use Rattle.realm_core.specs.Calls.{SeesMore}
-use Rattle.realm_close.specs.Closes.{Begins, EndsReported}
 use Rattle.realm_close.specs.declared.reports.CloseReport.{CloseReport}
-use Rattle.job_runner.specs.Reports.{ClosesHere, StaysHere, Held}
+use Rattle.thread_crew.specs.Teams.{TeamValue}
+use Rattle.job_runner.specs.Reports.{ClosesHere, EndsOwn, JoinsHere, StaysHere, Held}
 
-pub comes_here : (old begun new : OwnerValue) (how : Cancelling) (s : ℕ) (result : Result CloseReport Refusal) → SeesMore old begun → Begins old begun s (Ok how) → IfOk result (λ report. (tickets : List TicketValue) × EndsReported begun new s tickets report) → IfErr result (λ refusal. Held begun new s refusal)
-    → MatchResult result (λ report. ClosesHere old new s report) (λ refusal. StaysHere old new s refusal)
-comes_here old begun new how s (Ok report) same begins ends held = record { begun = begun; how = how; same = same; begins = begins; tickets = ends.0; ends = ends.1 }
-comes_here old begun new how s (Err refusal) same begins ends held = inr (record { begun = begun; how = how; same = same; begins = begins; held = held })
+pub comes_here : (old begun new : OwnerValue) (s : ℕ) (team joined left : TeamValue) (result : Result CloseReport Refusal) → JoinsHere old begun s team joined → IfOk result (λ report. EndsOwn s joined.returned begun new report) → IfErr result (λ refusal. Held s joined.returned left.returned begun new refusal) → left.running ≡ joined.running
+    → MatchResult result (λ report. ClosesHere old new s team report) (λ refusal. StaysHere old new s team left refusal)
+comes_here old begun new s team joined left (Ok report) here ends held running = record { begun = begun; joined = joined; here = here; ends = ends }
+comes_here old begun new s team joined left (Err refusal) here ends held running = inr (record { begun = begun; joined = joined; here = here; held = held; running = running })
 
-held_for : (begun new : OwnerValue) (s : ℕ) (refusal : Refusal) → Held begun new s refusal → (refusal ≡ NotReady) ⊎ (refusal ≡ Memory)
-held_for begun new s refusal (inl held) = elim held.2.still.why [ inl why ↦ inl why.0 | inr why ↦ inr why.0 ]
-held_for begun new s refusal (inr held) = inr held.1
+held_for : (s : ℕ) (returned kept : List TicketValue) (begun new : OwnerValue) (refusal : Refusal) → Held s returned kept begun new refusal → (refusal ≡ NotReady) ⊎ (refusal ≡ Memory)
+held_for s returned kept begun new refusal (inl held) = elim held.holds.still.why [ inl why ↦ inl why.0 | inr why ↦ inr why.0 ]
+held_for s returned kept begun new refusal (inr held) = inr held.1
 
-pub held_why : (begun new : OwnerValue) (s : ℕ) (result : Result CloseReport Refusal) → IfErr result (λ refusal. Held begun new s refusal) → IfErr result (λ refusal. (refusal ≡ NotReady) ⊎ (refusal ≡ Memory))
-held_why begun new s (Ok report) held = tt
-held_why begun new s (Err refusal) held = held_for begun new s refusal held
+pub held_why : (s : ℕ) (returned kept : List TicketValue) (begun new : OwnerValue) (result : Result CloseReport Refusal) → IfErr result (λ refusal. Held s returned kept begun new refusal) → IfErr result (λ refusal. (refusal ≡ NotReady) ⊎ (refusal ≡ Memory))
+held_why s returned kept begun new (Ok report) held = tt
+held_why s returned kept begun new (Err refusal) held = held_for s returned kept begun new refusal held

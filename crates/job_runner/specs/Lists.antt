@@ -1,5 +1,5 @@
 -- What a context's list of open scopes holds.
-use Rattle.std.specs.Prelude.{◌≡◌, ℕ, ◌⊎◌, Bool, None, Option, List, [], ◌∷◌, ◌++◌, nat_lt}
+use Rattle.std.specs.Prelude.{◌≡◌, ℕ, ◌⊎◌, None, Option, List, [], ◌∷◌, ◌++◌, nat_lt}
 use Rattle.std.specs.List.{filter}
 use Rattle.cancel_marks.specs.Seats.{Seen}
 use Rattle.job_runner.specs.declared.contexts.OpenScope.{OpenScope}

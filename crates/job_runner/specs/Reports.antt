@@ -1,33 +1,57 @@
--- What a close with a report does in a context, hold by hold.
+-- What a close with a report does in a context, hold by hold, with the tickets that its team holds by then.
 use Rattle.std.specs.Prelude.{◌≡◌, ℕ, ◌⊎◌, Ok, Err, List}
+use Rattle.std.specs.List.Sorted.{IsPermutation}
 use Rattle.scope_rules.specs.declared.types.answers.Cancelling.{Cancelling}
 use Rattle.scope_rules.specs.declared.types.refusals.Refusal.{Refusal}
 use Rattle.scope_rules.specs.declared.types.refusals.Refusal.TheVariants.{Memory}
 use Rattle.share_ledger.specs.Values.{OwnerValue, TicketValue}
 use Rattle.realm_close.specs.Closes.{Begins, EndsReported, HoldsBack}
 use Rattle.realm_close.specs.declared.reports.CloseReport.{CloseReport}
+use Rattle.thread_crew.specs.Teams.{TeamValue, Joins, ArePartedAt}
 
--- it began, its threads were joined, and it ended: the tickets that they gave are those of what was closed
-pub record ClosesHere (old new : OwnerValue) (s : ℕ) (report : CloseReport) : Type 0 where
-  pub begun : OwnerValue
-  pub how : Cancelling
-  pub same : begun ≡ record old { seen = begun.seen }
-  pub begins : Begins old begun s (Ok how)
+-- a close that has begun ended, and its report is of those returned tickets that are of its scope, or of one
+-- that was opened later
+pub record EndsOwn (s : ℕ) (returned : List TicketValue) (old new : OwnerValue) (report : CloseReport) : Type 0 where
   pub tickets : List TicketValue
-  pub ends : EndsReported begun new s tickets report
+  pub others : List TicketValue
+  pub parted : ArePartedAt s returned tickets others
+  pub ends : EndsReported old new s tickets report
+
+-- it was held back with those tickets, and all that had returned are there still
+pub record HoldsBackOwn (s : ℕ) (returned kept : List TicketValue) (old new : OwnerValue) (refusal : Refusal) : Type 0 where
+  pub tickets : List TicketValue
+  pub others : List TicketValue
+  pub left : List TicketValue
+  pub parted : ArePartedAt s returned tickets others
+  pub holds : HoldsBack old new s tickets left refusal
+  pub there : IsPermutation returned kept
 
 -- what the hold did that did not end it: nothing, or there was no room to list the tickets
-abbrev pub Held : OwnerValue → OwnerValue → ℕ → Refusal → Type 0
-Held old new s refusal = ((tickets : List TicketValue) × (left : List TicketValue) × HoldsBack old new s tickets left refusal) ⊎ ((new ≡ old) × (refusal ≡ Memory))
+abbrev pub Held : ℕ → List TicketValue → List TicketValue → OwnerValue → OwnerValue → Refusal → Type 0
+Held s returned kept old new refusal = HoldsBackOwn s returned kept old new refusal ⊎ ((new ≡ old) × (refusal ≡ Memory) × (kept ≡ returned))
 
--- it began, and was not ended
-pub record StaysBegunHere (old new : OwnerValue) (s : ℕ) (refusal : Refusal) : Type 0 where
-  pub begun : OwnerValue
+-- it began, and its threads were joined
+pub record JoinsHere (old begun : OwnerValue) (s : ℕ) (team joined : TeamValue) : Type 0 where
   pub how : Cancelling
   pub same : begun ≡ record old { seen = begun.seen }
   pub begins : Begins old begun s (Ok how)
-  pub held : Held begun new s refusal
+  pub joins : Joins s team joined
+
+-- so it did, and it ended
+pub record ClosesHere (old new : OwnerValue) (s : ℕ) (team : TeamValue) (report : CloseReport) : Type 0 where
+  pub begun : OwnerValue
+  pub joined : TeamValue
+  pub here : JoinsHere old begun s team joined
+  pub ends : EndsOwn s joined.returned begun new report
+
+-- so it did, and it was not ended
+pub record StaysBegunHere (old new : OwnerValue) (s : ℕ) (team left : TeamValue) (refusal : Refusal) : Type 0 where
+  pub begun : OwnerValue
+  pub joined : TeamValue
+  pub here : JoinsHere old begun s team joined
+  pub held : Held s joined.returned left.returned begun new refusal
+  pub running : left.running ≡ joined.running
 
 -- it could not begin; or it has begun
-abbrev pub StaysHere : OwnerValue → OwnerValue → ℕ → Refusal → Type 0
-StaysHere old new s refusal = Begins old new s (Err refusal) ⊎ StaysBegunHere old new s refusal
+abbrev pub StaysHere : OwnerValue → OwnerValue → ℕ → TeamValue → TeamValue → Refusal → Type 0
+StaysHere old new s team left refusal = (Begins old new s (Err refusal) × (left ≡ team)) ⊎ StaysBegunHere old new s team left refusal

@@ -1,11 +1,10 @@
-ghost use Rattle.std.specs.Prelude.{◌≡◌, ◌⊎◌, List, IfOk, IfErr, MatchResult};
+ghost use Rattle.std.specs.Prelude.{◌≡◌, ◌⊎◌, IfOk, IfErr, MatchResult};
 ghost use Rattle.scope_rules.specs.declared.types.refusals.Refusal.TheVariants.{Memory, NotReady};
-ghost use Rattle.share_ledger.specs.Values.{TicketValue};
 ghost use Rattle.realm_core.specs.Calls.{SeesMore, history_seen};
 ghost use Rattle.realm_close.specs.Waiting.{IsOpenOf};
-ghost use Rattle.realm_close.specs.Closes.{IsBegun, EndsReported};
+ghost use Rattle.realm_close.specs.Closes.{IsBegun};
 ghost use Rattle.job_runner.specs.Lists.{ListsBelow};
-ghost use Rattle.job_runner.specs.Reports.{ClosesHere, StaysHere, Held};
+ghost use Rattle.job_runner.specs.Reports.{ClosesHere, EndsOwn, Held, StaysHere};
 ghost use Rattle.thread_crew.specs.Teams.{AreJoined};
 
 use crate::contexts::TaskCtx;
@@ -23,7 +22,7 @@ impl<C: Catalog, S: Spawner<N>, N: RealmName> TaskCtx<C, S, N> {
     /// call.
     pub fn close_scope<R: Wait>(&mut self, rt: &R, scope: ScopeId) -> Result<CloseReport, Refusal>
         ensures rest { (self.new ≡ record self.old { token = self.new.token; spawner = self.new.spawner; opened = self.new.opened; team = self.new.team }) × SeesMore self.old.token self.new.token }
-        ensures answer { MatchResult result (λ report. ClosesHere self.old.token self.new.token scope report) (λ refusal. StaysHere self.old.token self.new.token scope refusal) }
+        ensures answer { MatchResult result (λ report. ClosesHere self.old.token self.new.token scope self.old.team report) (λ refusal. StaysHere self.old.token self.new.token scope self.old.team self.new.team refusal) }
         ensures left { MatchResult result (λ _. AreJoined scope self.new.team × ListsBelow scope self.old.opened.items self.new.opened.items) (λ _. self.new.opened ≡ self.old.opened) }
         ensures sure { IsOpenOf (history_seen self.old.token) self.old.token.actor scope → IfErr result (λ refusal. (refusal ≡ NotReady) ⊎ (refusal ≡ Memory)) }
     {
@@ -41,8 +40,8 @@ impl<C: Catalog, S: Spawner<N>, N: RealmName> TaskCtx<C, S, N> {
         ensures rest { (self.new ≡ record self.old { token = self.new.token; opened = self.new.opened; team = self.new.team }) × SeesMore self.old.token self.new.token }
         ensures running { self.new.team.running ≡ self.old.team.running }
         ensures listed { MatchResult result (λ _. ListsBelow scope self.old.opened.items self.new.opened.items) (λ _. self.new.opened ≡ self.old.opened) }
-        ensures closed { IfOk result (λ report. (tickets : List TicketValue) × EndsReported self.old.token self.new.token scope tickets report) }
-        ensures refused { IfErr result (λ refusal. Held self.old.token self.new.token scope refusal) }
+        ensures closed { IfOk result (λ report. EndsOwn scope self.old.team.returned self.old.token self.new.token report) }
+        ensures refused { IfErr result (λ refusal. Held scope self.old.team.returned self.new.team.returned self.old.token self.new.token refusal) }
     {
         let Some(mut tickets) = self.team.take_from(self.alloc, scope) else {
             return Err(Refusal::Memory);

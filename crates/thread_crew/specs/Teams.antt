@@ -1,13 +1,15 @@
 -- The threads that an owner makes, and the tickets of those that it joined.
-use Rattle.std.specs.Prelude.{◌≡◌, ℕ, ◌<◌, ◌≤◌, ◌+◌, List, [], ◌∷◌, ◌++◌}
+use Rattle.std.specs.Prelude.{◌≡◌, ℕ, ◌<◌, ◌≤◌, ◌+◌, List, [], ◌∷◌, ◌++◌, length}
 use Rattle.std.specs.List.{All}
+use Rattle.std.specs.List.Sorted.{IsPermutation}
+use Rattle.share_ledger.specs.Values.{TicketValue}
 
--- the scopes of the threads that were not joined, how many these are, and how many tickets came back of others;
+-- the scopes of the threads that were not joined, how many these are, and the tickets that came back of others;
 -- and for how many threads more there is room, for their handles and for their tickets
 pub record TeamValue : Type 0 where
   pub running : List ℕ
   pub threads : ℕ
-  pub returned : ℕ
+  pub returned : List TicketValue
   pub handles : ℕ
   pub tickets : ℕ
 
@@ -30,4 +32,12 @@ AreJoined s t = All (λ (of : ℕ). of < s) t.running
 -- the threads of scope s and of what was opened later were joined, and each gave its ticket
 pub record Joins (s : ℕ) (old new : TeamValue) : Type 0 where
   pub none : AreJoined s new
-  pub sum : new.threads + new.returned ≡ old.threads + old.returned
+  pub given : List TicketValue
+  pub kept : new.returned ≡ old.returned ++ given
+  pub sum : new.threads + length given ≡ old.threads
+
+-- of all tickets those of scope s, and of what was opened later, and the others
+pub record ArePartedAt (s : ℕ) (all tickets others : List TicketValue) : Type 0 where
+  pub same : IsPermutation all (tickets ++ others)
+  pub from : All (λ (t : TicketValue). s ≤ t.scope) tickets
+  pub below : All (λ (t : TicketValue). t.scope < s) others

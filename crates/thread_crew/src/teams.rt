@@ -1,9 +1,10 @@
 //! The threads that one owner makes, and the tickets of those that it joined.
 
-ghost use Rattle.std.specs.Prelude.{◌≡◌, ◌<◌, ◌≤◌, ℕ, [], OnOk, IfSome, MatchOption, length, map};
-ghost use Rattle.std.specs.List.{All};
+ghost use Rattle.std.specs.Prelude.{◌≡◌, ◌<◌, ◌≤◌, ◌++◌, ℕ, [], OnOk, IfSome, MatchOption, length, map, nat_lt, slice_index_or};
+ghost use Rattle.std.specs.List.{All, filter};
+ghost use Rattle.std.specs.List.Sorted.{IsPermutation};
 ghost use Rattle.share_ledger.specs.Values.{TicketValue};
-ghost use Rattle.thread_crew.specs.Teams.{HasRoom, HasThreadMore, IsSameTeam, Joins};
+ghost use Rattle.thread_crew.specs.Teams.{ArePartedAt, HasRoom, HasThreadMore, IsSameTeam, Joins};
 
 use crate::spawning::Spawner;
 use scope_rules::types::values::ScopeId;
@@ -19,19 +20,12 @@ struct Thread<N: RealmName, S: Spawner<N>> {
     handle: S::Handle,
 }
 
-/// The ticket of a thread that was joined, until its scope is closed.
-#[derive(Drop)]
-struct Returned<N: RealmName> {
-    scope: ScopeId,
-    ticket: OfRealm<N, Ticket>,
-}
-
 /// The threads that an owner made and did not join yet, and the tickets of those that it joined, until it
 /// forgets them. There is always room for the ticket of each thread, so no join takes memory.
 #[derive(Drop)]
 pub struct Team<N: RealmName, S: Spawner<N>> {
     running: Vec<Thread<N, S>>,
-    returned: Vec<Returned<N>>,
+    returned: Vec<OfRealm<N, Ticket>>,
 }
 
 impl<N: RealmName, S: Spawner<N>> Model for Team<N, S> {
@@ -40,7 +34,7 @@ impl<N: RealmName, S: Spawner<N>> Model for Team<N, S> {
 
     ghost Value = { TeamValue };
 
-    ghost view = { λ t. record { running = map (λ x. x.scope) t.running.items; threads = vec_len t.running; returned = vec_len t.returned; handles = vec_capacity t.running - vec_len t.running; tickets = vec_capacity t.returned - (vec_len t.running + vec_len t.returned) } };
+    ghost view = { λ t. record { running = map (λ x. x.scope) t.running.items; threads = vec_len t.running; returned = t.returned.items; handles = vec_capacity t.running - vec_len t.running; tickets = vec_capacity t.returned - (vec_len t.running + vec_len t.returned) } };
 
     ghost invariant = { λ t. vec_len t.running + vec_len t.returned ≤ vec_capacity t.returned };
 }
@@ -48,7 +42,7 @@ impl<N: RealmName, S: Spawner<N>> Model for Team<N, S> {
 impl<N: RealmName, S: Spawner<N>> Team<N, S> {
     /// No threads, and no tickets.
     pub fn new(alloc: Global) -> Team<N, S>
-        ensures { (result.running ≡ []) × (result.returned ≡ 0) }
+        ensures { (result.running ≡ []) × (result.returned ≡ []) }
     {
         Team {
             running: Vec::new(alloc),
@@ -79,31 +73,32 @@ impl<N: RealmName, S: Spawner<N>> Team<N, S> {
         ensures { Joins scope self.old self.new }
     {
         while let Some(place) = last_from(self.running.as_slice(), scope) {
-            let Thread { scope: of, handle } = self.running.swap_remove(place);
+            let Thread { scope: _, handle } = self.running.swap_remove(place);
             let ticket = OfRealm::new(spawner.join(rt, handle));
-            self.returned.push_reserved(Returned { scope: of, ticket });
+            self.returned.push_reserved(ticket);
         }
     }
 
     /// Forgets the tickets of the scope, and of what was opened later.
     pub fn forget(&mut self, scope: ScopeId)
-        ensures { self.new.running ≡ self.old.running }
+        ensures running { self.new.running ≡ self.old.running }
+        ensures returned { self.new.returned ≡ filter (λ (t : TicketValue). nat_lt t.scope scope) self.old.returned }
     {
-        self.returned.retain(|returned| returned.scope < scope);
+        self.returned.retain(|ticket| ticket.held.scope() < scope);
     }
 
     /// Takes the tickets of the scope, and of what was opened later. None where there is no room to list
     /// them.
     pub fn take_from(&mut self, alloc: Global, scope: ScopeId) -> Option<Vec<Ticket>>
         ensures running { self.new.running ≡ self.old.running }
+        ensures parted { MatchOption result (self.new ≡ self.old) (λ tickets. ArePartedAt scope self.old.returned tickets.items self.new.returned) }
         ensures named { IfSome result (λ tickets. All (λ (t : TicketValue). t.table ≡ N.table) tickets.items) }
         ensures room { IfSome result (λ tickets. length tickets.items ≤ self.new.tickets) }
     {
         let mut tickets = Vec::new(alloc);
         tickets.reserve(self.returned.len()).ok()?;
         while let Some(place) = last_returned(self.returned.as_slice(), scope) {
-            let Returned { scope: _, ticket } = self.returned.swap_remove(place);
-            tickets.push_reserved(ticket.into_held());
+            tickets.push_reserved(self.returned.swap_remove(place).into_held());
         }
         Some(tickets)
     }
@@ -112,13 +107,12 @@ impl<N: RealmName, S: Spawner<N>> Team<N, S> {
     pub fn put_back(&mut self, tickets: Vec<Ticket>)
         requires named { All (λ (t : TicketValue). t.table ≡ N.table) tickets.items }
         requires room { length tickets.items ≤ self.old.tickets }
-        ensures { self.new.running ≡ self.old.running }
+        ensures running { self.new.running ≡ self.old.running }
+        ensures returned { IsPermutation (self.old.returned ++ tickets.items) self.new.returned }
     {
         let mut tickets = tickets;
         while let Some(ticket) = tickets.pop() {
-            let scope = ticket.scope();
-            let ticket = OfRealm::new(ticket);
-            self.returned.push_reserved(Returned { scope, ticket });
+            self.returned.push_reserved(OfRealm::new(ticket));
         }
     }
 }
@@ -136,11 +130,12 @@ fn last_from<N: RealmName, S: Spawner<N>>(running: &[Thread<N, S>], scope: Scope
 }
 
 /// The place of the last ticket of the scope, or of one that was opened later.
-fn last_returned<N: RealmName>(returned: &[Returned<N>], scope: ScopeId) -> Option<usize>
-    ensures { IfSome result (λ place. place < length returned.now) }
+fn last_returned<N: RealmName>(returned: &[OfRealm<N, Ticket>], scope: ScopeId) -> Option<usize>
+    ensures { MatchOption result (All (λ (t : TicketValue). t.scope < scope) returned.now) (λ place. (place < length returned.now) × ((d : TicketValue) → scope ≤ (slice_index_or returned.now place d).scope)) }
 {
     for place in (0..returned.len()).rev() {
-        if returned[place].scope >= scope {
+        let ticket = &returned[place];
+        if ticket.held.scope() >= scope {
             return Some(place);
         }
     }

@@ -1,7 +1,8 @@
 -- What was taken is of the realm, and each ticket that was leaves its room; each turn takes one.
-use Rattle.std.proofs.Common.{◌≡◌, ◌+◌, ◌≤◌, length, vec_len}
+use Rattle.std.proofs.Common.{◌≡◌, ◌+◌, ◌≤◌, ◌++◌, vec_len}
 use Rattle.std.specs.Prelude.{vec_capacity}
 use Rattle.std.specs.List.{All}
+use Rattle.std.specs.List.Sorted.{IsPermutation}
 use Rattle.share_ledger.specs.Values.{TicketValue}
 use Rattle.thread_crew.proofs.teams.Team.take_from.Given as goal
 
@@ -11,6 +12,8 @@ invariant-loop-place g l =
     × (vec_len l.tickets + vec_len l.self-inside.returned ≤ vec_capacity l.tickets)
     × (vec_len l.tickets + (vec_len l.self-inside.running + vec_len l.self-inside.returned) ≤ vec_capacity l.self-inside.returned)
     × (l.self-inside.running ≡ l.initial.self-inside.running)
+    × IsPermutation l.initial.self-inside.returned.items (l.tickets.items ++ l.self-inside.returned.items)
+    × All (λ (t : TicketValue). l.scope ≤ t.scope) l.tickets.items
 
 abbrev pub decreases-loop-place : goal.decreases-loop-place
 decreases-loop-place g l = vec_len l.self-inside.returned
