@@ -1,9 +1,8 @@
-use scope_rules::{Cause, ScopeId};
+use scope_rules::Cause;
 
-/// What a mark says: that the scope became cancelled, why, and where in the history.
+/// What the cell of a cancelled scope holds: why the scope became cancelled, and where in the history.
 #[derive(Clone, Copy, PartialEq, Eq)]
 pub struct Cancellation {
-    pub scope: ScopeId,
     pub cause: Cause,
     /// The place in the history of the event by which the scope became cancelled.
     pub number: usize,

@@ -9,7 +9,7 @@ use crate::marks::Mark;
 pub fn agree(left: &mut Mark, right: Mark)
     requires { right.seat.cell ≡ left.old.seat.cell }
     ensures unchanged { left.new ≡ left.old }
-    ensures equal { said_by left.old ≡ said_by right }
+    ensures equal { (left.old.scope ≡ right.scope) × (said_by left.old ≡ said_by right) }
 {
     left.seat.compare(right.seat);
 }

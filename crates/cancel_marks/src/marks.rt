@@ -6,10 +6,11 @@ use once_cell::race::Note;
 use scope_rules::{Cause, ScopeId};
 use std::marker::Model;
 
-/// A reader's note on one cell: what its checkpoints were shown. Each reader has its own, and it takes
-/// no bytes.
+/// A reader's note on the cell of a scope: what its checkpoints were shown. Each reader has its own, and it
+/// takes no more bytes than the scope's number.
 #[derive(Drop)]
 pub struct Seat {
+    pub(crate) scope: ScopeId,
     pub(crate) note: Note<Cancellation>,
 }
 
@@ -18,7 +19,7 @@ impl Model for Seat {
 
     ghost Value = { Seen };
 
-    ghost view = { λ s. record { cell = s.note.cell; known = s.note.known } };
+    ghost view = { λ s. record { cell = record { name = s.note.cell; scope = s.scope }; known = s.note.known } };
 }
 
 impl Seat {
@@ -29,6 +30,7 @@ impl Seat {
         ensures same { result ≡ self.old }
     {
         Seat {
+            scope: self.scope,
             note: self.note.again(),
         }
     }
@@ -53,7 +55,8 @@ pub struct Mark {
     pub number: usize,
     /// The seat that makes the mark evidence.
     pub seat: Seat,
-    pub ghost shown: { seat.known ≡ Some (record { scope = scope; cause = cause; number = number }) },
+    pub ghost of: { seat.cell.scope ≡ scope },
+    pub ghost shown: { seat.known ≡ Some (record { cause = cause; number = number }) },
 }
 
 impl Mark {

@@ -1,5 +1,5 @@
 -- Which seat a context's checkpoint looks from, and what it shows.
-use Rattle.std.specs.Prelude.{◌≡◌, Option, None, Some, List, [], ◌∷◌}
+use Rattle.std.specs.Prelude.{◌≡◌, ℕ, option_map, Option, None, Some, List, [], ◌∷◌}
 use Rattle.std.specs.Option.{MatchOption}
 use Rattle.once_cell.specs.Once.{Agrees}
 use Rattle.cancel_marks.specs.declared.marks.Mark.{Mark}
@@ -11,6 +11,16 @@ use Rattle.job_runner.specs.declared.contexts.OpenScope.{OpenScope}
 abbrev pub seat_here : Option Seen → List OpenScope → Option Seen
 seat_here around [] = around
 seat_here around (first ∷ others) = seat_here (Some first.marker) others
+
+-- the last of these scopes, or else scope s
+abbrev pub scope_inside : ℕ → List OpenScope → Option ℕ
+scope_inside s [] = Some s
+scope_inside s (first ∷ others) = scope_inside first.scope others
+
+-- whose scope's seat that is
+abbrev pub scope_here : Option Seen → List OpenScope → Option ℕ
+scope_here around [] = option_map (λ (m : Seen). m.cell.scope) around
+scope_here around (first ∷ others) = scope_inside first.scope others
 
 -- what a look from the seat showed, and left in it: a mark that it was shown before is shown again
 abbrev pub Shows : Option Seen → Option Seen → Option Mark → Type 0

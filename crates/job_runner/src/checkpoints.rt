@@ -1,6 +1,6 @@
-ghost use Rattle.std.specs.Prelude.{◌≡◌, IsSome};
+ghost use Rattle.std.specs.Prelude.{◌≡◌, [], Some, IfSome, IsSome};
 ghost use Rattle.job_runner.specs.Lists.{KeepsOthers};
-ghost use Rattle.job_runner.specs.Marks.{seat_here, Shows};
+ghost use Rattle.job_runner.specs.Marks.{scope_here, seat_here, Shows};
 
 use crate::contexts::{OpenScope, TaskCtx};
 use crate::markers::Marker;
@@ -18,6 +18,7 @@ impl<C: Catalog, S: Spawner<N>, N: RealmName> TaskCtx<C, S, N> {
     pub fn checkpoint(&mut self) -> Option<Mark>
         ensures rest { (self.new ≡ record self.old { around = self.new.around; opened = self.new.opened }) × KeepsOthers self.old.around self.new.around self.old.opened.items self.new.opened.items }
         ensures shows { Shows (seat_here self.old.around self.old.opened.items) (seat_here self.new.around self.new.opened.items) result }
+        ensures of { IfSome result (λ mark. scope_here self.old.around self.old.opened.items ≡ Some mark.scope) }
     {
         match self.opened.pop() {
             Some(open) => {
@@ -37,6 +38,7 @@ impl<C: Catalog, S: Spawner<N>, N: RealmName> TaskCtx<C, S, N> {
     pub fn wait_cancelled<R: Wait>(&mut self, rt: &R) -> Option<Mark>
         ensures rest { (self.new ≡ record self.old { around = self.new.around; opened = self.new.opened }) × KeepsOthers self.old.around self.new.around self.old.opened.items self.new.opened.items }
         ensures shows { Shows (seat_here self.old.around self.old.opened.items) (seat_here self.new.around self.new.opened.items) result }
+        ensures of { IfSome result (λ mark. scope_here self.old.around self.old.opened.items ≡ Some mark.scope) }
         ensures waits { IsSome (seat_here self.old.around self.old.opened.items) → IsSome result }
     {
         match self.opened.pop() {
@@ -53,7 +55,8 @@ impl<C: Catalog, S: Spawner<N>, N: RealmName> TaskCtx<C, S, N> {
 
 /// The mark of the scope around, if there is one and it is seen to be cancelled.
 fn look_around(around: &mut Option<Marker>) -> Option<Mark>
-    ensures { Shows around.old around.new result }
+    ensures shows { Shows around.old around.new result }
+    ensures of { IfSome result (λ mark. scope_here around.old [] ≡ Some mark.scope) }
 {
     match around {
         Some(marker) => marker.look(),
@@ -68,6 +71,7 @@ fn wait_around<C: Catalog, N: RealmName, R: Wait>(
     around: &mut Option<Marker>,
 ) -> Option<Mark>
     ensures shows { Shows around.old around.new result }
+    ensures of { IfSome result (λ mark. scope_here around.old [] ≡ Some mark.scope) }
     ensures waits { IsSome around.old → IsSome result }
 {
     match around {

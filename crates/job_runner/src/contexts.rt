@@ -8,11 +8,12 @@ use share_ledger::OfRealm;
 use std::alloc::Global;
 use thread_crew::{Spawner, Team};
 
-/// A scope that was opened in a context and not closed there.
+/// A scope that was opened in a context and not closed there, with a seat at its own cell.
 #[derive(Drop)]
 pub(crate) struct OpenScope {
     pub(crate) scope: ScopeId,
     pub(crate) marker: Marker,
+    pub(crate) ghost of: { marker.cell.scope ≡ scope },
 }
 
 /// What an actor of a realm acts by: main, or the job of a task (JEP 505 ties such calls to the thread

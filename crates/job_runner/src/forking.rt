@@ -1,4 +1,4 @@
-ghost use Rattle.std.specs.Prelude.{◌≡◌, IfOk, IfErr, OnSome};
+ghost use Rattle.std.specs.Prelude.{◌≡◌, None, IfOk, IfErr, IfSome, OnSome};
 ghost use Rattle.realm_core.specs.Calls.{SeesMore};
 ghost use Rattle.realm_core.specs.Tasks.{IsNewTicket};
 ghost use Rattle.job_runner.specs.Forks.{ForksJob, KeepsThread, SpawnsJob, refusal_of, why_alone};
@@ -112,6 +112,7 @@ impl<C: Catalog, S: Spawner<N>, N: RealmName> TaskCtx<C, S, N> {
         ensures rest { self.new ≡ record self.old { team = self.new.team } }
         ensures team { IsSameTeam self.old.team self.new.team }
         ensures room { OnSome result (HasRoom self.new.team) }
+        ensures around { IfSome result (λ room. IfSome room.1 (λ marker. (marker.cell.scope ≡ scope) × (marker.known ≡ None))) }
     {
         let realm = self.realm.again()?;
         let around = match self.marker_of(scope) {
@@ -123,7 +124,9 @@ impl<C: Catalog, S: Spawner<N>, N: RealmName> TaskCtx<C, S, N> {
     }
 
     /// The marker of the scope, if it is open in this context.
-    fn marker_of(&self, scope: ScopeId) -> Option<&Marker> {
+    fn marker_of(&self, scope: ScopeId) -> Option<&Marker>
+        ensures { IfSome result (λ marker. marker.now.cell.scope ≡ scope) }
+    {
         for open in &self.opened {
             if open.scope == scope {
                 return Some(&open.marker);

@@ -29,3 +29,5 @@ mod threads;
 mod throws;
 #[cfg(test)]
 mod views;
+#[cfg(test)]
+mod waits;

@@ -23,7 +23,7 @@ fn open_marked<N: RealmName, R: Wait>(
 ) -> Result<(ScopeId, MarkCell, Seat), Fail>
     requires { token.old.table ≡ N.table }
     ensures token { token.new ≡ record token.old { seen = token.new.seen } }
-    ensures seat { IfOk result (λ opened. IsFresh opened.1 opened.2) }
+    ensures cell { IfOk result (λ opened. IsFresh opened.1 opened.2) }
 {
     match realm.open_marked(rt, token, Joiner::AwaitAll, options) {
         Ok(opened) => Ok(opened),

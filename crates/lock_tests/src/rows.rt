@@ -7,6 +7,7 @@ use crate::marks::{one_marked, one_of_two_marked};
 use crate::reports::{a_report_shows_each_run, closes_are_refused};
 use crate::stress::ten_thousand_rounds;
 use crate::threads::{ten_rounds, two_served, waited};
+use crate::waits::{Waker, a_cancel_wakes, a_close_wakes, a_reject_wakes, an_end_wakes_a_close};
 use realm_lock::{ActorToken, Realm, RealmName, Seed};
 use scope_rules::{AnyEnd, Limits};
 use std::alloc::Global;
@@ -25,6 +26,10 @@ enum Row {
     Refused,
     TwoServed,
     Waited,
+    Woken(Waker),
+    WokenByReject,
+    WokenByClose,
+    CloseWoken,
     TenRounds,
     TenThousandRounds,
 }
@@ -60,6 +65,25 @@ fn play_with<N: RealmName + Send + Sync, R: Threads + Wait + Abort + Sync>(
     }
 }
 
+/// A row in which a call waits, or one of several threads.
+fn play_waiting<N: RealmName + Send + Sync, R: Threads + Wait + Abort + Sync>(
+    rt: &R,
+    realm: &Realm<AnyEnd, N>,
+    mut main: ActorToken,
+    row: Row,
+) -> Result<(), Fail>
+    requires { main.table ≡ N.table }
+{
+    match row {
+        Row::Waited => waited(rt, realm, &mut main),
+        Row::Woken(waker) => a_cancel_wakes(rt, realm, &mut main, waker),
+        Row::WokenByReject => a_reject_wakes(rt, realm, &mut main),
+        Row::WokenByClose => a_close_wakes(rt, realm, &mut main),
+        Row::CloseWoken => an_end_wakes_a_close(rt, realm, &mut main),
+        _ => two_served(rt, realm, &mut main),
+    }
+}
+
 fn play<N: RealmName + Send + Sync, R: Threads + Wait + Abort + Sync>(
     rt: &R,
     alloc: Global,
@@ -72,10 +96,9 @@ fn play<N: RealmName + Send + Sync, R: Threads + Wait + Abort + Sync>(
     match row {
         Row::OneMarked => one_marked(rt, realm, &mut main),
         Row::OneOfTwoMarked => one_of_two_marked(rt, realm, &mut main),
-        Row::TwoServed => two_served(rt, realm, &mut main),
-        Row::Waited => waited(rt, realm, &mut main),
         Row::TenThousandRounds => ten_thousand_rounds(rt, alloc, realm, &mut main),
-        _ => play_with(rt, alloc, realm, main, row),
+        Row::Reported | Row::Refused | Row::TenRounds => play_with(rt, alloc, realm, main, row),
+        _ => play_waiting(rt, realm, main, row),
     }
 }
 
@@ -93,13 +116,19 @@ fn check<N: RealmName + Send + Sync, R: Threads + Wait + Abort + Sync>(
 }
 
 /// The rows, and how often each is played.
-const ROWS: [(Row, u32); 7] = [
+const ROWS: [(Row, u32); 13] = [
     (Row::OneMarked, 1),
     (Row::OneOfTwoMarked, 1),
     (Row::Reported, 1),
     (Row::Refused, 1),
     (Row::TwoServed, 1),
     (Row::Waited, 20),
+    (Row::Woken(Waker::Cancel), 1),
+    (Row::Woken(Waker::Tick), 1),
+    (Row::Woken(Waker::Move), 1),
+    (Row::WokenByReject, 1),
+    (Row::WokenByClose, 1),
+    (Row::CloseWoken, 1),
     (Row::TenRounds, 1),
 ];
 

@@ -122,7 +122,7 @@ pub fn waited<N: RealmName + Send + Sync, R: Threads + Wait + Abort + Sync>(
 }
 
 /// Joins the scope, and gives the token back.
-fn join_by<N: RealmName, R: Wait>(
+pub fn join_by<N: RealmName, R: Wait>(
     rt: &R,
     realm: &Realm<AnyEnd, N>,
     mut main: ActorToken,

@@ -19,7 +19,7 @@ use Rattle.scope_rules.specs.declared.types.values.Value.TheVariants.{Num, Text}
 use Rattle.quote_plan.specs.Plans.{Named, PlanValue}
 use Rattle.quote_plan.specs.AnswerText.{answer_text}
 use Rattle.quote_plan.specs.Allowed.{quote_in, quotes_in, HasPrice, AllHavePrices, AllowedAll, AllowedFirst, AllowedAnswer, AllowedText, IsPart}
-use Rattle.quote_plan.specs.Answering.{state_due, dues_of, AreDueValues, offer_of, failed_by, failed_answer, first_by, first_answer, quote_there, available, Answers, AllowedFor, IsNoAnswer}
+use Rattle.quote_plan.specs.Answering.{state_due, dues_of, AreDueSoFar, AreDueValues, IsLostOrMemory, offer_of, failed_by, failed_answer, first_by, first_answer, quote_there, available, Answers, AllowedFor, IsNoAnswer}
 use Rattle.quote_plan.specs.declared.plans.Mode.{Mode}
 use Rattle.quote_plan.specs.declared.plans.Mode.TheVariants as mode
 use Rattle.quote_plan.specs.declared.plans.Offer.{Offer}
@@ -28,6 +28,7 @@ use Rattle.quote_plan.specs.declared.answers.Quote.{Quote}
 use Rattle.quote_plan.specs.declared.answers.Answer.{Answer}
 use Rattle.quote_plan.specs.declared.answers.Answer.TheVariants as answer
 use Rattle.quote_plan.specs.declared.answering.NoAnswer.{NoAnswer}
+use Rattle.quote_plan.specs.declared.answering.NoAnswer.TheVariants as none
 
 -- what ended so far is a part of all prices
 skipped : (q : Quote) (xs ys : List Quote) → IsPart xs ys → IsPart xs (q ∷ ys)
@@ -162,3 +163,27 @@ allowed_in m offers tasks o a rests = absurd rests
 pub given_allowed : (plan : PlanValue) (tasks : List TaskState) (o : Outcome) (r : Result Answer NoAnswer) → MatchResult r (λ a. Answers plan.mode plan.offers tasks o a) (λ e. IsNoAnswer (Answers plan.mode plan.offers tasks o) o e) → IfOk r (λ a. AllowedFor plan o a)
 given_allowed plan tasks o (Ok a) rests = allowed_in plan.mode plan.offers tasks o a rests
 given_allowed plan tasks o (Err e) rests = tt
+
+-- ---- what lists prices, or can't for want of memory: that answer would rest on the ends
+
+all_there : (offers : List Named) (tasks : List TaskState) (values : List TaskValue) (result : Result Answer NoAnswer) → MatchResult result (λ a. AreDueValues offers values × (a ≡ answer.All (quotes_in offers))) (λ e. IsLostOrMemory (AreDueValues offers values) e)
+    → MatchResult result (λ a. Answers mode.All offers tasks (outcome.All values) a) (λ e. IsNoAnswer (Answers mode.All offers tasks (outcome.All values)) (outcome.All values) e)
+all_there offers tasks values (Ok a) it = it
+all_there offers tasks values (Err none.Lost) it = λ a rests. it rests.0
+all_there offers tasks values (Err none.Cancelled) it = absurd it
+all_there offers tasks values (Err none.Memory) it = (tt, (answer.All (quotes_in offers), (it, refl)))
+
+pub all_rests : (m : Mode) (offers : List Named) (tasks : List TaskState) (o : Outcome) (values : List TaskValue) (result : Result Answer NoAnswer) → m ≡ mode.All → o ≡ outcome.All values
+    → MatchResult result (λ a. AreDueValues offers values × (a ≡ answer.All (quotes_in offers))) (λ e. IsLostOrMemory (AreDueValues offers values) e) → MatchResult result (λ a. Answers m offers tasks o a) (λ e. IsNoAnswer (Answers m offers tasks o) o e)
+all_rests m offers tasks o values result mode_is outcome_is it = rw (mode_is, outcome_is) (all_there offers tasks values result it)
+
+part_there : (m : Mode) (offers : List Named) (tasks states : List TaskState) (result : Result Answer NoAnswer) → MatchResult result (λ a. AreDueSoFar offers states × (a ≡ answer.Partial (available offers states))) (λ e. IsLostOrMemory (AreDueSoFar offers states) e)
+    → MatchResult result (λ a. Answers m offers tasks (outcome.Partial states) a) (λ e. IsNoAnswer (Answers m offers tasks (outcome.Partial states)) (outcome.Partial states) e)
+part_there m offers tasks states (Ok a) it = it
+part_there m offers tasks states (Err none.Lost) it = λ a rests. it rests.0
+part_there m offers tasks states (Err none.Cancelled) it = absurd it
+part_there m offers tasks states (Err none.Memory) it = (tt, (answer.Partial (available offers states), (it, refl)))
+
+pub part_rests : (m : Mode) (offers : List Named) (tasks : List TaskState) (o : Outcome) (states : List TaskState) (result : Result Answer NoAnswer) → o ≡ outcome.Partial states
+    → MatchResult result (λ a. AreDueSoFar offers states × (a ≡ answer.Partial (available offers states))) (λ e. IsLostOrMemory (AreDueSoFar offers states) e) → MatchResult result (λ a. Answers m offers tasks o a) (λ e. IsNoAnswer (Answers m offers tasks o) o e)
+part_rests m offers tasks o states result outcome_is it = rw outcome_is (part_there m offers tasks states result it)

@@ -124,12 +124,12 @@ ListsPrices (outcome.All values) = Unit {0}
 ListsPrices (outcome.Partial states) = Unit {0}
 ListsPrices _ = ⊥
 
--- why there is no answer: `Lost` where none can rest on ends that are the offers', `Memory` only where
--- prices are to be listed
+-- why there is no answer: `Lost` where none can rest on ends that are the offers', and `Memory` only where
+-- one does and lists prices
 abbrev pub IsNoAnswer : (Answer → Type 0) → Outcome → NoAnswer → Type 0
 IsNoAnswer Rests o none.Lost = (a : Answer) → Rests a → ⊥
 IsNoAnswer Rests o none.Cancelled = IsCancelled o
-IsNoAnswer Rests o none.Memory = ListsPrices o
+IsNoAnswer Rests o none.Memory = ListsPrices o × ((a : Answer) × Rests a)
 
 -- the same of an answer that lists no prices
 abbrev pub IsLost : Type 0 → NoAnswer → Type 0

@@ -2,6 +2,7 @@
 use Rattle.std.specs.Prelude.{◌≡◌, ℕ, ◌⊎◌, true, Some, None, Option, Result, Ok, Err, List}
 use Rattle.std.specs.List.{All}
 use Rattle.std.specs.List.Sorted.{IsPermutation}
+use Rattle.scope_rules.specs.declared.types.capacity.Limits.{Limits}
 use Rattle.scope_rules.specs.declared.types.answers.Cancelling.{Cancelling}
 use Rattle.scope_rules.specs.declared.types.answers.Verdict.{Verdict}
 use Rattle.scope_rules.specs.declared.types.events.Event.TheVariants.{BeginClose}
@@ -15,6 +16,7 @@ use Rattle.realm_steps.specs.declared.steps.RealmStep.TheVariants.{Happened}
 use Rattle.realm_steps.specs.declared.steps.Holder.TheVariants.{TokenOf}
 use Rattle.realm_steps.specs.Holders.{Agrees}
 use Rattle.share_ledger.specs.Values.{OwnerValue, TicketValue}
+use Rattle.realm_core.specs.Cores.{CoreValue}
 use Rattle.realm_core.specs.Calls.{history_seen, SeesMore, HasLooked, Refused, FoundSo, DidRecord}
 use Rattle.realm_close.specs.Ends.{Ends}
 use Rattle.realm_close.specs.Reports.{numbers, IsReported, AreReported}
@@ -52,6 +54,11 @@ pub record WaitsOn (old new : OwnerValue) (s : ℕ) : Type 0 where
 abbrev pub MayEnd : OwnerValue → OwnerValue → ℕ → Option Verdict → Type 0
 MayEnd old new s None = WaitsOn old new s
 MayEnd old new s (Some how) = ((nested : List ℕ) × EndsLater old new s nested) × (how ≡ verdict (history_seen new) s)
+
+-- what that left under the lock: the list with just these ends more, or as it was
+abbrev pub EndedThere : Limits → ℕ → ℕ → CoreValue → CoreValue → Option Verdict → Type 0
+EndedThere L a s old new None = new ≡ old
+EndedThere L a s old new (Some how) = (nested : List ℕ) × Ends L a s nested old.steps new.steps
 
 -- what a close did, hold by hold: it began, others took steps, and it ended
 pub record ClosesDown (old new : OwnerValue) (s : ℕ) (nested : List ℕ) : Type 0 where
@@ -100,6 +107,11 @@ abbrev pub MayReport : OwnerValue → OwnerValue → ℕ → List TicketValue �
 MayReport old new s tickets left None = WaitsOn old new s × (left ≡ tickets)
 MayReport old new s tickets left (Some (Ok report)) = EndsReported old new s tickets report
 MayReport old new s tickets left (Some (Err refusal)) = HoldsBack old new s tickets left refusal
+
+-- what that left under the lock: the list with just these ends more, or as it was
+abbrev pub ReportedThere : Limits → ℕ → ℕ → CoreValue → CoreValue → Option (Result CloseReport Refusal) → Type 0
+ReportedThere L a s old new (Some (Ok report)) = Ends L a s (numbers report.nested.items) old.steps new.steps
+ReportedThere L a s old new _ = new ≡ old
 
 -- what a close with a report did, hold by hold: it began, others took steps, and it ended
 pub record ClosesWith (old new : OwnerValue) (s : ℕ) (tickets : List TicketValue) (report : CloseReport) : Type 0 where

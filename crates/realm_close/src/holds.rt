@@ -1,19 +1,21 @@
-ghost use Rattle.std.specs.Prelude.{◌≡◌, IsOk, IfOk, MatchResult};
+ghost use Rattle.std.specs.Prelude.{◌≡◌, IsOk, IfOk, MatchResult, Some};
+ghost use Rattle.scope_rules.specs.Replies.{recorded};
 ghost use Rattle.std.specs.List.{All};
 ghost use Rattle.realm_steps.specs.Steps.{history_of};
 ghost use Rattle.share_ledger.specs.Values.{TicketValue};
 ghost use Rattle.realm_core.specs.Endings.{CanClose};
-ghost use Rattle.realm_core.specs.Telling.{SeesAll};
+ghost use Rattle.realm_core.specs.Telling.{SeesAll, Stepped};
 ghost use Rattle.realm_close.specs.Waiting.{IsOpenOf};
-ghost use Rattle.realm_close.specs.Closes.{IsBegun, Begins, MayEnd, IsDone, IsLeft, MayReport};
+ghost use Rattle.realm_close.specs.Closes.{IsBegun, Begins, MayEnd, IsDone, IsLeft, MayReport, EndedThere, ReportedThere};
 
 use crate::ending::end_all;
 use crate::reports::{CloseReport, close_with_report};
 use crate::tickets::{are_tickets_of, take_back};
 use crate::waiting::unsettled;
 use realm_core::{RealmCore, RealmName};
+use realm_steps::RealmStep;
 use scope_checks::Readings;
-use scope_rules::{Cancelling, Catalog, Refusal, ScopeId, Verdict};
+use scope_rules::{Cancelling, Catalog, Event, Refusal, ScopeId, Verdict};
 use share_ledger::{OwnerShare, Ticket};
 use std::alloc::Global;
 
@@ -28,6 +30,7 @@ pub fn begin<C: Catalog, N: RealmName>(
 ) -> Result<Cancelling, Refusal>
     requires named { token.old.table ≡ N.table }
     ensures seen { SeesAll core.old core.new token.old token.new }
+    ensures steps { Stepped core.old core.new token.new (RealmStep.Happened (Event.BeginClose token.old.actor scope)) (recorded result) }
     ensures answer { Begins token.old token.new scope result }
     ensures sure { IsOpenOf (history_of token.old.seen) token.old.actor scope → IsOk result }
 {
@@ -54,6 +57,7 @@ pub fn end_if_settled<C: Catalog, N: RealmName>(
     requires named { token.old.table ≡ N.table }
     requires begun { IsBegun (history_of token.old.seen) token.old.actor scope }
     ensures seen { SeesAll core.old core.new token.old token.new }
+    ensures there { EndedThere token.old.limits token.old.actor scope core.old core.new result }
     ensures answer { MayEnd token.old token.new scope result }
 {
     core.look(token);
@@ -78,6 +82,7 @@ pub fn report_if_settled<C: Catalog, N: RealmName>(
     requires tickets { All (λ (t : TicketValue). t.table ≡ N.table) tickets.old.items }
     requires begun { IsBegun (history_of token.old.seen) token.old.actor scope }
     ensures seen { SeesAll core.old core.new token.old token.new }
+    ensures there { ReportedThere token.old.limits token.old.actor scope core.old core.new result }
     ensures answer { MayReport token.old token.new scope tickets.old.items tickets.new.items result }
 {
     core.look(token);
@@ -100,6 +105,7 @@ fn end_with_tickets<C: Catalog, N: RealmName>(
     requires shown { token.old.seen ≡ core.old.steps }
     requires can { CanClose (history_of core.old.steps) token.old.actor scope }
     ensures seen { SeesAll core.old core.new token.old token.new }
+    ensures there { ReportedThere token.old.limits token.old.actor scope core.old core.new (Some result) }
     ensures done { IfOk result (λ report. IsDone token.old token.new scope tickets.old.items report) }
     ensures not { MatchResult result (λ _. Unit {0}) (λ refusal. IsLeft token.old token.new scope tickets.old.items tickets.new.items refusal) }
 {

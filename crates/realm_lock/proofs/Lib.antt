@@ -2,3 +2,7 @@ pub mod NoRoom
 pub mod Reported
 pub mod Rejecting
 pub mod Waiting
+pub mod CancelsGrow
+pub mod MarksStay
+pub mod Marking
+pub mod Behind

@@ -4,13 +4,18 @@ use Rattle.scope_rules.specs.declared.types.refusals.Refusal.{Refusal}
 use Rattle.scope_rules.specs.declared.types.refusals.Refusal.TheVariants.{Memory}
 use Rattle.scope_rules.specs.History.{History}
 use Rattle.scope_rules.specs.Checks.{scope_check}
-use Rattle.cancel_marks.specs.Seats.{Seen}
+use Rattle.cancel_marks.specs.Seats.{CellValue, Seen}
+
+-- the cell is that of scope s after h: it is refused for an unknown scope, and where a share of it is
+abbrev pub GivesCell : History → ℕ → Result CellValue Refusal → Type 0
+GivesCell h s (Ok cell) = (scope_check h s ≡ Ok tt) × (cell.scope ≡ s)
+GivesCell h s (Err refusal) = (scope_check h s ≡ Err refusal) ⊎ ((scope_check h s ≡ Ok tt) × (refusal ≡ Memory))
 
 -- the seat is of the cell, and was shown nothing yet
-abbrev pub IsFresh : ℕ → Seen → Type 0
+abbrev pub IsFresh : CellValue → Seen → Type 0
 IsFresh cell seat = (seat.cell ≡ cell) × (seat.known ≡ None)
 
--- the cell of scope s after h: it is refused for an unknown scope, and where a share of it is
-abbrev pub CellAnswers : History → ℕ → Result (ℕ × Seen) Refusal → Type 0
-CellAnswers h s (Ok given) = (scope_check h s ≡ Ok tt) × IsFresh given.0 given.1
-CellAnswers h s (Err refusal) = (scope_check h s ≡ Err refusal) ⊎ ((scope_check h s ≡ Ok tt) × (refusal ≡ Memory))
+-- such a cell, and a fresh seat at it
+abbrev pub CellAnswers : History → ℕ → Result (CellValue × Seen) Refusal → Type 0
+CellAnswers h s (Ok given) = GivesCell h s (Ok given.0) × IsFresh given.0 given.1
+CellAnswers h s (Err refusal) = GivesCell h s (Err refusal)

@@ -1,3 +1,5 @@
 pub mod Openings
 pub mod Endings
 pub mod Cells
+pub mod Marked
+pub mod MarkLaws

@@ -9,7 +9,7 @@ ghost use Rattle.realm_close.specs.Waiting.{IsOpenOf};
 ghost use Rattle.realm_close.specs.Closes.{IsBegun, Begins, EndsLater, ClosesBare, EndsReported, HoldsBack, ClosesWith, StaysOpen};
 
 use crate::realm::Realm;
-use realm_close::{CloseReport, begin, end_if_settled, report_if_settled};
+use realm_close::CloseReport;
 use realm_core::RealmName;
 use scope_rules::{Cancelling, Catalog, Refusal, ScopeId, Verdict};
 use share_ledger::{OwnerShare, Ticket};
@@ -81,9 +81,7 @@ impl<C: Catalog, N: RealmName> Realm<C, N> {
         ensures sure { IsOpenOf (history_seen token.old) token.old.actor scope → IsOk result }
     {
         let mut locked = self.room.locked.lock(rt);
-        let answer = begin(&mut locked.core, token, scope);
-        let _fitting = locked.core.limits();
-        locked.set_marks();
+        let answer = locked.begin(token, scope);
         self.room.changed.notify_all();
         answer
     }
@@ -98,9 +96,8 @@ impl<C: Catalog, N: RealmName> Realm<C, N> {
     {
         let mut locked = self.room.locked.lock(rt);
         for _ in rt.forever() {
-            match end_if_settled(&mut locked.core, token, scope) {
+            match locked.end_if_settled(token, scope) {
                 Some(verdict) => {
-                    let _fitting = locked.core.limits();
                     self.room.changed.notify_all();
                     return verdict;
                 }
@@ -127,11 +124,9 @@ impl<C: Catalog, N: RealmName> Realm<C, N> {
         ensures not { IfErr result (λ refusal. HoldsBack token.old token.new scope tickets.old.items tickets.new.items refusal) }
     {
         let mut locked = self.room.locked.lock(rt);
-        let alloc = locked.alloc;
         for _ in rt.forever() {
-            match report_if_settled(&mut locked.core, alloc, token, scope, tickets) {
+            match locked.report_if_settled(token, scope, tickets) {
                 Some(answer) => {
-                    let _fitting = locked.core.limits();
                     self.room.changed.notify_all();
                     return answer;
                 }

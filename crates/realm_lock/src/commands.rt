@@ -35,7 +35,7 @@ impl<C: Catalog, N: RealmName> Realm<C, N> {
         ensures ticket { GivesTicket token.new scope label result }
     {
         let mut locked = self.room.locked.lock(rt);
-        locked.core.fork(token, scope, label)
+        locked.fork(token, scope, label)
     }
 
     /// Binds the key above the actor's other bindings (JEP 506, `where`). Refused where the actor is no
@@ -53,7 +53,7 @@ impl<C: Catalog, N: RealmName> Realm<C, N> {
         let actor = token.actor();
         let binding = Binding { key, value };
         let mut locked = self.room.locked.lock(rt);
-        told_done(locked.core.perform(token, &Event::Bind { actor, binding }))
+        told_done(locked.perform(token, &Event::Bind { actor, binding }))
     }
 
     /// Takes away the actor's last own binding. Refused where the actor is no running task or main, has
@@ -65,7 +65,7 @@ impl<C: Catalog, N: RealmName> Realm<C, N> {
     {
         let actor = token.actor();
         let mut locked = self.room.locked.lock(rt);
-        told_done(locked.core.perform(token, &Event::Unbind { actor }))
+        told_done(locked.perform(token, &Event::Unbind { actor }))
     }
 
     /// Begins to close the actor's scope, and with it each scope that the actor opened later and has not
@@ -82,8 +82,7 @@ impl<C: Catalog, N: RealmName> Realm<C, N> {
         ensures answer { Records token.old token.new (Event.BeginClose token.old.actor scope) result }
     {
         let mut locked = self.room.locked.lock(rt);
-        let answer = locked.core.begin_close(token, scope);
-        locked.set_marks();
+        let answer = locked.begin_close(token, scope);
         self.room.changed.notify_all();
         answer
     }
@@ -101,8 +100,7 @@ impl<C: Catalog, N: RealmName> Realm<C, N> {
         ensures answer { RecordsOrMemory token.old token.new (Event.Cancel scope) result }
     {
         let mut locked = self.room.locked.lock(rt);
-        let told = locked.core.perform(token, &Event::Cancel { scope });
-        locked.set_marks();
+        let told = locked.perform(token, &Event::Cancel { scope });
         self.room.changed.notify_all();
         told_noted(told)
     }
@@ -122,8 +120,7 @@ impl<C: Catalog, N: RealmName> Realm<C, N> {
         ensures answer { DoesOrMemory token.old token.new (RealmStep.Asked token.old.actor (Ask.Move scope deadline)) (λ _. tt) result }
     {
         let mut locked = self.room.locked.lock(rt);
-        let told = locked.core.perform(token, &Event::Move { scope, deadline });
-        locked.set_marks();
+        let told = locked.perform(token, &Event::Move { scope, deadline });
         self.room.changed.notify_all();
         told_done(told)
     }
@@ -135,8 +132,7 @@ impl<C: Catalog, N: RealmName> Realm<C, N> {
         ensures answer { DoesOrMemory token.old token.new (RealmStep.Asked token.old.actor (Ask.Tick now)) (λ _. tt) result }
     {
         let mut locked = self.room.locked.lock(rt);
-        let told = locked.core.perform(token, &Event::Tick { now });
-        locked.set_marks();
+        let told = locked.perform(token, &Event::Tick { now });
         self.room.changed.notify_all();
         told_done(told)
     }
@@ -151,10 +147,6 @@ impl<C: Catalog, N: RealmName> Realm<C, N> {
         ensures base { IfOk result (λ base. history_seen token.new ≡ record { base = base; events = [] }) }
     {
         let mut locked = self.room.locked.lock(rt);
-        let answer = locked.core.retire(token);
-        if answer.is_ok() {
-            locked.clear();
-        }
-        answer
+        locked.retire(token)
     }
 }

@@ -29,14 +29,12 @@ impl<C: Catalog, N: RealmName> Realm<C, N> {
     {
         let mut locked = self.room.locked.lock(rt);
         for _ in rt.forever() {
-            match locked.core.join(token, scope) {
+            match locked.join(token, scope) {
                 Err(Refusal::NotReady) => locked = self.room.changed.wait(rt, locked),
                 Err(refusal) => {
-                    let _fitting = locked.core.limits();
                     return Err(refusal);
                 }
                 Ok(joined) => {
-                    let _fitting = locked.core.limits();
                     return Ok(joined);
                 }
             }

@@ -5,11 +5,13 @@
 mod closing;
 mod commands;
 mod joins;
-mod locked;
+pub mod laws;
+mod marked;
 mod marks;
 mod opening;
 mod queries;
 mod realm;
+mod setters;
 mod task_calls;
 mod views;
 

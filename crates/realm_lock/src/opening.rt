@@ -11,7 +11,6 @@ use cancel_marks::{MarkCell, Seat};
 use join_rules::Joiner;
 use realm_core::RealmName;
 use realm_steps::RealmStep;
-use scope_checks::checks::scope_check;
 use scope_rules::{Catalog, Event, Options, Refusal, ScopeId};
 use share_ledger::OwnerShare;
 use std::sync::Wait;
@@ -50,7 +49,7 @@ impl<C: Catalog, N: RealmName> Realm<C, N> {
     ) -> Result<(ScopeId, MarkCell, Seat), (Refusal, Joiner)>
         requires named { token.old.table ≡ N.table }
         ensures answer { DoesOrMemory token.old token.new (RealmStep.Happened (Event.Open token.old.actor (policy_of joiner) options)) next_scope (scope_marked result) }
-        ensures seat { IfOk result (λ opened. IsFresh opened.1 opened.2) }
+        ensures cell { IfOk result (λ opened. (opened.1.scope ≡ opened.0) × IsFresh opened.1 opened.2) }
         ensures handed_back { IfErr result (λ e. e.1 ≡ joiner) }
     {
         let mut locked = self.room.locked.lock(rt);
@@ -76,14 +75,9 @@ impl<C: Catalog, N: RealmName> Realm<C, N> {
         ensures { Reads token.old token.new (λ h. CellAnswers h scope result) }
     {
         let mut locked = self.room.locked.lock(rt);
-        locked.core.look(token);
-        scope_check(locked.core.realm(), scope)?;
-        match locked.cell_of(scope) {
-            Some(cell) => {
-                let seat = cell.seat();
-                Ok((cell, seat))
-            }
-            None => Err(Refusal::Memory),
-        }
+        locked.look(token);
+        let cell = locked.cell(scope)?;
+        let seat = cell.seat();
+        Ok((cell, seat))
     }
 }

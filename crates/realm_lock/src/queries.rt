@@ -24,8 +24,8 @@ impl<C: Catalog, N: RealmName> Realm<C, N> {
         ensures { Reads token.old token.new (λ h. result ≡ binding_reply h token.new.actor key.now) }
     {
         let mut locked = self.room.locked.lock(rt);
-        locked.core.look(token);
-        questions::binding(locked.core.realm(), token.actor(), key)
+        locked.look(token);
+        questions::binding(locked.core().realm(), token.actor(), key)
     }
 
     /// The value of the task, read by the owner of its scope after the join (JEP 505, `Subtask.get`).
@@ -42,8 +42,8 @@ impl<C: Catalog, N: RealmName> Realm<C, N> {
         ensures { Reads token.old token.new (λ h. result ≡ result_reply h token.new.actor task) }
     {
         let mut locked = self.room.locked.lock(rt);
-        locked.core.look(token);
-        questions::result(locked.core.realm(), token.actor(), task)
+        locked.look(token);
+        questions::result(locked.core().realm(), token.actor(), task)
     }
 
     /// The fault of the task, read by the owner of its scope after the join (JEP 505,
@@ -58,8 +58,8 @@ impl<C: Catalog, N: RealmName> Realm<C, N> {
         ensures { Reads token.old token.new (λ h. result ≡ fault_reply h token.new.actor task) }
     {
         let mut locked = self.room.locked.lock(rt);
-        locked.core.look(token);
-        questions::fault(locked.core.realm(), token.actor(), task)
+        locked.look(token);
+        questions::fault(locked.core().realm(), token.actor(), task)
     }
 
     /// The scope that the token's actor opened last of those that it has not closed, if there is one.
@@ -68,8 +68,8 @@ impl<C: Catalog, N: RealmName> Realm<C, N> {
         ensures { Reads token.old token.new (λ h. result ≡ innermost h token.new.actor) }
     {
         let mut locked = self.room.locked.lock(rt);
-        locked.core.look(token);
-        locked.core.realm().innermost(token.actor())
+        locked.look(token);
+        locked.core().realm().innermost(token.actor())
     }
 
     /// What can be read of the task, with any actor's token (JEP 505, `Subtask.state`). Refused for an
@@ -84,8 +84,8 @@ impl<C: Catalog, N: RealmName> Realm<C, N> {
         ensures { Reads token.old token.new (λ h. result ≡ answering (task_check h task) (state h task)) }
     {
         let mut locked = self.room.locked.lock(rt);
-        locked.core.look(token);
-        questions::state(locked.core.realm(), task)
+        locked.look(token);
+        questions::state(locked.core().realm(), task)
     }
 
     /// The earliest deadline in effect for the scope, in milliseconds, with any actor's token (Trio,
@@ -101,7 +101,7 @@ impl<C: Catalog, N: RealmName> Realm<C, N> {
         ensures { Reads token.old token.new (λ h. result ≡ answering (until_check h scope) (effective h scope)) }
     {
         let mut locked = self.room.locked.lock(rt);
-        locked.core.look(token);
-        questions::effective_deadline(locked.core.realm(), scope)
+        locked.look(token);
+        questions::effective_deadline(locked.core().realm(), scope)
     }
 }

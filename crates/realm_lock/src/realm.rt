@@ -1,19 +1,20 @@
 ghost use Rattle.std.specs.Prelude.{◌≡◌, [], MatchResult};
 ghost use Rattle.scope_rules.specs.declared.types.refusals.Refusal.TheVariants.{Memory};
 
-use crate::locked::Locked;
-use realm_core::{RealmCore, RealmName};
+use crate::marked::MarkedCore;
+use realm_core::RealmName;
 use scope_rules::types::values::MAIN;
 use scope_rules::{Catalog, Limits, Refusal};
 use share_ledger::{OwnerShare, Seed};
 use std::alloc::Global;
 use std::sync::{Arc, Condvar, Mutex};
 
-/// The lock of a realm, and what those sleep on who wait for a join or a close. It is generic as
-/// `Locked` is.
+/// The lock of a realm, and what those sleep on who wait for a join or a close. It is generic in what lies
+/// under the lock, so that the check shows of any that may go to another thread that this may too; a realm's
+/// own is named where it has methods.
 #[derive(Drop)]
 pub(crate) struct Room<K: Drop> {
-    pub(crate) locked: Mutex<Locked<K>>,
+    pub(crate) locked: Mutex<K>,
     pub(crate) changed: Condvar,
 }
 
@@ -23,7 +24,7 @@ pub(crate) struct Room<K: Drop> {
 /// which its closure agrees. So works for other threads may hold a share of it.
 #[derive(Drop)]
 pub struct Realm<C: Catalog, N: RealmName> {
-    pub(crate) room: Arc<Room<RealmCore<C, N>>, Global>,
+    pub(crate) room: Arc<Room<MarkedCore<C, N>>, Global>,
 }
 
 impl<C: Catalog, N: RealmName> Realm<C, N> {
@@ -37,13 +38,7 @@ impl<C: Catalog, N: RealmName> Realm<C, N> {
         requires named { seed ≡ N.table }
         ensures { MatchResult result (λ made. made.1 ≡ record { table = N.table; limits = limits; actor = MAIN; seen = [] }) (λ refusal. refusal ≡ Memory) }
     {
-        let (core, token) = RealmCore::new(alloc, seed, limits);
-        let locked = Locked {
-            alloc,
-            core,
-            setters: Vec::new(alloc),
-            marked: 0,
-        };
+        let (locked, token) = MarkedCore::new(alloc, seed, limits);
         let room = Room {
             locked: Mutex::new(locked),
             changed: Condvar::new(),

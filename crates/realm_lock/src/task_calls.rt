@@ -24,7 +24,7 @@ impl<C: Catalog, N: RealmName> Realm<C, N> {
         ensures given { given_in result.task result.seen ≡ false }
     {
         let mut locked = self.room.locked.lock(rt);
-        locked.core.reject(&mut ticket);
+        locked.reject(&mut ticket);
         self.room.changed.notify_all();
         ticket
     }
@@ -52,7 +52,7 @@ impl<C: Catalog, N: RealmName> Realm<C, N> {
         ensures token { result.1 ≡ record { table = N.table; limits = ticket.limits; actor = ticket.task; seen = result.0.seen } }
     {
         let mut locked = self.room.locked.lock(rt);
-        let token = locked.core.start(&mut ticket);
+        let token = locked.start(&mut ticket);
         (ticket, token)
     }
 

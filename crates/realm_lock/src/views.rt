@@ -24,9 +24,9 @@ impl<C: Catalog, N: RealmName> Realm<C, N> {
         ensures { Reads token.old token.new (λ h. ViewAnswers h scope result × Fitting C.fitting h) }
     {
         let mut locked = self.room.locked.lock(rt);
-        locked.core.look(token);
-        let _fitting = locked.core.limits();
-        view_of(locked.core.realm(), scope)
+        locked.look(token);
+        let _fitting = locked.core().limits();
+        view_of(locked.core().realm(), scope)
     }
 
     /// The same, where the scope is cancelled as the mark says: for its cause, by the event at its place
@@ -43,9 +43,9 @@ impl<C: Catalog, N: RealmName> Realm<C, N> {
         ensures { Reads token.old token.new (λ h. MarkedViewAnswers h scope mark.now.cause mark.now.number result × Fitting C.fitting h) }
     {
         let mut locked = self.room.locked.lock(rt);
-        locked.core.look(token);
-        let _fitting = locked.core.limits();
-        marked_view_of(locked.core.realm(), scope, mark.cause, mark.number)
+        locked.look(token);
+        let _fitting = locked.core().limits();
+        marked_view_of(locked.core().realm(), scope, mark.cause, mark.number)
     }
 
     /// All events since the last retirement, in order, with any actor's token: the history that the token
@@ -55,10 +55,10 @@ impl<C: Catalog, N: RealmName> Realm<C, N> {
         ensures { Reads token.old token.new (λ h. MatchResult result (λ events. events.items ≡ h.events) (λ refusal. refusal ≡ Refusal.Memory) × Fitting C.fitting h) }
     {
         let mut locked = self.room.locked.lock(rt);
-        let alloc = locked.alloc;
-        locked.core.look(token);
-        let _fitting = locked.core.limits();
-        match Vec::from_slice(alloc, locked.core.realm().events()) {
+        let alloc = locked.alloc();
+        locked.look(token);
+        let _fitting = locked.core().limits();
+        match Vec::from_slice(alloc, locked.core().realm().events()) {
             Ok(events) => Ok(events),
             Err(_) => Err(Refusal::Memory),
         }

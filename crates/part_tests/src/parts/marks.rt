@@ -2,16 +2,18 @@
 //! and by others.
 ghost use Rattle.std.specs.Prelude.{◌≡◌};
 
-use cancel_marks::{Cancellation, Mark, MarkCell, MarkSetter, Seat, laws};
-use scope_rules::{Cause, CauseKind};
+use cancel_marks::{Cancellation, CellRoom, Mark, MarkCell, MarkSetter, Seat, laws};
+use scope_rules::{Cause, CauseKind, ScopeId};
 use std::process::Abort;
 use std::test::Fail;
 use std::thread;
 use std::thread::Threads;
 
+/// The scope whose cell it is.
+const SCOPE: ScopeId = 2;
+
 /// A cancel call on scope 1, which reached scope 2 as the fourth event.
 const REACHED: Cancellation = Cancellation {
-    scope: 2,
     cause: Cause {
         scope: 1,
         kind: CauseKind::Call,
@@ -21,21 +23,24 @@ const REACHED: Cancellation = Cancellation {
 
 fn said(mark: &Mark) -> Cancellation {
     Cancellation {
-        scope: mark.scope,
         cause: mark.cause,
         number: mark.number,
     }
 }
 
-/// What a checkpoint with a fresh seat says.
+/// What a checkpoint with a fresh seat says, of the cell's scope.
 fn seen(cell: &MarkCell) -> Option<Cancellation> {
     let mut seat = cell.seat();
     let mark = cell.checkpoint(&mut seat)?;
-    Some(said(&mark))
+    if mark.scope == SCOPE {
+        Some(said(&mark))
+    } else {
+        None
+    }
 }
 
 fn set(setter: &mut MarkSetter, told: Cancellation) -> bool {
-    setter.set(told.scope, told.cause, told.number)
+    setter.set(told.cause, told.number)
 }
 
 /// Whether a seat of the setter's cell is shown this.
@@ -59,7 +64,7 @@ fn is_set_once(setter: &mut MarkSetter) -> bool {
 
 #[test]
 fn a_cell_is_set_once(rt: HostRuntime) -> Result<(), Fail> {
-    let mut setter = MarkSetter::new(rt.alloc())?;
+    let (mut setter, _cell) = CellRoom::new(rt.alloc())?.of(SCOPE);
     assert!(rt; is_set_once(&mut setter));
     Ok(())
 }
@@ -71,8 +76,8 @@ fn is_set_alone(setter: &mut MarkSetter, other: &MarkSetter) -> bool {
 
 #[test]
 fn cells_are_set_one_by_one(rt: HostRuntime) -> Result<(), Fail> {
-    let mut setter = MarkSetter::new(rt.alloc())?;
-    let other = MarkSetter::new(rt.alloc())?;
+    let (mut setter, _cell) = CellRoom::new(rt.alloc())?.of(SCOPE);
+    let (other, _other) = CellRoom::new(rt.alloc())?.of(SCOPE);
     assert!(rt; is_set_alone(&mut setter, &other));
     Ok(())
 }
@@ -97,8 +102,7 @@ fn check_both<R: Threads + Abort>(rt: &R, cell: MarkCell, mut seat: Seat) -> Res
 
 #[test]
 fn threads_are_shown_the_same(rt: HostRuntime) -> Result<(), Fail> {
-    let mut setter = MarkSetter::new(rt.alloc())?;
-    let cell = setter.cell()?;
+    let (mut setter, cell) = CellRoom::new(rt.alloc())?.of(SCOPE);
     let mut seat = cell.seat();
     assert!(rt; cell.checkpoint(&mut seat).is_none());
     assert!(rt; set(&mut setter, REACHED));

@@ -8,7 +8,7 @@ use Rattle.scope_rules.specs.Replies.{next_scope}
 use Rattle.realm_steps.specs.declared.steps.RealmStep.TheVariants.{Happened}
 use Rattle.realm_core.specs.Calls.{DoesOrMemory, history_seen}
 use Rattle.realm_lock.proofs.NoRoom.{no_room}
-use Rattle.realm_lock.proofs.locked.Locked+RealmCore+C+N.refusal_without_room.Goals as goal
+use Rattle.realm_lock.proofs.marked.MarkedCore.refusal_without_room.Goals as goal
 
 pub returns : goal.returns
 returns g c = λ policy options.

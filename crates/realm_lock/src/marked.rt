@@ -1,0 +1,364 @@
+ghost use Rattle.std.specs.Prelude.{◌≡◌, ◌⊎◌, false, true, None, Ok, Err, IfErr, IsOk, MatchResult, [], OnSome, length, ◌<◌};
+ghost use Rattle.std.specs.List.{All};
+ghost use Rattle.scope_rules.specs.declared.types.events.Options.{Options};
+ghost use Rattle.scope_rules.specs.declared.types.joiners.Policy.{Policy};
+ghost use Rattle.scope_rules.specs.declared.types.refusals.Refusal.TheVariants.{Memory};
+ghost use Rattle.scope_rules.specs.History.{is_open};
+ghost use Rattle.scope_rules.specs.Checks.{scope_check};
+ghost use Rattle.scope_rules.specs.Scopes.{innermost};
+ghost use Rattle.scope_rules.specs.Replies.{base_of, fork_reply, next_scope};
+ghost use Rattle.join_rules.specs.Joiners.{policy_of};
+ghost use Rattle.realm_steps.specs.Tickets.{given_in};
+ghost use Rattle.realm_steps.specs.Steps.{history_of};
+ghost use Rattle.kept_realm.specs.Fits.{Fitting};
+ghost use Rattle.share_ledger.specs.Values.{IsWaiting, TicketValue, is_recorded_by};
+ghost use Rattle.realm_core.specs.Calls.{Added, DoesOrMemory, Looked, Performed, Records, SeesMore, TicketAdded, history_seen};
+ghost use Rattle.realm_core.specs.Tasks.{GivesTicket, MayFinish, Finishes, IsRunning, ticket_aside};
+ghost use Rattle.realm_core.specs.Telling.{Shown};
+ghost use Rattle.realm_core.specs.Views.{Joins};
+ghost use Rattle.realm_close.specs.Waiting.{IsOpenOf};
+ghost use Rattle.realm_close.specs.Closes.{IsBegun, Begins, MayEnd, MayReport};
+ghost use Rattle.realm_lock.specs.Cells.{GivesCell};
+ghost use Rattle.realm_lock.specs.Openings.{scope_alone, refusal_of};
+
+use crate::setters::Setters;
+use cancel_marks::MarkCell;
+use join_rules::Joiner;
+use realm_close::{CloseReport, begin, end_if_settled, report_if_settled};
+use realm_core::{Forked, Joined, RealmCore, RealmName};
+use realm_steps::RealmStep;
+use scope_checks::checks::scope_check;
+use scope_checks::{Readings, Told, table};
+use scope_rules::{
+    Base, Cancelling, Catalog, End, Event, Label, Limits, Options, Refusal, ScopeId, Verdict,
+};
+use share_ledger::{OwnerShare, Seed, Ticket};
+use std::alloc::Global;
+use std::marker::Model;
+
+/// What lies under a realm's lock: the core, and the setters of its scopes' cells. Between calls there is
+/// one setter for each scope since the last retirement, and just those of the cancelled scopes were used,
+/// each for the cause of its scope, with the place at which that became cancelled.
+#[derive(Drop)]
+pub(crate) struct MarkedCore<C: Catalog, N: RealmName> {
+    alloc: Global,
+    core: RealmCore<C, N>,
+    setters: Setters,
+}
+
+impl<C: Catalog, N: RealmName> Model for MarkedCore<C, N> {
+    ghost use Rattle.realm_core.specs.Cores.{CoreValue};
+    ghost use Rattle.realm_steps.specs.Steps.{history_of};
+    ghost use Rattle.realm_lock.specs.Marked.{AreMarks};
+
+    ghost Value = { CoreValue };
+
+    ghost view = { λ m. m.core };
+
+    ghost invariant = { λ m. AreMarks (history_of m.core.steps) m.setters };
+}
+
+/// The calls of the core, each of which leaves the cells as its events want them.
+impl<C: Catalog, N: RealmName> MarkedCore<C, N> {
+    /// A realm that begins, and main's token.
+    pub(crate) fn new(alloc: Global, seed: Seed, limits: Limits) -> (MarkedCore<C, N>, OwnerShare)
+        requires named { seed ≡ N.table }
+        ensures token { result.1 ≡ record { table = N.table; limits = limits; actor = 0; seen = [] } }
+    {
+        let (core, token) = RealmCore::new(alloc, seed, limits);
+        let setters = Setters::new(alloc);
+        let marked = MarkedCore {
+            alloc,
+            core,
+            setters,
+        };
+        (marked, token)
+    }
+
+    /// Where the memory of calls comes from.
+    pub(crate) fn alloc(&self) -> Global {
+        self.alloc
+    }
+
+    /// The core, of which questions are asked.
+    pub(crate) fn core(&self) -> &RealmCore<C, N>
+        ensures { result.now ≡ self.now }
+    {
+        &self.core
+    }
+
+    /// Lets the token see all that has happened.
+    pub(crate) fn look(&mut self, token: &mut OwnerShare)
+        requires named { token.old.table ≡ N.table }
+        ensures steps { Shown self.old self.new token.new }
+        ensures looks { Looked token.old token.new }
+    {
+        self.core.look(token);
+    }
+
+    /// Performs the command of an event that opens no scope.
+    pub(crate) fn perform(&mut self, token: &mut OwnerShare, event: &Event) -> Result<Told, Refusal>
+        requires named { token.old.table ≡ N.table }
+        requires event { is_recorded_by token.old.actor event.now ≡ true }
+        requires unopened { is_open event.now ≡ false }
+        ensures answer { Performed token.old token.new event.now result }
+    {
+        let _legal = self.core.limits();
+        let result = self.core.perform(token, event);
+        self.setters.catch_up(&mut self.core);
+        result
+    }
+
+    /// Forks a task.
+    #[tactic(auto, using(crate::proofs::Behind::behind_stepped))]
+    pub(crate) fn fork(
+        &mut self,
+        token: &mut OwnerShare,
+        scope: ScopeId,
+        label: Label,
+    ) -> Result<Forked, Refusal>
+        requires named { token.old.table ≡ N.table }
+        ensures answer { DoesOrMemory token.old token.new (RealmStep.Happened (Event.Fork token.old.actor scope label)) (λ h. fork_reply h scope) (ticket_aside result) }
+        ensures ticket { GivesTicket token.new scope label result }
+    {
+        let _legal = self.core.limits();
+        let result = self.core.fork(token, scope, label);
+        self.setters.catch_up(&mut self.core);
+        result
+    }
+
+    /// Joins a scope, where it may be joined already.
+    #[tactic(auto, using(crate::proofs::Behind::behind_stepped))]
+    pub(crate) fn join(&mut self, token: &mut OwnerShare, scope: ScopeId) -> Result<Joined, Refusal>
+        requires named { token.old.table ≡ N.table }
+        ensures answer { Joins token.old token.new scope result }
+        ensures fitting { Fitting C.fitting (history_seen token.new) }
+    {
+        let _legal = self.core.limits();
+        let result = self.core.join(token, scope);
+        self.setters.catch_up(&mut self.core);
+        let _fitting = self.core.limits();
+        result
+    }
+
+    /// Begins to close a scope.
+    #[tactic(auto, using(crate::proofs::Behind::behind_stepped))]
+    pub(crate) fn begin_close(
+        &mut self,
+        token: &mut OwnerShare,
+        scope: ScopeId,
+    ) -> Result<Cancelling, Refusal>
+        requires named { token.old.table ≡ N.table }
+        ensures answer { Records token.old token.new (Event.BeginClose token.old.actor scope) result }
+    {
+        let _legal = self.core.limits();
+        let result = self.core.begin_close(token, scope);
+        self.setters.catch_up(&mut self.core);
+        result
+    }
+
+    /// Takes the events out, and with them the setters of the scopes before.
+    pub(crate) fn retire(&mut self, token: &mut OwnerShare) -> Result<Base, Refusal>
+        requires named { token.old.table ≡ N.table }
+        ensures answer { DoesOrMemory token.old token.new RealmStep.Retirement base_of result }
+        ensures base { MatchResult result (λ base. history_seen token.new ≡ record { base = base; events = [] }) (λ _. Unit {0}) }
+    {
+        let result = self.core.retire(token);
+        if result.is_ok() {
+            self.setters.clear();
+        }
+        result
+    }
+
+    /// Records that no thread was had for the ticket's task.
+    #[tactic(auto, using(crate::proofs::Behind::behind_added))]
+    pub(crate) fn reject(&mut self, ticket: &mut Ticket)
+        requires named { ticket.old.table ≡ N.table }
+        requires waiting { IsWaiting ticket.old }
+        ensures added { TicketAdded ticket.old ticket.new (RealmStep.Happened (Event.Reject ticket.old.task)) }
+        ensures given { given_in ticket.new.task ticket.new.seen ≡ false }
+    {
+        let _legal = self.core.limits();
+        self.core.reject(ticket);
+        self.setters.catch_up(&mut self.core);
+    }
+
+    /// The same, and lets the token see it.
+    pub(crate) fn reject_with(&mut self, token: &mut OwnerShare, ticket: &mut Ticket)
+        requires named { (token.old.table ≡ N.table) × (ticket.old.table ≡ N.table) }
+        requires waiting { IsWaiting ticket.old }
+        ensures added { TicketAdded ticket.old ticket.new (RealmStep.Happened (Event.Reject ticket.old.task)) }
+        ensures given { given_in ticket.new.task ticket.new.seen ≡ false }
+        ensures token { SeesMore token.old token.new × Added token.old token.new (RealmStep.Happened (Event.Reject ticket.old.task)) }
+    {
+        let _legal = self.core.limits();
+        self.core.look(token);
+        self.core.reject(ticket);
+        self.core.look(token);
+        self.setters.catch_up(&mut self.core);
+    }
+
+    /// Starts the ticket's task, and gives its token.
+    #[tactic(auto, using(crate::proofs::Behind::behind_added))]
+    pub(crate) fn start(&mut self, ticket: &mut Ticket) -> OwnerShare
+        requires named { ticket.old.table ≡ N.table }
+        requires waiting { IsWaiting ticket.old }
+        ensures added { TicketAdded ticket.old ticket.new (RealmStep.Happened (Event.Start ticket.old.task)) }
+        ensures running { IsRunning ticket.new }
+        ensures token { result ≡ record { table = N.table; limits = ticket.old.limits; actor = ticket.old.task; seen = ticket.new.seen } }
+    {
+        let _legal = self.core.limits();
+        let token = self.core.start(ticket);
+        self.setters.catch_up(&mut self.core);
+        token
+    }
+
+    /// Records the end of the ticket's task.
+    #[tactic(auto, using(crate::proofs::Behind::behind_stepped))]
+    pub(crate) fn finish(
+        &mut self,
+        ticket: &mut Ticket,
+        token: OwnerShare,
+        end: End,
+    ) -> Result<(), (Refusal, OwnerShare)>
+        requires token { token.table ≡ N.table }
+        requires task { MayFinish N.table C.fitting ticket.old token end }
+        ensures answer { Finishes ticket.old ticket.new token end result }
+        ensures sure { innermost (history_seen token) token.actor ≡ None → IsOk result }
+    {
+        let _legal = self.core.limits();
+        let result = self.core.finish(ticket, token, end);
+        self.setters.catch_up(&mut self.core);
+        result
+    }
+}
+
+/// The holds of a close.
+impl<C: Catalog, N: RealmName> MarkedCore<C, N> {
+    /// Begins it.
+    #[tactic(auto, using(crate::proofs::Behind::behind_stepped))]
+    pub(crate) fn begin(
+        &mut self,
+        token: &mut OwnerShare,
+        scope: ScopeId,
+    ) -> Result<Cancelling, Refusal>
+        requires named { token.old.table ≡ N.table }
+        ensures seen { SeesMore token.old token.new × Fitting C.fitting (history_seen token.new) }
+        ensures answer { Begins token.old token.new scope result }
+        ensures sure { IsOpenOf (history_seen token.old) token.old.actor scope → IsOk result }
+    {
+        let _legal = self.core.limits();
+        let result = begin(&mut self.core, token, scope);
+        self.setters.catch_up(&mut self.core);
+        let _fitting = self.core.limits();
+        result
+    }
+
+    /// Ends it, if it can end.
+    #[tactic(auto, using(crate::proofs::Behind::behind_closed))]
+    pub(crate) fn end_if_settled(
+        &mut self,
+        token: &mut OwnerShare,
+        scope: ScopeId,
+    ) -> Option<Verdict>
+        requires named { token.old.table ≡ N.table }
+        requires begun { IsBegun (history_seen token.old) token.old.actor scope }
+        ensures seen { SeesMore token.old token.new × Fitting C.fitting (history_seen token.new) }
+        ensures answer { MayEnd token.old token.new scope result }
+    {
+        let _legal = self.core.limits();
+        let result = end_if_settled(&mut self.core, token, scope);
+        self.setters.catch_up(&mut self.core);
+        let _fitting = self.core.limits();
+        result
+    }
+
+    /// Ends it with a report, if it can end.
+    #[tactic(auto, using(crate::proofs::Behind::behind_reported))]
+    pub(crate) fn report_if_settled(
+        &mut self,
+        token: &mut OwnerShare,
+        scope: ScopeId,
+        tickets: &mut Vec<Ticket>,
+    ) -> Option<Result<CloseReport, Refusal>>
+        requires named { token.old.table ≡ N.table }
+        requires tickets { All (λ (t : TicketValue). t.table ≡ N.table) tickets.old.items }
+        requires begun { IsBegun (history_seen token.old) token.old.actor scope }
+        ensures seen { SeesMore token.old token.new × Fitting C.fitting (history_seen token.new) }
+        ensures answer { MayReport token.old token.new scope tickets.old.items tickets.new.items result }
+    {
+        let _legal = self.core.limits();
+        let result = report_if_settled(&mut self.core, self.alloc, token, scope, tickets);
+        self.setters.catch_up(&mut self.core);
+        let _fitting = self.core.limits();
+        result
+    }
+}
+
+/// Scopes and their cells.
+impl<C: Catalog, N: RealmName> MarkedCore<C, N> {
+    /// Opens a scope for the token's actor, and gives its cell too. All room is made before.
+    pub(crate) fn open(
+        &mut self,
+        token: &mut OwnerShare,
+        joiner: Joiner,
+        options: Options,
+    ) -> Result<(ScopeId, MarkCell), (Refusal, Joiner)>
+        requires named { token.old.table ≡ N.table }
+        ensures answer { DoesOrMemory token.old token.new (RealmStep.Happened (Event.Open token.old.actor (policy_of joiner) options)) next_scope (scope_alone result) }
+        ensures cell { MatchResult result (λ opened. opened.1.scope ≡ opened.0) (λ back. back.1 ≡ joiner) }
+    {
+        let Some(room) = self.setters.make_room(self.alloc) else {
+            return Err((self.refusal_without_room(token), joiner));
+        };
+        let event = Event::Open {
+            actor: token.actor(),
+            policy: joiner.policy(),
+            options,
+        };
+        let _legal = self.core.limits();
+        match self.core.perform(token, &event) {
+            Ok(Told::Scope(scope)) => {
+                let cell = self.setters.add(room, scope);
+                self.setters.catch_up(&mut self.core);
+                Ok((scope, cell))
+            }
+            Ok(_) => unreachable!(),
+            Err(refusal) => Err((refusal, joiner)),
+        }
+    }
+
+    /// What an open is refused for where there is no room for it: what the rules refuse it for, or else
+    /// want of memory.
+    fn refusal_without_room(&mut self, token: &mut OwnerShare) -> Refusal
+        requires named { token.old.table ≡ N.table }
+        ensures { (policy : Policy) (options : Options) → DoesOrMemory token.old token.new (RealmStep.Happened (Event.Open token.old.actor policy options)) next_scope (Err result) }
+    {
+        self.core.look(token);
+        let limits = self.core.limits();
+        refusal_or_memory(table::open_row(self.core.realm(), &limits, token.actor()))
+    }
+
+    /// The cell of the scope, for one holder more.
+    pub(crate) fn cell(&self, scope: ScopeId) -> Result<MarkCell, Refusal>
+        ensures { GivesCell (history_of self.now.steps) scope result }
+    {
+        let realm = self.core.realm();
+        scope_check(realm, scope)?;
+        let place = (scope - realm.retired_scopes() - 1) as usize;
+        match self.setters.cell_at(place) {
+            Ok(cell) => Ok(cell),
+            Err(_) => Err(Refusal::Memory),
+        }
+    }
+}
+
+/// The refusal, or want of memory where there is none.
+fn refusal_or_memory(answer: Result<(), Refusal>) -> Refusal
+    ensures { result ≡ refusal_of answer }
+{
+    match answer {
+        Ok(()) => Refusal::Memory,
+        Err(refusal) => refusal,
+    }
+}

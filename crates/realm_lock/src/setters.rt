@@ -1,0 +1,107 @@
+ghost use Rattle.std.specs.Prelude.{◌≡◌, ◌<◌, [], true, length, OnSome, IfOk};
+ghost use Rattle.scope_rules.specs.History.{opened_count};
+ghost use Rattle.scope_rules.specs.Cancels.{is_cancelled};
+ghost use Rattle.realm_steps.specs.Steps.{history_of};
+ghost use Rattle.realm_lock.specs.Marked.{AddsSetter, AreBehind, AreMarks, IsCellAt, UsesSetter};
+
+use cancel_marks::{CellRoom, MarkCell, MarkSetter};
+use kept_realm::KeptRealm;
+use realm_core::{RealmCore, RealmName};
+use scope_checks::{Readings, questions};
+use scope_rules::{Catalog, ScopeId};
+use std::alloc::{AllocError, Global};
+use std::marker::Model;
+
+/// The setters of the cells of a realm's scopes, in the order of the scopes since the last retirement. They
+/// lie beside the core, and `catch_up` has them tell what that has come to know.
+#[derive(Drop)]
+pub(crate) struct Setters {
+    setters: Vec<MarkSetter>,
+    // Of how many cancelled scopes they were used, in the order in which these were cancelled.
+    marked: usize,
+}
+
+impl Model for Setters {
+    ghost use Rattle.std.specs.Prelude.{vec_capacity};
+    ghost use Rattle.realm_lock.specs.Marked.{MarksValue};
+
+    ghost Value = { MarksValue };
+
+    ghost view = { λ s. record { setters = s.setters.items; room = vec_capacity s.setters; marked = s.marked } };
+}
+
+impl Setters {
+    /// Those of a realm that begins.
+    pub(crate) fn new(alloc: Global) -> Setters
+        ensures { (result.setters ≡ []) × (result.marked ≡ 0) }
+    {
+        Setters {
+            setters: Vec::new(alloc),
+            marked: 0,
+        }
+    }
+
+    /// Room for what is kept of one scope more, if it is had.
+    pub(crate) fn make_room(&mut self, alloc: Global) -> Option<CellRoom>
+        ensures kept { self.new ≡ record self.old { room = self.new.room } }
+        ensures room { OnSome result (length self.new.setters < self.new.room) }
+    {
+        let room = CellRoom::new(alloc).ok()?;
+        self.setters.reserve(1).ok()?;
+        Some(room)
+    }
+
+    /// Adds the setter of a scope that was opened, for which there is room, and gives its cell.
+    pub(crate) fn add(&mut self, room: CellRoom, scope: ScopeId) -> MarkCell
+        requires { length self.old.setters < self.old.room }
+        ensures { AddsSetter self.old self.new scope result }
+    {
+        let (setter, cell) = room.of(scope);
+        self.setters.push_reserved(setter);
+        cell
+    }
+
+    /// Uses the setters of the scopes that were cancelled since this was last called. It takes no memory,
+    /// and time by how many they are.
+    pub(crate) fn catch_up<C: Catalog, N: RealmName>(&mut self, core: &mut RealmCore<C, N>)
+        requires { AreBehind (history_of core.old.steps) self.old }
+        ensures core { core.new ≡ core.old }
+        ensures marks { AreMarks (history_of core.new.steps) self.new }
+    {
+        let mut next = core.nth_cancelled(self.marked);
+        while let Some(scope) = next {
+            self.use_setter(core.realm(), scope);
+            self.marked += 1;
+            next = core.nth_cancelled(self.marked);
+        }
+    }
+
+    /// Uses the setter of a cancelled scope.
+    fn use_setter(&mut self, realm: &KeptRealm, scope: ScopeId)
+        requires cancelled { is_cancelled realm.now.history scope ≡ true }
+        requires each { length self.old.setters ≡ opened_count realm.now.history }
+        ensures { UsesSetter realm.now.history scope self.old self.new }
+    {
+        let Some((number, cause)) = questions::cancellation(realm, scope) else {
+            unreachable!()
+        };
+        let place = (scope - realm.retired_scopes() - 1) as usize;
+        self.setters[place].set(cause, number);
+    }
+
+    /// The cell of the scope at the place, for one holder more.
+    pub(crate) fn cell_at(&self, place: usize) -> Result<MarkCell, AllocError>
+        requires { place < length self.now.setters }
+        ensures { IfOk result (λ cell. IsCellAt self.now.setters place cell) }
+    {
+        self.setters[place].cell()
+    }
+
+    /// Lets go of what belongs to the scopes before a retirement.
+    pub(crate) fn clear(&mut self)
+        ensures { (self.new.setters ≡ []) × (self.new.marked ≡ 0) }
+    {
+        self.setters.clear();
+        self.marked = 0;
+    }
+}
