@@ -5,3 +5,6 @@ pub mod Named
 pub mod Standing
 pub mod Chained
 pub mod Nested
+pub mod Closing
+pub mod Completed
+pub mod Cancelled

@@ -2,9 +2,10 @@
 use Rattle.std.proofs.Common.{◌≡◌, ℕ, zero, suc, ◌+◌, ◌<◌, ◌||◌, Bool, true, false, Option, Some, None, option_map, List, [], ◌∷◌, take, slice_get, refl, ap, sym, ◌∙◌, arith}
 use Rattle.std.specs.Option.{option_and_then, option_map_or}
 use Rattle.scope_rules.specs.declared.types.events.Event.{Event}
-use Rattle.scope_rules.specs.declared.types.events.Event.TheVariants.{Open, Fork}
+use Rattle.scope_rules.specs.declared.types.events.Event.TheVariants.{Open, Fork, Finish, BeginClose}
 use Rattle.scope_rules.specs.declared.types.records.Opening.{Opening}
 use Rattle.scope_rules.specs.declared.types.records.Forking.{Forking}
+use Rattle.scope_rules.specs.Ends.{EndValue}
 use Rattle.scope_rules.specs.History.{scopes, tasks, opening, forking}
 use Rattle.scope_rules.proofs.Accepted.{or_left, or_right}
 use Rattle.scope_rules.proofs.Earlier.{opening_event, forking_event, scope_number}
@@ -48,3 +49,12 @@ map_moved moved f g (Some x) same = ap Some (same x refl)
 pub or_moved : {A B C : Type 0} (moved : B → A) (f : A → C) (g : B → C) (c : C) (o : Option B) → ((x : B) → o ≡ Some x → f (moved x) ≡ g x) → option_map_or f (option_map moved o) c ≡ option_map_or g o c
 or_moved moved f g c None same = refl
 or_moved moved f g c (Some x) same = same x refl
+
+-- ---- numbers that an event names
+
+module _ (r : Retirable) (es : List Event) (none : NamesNone r es) (i : ℕ) where
+  pub begun_named : (a s : ℕ) → slice_get es i ≡ Some (BeginClose a s) → IsScope r s
+  begun_named a s at = or_right (is_let_go (tasks r.past) a) (is_let_go (scopes r.past) s) (none i (BeginClose a s) at)
+
+  pub finished_named : (k : ℕ) (end : EndValue) → slice_get es i ≡ Some (Finish k end) → IsTask r k
+  finished_named k end at = none i (Finish k end) at

@@ -82,11 +82,11 @@ module _ (r : Retirable) where
   never_forked : (k : ℕ) → IsTask r k → IsForked r.past k → ⊥
   never_forked k new it = absurd (cc (unforked k new, it.is))
 
-  forked_there : (i k : ℕ) → IsForked (before r.past i) k → IsForked r.past k
+  pub forked_there : (i k : ℕ) → IsForked (before r.past i) k → IsForked r.past k
   forked_there i k it = record { forked = it.forked; is = forking_later r.past i k it.forked it.is }
 
   -- what was accepted in the past
-  accepted : (i : ℕ) (e : Event) → slice_get r.past.events i ≡ Some e → Accepts r.limits (before r.past i) e
+  pub accepted : (i : ℕ) (e : Event) → slice_get r.past.events i ≡ Some e → Accepts r.limits (before r.past i) e
   unfolding Legal
   accepted i e at = r.legal i e at
 
