@@ -21,7 +21,7 @@ none_before : {A : Type 0} (o : Option A) → ((x : A) → o ≡ Some x → ⊥)
 none_before None never = refl
 none_before (Some x) never = absurd (never x refl)
 
-no_opener : (o : Option Opening) → have_one_opener o None ≡ false
+pub no_opener : (o : Option Opening) → have_one_opener o None ≡ false
 no_opener None = refl
 no_opener (Some x) = refl
 

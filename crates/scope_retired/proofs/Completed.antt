@@ -49,7 +49,7 @@ module _ (r : Retirable) (es : List Event) where
       ap (λ o. option_map_or (λ (f : Forking). f.scope == s) o false) (forking_both r es k)
       ∙ task_by s k (forking r.past k) (forking (retired r es) k) new within refl refl
 
-  past_completes : (s i : ℕ) (e : Event) → IsScope r s → slice_get r.past.events i ≡ Some e → completion_of (unretired r es) s e ≡ None
+  pub past_completes : (s i : ℕ) (e : Event) → IsScope r s → slice_get r.past.events i ≡ Some e → completion_of (unretired r es) s e ≡ None
   past_completes s i (Finish k end) new at =
       let it = forked_there r i k (running_forked (before r.past i) k (finish_passed r.limits (before r.past i) k end (accepted r i (Finish k end) at)).runs) in
       ap (λ b. cond b (Some (record { task = k; end = end })) None) (past_task s k new (task_given r.past k it.forked it.is).1)

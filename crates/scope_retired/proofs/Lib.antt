@@ -8,3 +8,9 @@ pub mod Nested
 pub mod Closing
 pub mod Completed
 pub mod Cancelled
+pub mod Ranges
+pub mod Staged
+pub mod Answered
+pub mod Closed
+pub mod Bound
+pub mod Shown

@@ -23,21 +23,30 @@ abbrev pub unclosed_number : History → ℕ → ℕ → Option ℕ
 unclosed_number h a s = option_and_then (λ (o : Opening). cond ((o.actor == a) && not (closed h s)) (Some s) None) (opening h s)
 
 module _ (r : Retirable) (es : List Event) where
+  -- what was opened in the past is closed, and else is not opened at all
+  pub gone_opening : (s : ℕ) → s ≤ scopes r.past → (opening (unretired r es) s ≡ None) ⊎ (closed (unretired r es) s ≡ true)
+  gone_opening s within = by (opening r.past s) refl (opening (retired r es) s) refl
+    where
+      by : (old : Option Opening) → opening r.past s ≡ old → (new : Option Opening) → opening (retired r es) s ≡ new → (opening (unretired r es) s ≡ None) ⊎ (closed (unretired r es) s ≡ true)
+      by (Some o) is new now = inr (closed_still r es s (all_closed r s o is))
+      by None is None now = inl (opening_both r es s ∙ (ap (λ o. option_or o (option_map (moved_opening (size r)) (opening (retired r es) s))) is ∙ ap (option_map (moved_opening (size r))) now))
+      by None is (Some o) now = let it = scope_number (retired r es) s o now in absurd (omega (arith, within, it.2))
+
   gone_by : (a s : ℕ) (b : Bool) → closed (unretired r es) s ≡ true → cond (b && not (closed (unretired r es) s)) (Some s) None ≡ None
   gone_by a s true so = ap (λ c. cond (not c) (Some s) None) so
   gone_by a s false so = refl
 
-  gone_both : (a s : ℕ) (old : Option Opening) → s ≤ scopes r.past → opening r.past s ≡ old → (new : Option Opening) → opening (retired r es) s ≡ new
-      → option_and_then (λ (o : Opening). cond ((o.actor == a) && not (closed (unretired r es) s)) (Some s) None) (option_or old (option_map (moved_opening (size r)) new)) ≡ None
-  gone_both a s (Some o) within is new now = gone_by a s (o.actor == a) (closed_still r es s (all_closed r s o is))
-  gone_both a s None within is None now = refl
-  gone_both a s None within is (Some o) now = let it = scope_number (retired r es) s o now in absurd (omega (arith, within, it.2))
+  gone_opened : (a s : ℕ) (o : Option Opening) → closed (unretired r es) s ≡ true → option_and_then (λ (o : Opening). cond ((o.actor == a) && not (closed (unretired r es) s)) (Some s) None) o ≡ None
+  gone_opened a s None so = refl
+  gone_opened a s (Some o) so = gone_by a s (o.actor == a) so
 
   -- a scope of the past is nobody's unclosed one
   pub gone : (a s : ℕ) → s ≤ scopes r.past → unclosed_number (unretired r es) a s ≡ None
   gone a s within =
-      ap (option_and_then (λ (o : Opening). cond ((o.actor == a) && not (closed (unretired r es) s)) (Some s) None)) (opening_both r es s)
-      ∙ gone_both a s (opening r.past s) within refl (opening (retired r es) s) refl
+      elim (gone_opening s within) [
+        | inl none ↦ ap (option_and_then (λ (o : Opening). cond ((o.actor == a) && not (closed (unretired r es) s)) (Some s) None)) none
+        | inr so ↦ gone_opened a s (opening (unretired r es) s) so
+      ]
 
   pub same_unclosed : (a s : ℕ) → IsScope r s → unclosed_number (unretired r es) a s ≡ unclosed_number (retired r es) a s
   same_unclosed a s new =

@@ -60,6 +60,16 @@ any_where p (x ∷ xs) found =
       | inr there ↦ let it = any_where p xs there in (suc it.0, it.1, it.2, it.3)
     ]
 
+either_false : (b c : Bool) → (b || c) ≡ false → (b ≡ false) × (c ≡ false)
+either_false false c is = (refl, is)
+either_false true c is = absurd cc
+
+-- where a test holds of none, it holds of no element
+pub none_where : {A : Type 0} (p : A → Bool) (xs : List A) (i : ℕ) (x : A) → list_any p xs ≡ false → slice_get xs i ≡ Some x → p x ≡ false
+none_where p [] i x none at = absurd cc
+none_where p (y ∷ xs) zero x none at = let same : y ≡ x = cc in rw same at (either_false (p y) (list_any p xs) none).0
+none_where p (y ∷ xs) (suc i) x none at = none_where p xs i x (either_false (p y) (list_any p xs) none).1 at
+
 -- and so does what a search from behind finds
 pub last_where : {A B : Type 0} (f : A → Option B) (xs : List A) (y : B) → last_of f xs ≡ Some y → (i : ℕ) × (x : A) × (slice_get xs i ≡ Some x) × (f x ≡ Some y)
 unfolding last_of

@@ -1,0 +1,68 @@
+-- What there is to say of scopes and tasks that were not let go.
+use Rattle.std.proofs.Common.{◌≡◌, ℕ, zero, suc, ◌+◌, ◌<◌, ◌≤◌, ◌==◌, Bool, true, false, cond, nat_lt, Option, Some, None, option_map, List, [], ◌∷◌, refl, ap, sym, ◌∙◌, arith}
+use Rattle.std.specs.Option.{option_and_then}
+use Rattle.scope_rules.specs.declared.types.events.Event.{Event}
+use Rattle.scope_rules.specs.declared.types.records.Opening.{Opening}
+use Rattle.scope_rules.specs.declared.types.records.Forking.{Forking}
+use Rattle.scope_rules.specs.declared.types.infos.ScopeStage.TheVariants.{Open, Closing, Closed}
+use Rattle.scope_rules.specs.Search.{earliest}
+use Rattle.scope_rules.specs.History.{opened_count, scopes, opening, forking}
+use Rattle.scope_rules.specs.Scopes.{joined, closed, closing, unclosed_of}
+use Rattle.scope_rules.specs.Cancels.{deadline, cause}
+use Rattle.scope_rules.specs.Nests.{unclosed_after, next_unclosed, outermost, inner, label, scope_stage, info_of, info}
+use Rattle.scope_retired.specs.Folding.{Retirable, unretired, retired, NamesNone}
+use Rattle.scope_retired.proofs.Splitting.{earliest_second_same}
+use Rattle.scope_retired.proofs.Past.{IsScope, IsTask}
+use Rattle.scope_retired.proofs.Numbered.{size, opened_so_far, moved_opening, moved_forking, same_opening, same_forking}
+use Rattle.scope_retired.proofs.Named.{then_moved, map_moved}
+use Rattle.scope_retired.proofs.Standing.{same_joined, same_closed, same_deadline}
+use Rattle.scope_retired.proofs.Nested.{gone, later_scope, unclosed_later}
+use Rattle.scope_retired.proofs.Closing.{same_closing}
+use Rattle.scope_retired.proofs.Cancelled.{same_cause}
+
+module _ (r : Retirable) (es : List Event) where
+  pub same_outermost : (a : ℕ) → outermost (unretired r es) a ≡ outermost (retired r es) a
+  unfolding outermost
+  same_outermost a =
+      ap (earliest (unclosed_of (unretired r es) a)) (opened_so_far r es)
+      ∙ earliest_second_same (unclosed_of (unretired r es) a) (unclosed_of (retired r es) a) (opened_count r.past) (opened_count (retired r es))
+        (λ i within. gone r es a (r.past.base.scopes + 1 + i) (omega (arith, within))) (λ i within. unclosed_later r es a i)
+
+  none_either : {A : Type 0} (b : Bool) (o : Option A) → o ≡ None → cond b o None ≡ None
+  none_either true o none = none
+  none_either false o none = refl
+
+  pub same_next_unclosed : (a s : ℕ) → next_unclosed (unretired r es) a s ≡ next_unclosed (retired r es) a s
+  unfolding next_unclosed
+  same_next_unclosed a s =
+      ap (earliest (unclosed_after (unretired r es) a s)) (opened_so_far r es)
+      ∙ earliest_second_same (unclosed_after (unretired r es) a s) (unclosed_after (retired r es) a s) (opened_count r.past) (opened_count (retired r es))
+        (λ i within. none_either (nat_lt s (r.past.base.scopes + 1 + i)) (unclosed_of (unretired r es) a i) (gone r es a (r.past.base.scopes + 1 + i) (omega (arith, within))))
+        (λ i within. ap (λ n. cond (nat_lt s n) (unclosed_of (unretired r es) a (opened_count r.past + i)) None) (later_scope r es i)
+          ∙ ap (λ o. cond (nat_lt s (scopes r.past + 1 + i)) o None) (unclosed_later r es a i))
+
+  pub same_inner : (s : ℕ) → IsScope r s → inner (unretired r es) s ≡ inner (retired r es) s
+  unfolding inner
+  same_inner s new =
+      ap (option_and_then (λ (o : Opening). next_unclosed (unretired r es) o.actor s)) (same_opening r es s new)
+      ∙ then_moved (moved_opening (size r)) (λ (o : Opening). next_unclosed (unretired r es) o.actor s) (λ (o : Opening). next_unclosed (retired r es) o.actor s) (opening (retired r es) s) (λ o is. same_next_unclosed o.actor s)
+
+  pub same_label : (k : ℕ) → IsTask r k → label (unretired r es) k ≡ label (retired r es) k
+  unfolding label
+  same_label k new =
+      ap (option_map (λ (f : Forking). f.label)) (same_forking r es k new)
+      ∙ map_moved (moved_forking (size r)) (λ (f : Forking). f.label) (λ (f : Forking). f.label) (forking (retired r es) k) (λ f is. refl)
+
+module _ (r : Retirable) (es : List Event) (none : NamesNone r es) where
+  pub same_scope_stage : (s : ℕ) → IsScope r s → scope_stage (unretired r es) s ≡ scope_stage (retired r es) s
+  unfolding scope_stage
+  same_scope_stage s new = rw (same_closed r es s new) (rw (same_closing r es none s new) refl)
+
+  info_alike : (s : ℕ) (o : Opening) → IsScope r s → info_of (unretired r es) s (moved_opening (size r) o) ≡ info_of (retired r es) s o
+  info_alike s o new = rw (same_deadline r es s new) (rw (same_joined r es s new) (rw (same_scope_stage s new) (rw (same_cause r es none s new) refl)))
+
+  pub same_info : (s : ℕ) → IsScope r s → info (unretired r es) s ≡ info (retired r es) s
+  unfolding info
+  same_info s new =
+      ap (option_map (info_of (unretired r es) s)) (same_opening r es s new)
+      ∙ map_moved (moved_opening (size r)) (info_of (unretired r es) s) (info_of (retired r es) s) (opening (retired r es) s) (λ o is. info_alike s o new)
