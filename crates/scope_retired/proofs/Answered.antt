@@ -1,5 +1,5 @@
 -- What a join answers of a scope that was not let go.
-use Rattle.std.proofs.Common.{◌≡◌, ℕ, zero, suc, ◌+◌, ◌<◌, ◌≤◌, ◌==◌, ◌&&◌, Bool, true, false, cond, Option, Some, None, option_map, List, [], ◌∷◌, ◌++◌, map, length, take, slice_get, refl, ap, sym, ◌∙◌, arith, length-append}
+use Rattle.std.proofs.Common.{◌≡◌, ℕ, ◌+◌, ◌≤◌, ◌&&◌, Bool, true, false, cond, Option, Some, None, option_map, List, map, length, take, slice_get, refl, ap, ◌∙◌, arith, length-append}
 use Rattle.std.specs.Option.{option_and_then}
 use Rattle.std.specs.List.{filter_map}
 use Rattle.scope_rules.specs.declared.types.events.Event.{Event}
@@ -12,7 +12,7 @@ use Rattle.scope_rules.specs.Search.{earliest}
 use Rattle.scope_rules.specs.History.{History, before, tasks, opening, forked_count}
 use Rattle.scope_rules.specs.Scopes.{joins, joined}
 use Rattle.scope_rules.specs.Cancels.{cause}
-use Rattle.scope_rules.specs.Completions.{is_task_of, completion_of}
+use Rattle.scope_rules.specs.Completions.{is_task_of}
 use Rattle.scope_rules.specs.Nests.{tasks_of}
 use Rattle.scope_rules.specs.Tasks.{state}
 use Rattle.scope_rules.specs.Outcomes.{readable, readable_at, first_read, readable_of, outcome_of, joining_at, joining, outcome}
@@ -21,7 +21,7 @@ use Rattle.scope_retired.proofs.Splitting.{get_first, get_second, earliest_secon
 use Rattle.scope_retired.proofs.Past.{IsScope, IsTask, greater, unjoined}
 use Rattle.scope_retired.proofs.Numbered.{size, part, moved_opening, same_opening}
 use Rattle.scope_retired.proofs.Named.{first_names, finished_named, then_moved, map_moved}
-use Rattle.scope_retired.proofs.Completed.{same_is_task, past_completes, same_completion}
+use Rattle.scope_retired.proofs.Completed.{past_completes, same_completion}
 use Rattle.scope_retired.proofs.Cancelled.{same_cause}
 use Rattle.scope_retired.proofs.Ranges.{filter_mapped, filter_listed}
 use Rattle.scope_retired.proofs.Staged.{same_state, same_tasks_of}
@@ -51,8 +51,8 @@ module _ (r : Retirable) (es : List Event) (none : NamesNone r es) where
   same_first_read test s new =
       ap (earliest (readable_at test (unretired r es) s)) (length-append r.past.events es)
       ∙ earliest_second_same (readable_at test (unretired r es) s) (readable_at test (retired r es) s) (size r) (length es)
-        (λ i within. ap (option_and_then (readable test (unretired r es) s)) (get_first r.past.events es i within) ∙ unread test s i (slice_get r.past.events i) new refl)
-        (λ i within. ap (option_and_then (readable test (unretired r es) s)) (get_second r.past.events es i) ∙ read_by test s i (slice_get es i) refl)
+      (λ i within. ap (option_and_then (readable test (unretired r es) s)) (get_first r.past.events es i within) ∙ unread test s i (slice_get r.past.events i) new refl)
+      (λ i within. ap (option_and_then (readable test (unretired r es) s)) (get_second r.past.events es i) ∙ read_by test s i (slice_get es i) refl)
 
   later_state : (k : ℕ) → tasks r.past + 1 ≤ k → state (unretired r es) k ≡ state (retired r es) k
   later_state k more = same_state r es none k (greater (tasks r.past) k (omega (arith, more)))
@@ -101,8 +101,8 @@ module _ (r : Retirable) (es : List Event) where
   same_joining s new =
       ap (earliest (joining_at (unretired r es) s)) (length-append r.past.events es)
       ∙ earliest_second (joining_at (unretired r es) s) (joining_at (retired r es) s) (λ j. size r + j) (size r) (length es)
-        (λ i within. ap (option_and_then (λ e. cond (joins s e) (Some i) None)) (get_first r.past.events es i within) ∙ unjoined_by s i (slice_get r.past.events i) new refl)
-        (λ i within. ap (option_and_then (λ e. cond (joins s e) (Some (size r + i)) None)) (get_second r.past.events es i) ∙ joining_later (size r) s i (slice_get es i))
+      (λ i within. ap (option_and_then (λ e. cond (joins s e) (Some i) None)) (get_first r.past.events es i within) ∙ unjoined_by s i (slice_get r.past.events i) new refl)
+      (λ i within. ap (option_and_then (λ e. cond (joins s e) (Some (size r + i)) None)) (get_second r.past.events es i) ∙ joining_later (size r) s i (slice_get es i))
 
 module _ (r : Retirable) (es : List Event) (none : NamesNone r es) where
   outcome_at : (s j : ℕ) → IsScope r s → option_map (outcome_of (before (unretired r es) (size r + j)) s) (opening (unretired r es) s) ≡ option_map (outcome_of (retired r (take j es)) s) (opening (retired r es) s)
@@ -116,4 +116,4 @@ module _ (r : Retirable) (es : List Event) (none : NamesNone r es) where
   same_outcome s new =
       ap (option_and_then (λ i. option_map (outcome_of (before (unretired r es) i) s) (opening (unretired r es) s))) (same_joining r es s new)
       ∙ then_moved (λ j. size r + j) (λ i. option_map (outcome_of (before (unretired r es) i) s) (opening (unretired r es) s)) (λ i. option_map (outcome_of (before (retired r es) i) s) (opening (retired r es) s)) (joining (retired r es) s)
-        (λ j is. outcome_at s j new)
+      (λ j is. outcome_at s j new)

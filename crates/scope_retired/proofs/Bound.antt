@@ -1,5 +1,5 @@
 -- What actors that were not let go see bound.
-use Rattle.std.proofs.Common.{◌≡◌, ℕ, zero, suc, ◌+◌, ◌<◌, ◌≤◌, ◌==◌, ◌&&◌, Bool, true, false, not, nat_le, Option, Some, None, List, [], ◌∷◌, ◌++◌, length, take, refl, ap, sym, ◌∙◌, arith, inl, inr, ◌⊎◌}
+use Rattle.std.proofs.Common.{◌≡◌, ℕ, zero, suc, ◌+◌, ◌≤◌, ◌==◌, ◌&&◌, Bool, true, false, not, nat_le, Option, Some, None, List, [], ◌++◌, length, take, refl, ap, ◌∙◌, inl, inr}
 use Rattle.std.specs.Option.{option_map_or}
 use Rattle.scope_rules.specs.declared.types.events.Event.{Event}
 use Rattle.scope_rules.specs.declared.types.records.Opening.{Opening}
@@ -21,9 +21,9 @@ module _ (r : Retirable) where
   within_alike zero es a none new = same_stack r es a new
   within_alike (suc n) es a none new =
       let inherited : option_map_or (λ (f : Forking). bindings_within (before (unretired r es) f.place) n f.actor) (forking (unretired r es) a) [] ≡ option_map_or (λ (f : Forking). bindings_within (before (retired r es) f.place) n f.actor) (forking (retired r es) a) [] =
-          ap (λ o. option_map_or (λ (f : Forking). bindings_within (before (unretired r es) f.place) n f.actor) o []) (same_forking r es a new)
-          ∙ or_moved (moved_forking (size r)) (λ (f : Forking). bindings_within (before (unretired r es) f.place) n f.actor) (λ (f : Forking). bindings_within (before (retired r es) f.place) n f.actor) [] (forking (retired r es) a)
-            (λ f is. ap (λ (g : History). bindings_within g n f.actor) (part r es f.place) ∙ within_alike n (take f.place es) f.actor (first_names r es f.place none) (forker_named r es none a f is)) in
+      ap (λ o. option_map_or (λ (f : Forking). bindings_within (before (unretired r es) f.place) n f.actor) o []) (same_forking r es a new)
+      ∙ or_moved (moved_forking (size r)) (λ (f : Forking). bindings_within (before (unretired r es) f.place) n f.actor) (λ (f : Forking). bindings_within (before (retired r es) f.place) n f.actor) [] (forking (retired r es) a)
+      (λ f is. ap (λ (g : History). bindings_within g n f.actor) (part r es f.place) ∙ within_alike n (take f.place es) f.actor (first_names r es f.place none) (forker_named r es none a f is)) in
       ap (λ bs. bs ++ stack (unretired r es) a) inherited ∙ ap (λ bs. option_map_or (λ (f : Forking). bindings_within (before (retired r es) f.place) n f.actor) (forking (retired r es) a) [] ++ bs) (same_stack r es a new)
 
   pub same_bindings : (es : List Event) (a : ℕ) → NamesNone r es → IsTask r a → bindings (unretired r es) a ≡ bindings (retired r es) a
@@ -39,7 +39,7 @@ module _ (r : Retirable) (es : List Event) where
   same_bound_as_opened a s actor new =
       ap (λ o. option_map_or (bound_as_at (unretired r es) a) o false) (same_opening r es s new)
       ∙ or_moved (moved_opening (size r)) (bound_as_at (unretired r es) a) (bound_as_at (retired r es) a) false (opening (retired r es) s)
-        (λ o is. ap (λ bs. same_pairs bs (stack (before (unretired r es) (size r + o.place)) a)) (same_stack r es a actor) ∙ ap (same_pairs (stack (retired r es) a)) (stack_then a o.place actor))
+      (λ o is. ap (λ bs. same_pairs bs (stack (before (unretired r es) (size r + o.place)) a)) (same_stack r es a actor) ∙ ap (same_pairs (stack (retired r es) a)) (stack_then a o.place actor))
 
   closed_above : (a s : ℕ) (b c : Bool) → closed (unretired r es) s ≡ true → (b && not (closed (unretired r es) s) && c) ≡ false
   closed_above a s true c so = ap (λ x. not x && c) so
@@ -61,8 +61,8 @@ module _ (r : Retirable) (es : List Event) where
   above_alike a s actor new =
       ap (λ o. option_map_or (λ (o : Opening). (o.actor == a) && not (closed (unretired r es) s) && nat_le (length (stack (unretired r es) a)) (length (stack (before (unretired r es) o.place) a))) o false) (same_opening r es s new)
       ∙ or_moved (moved_opening (size r)) (λ (o : Opening). (o.actor == a) && not (closed (unretired r es) s) && nat_le (length (stack (unretired r es) a)) (length (stack (before (unretired r es) o.place) a)))
-        (λ (o : Opening). (o.actor == a) && not (closed (retired r es) s) && nat_le (length (stack (retired r es) a)) (length (stack (before (retired r es) o.place) a))) false (opening (retired r es) s)
-        (λ o is. rw (same_closed r es s new) (rw (same_stack r es a actor) (rw (stack_then a o.place actor) refl)))
+      (λ (o : Opening). (o.actor == a) && not (closed (retired r es) s) && nat_le (length (stack (retired r es) a)) (length (stack (before (retired r es) o.place) a))) false (opening (retired r es) s)
+      (λ o is. rw (same_closed r es s new) (rw (same_stack r es a actor) (rw (stack_then a o.place actor) refl)))
 
   pub same_holds_last : (a : ℕ) → IsTask r a → holds_last (unretired r es) a ≡ holds_last (retired r es) a
   unfolding holds_last

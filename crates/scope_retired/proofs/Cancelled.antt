@@ -1,26 +1,26 @@
 -- What cancels a scope that was not let go: its own cancel and the cut are the same, at places that
 -- are moved.
-use Rattle.std.proofs.Common.{◌≡◌, ℕ, zero, suc, ◌+◌, ◌<◌, ◌≤◌, ◌==◌, ◌&&◌, Bool, true, false, cond, nat_lt, max, Option, Some, None, option_map, is_some, List, [], ◌∷◌, ◌++◌, length, take, slice_get, refl, ap, sym, subst, ◌∙◌, arith, length-append}
+use Rattle.std.proofs.Common.{◌≡◌, ℕ, ◌+◌, ◌<◌, Bool, true, false, cond, nat_lt, max, Option, Some, None, option_map, is_some, List, ◌++◌, length, take, slice_get, refl, ap, ◌∙◌, arith, length-append}
 use Rattle.std.specs.Option.{option_or, option_and_then, option_map_or}
 use Rattle.std.proofs.lemmas.Bool.{lt-ltb, ltb-true}
 use Rattle.scope_rules.specs.declared.types.events.Event.{Event}
-use Rattle.scope_rules.specs.declared.types.events.Event.TheVariants.{Cancel, BeginClose}
+use Rattle.scope_rules.specs.declared.types.events.Event.TheVariants.{BeginClose}
 use Rattle.scope_rules.specs.declared.types.answers.CauseKind.{CauseKind}
-use Rattle.scope_rules.specs.declared.types.answers.CauseKind.TheVariants.{Call, Close, Joiner, Deadline}
+use Rattle.scope_rules.specs.declared.types.answers.CauseKind.TheVariants.{Close, Joiner, Deadline}
 use Rattle.scope_rules.specs.declared.types.records.Opening.{Opening}
 use Rattle.scope_rules.specs.declared.types.records.OwnCancel.{OwnCancel}
 use Rattle.scope_rules.specs.declared.types.records.Cut.{Cut}
 use Rattle.scope_rules.specs.Search.{earliest}
 use Rattle.scope_rules.specs.History.{History, before, opening}
-use Rattle.scope_rules.specs.Scopes.{outer, covers}
+use Rattle.scope_rules.specs.Scopes.{outer}
 use Rattle.scope_rules.specs.Cancels.{direct_kind, joiner_fires, overdue, kind_by, own_at, own, own_cut, cut, cause, is_cancelled, cancelled_at, cancelled_before, counting_deadline, effective}
 use Rattle.scope_rules.proofs.Bound.{same_truth}
 use Rattle.scope_rules.proofs.Earlier.{get_take}
 use Rattle.scope_retired.specs.Folding.{Retirable, unretired, retired, NamesNone}
-use Rattle.scope_retired.proofs.Splitting.{get_first, get_second, earliest_second}
+use Rattle.scope_retired.proofs.Splitting.{get_second, earliest_second}
 use Rattle.scope_retired.proofs.Past.{IsScope}
 use Rattle.scope_retired.proofs.Numbered.{size, part, part_of_past, moved_opening, same_opening}
-use Rattle.scope_retired.proofs.Named.{first_names, begun_named, then_moved, map_moved}
+use Rattle.scope_retired.proofs.Named.{first_names, begun_named, map_moved}
 use Rattle.scope_retired.proofs.Standing.{same_overdue, same_counting}
 use Rattle.scope_retired.proofs.Chained.{moved_cut, still_some, cut_alike, effective_alike}
 use Rattle.scope_retired.proofs.Nested.{same_covers, same_outer, outer_new}
@@ -56,7 +56,7 @@ module _ (r : Retirable) (es : List Event) (none : NamesNone r es) where
   kind_alike s i e new at =
       let direct : direct_kind (before (unretired r es) (size r + i)) s e ≡ direct_kind (retired r (take i es)) s e = ap (λ (g : History). direct_kind g s e) (part r es i) ∙ direct_alike s i e new at in
       let joins : joiner_fires (before (unretired r es) ((size r + i) + 1)) s e ≡ joiner_fires (retired r (take (i + 1) es)) s e =
-          ap (λ (g : History). joiner_fires g s e) (next_part r es i) ∙ same_fires r (take (i + 1) es) (first_names r es (i + 1) none) s i e new (get_longer es i e at) in
+      ap (λ (g : History). joiner_fires g s e) (next_part r es i) ∙ same_fires r (take (i + 1) es) (first_names r es (i + 1) none) s i e new (get_longer es i e at) in
       let passes : overdue (before (unretired r es) ((size r + i) + 1)) s ≡ overdue (retired r (take (i + 1) es)) s = ap (λ (g : History). overdue g s) (next_part r es i) ∙ same_overdue r (take (i + 1) es) s new in
       ap (λ o. option_or o (cond (joiner_fires (before (unretired r es) ((size r + i) + 1)) s e) (Some Joiner) (cond (overdue (before (unretired r es) ((size r + i) + 1)) s) (Some Deadline) None))) direct
       ∙ (ap (λ b. option_or (direct_kind (retired r (take i es)) s e) (cond b (Some Joiner) (cond (overdue (before (unretired r es) ((size r + i) + 1)) s) (Some Deadline) None))) joins
@@ -78,7 +78,7 @@ module _ (r : Retirable) (es : List Event) (none : NamesNone r es) where
   unfolding own_at
   own_later s i new =
       let opened : is_some (opening (before (unretired r es) ((size r + i) + 1)) s) ≡ is_some (opening (retired r (take (i + 1) es)) s) =
-          ap (λ (g : History). is_some (opening g s)) (next_part r es i) ∙ (ap is_some (same_opening r (take (i + 1) es) s new) ∙ still_some (moved_opening (size r)) (opening (retired r (take (i + 1) es)) s)) in
+      ap (λ (g : History). is_some (opening g s)) (next_part r es i) ∙ (ap is_some (same_opening r (take (i + 1) es) s new) ∙ still_some (moved_opening (size r)) (opening (retired r (take (i + 1) es)) s)) in
       ap (λ b. cond b (option_and_then (λ e. option_map (λ k. record { place = size r + i; kind = k }) (kind_by (unretired r es) s (size r + i) e)) (slice_get (r.past.events ++ es) (size r + i))) None) opened
       ∙ (ap (λ o. cond (is_some (opening (retired r (take (i + 1) es)) s)) (option_and_then (λ e. option_map (λ k. record { place = size r + i; kind = k }) (kind_by (unretired r es) s (size r + i) e)) o) None) (get_second r.past.events es i)
       ∙ own_by s i (is_some (opening (retired r (take (i + 1) es)) s)) (slice_get es i) new refl)

@@ -1,5 +1,5 @@
 -- Chains along which two trees go alike.
-use Rattle.std.proofs.Common.{◌≡◌, ℕ, zero, suc, ◌+◌, ◌≤◌, Bool, true, false, cond, nat_le, Option, Some, None, option_map, is_some, List, [], ◌∷◌, length, refl, ap, sym, ◌∙◌, arith}
+use Rattle.std.proofs.Common.{◌≡◌, ℕ, zero, suc, ◌+◌, Bool, true, false, cond, nat_le, Option, Some, None, option_map, is_some, List, ◌∷◌, refl, ap, ◌∙◌, arith}
 use Rattle.std.proofs.lemmas.Bool.{le-leb, leb-true}
 use Rattle.scope_rules.proofs.Bound.{same_truth}
 use Rattle.scope_rules.specs.declared.types.answers.Effective.TheVariants.{Past}

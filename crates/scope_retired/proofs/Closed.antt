@@ -1,22 +1,19 @@
 -- How a scope that was not let go was closed.
-use Rattle.std.proofs.Common.{◌≡◌, ◌≢◌, ℕ, zero, suc, ◌+◌, ◌<◌, ◌≤◌, ◌==◌, ◌&&◌, ◌||◌, Bool, true, false, not, cond, nat_lt, Option, Some, None, List, [], ◌∷◌, ◌++◌, length, take, slice_get, refl, ap, sym, subst, ◌∙◌, arith, inl, inr, ◌⊎◌, length-append}
+use Rattle.std.proofs.Common.{◌≡◌, ℕ, ◌+◌, ◌≤◌, ◌==◌, ◌&&◌, Bool, true, false, not, nat_lt, Option, Some, None, List, ◌++◌, length, take, slice_get, refl, ap, sym, ◌∙◌, inl, inr, ◌⊎◌, length-append}
 use Rattle.std.specs.Option.{option_map_or}
-use Rattle.std.proofs.lemmas.Bool.{ne_eqb, eqb-false, eqb-true}
+use Rattle.std.proofs.lemmas.Bool.{ne_eqb, eqb-false}
 use Rattle.scope_rules.specs.declared.types.events.Event.{Event}
 use Rattle.scope_rules.specs.declared.types.events.Event.TheVariants.{BeginClose}
-use Rattle.scope_rules.specs.declared.types.records.Opening.{Opening}
-use Rattle.scope_rules.specs.declared.types.answers.Verdict.TheVariants.{Plain, NotJoined, Violated}
 use Rattle.scope_rules.specs.Search.{some_below}
 use Rattle.scope_rules.specs.History.{History, before, scopes, opening}
-use Rattle.scope_rules.specs.Scopes.{closed, have_one_opener, covers, joined}
-use Rattle.scope_rules.specs.Tasks.{has_tasks}
+use Rattle.scope_rules.specs.Scopes.{closed, have_one_opener, covers}
 use Rattle.scope_rules.specs.Verdicts.{covers_other, covers_another, begins_for, violating_at, violated, verdict}
 use Rattle.scope_rules.proofs.OneEventMore.{opening_later}
 use Rattle.scope_rules.proofs.PassedRows.{begin_close_passed}
 use Rattle.scope_retired.specs.Folding.{Retirable, unretired, retired, NamesNone}
 use Rattle.scope_retired.proofs.Splitting.{get_first, get_second, some_second}
 use Rattle.scope_retired.proofs.Past.{IsScope, accepted, unopened}
-use Rattle.scope_retired.proofs.Numbered.{size, part, part_of_past}
+use Rattle.scope_retired.proofs.Numbered.{size, part}
 use Rattle.scope_retired.proofs.Standing.{same_joined}
 use Rattle.scope_retired.proofs.Nested.{gone_opening, same_covers}
 use Rattle.scope_retired.proofs.Closing.{no_opener}
@@ -34,10 +31,10 @@ module _ (r : Retirable) (es : List Event) where
   unfolding covers
   covers_gone s t within apart =
       let rest : (closed (unretired r es) t ≡ true) ⊎ (have_one_opener (opening (unretired r es) s) (opening (unretired r es) t) ≡ false) =
-          elim (gone_opening r es t within) [
-            | inl none ↦ inr (ap (have_one_opener (opening (unretired r es) s)) none ∙ no_opener (opening (unretired r es) s))
-            | inr so ↦ inl so
-          ] in
+      elim (gone_opening r es t within) [
+        | inl none ↦ inr (ap (have_one_opener (opening (unretired r es) s)) none ∙ no_opener (opening (unretired r es) s))
+        | inr so ↦ inl so
+      ] in
       rw (ne_eqb s t apart) (nothing_of (nat_lt s t) (closed (unretired r es) t) (have_one_opener (opening (unretired r es) s) (opening (unretired r es) t)) rest)
 
   other_gone : (s t : ℕ) (b : Bool) → t ≤ scopes r.past → (t == s) ≡ b → (not b && covers (unretired r es) s t) ≡ false
@@ -76,9 +73,9 @@ module _ (r : Retirable) (es : List Event) (none : NamesNone r es) where
   same_violated s new =
       ap (some_below (violating_at (unretired r es) s)) (length-append r.past.events es)
       ∙ some_second (violating_at (unretired r es) s) (violating_at (retired r es) s) (size r) (length es)
-        (λ i within. ap (λ o. option_map_or (begins_for (before (unretired r es) i) s) o false) (get_first r.past.events es i within) ∙ past_by s i (slice_get r.past.events i) (before (unretired r es) i) new refl)
-        (λ i within. ap (λ (g : History). option_map_or (begins_for g s) (slice_get (r.past.events ++ es) (size r + i)) false) (part r es i)
-          ∙ (ap (λ o. option_map_or (begins_for (unretired r (take i es)) s) o false) (get_second r.past.events es i) ∙ begins_by s i (slice_get es i) new))
+      (λ i within. ap (λ o. option_map_or (begins_for (before (unretired r es) i) s) o false) (get_first r.past.events es i within) ∙ past_by s i (slice_get r.past.events i) (before (unretired r es) i) new refl)
+      (λ i within. ap (λ (g : History). option_map_or (begins_for g s) (slice_get (r.past.events ++ es) (size r + i)) false) (part r es i)
+      ∙ (ap (λ o. option_map_or (begins_for (unretired r (take i es)) s) o false) (get_second r.past.events es i) ∙ begins_by s i (slice_get es i) new))
 
   pub same_verdict : (s : ℕ) → IsScope r s → verdict (unretired r es) s ≡ verdict (retired r es) s
   unfolding verdict

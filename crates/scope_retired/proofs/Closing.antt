@@ -1,5 +1,5 @@
 -- Whether a scope that was not let go is closing.
-use Rattle.std.proofs.Common.{◌≡◌, ℕ, zero, suc, ◌+◌, ◌<◌, ◌≤◌, ◌==◌, ◌&&◌, ◌||◌, Bool, true, false, not, nat_lt, Option, Some, None, List, [], ◌∷◌, ◌++◌, length, take, slice_get, refl, ap, sym, subst, ◌∙◌, arith, length-append}
+use Rattle.std.proofs.Common.{◌≡◌, ℕ, ◌+◌, ◌<◌, ◌&&◌, Bool, true, false, not, nat_lt, Option, Some, None, List, ◌++◌, length, take, slice_get, refl, ap, sym, ◌∙◌, arith, length-append}
 use Rattle.std.specs.Option.{option_map_or}
 use Rattle.std.proofs.lemmas.Bool.{ne_eqb}
 use Rattle.scope_rules.specs.declared.types.events.Event.{Event}

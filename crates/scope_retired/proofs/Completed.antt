@@ -1,19 +1,17 @@
 -- Which tasks are those of a scope that was not let go, and which of them completed.
-use Rattle.std.proofs.Common.{◌≡◌, ℕ, zero, suc, ◌+◌, ◌<◌, ◌≤◌, ◌==◌, ◌&&◌, Bool, true, false, cond, Option, Some, None, option_map, List, [], ◌∷◌, ◌++◌, length, take, slice_get, refl, ap, sym, ◌∙◌, arith}
+use Rattle.std.proofs.Common.{◌≡◌, ℕ, ◌≤◌, ◌==◌, false, cond, Option, Some, None, option_map, List, slice_get, refl, ap, sym, ◌∙◌, arith}
 use Rattle.std.specs.Option.{option_or, option_map_or}
-use Rattle.std.specs.List.{filter_map}
 use Rattle.std.proofs.lemmas.Bool.{ne_eqb}
 use Rattle.scope_rules.specs.declared.types.events.Event.{Event}
 use Rattle.scope_rules.specs.declared.types.events.Event.TheVariants.{Finish}
 use Rattle.scope_rules.specs.declared.types.records.Opening.{Opening}
 use Rattle.scope_rules.specs.declared.types.records.Forking.{Forking}
-use Rattle.scope_rules.specs.declared.types.values.Completion.{Completion}
 use Rattle.scope_rules.specs.Joining.{fires}
-use Rattle.scope_rules.specs.History.{History, before, tasks, opening, forking}
+use Rattle.scope_rules.specs.History.{before, tasks, opening, forking}
 use Rattle.scope_rules.specs.Completions.{is_task_of, completion_of, completions, completes}
 use Rattle.scope_rules.specs.Cancels.{joiner_fires}
 use Rattle.scope_rules.proofs.Earlier.{task_given}
-use Rattle.scope_rules.proofs.Forkings.{forked_after, IsForked}
+use Rattle.scope_rules.proofs.Forkings.{forked_after}
 use Rattle.scope_rules.proofs.Nesting.{forked_opened}
 use Rattle.scope_rules.proofs.PassedRows.{finish_passed}
 use Rattle.scope_rules.proofs.Stages.{running_forked}
@@ -69,7 +67,7 @@ module _ (r : Retirable) (es : List Event) (none : NamesNone r es) where
   fires_alike s new =
       ap (λ o. option_map_or (λ (o : Opening). fires o.policy (completions (unretired r es) s)) o false) (same_opening r es s new)
       ∙ or_moved (moved_opening (size r)) (λ (o : Opening). fires o.policy (completions (unretired r es) s)) (λ (o : Opening). fires o.policy (completions (retired r es) s)) false (opening (retired r es) s)
-        (λ o is. ap (fires o.policy) (same_completions s new))
+      (λ o is. ap (fires o.policy) (same_completions s new))
 
   completes_alike : (s i : ℕ) (e : Event) → slice_get es i ≡ Some e → completes (unretired r es) s e ≡ completes (retired r es) s e
   completes_alike s i (Finish k end) at = same_is_task r es s k (finished_named r es none i k end at)

@@ -14,3 +14,5 @@ pub mod Answered
 pub mod Closed
 pub mod Bound
 pub mod Shown
+pub mod Checked
+pub mod Alike

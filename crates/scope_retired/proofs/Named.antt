@@ -1,5 +1,5 @@
 -- Of events that name no number that was let go, neither do the openings and the forkings.
-use Rattle.std.proofs.Common.{◌≡◌, ℕ, zero, suc, ◌+◌, ◌<◌, ◌||◌, Bool, true, false, Option, Some, None, option_map, List, [], ◌∷◌, take, slice_get, refl, ap, sym, ◌∙◌, arith}
+use Rattle.std.proofs.Common.{◌≡◌, ℕ, zero, suc, Option, Some, None, option_map, List, [], ◌∷◌, take, slice_get, refl, ap, arith}
 use Rattle.std.specs.Option.{option_and_then, option_map_or}
 use Rattle.scope_rules.specs.declared.types.events.Event.{Event}
 use Rattle.scope_rules.specs.declared.types.events.Event.TheVariants.{Open, Fork, Finish, BeginClose}
@@ -9,7 +9,7 @@ use Rattle.scope_rules.specs.Ends.{EndValue}
 use Rattle.scope_rules.specs.History.{scopes, tasks, opening, forking}
 use Rattle.scope_rules.proofs.Accepted.{or_left, or_right}
 use Rattle.scope_rules.proofs.Earlier.{opening_event, forking_event, scope_number}
-use Rattle.scope_retired.specs.Folding.{is_let_go, Retirable, left, retired, NamesNone}
+use Rattle.scope_retired.specs.Folding.{is_let_go, Retirable, retired, NamesNone}
 use Rattle.scope_retired.proofs.Past.{IsScope, IsTask, greater}
 
 get_of_take : {A : Type 0} (xs : List A) (n i : ℕ) (x : A) → slice_get (take n xs) i ≡ Some x → slice_get xs i ≡ Some x

@@ -1,16 +1,15 @@
 -- Who owns what, what lies around it, and what covers it.
-use Rattle.std.proofs.Common.{◌≡◌, ◌≢◌, ℕ, zero, suc, ◌+◌, ◌<◌, ◌≤◌, ◌==◌, ◌&&◌, ◌||◌, Bool, true, false, not, cond, nat_lt, Option, Some, None, option_map, List, [], ◌∷◌, ◌++◌, length, take, slice_get, refl, ap, sym, ◌∙◌, arith, inl, inr, ◌⊎◌, length-append}
+use Rattle.std.proofs.Common.{◌≡◌, ℕ, ◌+◌, ◌≤◌, ◌==◌, ◌&&◌, Bool, true, false, not, cond, Option, Some, None, option_map, List, length, take, refl, ap, ◌∙◌, arith, inl, inr, ◌⊎◌}
 use Rattle.std.specs.Option.{option_or, option_and_then, option_map_or}
 use Rattle.scope_rules.specs.declared.types.events.Event.{Event}
 use Rattle.scope_rules.specs.declared.types.records.Opening.{Opening}
 use Rattle.scope_rules.specs.declared.types.records.Forking.{Forking}
 use Rattle.scope_rules.specs.Search.{latest}
-use Rattle.scope_rules.specs.History.{History, before, scopes, opened_count, opening, forking}
-use Rattle.scope_rules.specs.Chains.{chain_by}
-use Rattle.scope_rules.specs.Scopes.{closed, unclosed_of, innermost, forked_in, surrounding, around, parent, outer, level, next_level, chain, have_one_opener, covers}
+use Rattle.scope_rules.specs.History.{History, scopes, opened_count, opening, forking}
+use Rattle.scope_rules.specs.Scopes.{closed, unclosed_of, innermost, forked_in, surrounding, around, parent, outer, level, next_level, have_one_opener, covers}
 use Rattle.scope_rules.proofs.Innermosts.{innermost_unclosed}
 use Rattle.scope_rules.proofs.Earlier.{scope_number}
-use Rattle.scope_retired.specs.Folding.{is_let_go, Retirable, left, unretired, retired, NamesNone}
+use Rattle.scope_retired.specs.Folding.{Retirable, unretired, retired, NamesNone}
 use Rattle.scope_retired.proofs.Splitting.{latest_second}
 use Rattle.scope_retired.proofs.Past.{IsScope, IsTask, greater, all_closed}
 use Rattle.scope_retired.proofs.Numbered.{size, opened_so_far, part, moved_opening, moved_forking, opening_both, same_opening, same_forking}
@@ -52,7 +51,7 @@ module _ (r : Retirable) (es : List Event) where
   same_unclosed a s new =
       ap (option_and_then (λ (o : Opening). cond ((o.actor == a) && not (closed (unretired r es) s)) (Some s) None)) (same_opening r es s new)
       ∙ then_moved (moved_opening (size r)) (λ (o : Opening). cond ((o.actor == a) && not (closed (unretired r es) s)) (Some s) None) (λ (o : Opening). cond ((o.actor == a) && not (closed (retired r es) s)) (Some s) None) (opening (retired r es) s)
-        (λ o is. ap (λ c. cond ((o.actor == a) && not c) (Some s) None) (same_closed r es s new))
+      (λ o is. ap (λ c. cond ((o.actor == a) && not c) (Some s) None) (same_closed r es s new))
 
   pub later_scope : (i : ℕ) → r.past.base.scopes + 1 + (opened_count r.past + i) ≡ scopes r.past + 1 + i
   later_scope i = omega arith
@@ -66,14 +65,14 @@ module _ (r : Retirable) (es : List Event) where
   same_innermost a =
       ap (latest (unclosed_of (unretired r es) a)) (opened_so_far r es)
       ∙ latest_second (unclosed_of (unretired r es) a) (unclosed_of (retired r es) a) (opened_count r.past) (opened_count (retired r es))
-        (λ i within. gone a (r.past.base.scopes + 1 + i) (omega (arith, within))) (λ i within. unclosed_later a i)
+      (λ i within. gone a (r.past.base.scopes + 1 + i) (omega (arith, within))) (λ i within. unclosed_later a i)
 
   pub same_surrounding : (a : ℕ) → IsTask r a → surrounding (unretired r es) a ≡ surrounding (retired r es) a
   unfolding surrounding
   same_surrounding a new =
       let home : forked_in (unretired r es) a ≡ forked_in (retired r es) a =
-          ap (option_map (λ (f : Forking). f.scope)) (same_forking r es a new)
-          ∙ map_moved (moved_forking (size r)) (λ (f : Forking). f.scope) (λ (f : Forking). f.scope) (forking (retired r es) a) (λ f is. refl) in
+      ap (option_map (λ (f : Forking). f.scope)) (same_forking r es a new)
+      ∙ map_moved (moved_forking (size r)) (λ (f : Forking). f.scope) (λ (f : Forking). f.scope) (forking (retired r es) a) (λ f is. refl) in
       ap (λ o. option_or o (forked_in (unretired r es) a)) (same_innermost a) ∙ ap (option_or (innermost (retired r es) a)) home
 
 module _ (r : Retirable) (es : List Event) (none : NamesNone r es) where
@@ -106,7 +105,7 @@ module _ (r : Retirable) (es : List Event) (none : NamesNone r es) where
   same_outer s new =
       ap (option_and_then (λ (o : Opening). cond o.options.shield None (around (unretired r es) o))) (same_opening r es s new)
       ∙ then_moved (moved_opening (size r)) (λ (o : Opening). cond o.options.shield None (around (unretired r es) o)) (λ (o : Opening). cond o.options.shield None (around (retired r es) o)) (opening (retired r es) s)
-        (λ o is. ap (cond o.options.shield None) (same_around s o is))
+      (λ o is. ap (cond o.options.shield None) (same_around s o is))
 
   around_new : (s p : ℕ) (o : Opening) → opening (retired r es) s ≡ Some o → around (retired r es) o ≡ Some p → IsScope r p
   around_new s p o is found = surrounding_new r (take o.place es) (first_names r es o.place none) o.actor p found

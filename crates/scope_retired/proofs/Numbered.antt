@@ -1,6 +1,6 @@
 -- What has a number that was not let go is the same, with its place moved by the length of the past.
-use Rattle.std.proofs.Common.{◌≡◌, ◌≢◌, ℕ, zero, suc, ◌+◌, ◌<◌, ◌≤◌, ◌==◌, ◌&&◌, Bool, true, false, cond, Option, Some, None, option_map, unwrap_or, List, [], ◌∷◌, ◌++◌, length, take, slice_get, count_by, fold, refl, ap, sym, ◌∙◌, arith, inl, inr, ◌⊎◌, length-append}
-use Rattle.std.specs.Option.{option_or, option_and_then, option_map_or}
+use Rattle.std.proofs.Common.{◌≡◌, ℕ, ◌+◌, ◌<◌, ◌≤◌, ◌==◌, Bool, true, false, cond, Option, Some, None, option_map, unwrap_or, List, ◌++◌, length, take, slice_get, count_by, refl, ap, ◌∙◌, arith, length-append}
+use Rattle.std.specs.Option.{option_or, option_and_then}
 use Rattle.std.proofs.lemmas.List.{take-append-le}
 use Rattle.std.proofs.lemmas.List.Sums.{sum_by-append}
 use Rattle.scope_rules.specs.declared.types.events.Event.{Event}
@@ -8,8 +8,8 @@ use Rattle.scope_rules.specs.declared.types.events.Event.TheVariants.{Open, Fork
 use Rattle.scope_rules.specs.declared.types.records.Opening.{Opening}
 use Rattle.scope_rules.specs.declared.types.records.Forking.{Forking}
 use Rattle.scope_rules.specs.Search.{earliest, last_of}
-use Rattle.scope_rules.specs.History.{History, before, scopes, tasks, opened_count, forked_count, opening, forking, moment, numbered_at, is_open, is_fork, opening_of, forking_of, tick_of}
-use Rattle.scope_retired.specs.Folding.{is_let_go, Retirable, left, unretired, retired, NamesNone}
+use Rattle.scope_rules.specs.History.{before, scopes, tasks, opened_count, forked_count, opening, forking, moment, numbered_at, is_open, is_fork, opening_of, forking_of, tick_of}
+use Rattle.scope_retired.specs.Folding.{Retirable, unretired, retired}
 use Rattle.scope_retired.proofs.Splitting.{get_first, get_second, take_second, earliest_split, last_of_append}
 use Rattle.scope_retired.proofs.Past.{IsScope, IsTask, unopened, unforked}
 

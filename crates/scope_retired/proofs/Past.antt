@@ -1,19 +1,16 @@
 -- Of a number that was not given in the past, the past says nothing.
-use Rattle.std.proofs.Common.{subst, take, ◌-◌, ◌≡◌, ◌≢◌, ℕ, zero, suc, ◌+◌, ◌<◌, ◌≤◌, ◌==◌, ◌&&◌, Bool, true, false, cond, nat_le, nat_lt, Option, Some, None, List, [], ◌∷◌, length, slice_get, fold, refl, ap, sym, ◌∙◌, arith, inl, inr, ◌⊎◌}
-use Rattle.std.specs.List.{list_any}
-use Rattle.std.proofs.lemmas.Bool.{le-leb, lt-ltb, leb-false, leb-true, ltb-false, both_ways, false_from_ne_true, ne_eqb, eqb-true}
+use Rattle.std.proofs.Common.{subst, take, ◌-◌, ◌≡◌, ◌≢◌, ℕ, ◌<◌, ◌≤◌, ◌&&◌, Bool, true, false, cond, nat_le, nat_lt, Option, Some, None, [], ◌∷◌, length, slice_get, fold, refl, ap, sym, ◌∙◌, arith, inl, inr}
+use Rattle.std.proofs.lemmas.Bool.{le-leb, lt-ltb, leb-true, both_ways, false_from_ne_true, ne_eqb}
 use Rattle.scope_rules.specs.declared.types.events.Event.{Event}
 use Rattle.scope_rules.specs.declared.types.events.Event.TheVariants.{Bind, Unbind}
 use Rattle.scope_rules.specs.declared.types.events.Binding.{Binding}
-use Rattle.scope_rules.specs.declared.types.capacity.Limits.{Limits}
 use Rattle.scope_rules.specs.declared.types.records.Opening.{Opening}
-use Rattle.scope_rules.specs.declared.types.records.Forking.{Forking}
 use Rattle.scope_rules.specs.Search.{last_of}
-use Rattle.scope_rules.specs.History.{History, before, scopes, tasks, opening, forking}
+use Rattle.scope_rules.specs.History.{before, scopes, tasks, opening, forking}
 use Rattle.scope_rules.specs.Scopes.{joined, closed, ends}
 use Rattle.scope_rules.specs.Cancels.{move_of}
 use Rattle.scope_rules.specs.Tasks.{rejects, rejected, starts, started, finishes, finished}
-use Rattle.scope_rules.specs.Bindings.{stack, stacked, first_stack}
+use Rattle.scope_rules.specs.Bindings.{stack, stacked}
 use Rattle.scope_rules.specs.Table.{check_of}
 use Rattle.scope_rules.specs.Legal.{Accepts, Legal}
 use Rattle.scope_rules.proofs.Accepted.{checks_at}

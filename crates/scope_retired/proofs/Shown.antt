@@ -1,14 +1,12 @@
 -- What there is to say of scopes and tasks that were not let go.
-use Rattle.std.proofs.Common.{◌≡◌, ℕ, zero, suc, ◌+◌, ◌<◌, ◌≤◌, ◌==◌, Bool, true, false, cond, nat_lt, Option, Some, None, option_map, List, [], ◌∷◌, refl, ap, sym, ◌∙◌, arith}
+use Rattle.std.proofs.Common.{◌≡◌, ℕ, ◌+◌, Bool, true, false, cond, nat_lt, Option, None, option_map, List, refl, ap, ◌∙◌, arith}
 use Rattle.std.specs.Option.{option_and_then}
 use Rattle.scope_rules.specs.declared.types.events.Event.{Event}
 use Rattle.scope_rules.specs.declared.types.records.Opening.{Opening}
 use Rattle.scope_rules.specs.declared.types.records.Forking.{Forking}
-use Rattle.scope_rules.specs.declared.types.infos.ScopeStage.TheVariants.{Open, Closing, Closed}
 use Rattle.scope_rules.specs.Search.{earliest}
 use Rattle.scope_rules.specs.History.{opened_count, scopes, opening, forking}
-use Rattle.scope_rules.specs.Scopes.{joined, closed, closing, unclosed_of}
-use Rattle.scope_rules.specs.Cancels.{deadline, cause}
+use Rattle.scope_rules.specs.Scopes.{unclosed_of}
 use Rattle.scope_rules.specs.Nests.{unclosed_after, next_unclosed, outermost, inner, label, scope_stage, info_of, info}
 use Rattle.scope_retired.specs.Folding.{Retirable, unretired, retired, NamesNone}
 use Rattle.scope_retired.proofs.Splitting.{earliest_second_same}
@@ -26,7 +24,7 @@ module _ (r : Retirable) (es : List Event) where
   same_outermost a =
       ap (earliest (unclosed_of (unretired r es) a)) (opened_so_far r es)
       ∙ earliest_second_same (unclosed_of (unretired r es) a) (unclosed_of (retired r es) a) (opened_count r.past) (opened_count (retired r es))
-        (λ i within. gone r es a (r.past.base.scopes + 1 + i) (omega (arith, within))) (λ i within. unclosed_later r es a i)
+      (λ i within. gone r es a (r.past.base.scopes + 1 + i) (omega (arith, within))) (λ i within. unclosed_later r es a i)
 
   none_either : {A : Type 0} (b : Bool) (o : Option A) → o ≡ None → cond b o None ≡ None
   none_either true o none = none
@@ -37,9 +35,9 @@ module _ (r : Retirable) (es : List Event) where
   same_next_unclosed a s =
       ap (earliest (unclosed_after (unretired r es) a s)) (opened_so_far r es)
       ∙ earliest_second_same (unclosed_after (unretired r es) a s) (unclosed_after (retired r es) a s) (opened_count r.past) (opened_count (retired r es))
-        (λ i within. none_either (nat_lt s (r.past.base.scopes + 1 + i)) (unclosed_of (unretired r es) a i) (gone r es a (r.past.base.scopes + 1 + i) (omega (arith, within))))
-        (λ i within. ap (λ n. cond (nat_lt s n) (unclosed_of (unretired r es) a (opened_count r.past + i)) None) (later_scope r es i)
-          ∙ ap (λ o. cond (nat_lt s (scopes r.past + 1 + i)) o None) (unclosed_later r es a i))
+      (λ i within. none_either (nat_lt s (r.past.base.scopes + 1 + i)) (unclosed_of (unretired r es) a i) (gone r es a (r.past.base.scopes + 1 + i) (omega (arith, within))))
+      (λ i within. ap (λ n. cond (nat_lt s n) (unclosed_of (unretired r es) a (opened_count r.past + i)) None) (later_scope r es i)
+      ∙ ap (λ o. cond (nat_lt s (scopes r.past + 1 + i)) o None) (unclosed_later r es a i))
 
   pub same_inner : (s : ℕ) → IsScope r s → inner (unretired r es) s ≡ inner (retired r es) s
   unfolding inner

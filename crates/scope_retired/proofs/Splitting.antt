@@ -1,6 +1,6 @@
 -- Searches over a list of two parts of which the first gives nothing: they find what they find in the
 -- second.
-use Rattle.std.proofs.Common.{◌≡◌, ℕ, zero, suc, ◌+◌, ◌<◌, ◌≤◌, ◌||◌, Bool, true, false, cond, Option, Some, None, option_map, List, [], ◌∷◌, ◌++◌, length, take, slice_get, fold, count_by, refl, ap, sym, ◌∙◌, inl, inr, ◌⊎◌, nat_lt, arith, add-one, add-zero, zero-add, suc-add}
+use Rattle.std.proofs.Common.{◌≡◌, ℕ, zero, suc, ◌+◌, ◌<◌, ◌≤◌, ◌||◌, Bool, true, false, Option, Some, None, option_map, List, [], ◌∷◌, ◌++◌, length, take, slice_get, fold, count_by, refl, ap, sym, ◌∙◌, inl, inr, ◌⊎◌, nat_lt, arith, add-zero, zero-add, suc-add}
 use Rattle.std.proofs.lemmas.List.Elements.{filter-append}
 use Rattle.std.proofs.lemmas.List.Sums.{length-filter}
 use Rattle.std.proofs.lemmas.List.Folds.{list_any-append}
@@ -10,7 +10,6 @@ use Rattle.scope_rules.specs.Search.{earliest, latest, last_of, some_below}
 use Rattle.scope_rules.proofs.Prefixes.{option_or-assoc, option_or-none}
 use Rattle.scope_rules.proofs.Tallies.{any_counted}
 use Rattle.scope_rules.proofs.Searching.{earliest_same}
-
 
 -- ---- lists of two parts
 

@@ -1,6 +1,6 @@
 -- How far the tasks have come that were not let go, and what can be read of them.
-use Rattle.std.proofs.Common.{◌≡◌, ℕ, zero, suc, ◌+◌, ◌<◌, ◌≤◌, ◌==◌, ◌&&◌, ◌||◌, Bool, true, false, not, cond, Option, Some, None, option_map, count_by, List, [], ◌∷◌, ◌++◌, length, take, slice_get, refl, ap, sym, ◌∙◌, arith, length-append}
-use Rattle.std.specs.Option.{option_or, option_and_then, option_map_or}
+use Rattle.std.proofs.Common.{◌≡◌, ℕ, ◌+◌, ◌==◌, ◌&&◌, Bool, true, false, not, cond, Option, Some, None, option_map, count_by, List, length, slice_get, refl, ap, ◌∙◌, length-append}
+use Rattle.std.specs.Option.{option_and_then, option_map_or}
 use Rattle.scope_rules.specs.declared.types.events.Event.{Event}
 use Rattle.scope_rules.specs.declared.types.events.Event.TheVariants.{Finish}
 use Rattle.scope_rules.specs.declared.types.answers.Stage.{Stage}
@@ -9,8 +9,7 @@ use Rattle.scope_rules.specs.declared.types.answers.State.TheVariants.{Unavailab
 use Rattle.scope_rules.specs.declared.types.records.Forking.{Forking}
 use Rattle.scope_rules.specs.declared.types.records.Ending.{Ending}
 use Rattle.scope_rules.specs.Search.{earliest}
-use Rattle.scope_rules.specs.History.{tasks, forking, task_numbers}
-use Rattle.scope_rules.specs.Cancels.{is_cancelled}
+use Rattle.scope_rules.specs.History.{forking, task_numbers}
 use Rattle.scope_rules.specs.Completions.{is_task_of}
 use Rattle.scope_rules.specs.Nests.{tasks_of}
 use Rattle.scope_rules.specs.Tasks.{stage, stage_of, ending_of, ending_at, ending, state, state_of, state_by_end, has_tasks, is_stage, is_at, counts, is_unsettled, is_settled, settled, ready}
@@ -53,8 +52,8 @@ module _ (r : Retirable) (es : List Event) where
   same_ending k new =
       ap (earliest (ending_at (unretired r es) k)) (length-append r.past.events es)
       ∙ earliest_second (ending_at (unretired r es) k) (ending_at (retired r es) k) (moved_ending (size r)) (size r) (length es)
-        (λ i within. ap (option_and_then (ending_of k i)) (get_first r.past.events es i within) ∙ ending_by k i (slice_get r.past.events i) new refl)
-        (λ i within. ap (option_and_then (ending_of k (size r + i))) (get_second r.past.events es i) ∙ ending_later k i (slice_get es i))
+      (λ i within. ap (option_and_then (ending_of k i)) (get_first r.past.events es i within) ∙ ending_by k i (slice_get r.past.events i) new refl)
+      (λ i within. ap (option_and_then (ending_of k (size r + i))) (get_second r.past.events es i) ∙ ending_later k i (slice_get es i))
 
 module _ (r : Retirable) (es : List Event) (none : NamesNone r es) where
   stage_alike : (k : ℕ) (f : Forking) → IsTask r k → forking (retired r es) k ≡ Some f → stage_of (unretired r es) k (moved_forking (size r) f) ≡ stage_of (retired r es) k f
@@ -72,14 +71,14 @@ module _ (r : Retirable) (es : List Event) (none : NamesNone r es) where
   state_alike k f new is =
       ap (λ o. option_map_or (state_of (unretired r es) (moved_forking (size r) f)) o Unavailable) (same_ending r es k new)
       ∙ or_moved (moved_ending (size r)) (state_of (unretired r es) (moved_forking (size r) f)) (state_of (retired r es) f) Unavailable (ending (retired r es) k)
-        (λ x at. ap (λ b. cond b Unavailable (state_by_end x.end)) (same_cancelled_before r es none f.scope x.place (home_named r es none k f is)))
+      (λ x at. ap (λ b. cond b Unavailable (state_by_end x.end)) (same_cancelled_before r es none f.scope x.place (home_named r es none k f is)))
 
   pub same_state : (k : ℕ) → IsTask r k → state (unretired r es) k ≡ state (retired r es) k
   unfolding state
   same_state k new =
       ap (λ o. option_map_or (λ f. option_map_or (state_of (unretired r es) f) (ending (unretired r es) k) Unavailable) o Unavailable) (same_forking r es k new)
       ∙ or_moved (moved_forking (size r)) (λ f. option_map_or (state_of (unretired r es) f) (ending (unretired r es) k) Unavailable) (λ f. option_map_or (state_of (retired r es) f) (ending (retired r es) k) Unavailable) Unavailable (forking (retired r es) k)
-        (λ f is. state_alike k f new is)
+      (λ f is. state_alike k f new is)
 
   pub same_has_tasks : (s : ℕ) → IsScope r s → has_tasks (unretired r es) s ≡ has_tasks (retired r es) s
   unfolding has_tasks

@@ -1,6 +1,6 @@
 -- What stands of a number that was not let go: joins, ends of closes, deadlines, rejects, starts, ends
 -- of tasks, and own pairs.
-use Rattle.std.proofs.Common.{◌≡◌, ◌≢◌, ℕ, zero, suc, ◌+◌, ◌<◌, ◌≤◌, ◌==◌, ◌||◌, Bool, true, false, cond, Option, Some, None, option_map, List, [], ◌∷◌, ◌++◌, fold, refl, ap, sym, ◌∙◌, arith}
+use Rattle.std.proofs.Common.{◌≡◌, ℕ, zero, suc, ◌||◌, true, cond, Option, Some, None, List, [], ◌++◌, fold, refl, ap, sym, ◌∙◌, arith}
 use Rattle.std.specs.Option.{option_or, option_and_then, option_map_or}
 use Rattle.std.specs.List.{list_any}
 use Rattle.std.proofs.lemmas.List.Folds.{list_any-append}
@@ -53,8 +53,8 @@ module _ (r : Retirable) (es : List Event) where
   unfolding deadline
   same_deadline s new =
       let opened : option_and_then (λ (o : Opening). o.options.deadline) (opening (unretired r es) s) ≡ option_and_then (λ (o : Opening). o.options.deadline) (opening (retired r es) s) =
-          ap (option_and_then (λ (o : Opening). o.options.deadline)) (same_opening r es s new)
-          ∙ then_moved (moved_opening (size r)) (λ (o : Opening). o.options.deadline) (λ (o : Opening). o.options.deadline) (opening (retired r es) s) (λ o is. refl) in
+      ap (option_and_then (λ (o : Opening). o.options.deadline)) (same_opening r es s new)
+      ∙ then_moved (moved_opening (size r)) (λ (o : Opening). o.options.deadline) (λ (o : Opening). o.options.deadline) (opening (retired r es) s) (λ o is. refl) in
       let moved : last_of (move_of s) (r.past.events ++ es) ≡ last_of (move_of s) es = last_of_append (move_of s) r.past.events es ∙ or_none (last_of (move_of s) es) (last_of (move_of s) r.past.events) (unmoved r s new) in
       ap (λ o. option_map_or (λ d. d) o (option_and_then (λ (o : Opening). o.options.deadline) (opening (unretired r es) s))) moved
       ∙ ap (λ d. option_map_or (λ d. d) (last_of (move_of s) es) d) opened
