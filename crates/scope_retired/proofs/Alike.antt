@@ -1,5 +1,5 @@
 -- All that is asked behind a retirement is answered alike.
-use Rattle.std.proofs.Common.{ℕ, List, ap, ◌∙◌}
+use Rattle.std.proofs.Common.{refl, ℕ, List, ap, ◌∙◌}
 use Rattle.scope_rules.specs.declared.types.events.Event.{Event}
 use Rattle.scope_rules.specs.History.{scopes, tasks, moment}
 use Rattle.scope_rules.specs.Bindings.{stack}
