@@ -1,16 +1,18 @@
 -- What there is to say of scopes and tasks that were not let go.
-use Rattle.std.proofs.Common.{◌≡◌, ℕ, ◌+◌, Bool, true, false, cond, nat_lt, Option, None, option_map, List, refl, ap, ◌∙◌, arith}
+use Rattle.std.proofs.Common.{◌≡◌, ℕ, ◌+◌, Bool, true, false, cond, nat_lt, Option, None, option_map, List, refl, ap, ◌∙◌, arith, ◌==◌, ◌&&◌, not, Some}
 use Rattle.std.specs.Option.{option_and_then}
 use Rattle.scope_rules.specs.declared.types.events.Event.{Event}
 use Rattle.scope_rules.specs.declared.types.records.Opening.{Opening}
 use Rattle.scope_rules.specs.declared.types.records.Forking.{Forking}
 use Rattle.scope_rules.specs.Search.{earliest}
 use Rattle.scope_rules.specs.History.{opened_count, scopes, opening, forking}
-use Rattle.scope_rules.specs.Scopes.{unclosed_of}
+use Rattle.scope_rules.specs.Scopes.{closed, unclosed_of}
 use Rattle.scope_rules.specs.Nests.{unclosed_after, next_unclosed, outermost, inner, label, scope_stage, info_of, info}
+use Rattle.scope_rules.proofs.Openings.{and_then_some, if_some}
+use Rattle.scope_rules.proofs.Searching.{earliest_where}
 use Rattle.scope_retired.specs.Folding.{Retirable, unretired, retired, NamesNone}
 use Rattle.scope_retired.proofs.Splitting.{earliest_second_same}
-use Rattle.scope_retired.proofs.Past.{IsScope, IsTask}
+use Rattle.scope_retired.proofs.Past.{IsScope, IsTask, greater}
 use Rattle.scope_retired.proofs.Numbered.{size, opened_so_far, moved_opening, moved_forking, same_opening, same_forking}
 use Rattle.scope_retired.proofs.Named.{then_moved, map_moved}
 use Rattle.scope_retired.proofs.Standing.{same_joined, same_closed, same_deadline}
@@ -64,3 +66,32 @@ module _ (r : Retirable) (es : List Event) (none : NamesNone r es) where
   same_info s new =
       ap (option_map (info_of (unretired r es) s)) (same_opening r es s new)
       ∙ map_moved (moved_opening (size r)) (info_of (unretired r es) s) (info_of (retired r es) s) (opening (retired r es) s) (λ o is. info_alike s o new)
+
+module _ (r : Retirable) (es : List Event) where
+  -- an unclosed scope of the later history was not let go
+  unclosed_new : (a i s : ℕ) → unclosed_of (retired r es) a i ≡ Some s → IsScope r s
+  unclosed_new a i s found =
+      let number = scopes r.past + 1 + i in
+      let entry = and_then_some (λ (o : Opening). cond ((o.actor == a) && not (closed (retired r es) number)) (Some number) None) (opening (retired r es) number) s found in
+      let test = if_some ((entry.0.actor == a) && not (closed (retired r es) number)) (Some number) s entry.2 in
+      let same : number ≡ s = cc (test.1) in
+      greater (scopes r.past) s (omega (arith, same))
+
+  pub outermost_new : (a s : ℕ) → outermost (retired r es) a ≡ Some s → IsScope r s
+  unfolding outermost
+  outermost_new a s found =
+      let it = earliest_where (unclosed_of (retired r es) a) s (opened_count (retired r es)) found in
+      unclosed_new a it.0 s it.2
+
+  next_new : (a t s : ℕ) → next_unclosed (retired r es) a t ≡ Some s → IsScope r s
+  unfolding next_unclosed
+  next_new a t s found =
+      let it = earliest_where (unclosed_after (retired r es) a t) s (opened_count (retired r es)) found in
+      let test = if_some (nat_lt t (scopes r.past + 1 + it.0)) (unclosed_of (retired r es) a it.0) s it.2 in
+      unclosed_new a it.0 s test.1
+
+  pub inner_new : (t s : ℕ) → inner (retired r es) t ≡ Some s → IsScope r s
+  unfolding inner
+  inner_new t s found =
+      let entry = and_then_some (λ (o : Opening). next_unclosed (retired r es) o.actor t) (opening (retired r es) t) s found in
+      next_new entry.0.actor t s entry.2
