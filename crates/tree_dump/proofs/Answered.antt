@@ -1,19 +1,20 @@
 -- What is answered of scopes and tasks that were numbered since the base, and that others are refused.
-use Rattle.std.proofs.Common.{◌≡◌, ℕ, ◌==◌, Bool, true, false, is_some, IsSome, IsNone, ok_or, List, Option, Some, None, Result, Ok, Err, slice_get, option_map, refl, ap, sym, ◌∙◌}
+use Rattle.std.proofs.Common.{◌≡◌, ℕ, ◌<◌, ◌&&◌, ◌==◌, Bool, true, false, cond, not, is_some, IsSome, IsNone, nat_lt, nat_le, ok_or, List, Option, Some, None, Result, Ok, Err, slice_get, option_map, refl, ap, sym, ◌∙◌, subst, arith}
+use Rattle.std.proofs.lemmas.Bool.{lt-leb}
 use Rattle.std.proofs.lemmas.List.Elements.{filter_passes, All-get_or}
 use Rattle.std.proofs.lemmas.Option.{slice_get_within, get_or_from_slice_get}
 use Rattle.std.specs.List.{filter}
 use Rattle.std.specs.Option.{option_map_or}
 use Rattle.scope_rules.specs.declared.types.infos.ScopeInfo.{ScopeInfo}
 use Rattle.scope_rules.specs.declared.types.refusals.Refusal.{Refusal}
-use Rattle.scope_rules.specs.declared.types.refusals.Refusal.TheVariants.{NoScope, NoTask}
+use Rattle.scope_rules.specs.declared.types.refusals.Refusal.TheVariants.{NoScope, NoTask, Retired}
 use Rattle.scope_rules.specs.declared.types.records.Opening.{Opening}
 use Rattle.scope_rules.specs.declared.types.records.Forking.{Forking}
 use Rattle.scope_rules.specs.declared.types.values.Label.{Label}
 use Rattle.scope_rules.specs.Completions.{is_task_of}
 use Rattle.scope_rules.specs.History.{History, opening, forking, task_numbers}
 use Rattle.scope_rules.specs.Nests.{inner, inner_reply, info, info_of, info_reply, label, label_reply, tasks_of, task_at_reply}
-use Rattle.scope_rules.specs.Checks.{Checked, scope_check, task_check}
+use Rattle.scope_rules.specs.Checks.{Checked, refuse_if, scope_check, task_check}
 use Rattle.scope_rules.specs.Table.{checked_then}
 use Rattle.tree_dump.specs.Tree.{task_told}
 use Rattle.scope_checks.proofs.Checked.{scope_passes, task_passes}

@@ -1,5 +1,5 @@
 -- A task that stands in a scope's list is told of.
-use Rattle.std.proofs.Common.{IsNone, Ok, ap, sym, ◌∙◌, subst}
+use Rattle.std.proofs.Common.{◌≡◌, IsNone, Ok, ap, sym, ◌∙◌, subst}
 use Rattle.tree_dump.proofs.Answered.{answered_there}
 use Rattle.tree_dump.proofs.told.told_at.Goals as goal
 

@@ -1,4 +1,4 @@
-use Rattle.std.proofs.Common.{◌≡◌, ◌-◌, length, map, take}
+use Rattle.std.proofs.Common.{◌≡◌, ◌-◌, ℕ, length, map, take}
 use Rattle.scope_rules.specs.Nests.{tasks_of}
 use Rattle.serde_json.specs.View.{view}
 use Rattle.tree_dump.specs.Tree.{nested, task_shown}
