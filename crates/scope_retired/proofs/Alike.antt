@@ -21,7 +21,7 @@ use Rattle.scope_retired.proofs.Checked.{same_scope_check, same_task_check, same
 
 scope_alike : (r : Retirable) (es : List Event) → NamesNone r es → (s : ℕ) → IsScope r s → ScopeAlike (unretired r es) (retired r es) s
 scope_alike r es none s new = record {
-  checked = same_scope_check r es r.limits s new;
+  checked = same_scope_check r es s new;
   until_checked = same_until_check r es none s new;
   joined = same_joined r es s new;
   closing = same_closing r es none s new;
@@ -39,7 +39,7 @@ scope_alike r es none s new = record {
 
 task_alike : (r : Retirable) (es : List Event) → NamesNone r es → (k : ℕ) → IsTask r k → TaskAlike (unretired r es) (retired r es) k
 task_alike r es none k new = record {
-  checked = same_task_check r es r.limits k new;
+  checked = same_task_check r es k new;
   acts = same_actor_check r es none k new;
   stage = same_stage r es none k new;
   state = same_state r es none k new;

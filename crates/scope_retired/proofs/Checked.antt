@@ -7,6 +7,10 @@ use Rattle.std.proofs.lemmas.List.Sums.{sum_by-append}
 use Rattle.scope_rules.specs.declared.types.capacity.Limits.{Limits}
 use Rattle.scope_rules.specs.declared.types.capacity.TheConstants.{GREATEST_NUMBER, LEVEL_LIMIT, OPEN_LOAD, FORK_LOAD, STEP_LOAD}
 use Rattle.scope_rules.specs.declared.types.events.Event.{Event}
+use Rattle.scope_rules.specs.declared.types.events.Options.{Options}
+use Rattle.scope_rules.specs.declared.types.joiners.Policy.{Policy}
+use Rattle.scope_rules.specs.declared.types.values.Label.{Label}
+use Rattle.scope_rules.specs.Ends.{EndValue}
 use Rattle.scope_rules.specs.declared.types.events.Event.TheVariants.{Open, Fork, Reject, Start, Finish, Cancel, Move, Tick, Bind, Unbind, Join, BeginClose, EndClose}
 use Rattle.scope_rules.specs.declared.types.refusals.Refusal.{Refusal}
 use Rattle.scope_rules.specs.declared.types.refusals.Refusal.TheVariants.{NoScope, NotOwner, Closed, AlreadyJoined, NotJoined, Structure, NoTask, WrongStage, ClockBack, TooMany, NotReady, NotBound, TooDeep, Retired}
@@ -100,6 +104,7 @@ module _ (r : Retirable) (es : List Event) (L : Limits) where
       (λ over. le-leb L.tasks (forked_count (unretired r es)) (omega (arith, leb-true L.tasks (forked_count (retired r es)) over, forked_so_far r es)))
       (λ over. ap (nat_le GREATEST_NUMBER) (same_tasks r es) ∙ over))
 
+module _ (r : Retirable) (es : List Event) where
   pub same_scope_check : (s : ℕ) → IsScope r s → scope_check (unretired r es) s ≡ scope_check (retired r es) s
   unfolding scope_check
   same_scope_check s new =
@@ -130,7 +135,7 @@ module _ (r : Retirable) (es : List Event) (none : NamesNone r es) where
   pub same_actor_check : (a : ℕ) → IsTask r a → actor_check (unretired r es) a ≡ actor_check (retired r es) a
   unfolding actor_check
   same_actor_check a new =
-      ap (λ c. cond (a == 0) (Ok tt) (checks (c ∷ refuse_if (not (is_running (stage (unretired r es) a))) WrongStage ∷ []))) (same_task_check r es r.limits a new)
+      ap (λ c. cond (a == 0) (Ok tt) (checks (c ∷ refuse_if (not (is_running (stage (unretired r es) a))) WrongStage ∷ []))) (same_task_check r es a new)
       ∙ ap (λ x. cond (a == 0) (Ok tt) (checks (task_check (retired r es) a ∷ refuse_if (not (is_running x)) WrongStage ∷ []))) (same_stage r es none a new)
 
   closing_by : (a : ℕ) (o : Option ℕ) → innermost (retired r es) a ≡ o → option_map_or (closing (unretired r es)) o false ≡ option_map_or (closing (retired r es)) o false
@@ -144,14 +149,14 @@ module _ (r : Retirable) (es : List Event) (none : NamesNone r es) where
   pub same_until_check : (s : ℕ) → IsScope r s → until_check (unretired r es) s ≡ until_check (retired r es) s
   unfolding until_check
   same_until_check s new =
-      ap (λ c. checks (c ∷ refuse_if (closed (unretired r es) s) Closed ∷ [])) (same_scope_check r es r.limits s new)
+      ap (λ c. checks (c ∷ refuse_if (closed (unretired r es) s) Closed ∷ [])) (same_scope_check r es s new)
       ∙ ap (λ b. checks (scope_check (retired r es) s ∷ refuse_if b Closed ∷ [])) (same_closed r es s new)
 
   same_owns_task : (a k : ℕ) → IsTask r k → owns_task (unretired r es) a k ≡ owns_task (retired r es) a k
   same_owns_task a k new =
       ap (λ o. option_map_or (λ (f : Forking). owns (unretired r es) a f.scope) o false) (same_forking r es k new)
       ∙ or_moved (moved_forking (size r)) (λ (f : Forking). owns (unretired r es) a f.scope) (λ (f : Forking). owns (retired r es) a f.scope) false (forking (retired r es) k)
-      (λ f is. same_owns r es r.limits a f.scope (home_named r es none k f is))
+      (λ f is. same_owns r es a f.scope (home_named r es none k f is))
 
   same_task_joined : (k : ℕ) → IsTask r k → task_joined (unretired r es) k ≡ task_joined (retired r es) k
   same_task_joined k new =
@@ -163,7 +168,7 @@ module _ (r : Retirable) (es : List Event) (none : NamesNone r es) where
   unfolding reading_check
   same_reading_check a k actor new =
       ap (λ c. checks (c ∷ task_check (unretired r es) k ∷ refuse_if (not (owns_task (unretired r es) a k)) NotOwner ∷ refuse_if (not (task_joined (unretired r es) k)) NotJoined ∷ [])) (same_actor_check a actor)
-      ∙ (ap (λ c. checks (actor_check (retired r es) a ∷ c ∷ refuse_if (not (owns_task (unretired r es) a k)) NotOwner ∷ refuse_if (not (task_joined (unretired r es) k)) NotJoined ∷ [])) (same_task_check r es r.limits k new)
+      ∙ (ap (λ c. checks (actor_check (retired r es) a ∷ c ∷ refuse_if (not (owns_task (unretired r es) a k)) NotOwner ∷ refuse_if (not (task_joined (unretired r es) k)) NotJoined ∷ [])) (same_task_check r es k new)
       ∙ (ap (λ b. checks (actor_check (retired r es) a ∷ task_check (retired r es) k ∷ refuse_if (not b) NotOwner ∷ refuse_if (not (task_joined (unretired r es) k)) NotJoined ∷ [])) (same_owns_task a k new)
       ∙ ap (λ b. checks (actor_check (retired r es) a ∷ task_check (retired r es) k ∷ refuse_if (not (owns_task (retired r es) a k)) NotOwner ∷ refuse_if (not b) NotJoined ∷ [])) (same_task_joined k new)))
 
@@ -173,13 +178,13 @@ module _ (r : Retirable) (es : List Event) (none : NamesNone r es) where
   acts a new = inl (same_actor_check a new)
 
   known : (s : ℕ) → IsScope r s → RefusesAlike (scope_check (unretired r es) s) (scope_check (retired r es) s)
-  known s new = inl (same_scope_check r es r.limits s new)
+  known s new = inl (same_scope_check r es s new)
 
   given : (k : ℕ) → IsTask r k → RefusesAlike (task_check (unretired r es) k) (task_check (retired r es) k)
-  given k new = inl (same_task_check r es r.limits k new)
+  given k new = inl (same_task_check r es k new)
 
   owned : (a s : ℕ) → IsScope r s → RefusesAlike (owner_check (unretired r es) a s) (owner_check (retired r es) a s)
-  owned a s new = if_alike (not (owns (unretired r es) a s)) (not (owns (retired r es) a s)) NotOwner (ap not (same_owns r es r.limits a s new))
+  owned a s new = if_alike (not (owns (unretired r es) a s)) (not (owns (retired r es) a s)) NotOwner (ap not (same_owns r es a s new))
 
   unclosing : (s : ℕ) → IsScope r s → RefusesAlike (refuse_closing (unretired r es) s) (refuse_closing (retired r es) s)
   unclosing s new = if_alike (closing (unretired r es) s) (closing (retired r es) s) Closed (same_closing r es none s new)
@@ -202,16 +207,21 @@ module _ (r : Retirable) (es : List Event) (none : NamesNone r es) where
       let alike = unless (is_cancelled (retired r es) s) (refuse_full L (unretired r es) STEP_LOAD) (refuse_full L (retired r es) STEP_LOAD) (load_alike r es L STEP_LOAD) in
       rw (same_cancelled r es none s new) alike
 
-  pub same_check : (L : Limits) (e : Event) → names_let_go (left r) e ≡ false → RefusesAlike (check_of L (unretired r es) e) (check_of L (retired r es) e)
+  -- the row of the event is refused alike
+  abbrev AlikeRow : Limits → Event → Type 0
+  AlikeRow L e = RefusesAlike (check_of L (unretired r es) e) (check_of L (retired r es) e)
+
+  open_row : (L : Limits) (actor : ℕ) (policy : Policy) (options : Options) → IsTask r actor → AlikeRow L (Open actor policy options)
   unfolding check_of
-  same_check L (Open actor policy options) new =
+  open_row L actor policy options new =
       row _ _ _ _ (acts actor new)
       (row _ _ _ _ (inl (ap (λ b. refuse_if b Closed) (same_in_closing actor)))
       (row _ _ _ _ (inl (ap (λ n. refuse_if (nat_lt LEVEL_LIMIT n) TooDeep) (same_next_level r es none actor new)))
       (row _ _ _ _ (scopes_alike r es L) (row _ _ _ _ (load_alike r es L OPEN_LOAD) end_of_row))))
-  same_check L (Fork actor scope label) new =
-      let a = or_left (is_let_go (tasks r.past) actor) (is_let_go (scopes r.past) scope) new in
-      let s = or_right (is_let_go (tasks r.past) actor) (is_let_go (scopes r.past) scope) new in
+
+  fork_row : (L : Limits) (actor scope : ℕ) (label : Label) → IsTask r actor → IsScope r scope → AlikeRow L (Fork actor scope label)
+  unfolding check_of
+  fork_row L actor scope label a s =
       row _ _ _ _ (acts actor a)
       (row _ _ _ _ (known scope s)
       (row _ _ _ _ (owned actor scope s)
@@ -219,41 +229,63 @@ module _ (r : Retirable) (es : List Event) (none : NamesNone r es) where
       (row _ _ _ _ (unjoined scope s)
       (row _ _ _ _ (inl (ap (λ b. refuse_if (not b) Structure) (same_bound_as_opened r es actor scope a s)))
       (row _ _ _ _ (tasks_alike r es L) (row _ _ _ _ (load_alike r es L FORK_LOAD) end_of_row)))))))
-  same_check L (Reject task) new = row _ _ _ _ (given task new) (row _ _ _ _ (waits task new) end_of_row)
-  same_check L (Start task) new = row _ _ _ _ (given task new) (row _ _ _ _ (waits task new) end_of_row)
-  same_check L (Finish task end) new =
+
+  finish_row : (L : Limits) (task : ℕ) (end : EndValue) → IsTask r task → AlikeRow L (Finish task end)
+  unfolding check_of
+  finish_row L task end new =
       row _ _ _ _ (given task new) (row _ _ _ _ (runs task new) (row _ _ _ _ (inl (ap (λ o. refuse_if (is_some o) Structure) (same_innermost r es task))) end_of_row))
-  same_check L (Cancel scope) new = row _ _ _ _ (known scope new) (row _ _ _ _ (unclosing scope new) (row _ _ _ _ (cancels L scope new) end_of_row))
-  same_check L (Move scope deadline) new =
-      row _ _ _ _ (known scope new) (row _ _ _ _ (unclosing scope new) (row _ _ _ _ (unjoined scope new) (row _ _ _ _ (load_alike r es L STEP_LOAD) end_of_row)))
-  same_check L (Tick now) new = row _ _ _ _ (inl (ap (λ n. refuse_if (nat_lt now n) ClockBack) (same_moment r es))) (row _ _ _ _ (load_alike r es L STEP_LOAD) end_of_row)
-  same_check L (Bind actor pair) new = row _ _ _ _ (acts actor new) (row _ _ _ _ (load_alike r es L STEP_LOAD) end_of_row)
-  same_check L (Unbind actor) new =
+
+  unbind_row : (L : Limits) (actor : ℕ) → IsTask r actor → AlikeRow L (Unbind actor)
+  unfolding check_of
+  unbind_row L actor new =
       row _ _ _ _ (acts actor new)
       (row _ _ _ _ (inl (ap (λ bs. refuse_if (length bs == 0) NotBound) (same_stack r es actor new)))
       (row _ _ _ _ (inl (ap (λ b. refuse_if b Structure) (same_holds_last r es actor new))) (row _ _ _ _ (load_alike r es L STEP_LOAD) end_of_row)))
-  same_check L (Join actor scope) new =
-      let a = or_left (is_let_go (tasks r.past) actor) (is_let_go (scopes r.past) scope) new in
-      let s = or_right (is_let_go (tasks r.past) actor) (is_let_go (scopes r.past) scope) new in
+
+  join_row : (L : Limits) (actor scope : ℕ) → IsTask r actor → IsScope r scope → AlikeRow L (Join actor scope)
+  unfolding check_of
+  join_row L actor scope a s =
       row _ _ _ _ (acts actor a)
       (row _ _ _ _ (known scope s)
       (row _ _ _ _ (owned actor scope s)
       (row _ _ _ _ (unclosing scope s)
       (row _ _ _ _ (unjoined scope s) (row _ _ _ _ (inl (ap (λ b. refuse_if (not b) NotReady) (same_ready r es none scope s))) end_of_row)))))
-  same_check L (BeginClose actor scope) new =
-      let a = or_left (is_let_go (tasks r.past) actor) (is_let_go (scopes r.past) scope) new in
-      let s = or_right (is_let_go (tasks r.past) actor) (is_let_go (scopes r.past) scope) new in
-      row _ _ _ _ (acts actor a) (row _ _ _ _ (known scope s) (row _ _ _ _ (owned actor scope s) end_of_row))
-  same_check L (EndClose actor scope) new =
-      let a = or_left (is_let_go (tasks r.past) actor) (is_let_go (scopes r.past) scope) new in
-      let s = or_right (is_let_go (tasks r.past) actor) (is_let_go (scopes r.past) scope) new in
+
+  begin_row : (L : Limits) (actor scope : ℕ) → IsTask r actor → IsScope r scope → AlikeRow L (BeginClose actor scope)
+  unfolding check_of
+  begin_row L actor scope a s = row _ _ _ _ (acts actor a) (row _ _ _ _ (known scope s) (row _ _ _ _ (owned actor scope s) end_of_row))
+
+  end_row : (L : Limits) (actor scope : ℕ) → IsTask r actor → IsScope r scope → AlikeRow L (EndClose actor scope)
+  unfolding check_of
+  end_row L actor scope a s =
       row _ _ _ _ (acts actor a)
       (row _ _ _ _ (known scope s)
       (row _ _ _ _ (owned actor scope s)
       (row _ _ _ _ (inl (ap (λ b. refuse_if (not b) WrongStage) (same_closing r es none scope s)))
       (row _ _ _ _ (inl (ap (λ b. refuse_if b Closed) (same_closed r es scope s)))
-      (row _ _ _ _ (inl (ap (λ b. refuse_if (not b) Structure) (same_is_innermost r es L actor scope)))
+      (row _ _ _ _ (inl (ap (λ b. refuse_if (not b) Structure) (same_is_innermost r es actor scope)))
       (row _ _ _ _ (inl (ap (λ b. refuse_if (not b) NotReady) (same_settled r es none scope s))) end_of_row))))))
+
+  -- the actor and the scope that an event names
+  both_named : (actor scope : ℕ) → (is_let_go (tasks r.past) actor || is_let_go (scopes r.past) scope) ≡ false → IsTask r actor × IsScope r scope
+  both_named actor scope new = (or_left (is_let_go (tasks r.past) actor) (is_let_go (scopes r.past) scope) new, or_right (is_let_go (tasks r.past) actor) (is_let_go (scopes r.past) scope) new)
+
+  pub same_check : (L : Limits) (e : Event) → names_let_go (left r) e ≡ false → AlikeRow L e
+  unfolding check_of
+  same_check L (Open actor policy options) new = open_row L actor policy options new
+  same_check L (Fork actor scope label) new = let it = both_named actor scope new in fork_row L actor scope label it.0 it.1
+  same_check L (Reject task) new = row _ _ _ _ (given task new) (row _ _ _ _ (waits task new) end_of_row)
+  same_check L (Start task) new = row _ _ _ _ (given task new) (row _ _ _ _ (waits task new) end_of_row)
+  same_check L (Finish task end) new = finish_row L task end new
+  same_check L (Cancel scope) new = row _ _ _ _ (known scope new) (row _ _ _ _ (unclosing scope new) (row _ _ _ _ (cancels L scope new) end_of_row))
+  same_check L (Move scope deadline) new =
+      row _ _ _ _ (known scope new) (row _ _ _ _ (unclosing scope new) (row _ _ _ _ (unjoined scope new) (row _ _ _ _ (load_alike r es L STEP_LOAD) end_of_row)))
+  same_check L (Tick now) new = row _ _ _ _ (inl (ap (λ n. refuse_if (nat_lt now n) ClockBack) (same_moment r es))) (row _ _ _ _ (load_alike r es L STEP_LOAD) end_of_row)
+  same_check L (Bind actor pair) new = row _ _ _ _ (acts actor new) (row _ _ _ _ (load_alike r es L STEP_LOAD) end_of_row)
+  same_check L (Unbind actor) new = unbind_row L actor new
+  same_check L (Join actor scope) new = let it = both_named actor scope new in join_row L actor scope it.0 it.1
+  same_check L (BeginClose actor scope) new = let it = both_named actor scope new in begin_row L actor scope it.0 it.1
+  same_check L (EndClose actor scope) new = let it = both_named actor scope new in end_row L actor scope it.0 it.1
 
   pub same_already : (e : Event) → names_let_go (left r) e ≡ false → is_already (unretired r es) e ≡ is_already (retired r es) e
   same_already (Cancel scope) new = same_cancelled r es none scope new
