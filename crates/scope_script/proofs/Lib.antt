@@ -7,3 +7,5 @@ pub mod Feeds
 pub mod Taken
 pub mod Kept
 pub mod Progress
+pub mod AnsweredAlike
+pub mod Retiring

@@ -20,3 +20,4 @@ pub mod ByBytes
 pub mod Books
 pub mod Streams
 pub mod Running
+pub mod Retiring

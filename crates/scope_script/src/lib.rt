@@ -2,6 +2,7 @@
 //! (`script_lines`) and the line of a reply (`script_replies`) are handed on.
 #![tactic(auto)]
 
+pub mod laws;
 pub mod performing;
 pub mod session;
 pub mod streams;

@@ -2,3 +2,4 @@ mod Answered
 mod Counted
 mod Floats
 mod Walked
+mod Retiring

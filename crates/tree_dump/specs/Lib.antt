@@ -1,3 +1,4 @@
 pub mod Objects
 pub mod Tree
 pub mod Words
+pub mod Retiring

@@ -18,6 +18,7 @@
 #![tactic(auto)]
 
 mod book;
+pub mod laws;
 mod objects;
 pub mod told;
 pub mod walk;

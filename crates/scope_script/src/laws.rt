@@ -1,0 +1,11 @@
+//! The law of retirement over scripts. The function does nothing: its contract is the law.
+
+ghost use Rattle.scope_script.specs.Retiring.{RepliesStay, ReplyTextStays};
+
+/// A retirement changes no reply but its own. Where a list of commands without its retirements meets no
+/// limit, and no command behind an accepted retirement names a number that was let go, the replies and
+/// their lines are the same with the retirements, their own replies aside.
+pub fn retired()
+    ensures replies { RepliesStay }
+    ensures text { ReplyTextStays }
+{}

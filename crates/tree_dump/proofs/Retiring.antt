@@ -1,0 +1,87 @@
+-- The tree behind a retirement is the tree without it.
+use Rattle.std.proofs.Common.{◌≡◌, ℕ, zero, suc, ◌+◌, Option, Some, None, option_map, List, map, codes, refl, ap, sym, ◌∙◌, arith}
+use Rattle.std.specs.Option.{option_map_or}
+use Rattle.scope_rules.specs.declared.types.events.Event.{Event}
+use Rattle.scope_rules.specs.declared.types.infos.ScopeInfo.{ScopeInfo}
+use Rattle.scope_rules.specs.History.{tasks, moment, forked_count}
+use Rattle.scope_rules.specs.Completions.{is_task_of}
+use Rattle.scope_rules.specs.Nests.{outermost, inner, tasks_of, label, info}
+use Rattle.scope_rules.specs.Tasks.{stage, state}
+use Rattle.serde_json.specs.Data.{null, number, unsigned, object, member, no_members}
+use Rattle.serde_json.specs.View.{items_of}
+use Rattle.serde_json.specs.Written.{compact_text}
+use Rattle.scope_retired.specs.Folding.{Retirable, unretired, retired, NamesNone}
+use Rattle.scope_retired.proofs.Past.{IsScope, IsTask, greater}
+use Rattle.scope_retired.proofs.Numbered.{same_moment}
+use Rattle.scope_retired.proofs.Ranges.{filter_listed}
+use Rattle.scope_retired.proofs.Staged.{same_stage, same_state, same_tasks_of}
+use Rattle.scope_retired.proofs.Shown.{same_outermost, same_inner, same_label, same_info, outermost_new, inner_new}
+use Rattle.scope_rules.specs.Replies.{Realm}
+use Rattle.scope_script.proofs.Retiring.{leaves_alike}
+use Rattle.tree_dump.specs.Objects.{scope_object, task_object}
+use Rattle.tree_dump.specs.Tree.{task_told, task_shown, tasks_shown, scope_shown, nested, levels, dump_data, dump_text}
+use Rattle.tree_dump.specs.Retiring.{DumpStays}
+
+module _ (r : Retirable) (es : List Event) (none : NamesNone r es) where
+  -- a scope that lies somewhere was not let go
+  abbrev IsPlace : Option ℕ → Type 0
+  IsPlace place = (s : ℕ) → place ≡ Some s → IsScope r s
+
+  told_alike : (k : ℕ) → IsTask r k → task_told (unretired r es) k ≡ task_told (retired r es) k
+  unfolding task_told
+  told_alike k new =
+      rw (same_label r es k new) (rw (same_stage r es none k new) (rw (same_state r es none k new) (rw (same_outermost r es k) refl)))
+
+  module _ (n : ℕ) (inside : (place : Option ℕ) → IsPlace place → nested (unretired r es) n place ≡ nested (retired r es) n place) where
+    shown_by : (k : ℕ) (l : Option _) → label (retired r es) k ≡ l
+        → option_map_or (λ told. task_object told (nested (unretired r es) n told.inner)) (option_map (λ l. record { task = k; label = l; stage = stage (retired r es) k; state = state (retired r es) k; inner = outermost (retired r es) k }) l) null
+        ≡ option_map_or (λ told. task_object told (nested (retired r es) n told.inner)) (option_map (λ l. record { task = k; label = l; stage = stage (retired r es) k; state = state (retired r es) k; inner = outermost (retired r es) k }) l) null
+    shown_by k None is = refl
+    shown_by k (Some l) is = ap (task_object (record { task = k; label = l; stage = stage (retired r es) k; state = state (retired r es) k; inner = outermost (retired r es) k })) (inside (outermost (retired r es) k) (λ s found. outermost_new r es k s found))
+
+    shown_alike : (k : ℕ) → IsTask r k → task_shown (unretired r es) (nested (unretired r es) n) k ≡ task_shown (retired r es) (nested (retired r es) n) k
+    unfolding task_told
+    shown_alike k new = ap (λ o. option_map_or (λ told. task_object told (nested (unretired r es) n told.inner)) o null) (told_alike k new) ∙ shown_by k (label (retired r es) k) refl
+
+    tasks_alike : (s : ℕ) → IsScope r s → tasks_shown (unretired r es) (nested (unretired r es) n) s ≡ tasks_shown (retired r es) (nested (retired r es) n) s
+    unfolding tasks_of
+    tasks_alike s new =
+        ap (λ ks. items_of (map (task_shown (unretired r es) (nested (unretired r es) n)) ks)) (same_tasks_of r es none s new)
+        ∙ ap items_of (filter_listed (is_task_of (retired r es) s) (task_shown (unretired r es) (nested (unretired r es) n)) (task_shown (retired r es) (nested (retired r es) n)) (tasks r.past + 1) (forked_count (retired r es))
+        (λ k more. shown_alike k (greater (tasks r.past) k (omega (arith, more)))))
+
+    scope_by : (s : ℕ) (o : Option ScopeInfo) → IsScope r s
+        → option_map_or (λ i. scope_object i (nested (unretired r es) n (inner (unretired r es) s)) (tasks_shown (unretired r es) (nested (unretired r es) n) s)) o null
+        ≡ option_map_or (λ i. scope_object i (nested (retired r es) n (inner (retired r es) s)) (tasks_shown (retired r es) (nested (retired r es) n) s)) o null
+    scope_by s None new = refl
+    scope_by s (Some i) new =
+        ap (λ p. scope_object i (nested (unretired r es) n p) (tasks_shown (unretired r es) (nested (unretired r es) n) s)) (same_inner r es s new)
+        ∙ (ap (λ d. scope_object i d (tasks_shown (unretired r es) (nested (unretired r es) n) s)) (inside (inner (retired r es) s) (λ t found. inner_new r es s t found))
+        ∙ ap (scope_object i (nested (retired r es) n (inner (retired r es) s))) (tasks_alike s new))
+
+    scope_alike : (s : ℕ) → IsScope r s → scope_shown (unretired r es) (nested (unretired r es) n) s ≡ scope_shown (retired r es) (nested (retired r es) n) s
+    scope_alike s new =
+        ap (λ o. option_map_or (λ i. scope_object i (nested (unretired r es) n (inner (unretired r es) s)) (tasks_shown (unretired r es) (nested (unretired r es) n) s)) o null) (same_info r es none s new)
+        ∙ scope_by s (info (retired r es) s) new
+
+  nested_alike : (n : ℕ) (place : Option ℕ) → IsPlace place → nested (unretired r es) n place ≡ nested (retired r es) n place
+  unfolding nested
+  nested_alike zero place new = refl
+  nested_alike (suc n) None new = refl
+  nested_alike (suc n) (Some s) new = scope_alike n (λ place there. nested_alike n place there) s (new s refl)
+
+  data_alike : dump_data (unretired r es) ≡ dump_data (retired r es)
+  data_alike =
+      let root : nested (unretired r es) levels (outermost (unretired r es) 0) ≡ nested (retired r es) levels (outermost (retired r es) 0) =
+      ap (nested (unretired r es) levels) (same_outermost r es 0) ∙ nested_alike levels (outermost (retired r es) 0) (λ s found. outermost_new r es 0 s found) in
+      ap (λ m. object (member (codes "moment") (number (unsigned m)) (member (codes "root") (nested (unretired r es) levels (outermost (unretired r es) 0)) no_members))) (same_moment r es)
+      ∙ ap (λ d. object (member (codes "moment") (number (unsigned (moment (retired r es)))) (member (codes "root") d no_members))) root
+
+  pub text_alike : dump_text (unretired r es) ≡ dump_text (retired r es)
+  unfolding dump_text
+  text_alike = ap compact_text data_alike
+
+pub dump_stays : DumpStays
+dump_stays L commands free =
+    let it = leaves_alike L commands free in
+    ap (λ (g : Realm). dump_text g.history) it.is_whole ∙ (text_alike it.last.past it.last.since it.last.none ∙ sym (ap (λ (g : Realm). dump_text g.history) it.is_rest))

@@ -1,0 +1,12 @@
+-- The dump of what a list of commands leaves, with its retirements and without them.
+use Rattle.std.specs.Prelude.{◌≡◌, List}
+use Rattle.scope_rules.specs.declared.types.capacity.Limits.{Limits}
+use Rattle.script_lines.specs.declared.commands.Command.{Command}
+use Rattle.scope_script.specs.Replying.{realm_after_all}
+use Rattle.scope_script.specs.Retiring.{without_retirements, fresh, RetiresFreely}
+use Rattle.tree_dump.specs.Tree.{dump_text}
+
+-- where a list of commands without its retirements meets no limit, and no command behind an accepted
+-- retirement names a number that was let go, what it leaves is dumped the same with the retirements
+abbrev pub DumpStays : Type 0
+DumpStays = (L : Limits) (commands : List Command) → RetiresFreely L commands → dump_text (realm_after_all (fresh L) (without_retirements commands)).history ≡ dump_text (realm_after_all (fresh L) commands).history
