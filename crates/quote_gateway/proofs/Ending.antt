@@ -1,6 +1,6 @@
 -- What the close of a request's scope leaves: the scope is closed, and its actor's innermost scope is the one that it
 -- was before the request.
-use Rattle.std.proofs.Common.{◌≡◌, ℕ, ◌+◌, ◌<◌, Bool, true, Some, length, List, [], ◌∷◌, ◌++◌, map, refl, sym, ap, ◌∙◌, subst, arith, append_assoc}
+use Rattle.std.proofs.Common.{◌≡◌, ℕ, ◌+◌, ◌<◌, Bool, true, Some, None, length, List, [], ◌∷◌, ◌++◌, map, refl, sym, ap, ◌∙◌, subst, arith, append_assoc}
 use Rattle.std.proofs.lemmas.List.{map-append}
 use Rattle.scope_rules.specs.declared.types.capacity.Limits.{Limits}
 use Rattle.scope_rules.specs.declared.types.events.Event.{Event}
@@ -9,6 +9,7 @@ use Rattle.scope_rules.specs.declared.types.events.Options.{Options}
 use Rattle.scope_rules.specs.declared.types.joiners.Policy.{Policy}
 use Rattle.scope_rules.specs.History.{History, followed, opening, scopes}
 use Rattle.scope_rules.specs.Scopes.{closed, innermost}
+use Rattle.scope_rules.specs.Search.{latest}
 use Rattle.scope_rules.specs.Legal.{Accepts, Legal}
 use Rattle.scope_rules.proofs.InnermostEnds.{innermost_ended}
 use Rattle.scope_rules.proofs.InnermostSteps.{next_opening}
@@ -17,15 +18,17 @@ use Rattle.realm_steps.specs.declared.steps.RealmStep.TheVariants.{Happened}
 use Rattle.realm_steps.specs.Steps.{history_of, IsLegal}
 use Rattle.realm_steps.proofs.Histories.{beginning_legal, history-push, legal_history}
 use Rattle.share_ledger.specs.Values.{OwnerValue}
+use Rattle.atomic_table.specs.Seated.{TableId}
+use Rattle.realm_core.specs.Calls.{SeesMore, history_seen}
 use Rattle.realm_core.proofs.Others.{last_passes}
 use Rattle.realm_core.proofs.Unopened.{innermost_still}
 use Rattle.realm_close.specs.Ends.{Ends, end_step, ended}
 use Rattle.realm_close.specs.Waiting.{IsOpenOf}
 use Rattle.realm_close.proofs.EndChains.{closed_now}
 use Rattle.realm_close.proofs.EndSteps.{history_ended}
-use Rattle.quote_gateway.specs.Going.{nests, shapes, GoesOn, IsBeginning, Opens, EndsScope}
-use Rattle.quote_gateway.specs.Requests.{IsOpenedFor}
-use Rattle.quote_gateway.proofs.Going.{FindsEnds, nests_find, shapes_find, walked, open_going, legal_there, history_added, begins_going, begins_on, begins_agreeing}
+use Rattle.quote_gateway.specs.Going.{nests, shapes, GoesOn, IsBeginning, KeepsInnermost, Opens, EndsScope}
+use Rattle.quote_gateway.specs.Requests.{IsOpenedFor, unused}
+use Rattle.quote_gateway.proofs.Going.{FindsEnds, nests_find, shapes_find, walked, open_going, legal_there, history_added, begins_going, begins_on, begins_agreeing, same_actor}
 use Rattle.quote_gateway.proofs.Following.{Follows, follows_same, follows_event, follows_on, before_there, opening_after}
 use Rattle.quote_gateway.proofs.Asking.{opened_here, scopes_later}
 
@@ -136,3 +139,19 @@ module _ (old : OwnerValue) (one four last : List RealmStep) (policy : Policy) (
       let first : IsBeginning old.seen one = begins_on old.seen there one (begins_agreeing old.actor old.seen there opens.adds.agrees) (record { later = x ∷ []; is = opens.adds.is }) in
       let second : IsBeginning four last = begins_on four ends.before last (begins_going old.limits (shapes old.actor) four ends.before ends.goes) (record { later = map (end_step old.actor) (ends.nested ++ s ∷ []); is = ends.ends.are }) in
       begins_on old.seen one last first (begins_on one four last (begins_going old.limits (nests old.actor) one four keeps) second)
+
+-- ---- a realm of its own
+
+fresh_none : (a : ℕ) → innermost (history_of []) a ≡ None
+unfolding history_of innermost latest
+fresh_none a = refl
+
+-- where main had seen nothing, no scope of its is open
+none_left : (old new : OwnerValue) → old ≡ unused old → old.actor ≡ 0 → SeesMore old new → KeepsInnermost old new → innermost (history_seen new) 0 ≡ None
+none_left old new begins main same left =
+    let actor = same_actor old new same ∙ main in
+    ap (innermost (history_seen new)) (sym actor) ∙ (left ∙ (ap (λ (t : OwnerValue). innermost (history_seen t) t.actor) begins ∙ fresh_none old.actor))
+
+-- what is so of main's token at first is so of it then
+pub main_left : (name : TableId) (old new : OwnerValue) → old ≡ unused old → old.table ≡ name → old.actor ≡ 0 → SeesMore old new → KeepsInnermost old new → (new.table ≡ name) × (new.actor ≡ 0) × (innermost (history_seen new) 0 ≡ None)
+main_left name old new begins named main same left = (ap (λ (t : OwnerValue). t.table) same ∙ named, same_actor old new same ∙ main, none_left old new begins main same left)

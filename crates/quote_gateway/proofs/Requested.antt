@@ -1,5 +1,5 @@
 -- What a request comes to, from the open of its scope to the end of its close.
-use Rattle.std.proofs.Common.{◌≡◌, ◌⊎◌, ℕ, Some, Ok, Err, Result, List, [], ◌∷◌, ◌++◌, map, MatchResult, refl, sym, ap, ◌∙◌, subst, inl, inr}
+use Rattle.std.proofs.Common.{◌≡◌, ℕ, Some, Ok, Err, Result, List, [], ◌∷◌, ◌++◌, map, MatchResult, refl, sym, ap, ◌∙◌, subst, inl, inr}
 use Rattle.scope_rules.specs.declared.types.events.Event.TheVariants.{Open, Fork}
 use Rattle.scope_rules.specs.declared.types.events.Options.{Options}
 use Rattle.scope_rules.specs.declared.types.outcomes.Outcome.{Outcome}
@@ -19,7 +19,7 @@ use Rattle.quote_plan.specs.declared.answers.Answer.{Answer}
 use Rattle.quote_gateway.specs.declared.faults.GatewayFault.{GatewayFault}
 use Rattle.quote_gateway.specs.declared.faults.GatewayFault.TheVariants as fault
 use Rattle.quote_gateway.specs.Going.{nests, shapes, GoesOn, IsBeginning, KeepsScopes, KeepsInnermost, Opens, OpensNone, EndsScope, HasForked, HasRejected, IsTurnedDown, ForkTurnedDown}
-use Rattle.quote_gateway.specs.Requests.{Fails, FindsNone, IsFound, IsScopeFor, IsStepOf, MakesAnswer, MakesNone, NoneRests, RestsOn, WasCancelled, WasRefused, WasRejected, WasServed}
+use Rattle.quote_gateway.specs.Requests.{Fails, FindsNone, IsFound, IsRejectedIn, IsScopeFor, IsStepIn, MakesAnswer, MakesNone, NoneRests, RestsOn, WasCancelled, WasRefused, WasRejected, WasServed}
 use Rattle.quote_gateway.proofs.Going.{begins_going, begins_on, begins_agreeing, for_first, same_actor, sees_on}
 use Rattle.quote_gateway.proofs.Following.{labels_after, listing_joined, label_after, outcome_after, rejected_after, task_after, tasks_joined}
 use Rattle.quote_gateway.proofs.Turned.{refused_earlier}
@@ -51,7 +51,7 @@ by_join old t plan Expired s tasks states o (Err fault.Strange) forked joined re
 -- ---- why nothing is found
 
 -- a call was refused
-pub turned_none : (old new : OwnerValue) (plan : PlanValue) (s : ℕ) (Expired : Type 0) (why : GatewayFault) → IsTurnedDown (WasRefused old new plan ⊎ HasRejected (history_seen new) s (labels_of plan)) why → FindsNone old new plan s Expired why
+pub turned_none : (old new : OwnerValue) (plan : PlanValue) (s : ℕ) (Expired : Type 0) (why : GatewayFault) → IsTurnedDown (IsRejectedIn old new plan s) why → FindsNone old new plan s Expired why
 turned_none old new plan s Expired fault.Memory it = it
 turned_none old new plan s Expired fault.Rejected it = it
 turned_none old new plan s Expired fault.Lost it = absurd it
@@ -59,9 +59,9 @@ turned_none old new plan s Expired fault.Cancelled it = absurd it
 turned_none old new plan s Expired fault.Strange it = absurd it
 
 -- a fork was refused of one of the plan's jobs
-fork_none_by : (old new : OwnerValue) (plan : PlanValue) (s : ℕ) → SeesMore old new → ForkTurnedDown old new s (labels_of plan) → WasRefused old new plan ⊎ HasRejected (history_seen new) s (labels_of plan)
+fork_none_by : (old new : OwnerValue) (plan : PlanValue) (s : ℕ) → SeesMore old new → ForkTurnedDown old new s (labels_of plan) → IsRejectedIn old new plan s
 fork_none_by old new plan s same it = elim it [
-  | inl by ↦ inl (record { step = Happened (Fork old.actor s by.0); of = (sym (same_actor old new same), by.1); refused = by.2 })
+  | inl by ↦ inl (record { step = Happened (Fork old.actor s by.0); of = (sym (same_actor old new same), refl, by.1); refused = by.2 })
   | inr never ↦ inr never
 ]
 
@@ -94,12 +94,12 @@ found_earlier old mid new plan s Expired Past (Err why) begins back it = none_ea
 -- ---- the whole request
 
 -- the scope could not be opened
-pub not_opened : (old new : OwnerValue) (plan : PlanValue) (options : Options) (Expired : Type 0) (why : GatewayFault) → SeesMore old new → OpensNone old new (policy_of plan.mode) options why → Fails old new plan options Expired why
-not_opened old new plan options Expired fault.Memory same it = it.cause
-not_opened old new plan options Expired fault.Rejected same it = inl (record { step = Happened (Open old.actor (policy_of plan.mode) options); of = (sym (same_actor old new same), refl); refused = it.cause })
-not_opened old new plan options Expired fault.Lost same it = absurd it.cause
-not_opened old new plan options Expired fault.Cancelled same it = absurd it.cause
-not_opened old new plan options Expired fault.Strange same it = absurd it.cause
+pub not_opened : (old new : OwnerValue) (plan : PlanValue) (options : Options) (Expired : Type 0) (why : GatewayFault) → OpensNone old new (policy_of plan.mode) options why → Fails old new plan options Expired why
+not_opened old new plan options Expired fault.Memory it = it.cause
+not_opened old new plan options Expired fault.Rejected it = inl it.cause
+not_opened old new plan options Expired fault.Lost it = absurd it.cause
+not_opened old new plan options Expired fault.Cancelled it = absurd it.cause
+not_opened old new plan options Expired fault.Strange it = absurd it.cause
 
 module _ (old one four new : OwnerValue) (plan : PlanValue) (options : Options) (s : ℕ) (first : SeesMore old one) (opens : Opens old one (policy_of plan.mode) options s) (second : SeesMore one four) (keeps : KeepsScopes one four) (third : SeesMore four new) (ends : EndsScope four new s) where
   four_is : SeesMore old four
@@ -147,22 +147,18 @@ module _ (old one four new : OwnerValue) (plan : PlanValue) (options : Options) 
   served_so : (Holds : List TaskState → Outcome → Type 0) → IsFound (history_seen four) plan s Holds → WasServed old new plan options Holds
   served_so Holds it = record { scope = s; opened = scope_for; found = found_over Holds it }
 
-  rejected_over : HasRejected (history_seen four) s (labels_of plan) → WasRejected old new plan options
+  rejected_over : HasRejected (history_seen four) s (labels_of plan) → HasRejected (history_seen new) s (labels_of plan)
   rejected_over it =
       let g = history_seen four in
       let h = history_seen new in
       let on = follows_over old one.seen four.seen new.seen (policy_of plan.mode) options s opens_so keeps_so ends_so in
       record {
-        scope = s;
-        opened = scope_for;
-        rejected = record {
-          task = it.task;
-          of = task_after g h s it.task on it.of;
-          its = it.its;
-          labelled = label_after g h it.task it.its on it.labelled;
-          one = it.one;
-          never = rejected_after g h it.task on it.never;
-        };
+        task = it.task;
+        of = task_after g h s it.task on it.of;
+        its = it.its;
+        labelled = label_after g h it.task it.its on it.labelled;
+        one = it.one;
+        never = rejected_after g h it.task on it.never;
       }
 
   begins_one : IsBeginning old.seen one.seen
@@ -174,10 +170,10 @@ module _ (old one four new : OwnerValue) (plan : PlanValue) (options : Options) 
   begins_last =
       begins_on four.seen ends.before new.seen (begins_going four.limits (shapes four.actor) four.seen ends.before ends.goes) (record { later = map (end_step four.actor) (ends.nested ++ s ∷ []); is = ends.ends.are })
 
-  refused_over : WasRefused one four plan → WasRefused old new plan
+  refused_over : WasRefused one four plan s → WasRefused old new plan s
   refused_over it = record {
     step = it.step;
-    of = subst (λ (a : ℕ). IsStepOf plan a it.step) (sym (same_actor four new third)) it.of;
+    of = subst (λ (a : ℕ). IsStepIn plan a s it.step) (sym (same_actor four new third)) it.of;
     refused = record {
       seen = it.refused.seen;
       since = begins_on old.seen one.seen it.refused.seen begins_one it.refused.since;
@@ -188,8 +184,12 @@ module _ (old one four new : OwnerValue) (plan : PlanValue) (options : Options) 
     };
   }
 
-  turned_over : WasRefused one four plan ⊎ HasRejected (history_seen four) s (labels_of plan) → WasRefused old new plan ⊎ WasRejected old new plan options
-  turned_over it = elim it [ inl by ↦ inl (refused_over by) | inr never ↦ inr (rejected_over never) ]
+  turned_over : IsRejectedIn one four plan s → WasRejected old new plan options
+  turned_over it = record {
+    scope = s;
+    opened = scope_for;
+    rejected = elim it [ inl by ↦ inl (refused_over by) | inr never ↦ inr (rejected_over never) ];
+  }
 
   -- what was found in the scope is what the request comes to
   pub served : (Expired : Type 0) (result : Result Answer GatewayFault) → MatchResult result (λ a. IsFound (history_seen four) plan s (MakesAnswer plan a)) (FindsNone one four plan s Expired) → MatchResult result (RestsOn old new plan options) (Fails old new plan options Expired)
@@ -197,5 +197,5 @@ module _ (old one four new : OwnerValue) (plan : PlanValue) (options : Options) 
   served Expired (Err fault.Lost) it = served_so (NoneRests plan) it
   served Expired (Err fault.Cancelled) it = served_so (λ ts o. WasCancelled Expired o) it
   served Expired (Err fault.Memory) it = it
-  served Expired (Err fault.Rejected) it = turned_over it
+  served Expired (Err fault.Rejected) it = inr (turned_over it)
   served Expired (Err fault.Strange) it = it

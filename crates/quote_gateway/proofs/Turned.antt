@@ -26,7 +26,7 @@ use Rattle.quote_plan.specs.Plans.{PlanValue}
 use Rattle.quote_gateway.specs.declared.faults.GatewayFault.{GatewayFault}
 use Rattle.quote_gateway.specs.declared.faults.GatewayFault.TheVariants as fault
 use Rattle.quote_gateway.specs.Going.{nests, KeepsScopes, KeepsTasks, KeepsInnermost, IsBeginning, IsOpenHere, IsRefusedAt, IsTurnedDown, IsOneOf, HasRejected, ForkedAs, ForkTurnedDown, OpensNone}
-use Rattle.quote_gateway.specs.Requests.{IsOfCall, WasRefused}
+use Rattle.quote_gateway.specs.Requests.{IsOfCall, IsRejectedIn}
 use Rattle.quote_gateway.proofs.Going.{added, added_inside, begins_agreeing, begins_on, begins_same, goes_nowhere, looked, nests_find, same_actor, scopes_kept, tokens_on}
 use Rattle.quote_gateway.proofs.Following.{task_after, label_after}
 use Rattle.quote_gateway.proofs.Asking.{forked_task, here_inside, rejected_last}
@@ -185,9 +185,9 @@ pub pulse_keeps : (old new : OwnerValue) (reading : Option ℕ) (result : Result
 pulse_keeps old new None result read it = absurd cc
 pulse_keeps old new (Some now) result read it = ticked old new now result it.1
 
-pub pulse_refused : (old new : OwnerValue) (plan : PlanValue) (Other : Type 0) (reading : Option ℕ) (refusal : Refusal) (why : GatewayFault) → IsSome reading → Pulsed old new reading (Err refusal) → IsOfCall why → (refusal ≡ Memory → why ≡ fault.Memory) → IsTurnedDown (WasRefused old new plan ⊎ Other) why
-pulse_refused old new plan Other None refusal why read it call memory = absurd cc
-pulse_refused old new plan Other (Some now) refusal why read it call memory =
+pub pulse_refused : (old new : OwnerValue) (plan : PlanValue) (s : ℕ) (reading : Option ℕ) (refusal : Refusal) (why : GatewayFault) → IsSome reading → Pulsed old new reading (Err refusal) → IsOfCall why → (refusal ≡ Memory → why ≡ fault.Memory) → IsTurnedDown (IsRejectedIn old new plan s) why
+pulse_refused old new plan s None refusal why read it call memory = absurd cc
+pulse_refused old new plan s (Some now) refusal why read it call memory =
     turned_down _ refusal why call memory (λ other.
     let x = Asked old.actor (Tick now) in
     inl (record { step = x; of = sym (same_actor old new it.0); refused = refused_or_memory old new x refusal it.0 it.1 other }))
@@ -196,8 +196,8 @@ pub join_keeps : (old new : OwnerValue) (s : ℕ) (result : Result Joined Refusa
 join_keeps old new s (Ok joined) it = added old.limits old.actor old.seen new.seen (Happened (Join old.actor s)) it.1.0 refl
 join_keeps old new s (Err refusal) it = looked old.limits old.actor old.seen new.seen (looked_by old new (Happened (Join old.actor s)) refusal it.1)
 
-pub join_refused : (old new : OwnerValue) (plan : PlanValue) (Other : Type 0) (s : ℕ) (refusal : Refusal) (why : GatewayFault) → Joins old new s (Err refusal) → IsOfCall why → (refusal ≡ Memory → why ≡ fault.Memory) → IsTurnedDown (WasRefused old new plan ⊎ Other) why
-join_refused old new plan Other s refusal why it call memory =
+pub join_refused : (old new : OwnerValue) (plan : PlanValue) (s : ℕ) (refusal : Refusal) (why : GatewayFault) → Joins old new s (Err refusal) → IsOfCall why → (refusal ≡ Memory → why ≡ fault.Memory) → IsTurnedDown (IsRejectedIn old new plan s) why
+join_refused old new plan s refusal why it call memory =
     turned_down _ refusal why call memory (λ other.
     let x = Happened (Join old.actor s) in
-    inl (record { step = x; of = sym (same_actor old new it.0); refused = refused_or_memory old new x refusal it.0 it.1 other }))
+    inl (record { step = x; of = (sym (same_actor old new it.0), refl); refused = refused_or_memory old new x refusal it.0 it.1 other }))

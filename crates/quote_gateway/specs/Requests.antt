@@ -109,39 +109,45 @@ MakesNone plan Expired tasks o fault.Cancelled = WasCancelled Expired o
 MakesNone plan Expired tasks o fault.Memory = Unit {0}
 MakesNone plan Expired tasks o _ = ⊥
 
--- the step is one that a request of the plan takes by the actor and that may be refused: it opens the scope with
--- the mode's joiner, forks a job of the plan, joins, or tells the moment
-abbrev pub IsStepOf : PlanValue → ℕ → RealmStep → Type 0
-IsStepOf plan a (Happened (Open actor policy options)) = (actor ≡ a) × (policy ≡ policy_of plan.mode)
-IsStepOf plan a (Happened (Fork actor scope label)) = (actor ≡ a) × IsOneOf label (labels_of plan)
-IsStepOf plan a (Happened (Join actor scope)) = actor ≡ a
-IsStepOf plan a (Asked actor (Tick now)) = actor ≡ a
-IsStepOf plan a _ = ⊥
+-- the step is one that the actor takes for the plan in scope s and that may be refused: it forks a job of the plan,
+-- joins, or tells the moment
+abbrev pub IsStepIn : PlanValue → ℕ → ℕ → RealmStep → Type 0
+IsStepIn plan a s (Happened (Fork actor scope label)) = (actor ≡ a) × (scope ≡ s) × IsOneOf label (labels_of plan)
+IsStepIn plan a s (Happened (Join actor scope)) = (actor ≡ a) × (scope ≡ s)
+IsStepIn plan a s (Asked actor (Tick now)) = actor ≡ a
+IsStepIn plan a s _ = ⊥
 
--- such a step was refused by the rules, on what the token had seen by then, for another cause than memory
-pub record WasRefused (old new : OwnerValue) (plan : PlanValue) : Type 0 where
+-- the rules refused such a step, on what the token had seen by then, for another cause than memory
+pub record WasRefused (old new : OwnerValue) (plan : PlanValue) (s : ℕ) : Type 0 where
   pub step : RealmStep
-  pub of : IsStepOf plan new.actor step
+  pub of : IsStepIn plan new.actor s step
   pub refused : IsRefusedAt old new step
 
--- a scope was opened for the plan, and is closed; a task of it with the label of an offer is rejected: its thread
--- was refused
+-- such a step was refused, or a task of scope s with the label of an offer is rejected: its thread was refused
+abbrev pub IsRejectedIn : OwnerValue → OwnerValue → PlanValue → ℕ → Type 0
+IsRejectedIn old new plan s = WasRefused old new plan s ⊎ HasRejected (history_seen new) s (labels_of plan)
+
+-- a scope was opened for the plan, and is closed, and that is so in it
 pub record WasRejected (old new : OwnerValue) (plan : PlanValue) (options : Options) : Type 0 where
   pub scope : ℕ
   pub opened : IsScopeFor old new plan options scope
-  pub rejected : HasRejected (history_seen new) scope (labels_of plan)
+  pub rejected : IsRejectedIn old new plan scope
+
+-- the rules refused the open of such a scope
+abbrev pub IsNotOpened : OwnerValue → OwnerValue → PlanValue → Options → Type 0
+IsNotOpened old new plan options = IsRefusedAt old new (Happened (Open old.actor (policy_of plan.mode) options))
 
 -- why nothing is found in scope s
 abbrev pub FindsNone : OwnerValue → OwnerValue → PlanValue → ℕ → Type 0 → GatewayFault → Type 0
 FindsNone old new plan s Expired fault.Lost = IsFound (history_seen new) plan s (NoneRests plan)
 FindsNone old new plan s Expired fault.Cancelled = IsFound (history_seen new) plan s (λ tasks o. WasCancelled Expired o)
-FindsNone old new plan s Expired why = IsTurnedDown (WasRefused old new plan ⊎ HasRejected (history_seen new) s (labels_of plan)) why
+FindsNone old new plan s Expired why = IsTurnedDown (IsRejectedIn old new plan s) why
 
 -- why a request whose jobs are the plan's has no answer
 abbrev pub Fails : OwnerValue → OwnerValue → PlanValue → Options → Type 0 → GatewayFault → Type 0
 Fails old new plan options Expired fault.Lost = WasServed old new plan options (NoneRests plan)
 Fails old new plan options Expired fault.Cancelled = WasServed old new plan options (λ tasks o. WasCancelled Expired o)
-Fails old new plan options Expired why = IsTurnedDown (WasRefused old new plan ⊎ WasRejected old new plan options) why
+Fails old new plan options Expired why = IsTurnedDown (IsNotOpened old new plan options ⊎ WasRejected old new plan options) why
 
 -- ---- the clock of a request
 

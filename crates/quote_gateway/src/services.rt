@@ -1,10 +1,10 @@
 //! A request in a realm of its own, with which a service may begin.
-ghost use Rattle.std.specs.Prelude.{◌≡◌, ◌↔◌, IfErr, IfOk, Err, MatchResult, OnOk};
+ghost use Rattle.std.specs.Prelude.{◌≡◌, ◌↔◌, None, IfErr, IfOk, Err, MatchResult, OnOk};
+ghost use Rattle.scope_rules.specs.Scopes.{innermost};
 ghost use Rattle.realm_core.specs.Calls.{history_seen};
 ghost use Rattle.quote_plan.specs.Allowed.{AllowedText, AllowedTextBy, HasExpired};
 ghost use Rattle.quote_plan.specs.AnswerText.{answer_text};
 ghost use Rattle.quote_plan.specs.Plans.{labels_of};
-ghost use Rattle.quote_gateway.specs.Going.{KeepsInnermost};
 ghost use Rattle.quote_gateway.specs.Offers.{labels_in};
 ghost use Rattle.quote_gateway.specs.Requests.{Fails, IsTold, RestsOn, moving_on, unused, without_deadline};
 
@@ -44,7 +44,7 @@ pub fn serve<N: RealmName, J: Answers + Drop, S: Spawns<N, JobWork<Due, N, J>> +
     spawner: S,
 ) -> Result<Served<S, N>, GatewayFault>
     requires named { seed ≡ N.table }
-    ensures main { IfOk result (λ served. (served.ctx.token.table ≡ N.table) × (served.ctx.token.actor ≡ 0) × KeepsInnermost (unused served.ctx.token) served.ctx.token) }
+    ensures main { IfOk result (λ served. (served.ctx.token.table ≡ N.table) × (served.ctx.token.actor ≡ 0) × (innermost (history_seen served.ctx.token) 0 ≡ None)) }
     ensures allowed { IfOk result (λ served. IfOk served.found (λ a. AllowedText plan.now (answer_text a))) }
     ensures rests { IfOk result (λ served. MatchResult served.found (RestsOn (unused served.ctx.token) served.ctx.token plan.now without_deadline) (Fails (unused served.ctx.token) served.ctx.token plan.now without_deadline ⊥)) }
     ensures strange { (result ≡ Err GatewayFault.Strange) ↔ (labels_in jobs.items ≡ labels_of plan.now → ⊥) }
@@ -80,7 +80,7 @@ pub fn serve_by<
     clock: &mut K,
 ) -> Result<Served<S, N>, GatewayFault>
     requires named { seed ≡ N.table }
-    ensures main { IfOk result (λ served. (served.ctx.token.table ≡ N.table) × (served.ctx.token.actor ≡ 0) × KeepsInnermost (unused served.ctx.token) served.ctx.token) }
+    ensures main { IfOk result (λ served. (served.ctx.token.table ≡ N.table) × (served.ctx.token.actor ≡ 0) × (innermost (history_seen served.ctx.token) 0 ≡ None)) }
     ensures allowed { IfOk result (λ served. IfOk served.found (λ a. AllowedTextBy plan.now deadline (K.reading clock.new) (answer_text a))) }
     ensures rests { IfOk result (λ served. MatchResult served.found (RestsOn (unused served.ctx.token) served.ctx.token plan.now (moving_on deadline)) (Fails (unused served.ctx.token) served.ctx.token plan.now (moving_on deadline) (HasExpired deadline (K.reading clock.new)))) }
     ensures told { IfOk result (λ served. OnOk served.found (IsTold (history_seen served.ctx.token) (K.reading clock.new))) }

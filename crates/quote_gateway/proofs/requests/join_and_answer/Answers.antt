@@ -1,7 +1,6 @@
 use Rattle.std.proofs.Common.{IsTrue, Ok, Err, ◌∙◌}
-use Rattle.realm_core.specs.Calls.{history_seen}
 use Rattle.quote_plan.specs.Plans.{labels_of}
-use Rattle.quote_gateway.specs.Going.{shapes, HasRejected}
+use Rattle.quote_gateway.specs.Going.{shapes}
 use Rattle.quote_gateway.proofs.Going.{tokens_on}
 use Rattle.quote_gateway.proofs.Asking.{forked_still}
 use Rattle.quote_gateway.proofs.Reading.{joined_here, outcome_still}
@@ -17,8 +16,7 @@ returns-in-Err-clause-found g c =
     let old = c.args.ctx.now.token in
     let mid = c.join.new.self.token in
     let plan = c.args.plan.now in
-    let never = HasRejected (history_seen mid) c.args.scope (labels_of plan) in
-    turned_none old mid plan c.args.scope (IsTrue c.args.expired) c.of_refusal.result (join_refused old mid plan never c.args.scope c.in-Err.refusal c.of_refusal.result c.in-Err.ensures.answer.1 c.of_refusal.ensures.call c.of_refusal.ensures.memory)
+    turned_none old mid plan c.args.scope (IsTrue c.args.expired) c.of_refusal.result (join_refused old mid plan c.args.scope c.in-Err.refusal c.of_refusal.result c.in-Err.ensures.answer.1 c.of_refusal.ensures.call c.of_refusal.ensures.memory)
 
 pub states_of-requires : goal.states_of-requires
 states_of-requires g c =

@@ -2,7 +2,7 @@ use Rattle.std.proofs.Common.{IsTrue, ap}
 use Rattle.realm_core.specs.Calls.{SeesMore, history_seen}
 use Rattle.quote_plan.specs.Allowed.{HasExpired}
 use Rattle.quote_plan.specs.Plans.{labels_of}
-use Rattle.quote_gateway.specs.Going.{shapes, HasRejected}
+use Rattle.quote_gateway.specs.Going.{shapes}
 use Rattle.quote_gateway.proofs.Going.{begins_going, tokens_on}
 use Rattle.quote_gateway.specs.Requests.{IsTold}
 use Rattle.quote_gateway.proofs.Asking.{forked_still, here_still}
@@ -20,8 +20,7 @@ returns-in-Err-clause-found g c =
     let new = c.pulse.new.ctx.token in
     let plan = c.args.plan.now in
     let reading = g.K.Clock.reading c.pulse.new.clock in
-    let never = HasRejected (history_seen new) c.args.scope (labels_of plan) in
-    turned_none old new plan c.args.scope (HasExpired c.args.deadline reading) c.of_refusal.result (pulse_refused old new plan never reading c.in-Err.refusal c.of_refusal.result c.pulse.ensures.read c.in-Err.ensures.answer c.of_refusal.ensures.call c.of_refusal.ensures.memory)
+    turned_none old new plan c.args.scope (HasExpired c.args.deadline reading) c.of_refusal.result (pulse_refused old new plan c.args.scope reading c.in-Err.refusal c.of_refusal.result c.pulse.ensures.read c.in-Err.ensures.answer c.of_refusal.ensures.call c.of_refusal.ensures.memory)
 
 pub join_and_answer-requires : goal.join_and_answer-requires
 join_and_answer-requires g c =
