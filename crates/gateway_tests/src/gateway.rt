@@ -5,3 +5,4 @@ mod deadlines;
 mod plans;
 mod rows;
 mod serving;
+mod turns;

@@ -1,3 +1,10 @@
 pub mod OfferLabels
-pub mod StatesRead
-pub mod Served
+pub mod Going
+pub mod Following
+pub mod Asking
+pub mod Ending
+pub mod Turned
+pub mod Reading
+pub mod Closing
+pub mod Requested
+pub mod Telling

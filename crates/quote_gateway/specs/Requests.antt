@@ -1,16 +1,26 @@
--- What a request comes to, and on what that rests.
-use Rattle.std.specs.Prelude.{◌≡◌, ℕ, ◌⊎◌, List, Ok}
-use Rattle.std.specs.List.{All}
-use Rattle.scope_rules.specs.Tasks.{state}
+-- What a request comes to, and on what that rests: all is said of the history that the token of its context has
+-- seen by then.
+use Rattle.std.specs.Prelude.{◌≡◌, ℕ, ◌<◌, ◌≤◌, true, false, ◌⊎◌, Option, Some, None, List, [], map}
+use Rattle.scope_rules.specs.declared.types.events.Event.TheVariants.{Open, Fork, Join}
+use Rattle.scope_rules.specs.declared.types.events.Expiry.TheVariants.{Fail, MoveOn}
+use Rattle.scope_rules.specs.declared.types.events.Options.{Options}
+use Rattle.scope_rules.specs.declared.types.joiners.Policy.{Policy}
+use Rattle.scope_rules.specs.declared.types.records.Opening.{Opening}
 use Rattle.scope_rules.specs.declared.types.outcomes.Outcome.{Outcome}
-use Rattle.scope_rules.specs.declared.types.outcomes.Outcome.TheVariants as outcome
+use Rattle.scope_rules.specs.declared.types.outcomes.Outcome.TheVariants as outcome_is
 use Rattle.scope_rules.specs.declared.types.outcomes.TaskState.{TaskState}
-use Rattle.atomic_table.specs.Seated.{TableId}
+use Rattle.scope_rules.specs.Answers.{listing_by}
+use Rattle.scope_rules.specs.History.{History, moment, opening, scopes}
+use Rattle.scope_rules.specs.Nests.{tasks_of, label}
+use Rattle.scope_rules.specs.Outcomes.{outcome}
+use Rattle.scope_rules.specs.Scopes.{closed}
+use Rattle.scope_rules.specs.Tasks.{state}
+use Rattle.realm_steps.specs.declared.steps.Ask.TheVariants.{Tick}
+use Rattle.realm_steps.specs.declared.steps.RealmStep.{RealmStep}
+use Rattle.realm_steps.specs.declared.steps.RealmStep.TheVariants.{Happened, Asked}
 use Rattle.share_ledger.specs.Values.{OwnerValue}
 use Rattle.realm_core.specs.Calls.{history_seen}
-use Rattle.realm_core.specs.Views.{Joins}
-use Rattle.realm_core.specs.declared.joins.Joined.{Joined}
-use Rattle.quote_plan.specs.Plans.{PlanValue}
+use Rattle.quote_plan.specs.Plans.{PlanValue, labels_of, policy_of}
 use Rattle.quote_plan.specs.Allowed.{AllowedText, PartText}
 use Rattle.quote_plan.specs.Answering.{Answers, IsCancelled}
 use Rattle.quote_plan.specs.declared.answers.Answer.{Answer}
@@ -18,36 +28,59 @@ use Rattle.quote_plan.specs.declared.answering.NoAnswer.{NoAnswer}
 use Rattle.quote_plan.specs.declared.answering.NoAnswer.TheVariants as none
 use Rattle.quote_gateway.specs.declared.faults.GatewayFault.{GatewayFault}
 use Rattle.quote_gateway.specs.declared.faults.GatewayFault.TheVariants as fault
+use Rattle.quote_gateway.specs.Going.{HasRejected, IsOneOf, IsRefusedAt, IsTurnedDown}
 
 -- the plan allows the text, or the text says some of the prices and that is so
 abbrev pub Allows : PlanValue → Type 0 → List ℕ → Type 0
 Allows plan Expired text = AllowedText plan text ⊎ (Expired × PartText plan text)
 
--- the state was read of the task with a token of the realm of this name
-pub record WasRead (name : TableId) (read : TaskState) : Type 0 where
-  pub token : OwnerValue
-  pub named : token.table ≡ name
-  pub is : read.state ≡ state (history_seen token) read.task
+-- ---- the scope of a request
 
--- this holds of the outcome that a join in the realm of this name gave, and of states that were read there
-pub record AfterJoin (name : TableId) (Holds : List TaskState → Outcome → Type 0) : Type 0 where
-  pub before : OwnerValue
-  pub after : OwnerValue
-  pub named : before.table ≡ name
+-- scope s was opened by the actor, with this joiner and these options
+pub record IsOpenedFor (h : History) (a s : ℕ) (policy : Policy) (options : Options) : Type 0 where
+  pub opened : Opening
+  pub is : opening h s ≡ Some opened
+  pub owner : opened.actor ≡ a
+  pub joiner : opened.policy ≡ policy
+  pub told : opened.options ≡ options
+
+-- since the token had seen less, its actor opened scope s for the plan, and has closed it
+pub record IsScopeFor (old new : OwnerValue) (plan : PlanValue) (options : Options) (s : ℕ) : Type 0 where
+  pub later : scopes (history_seen old) < s
+  pub opened : IsOpenedFor (history_seen new) new.actor s (policy_of plan.mode) options
+  pub over : closed (history_seen new) s ≡ true
+
+-- the tasks of scope s, in fork order, with their states
+abbrev pub states_in : History → ℕ → List TaskState
+states_in h s = listing_by (state h) (tasks_of h s)
+
+-- the tasks of scope s have, in fork order, the labels of the plan's offers; it was joined, and this holds of their
+-- states and of what the join gave
+pub record IsFound (h : History) (plan : PlanValue) (s : ℕ) (Holds : List TaskState → Outcome → Type 0) : Type 0 where
+  pub asked : map (label h) (tasks_of h s) ≡ map Some (labels_of plan)
+  pub came : Outcome
+  pub joined : outcome h s ≡ Some came
+  pub holds : Holds (states_in h s) came
+
+-- a scope was opened for the plan, and is closed; and that is found in it
+pub record WasServed (old new : OwnerValue) (plan : PlanValue) (options : Options) (Holds : List TaskState → Outcome → Type 0) : Type 0 where
   pub scope : ℕ
-  pub joined : Joined
-  pub joins : Joins before after scope (Ok joined)
-  pub tasks : List TaskState
-  pub read : All (WasRead name) tasks
-  pub holds : Holds tasks joined.outcome
+  pub opened : IsScopeFor old new plan options scope
+  pub found : IsFound (history_seen new) plan scope Holds
 
--- the answer rests on what a join gave
-abbrev pub RestsOnJoin : TableId → PlanValue → Answer → Type 0
-RestsOnJoin name plan a = AfterJoin name (λ tasks o. Answers plan.mode plan.offers tasks o a)
+-- the answer rests on what the join gave, and on the states of just these tasks
+abbrev pub MakesAnswer : PlanValue → Answer → List TaskState → Outcome → Type 0
+MakesAnswer plan a tasks o = Answers plan.mode plan.offers tasks o a
+
+-- the answer rests on such a scope: on what its join gave, and on the states of just its tasks
+abbrev pub RestsOn : OwnerValue → OwnerValue → PlanValue → Options → Answer → Type 0
+RestsOn old new plan options a = WasServed old new plan options (MakesAnswer plan a)
+
+-- ---- why there is no answer
 
 -- the outcome shows what was there at the deadline
 abbrev pub IsPartial : Outcome → Type 0
-IsPartial (outcome.Partial states) = Unit {0}
+IsPartial (outcome_is.Partial states) = Unit {0}
 IsPartial _ = ⊥
 
 -- no answer rests on the outcome and the states
@@ -76,10 +109,62 @@ MakesNone plan Expired tasks o fault.Cancelled = WasCancelled Expired o
 MakesNone plan Expired tasks o fault.Memory = Unit {0}
 MakesNone plan Expired tasks o _ = ⊥
 
--- why a request whose jobs are the plan's has no answer: a call was refused, or a join gave none
-abbrev pub Fails : TableId → PlanValue → Type 0 → GatewayFault → Type 0
-Fails name plan Expired fault.Lost = AfterJoin name (NoneRests plan)
-Fails name plan Expired fault.Cancelled = AfterJoin name (λ tasks o. WasCancelled Expired o)
-Fails name plan Expired fault.Memory = Unit {0}
-Fails name plan Expired fault.Rejected = Unit {0}
-Fails name plan Expired fault.Strange = ⊥
+-- the step is one that the actor takes for the plan in scope s and that may be refused: it forks a job of the plan,
+-- joins, or tells the moment
+abbrev pub IsStepIn : PlanValue → ℕ → ℕ → RealmStep → Type 0
+IsStepIn plan a s (Happened (Fork actor scope label)) = (actor ≡ a) × (scope ≡ s) × IsOneOf label (labels_of plan)
+IsStepIn plan a s (Happened (Join actor scope)) = (actor ≡ a) × (scope ≡ s)
+IsStepIn plan a s (Asked actor (Tick now)) = actor ≡ a
+IsStepIn plan a s _ = ⊥
+
+-- the rules refused such a step, on what the token had seen by then, for another cause than memory
+pub record WasRefused (old new : OwnerValue) (plan : PlanValue) (s : ℕ) : Type 0 where
+  pub step : RealmStep
+  pub of : IsStepIn plan new.actor s step
+  pub refused : IsRefusedAt old new step
+
+-- such a step was refused, or a task of scope s with the label of an offer is rejected: its thread was refused
+abbrev pub IsRejectedIn : OwnerValue → OwnerValue → PlanValue → ℕ → Type 0
+IsRejectedIn old new plan s = WasRefused old new plan s ⊎ HasRejected (history_seen new) s (labels_of plan)
+
+-- a scope was opened for the plan, and is closed, and that is so in it
+pub record WasRejected (old new : OwnerValue) (plan : PlanValue) (options : Options) : Type 0 where
+  pub scope : ℕ
+  pub opened : IsScopeFor old new plan options scope
+  pub rejected : IsRejectedIn old new plan scope
+
+-- the rules refused the open of such a scope
+abbrev pub IsNotOpened : OwnerValue → OwnerValue → PlanValue → Options → Type 0
+IsNotOpened old new plan options = IsRefusedAt old new (Happened (Open old.actor (policy_of plan.mode) options))
+
+-- why nothing is found in scope s
+abbrev pub FindsNone : OwnerValue → OwnerValue → PlanValue → ℕ → Type 0 → GatewayFault → Type 0
+FindsNone old new plan s Expired fault.Lost = IsFound (history_seen new) plan s (NoneRests plan)
+FindsNone old new plan s Expired fault.Cancelled = IsFound (history_seen new) plan s (λ tasks o. WasCancelled Expired o)
+FindsNone old new plan s Expired why = IsTurnedDown (IsRejectedIn old new plan s) why
+
+-- why a request whose jobs are the plan's has no answer
+abbrev pub Fails : OwnerValue → OwnerValue → PlanValue → Options → Type 0 → GatewayFault → Type 0
+Fails old new plan options Expired fault.Lost = WasServed old new plan options (NoneRests plan)
+Fails old new plan options Expired fault.Cancelled = WasServed old new plan options (λ tasks o. WasCancelled Expired o)
+Fails old new plan options Expired why = IsTurnedDown (IsNotOpened old new plan options ⊎ WasRejected old new plan options) why
+
+-- ---- the clock of a request
+
+-- the clock has been read, and the moment has come to what it read last
+abbrev pub IsTold : History → Option ℕ → Type 0
+IsTold h None = ⊥
+IsTold h (Some now) = now ≤ moment h
+
+-- ---- the options of a request's scope
+
+abbrev pub without_deadline : Options
+without_deadline = record { deadline = None; expiry = Fail; shield = false }
+
+-- its time runs out at the deadline, and the join then shows what was there
+abbrev pub moving_on : ℕ → Options
+moving_on deadline = record { deadline = Some deadline; expiry = MoveOn; shield = false }
+
+-- what the token was before it had seen anything
+abbrev pub unused : OwnerValue → OwnerValue
+unused token = record token { seen = [] }

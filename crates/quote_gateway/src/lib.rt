@@ -6,9 +6,11 @@ mod faults;
 mod labels;
 mod offer_jobs;
 mod requests;
+mod services;
 mod serving;
 
 pub use faults::GatewayFault;
 pub use offer_jobs::{OfferJob, jobs_of};
 pub use quote_plan::{Answer, Mode, Offer, Plan, PlanFault, Quote, Quotes, read_plan};
-pub use serving::{serve, serve_by};
+pub use services::{Served, serve, serve_by};
+pub use serving::{serve_in, serve_in_by};

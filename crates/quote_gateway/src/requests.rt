@@ -1,9 +1,15 @@
 //! What is done for a request in its scope.
-ghost use Rattle.std.specs.Prelude.{◌≡◌, ◌↔◌, IfErr, IfOk, IsTrue, MatchResult};
-ghost use Rattle.std.specs.List.{All};
+ghost use Rattle.std.specs.Prelude.{◌≡◌, ◌↔◌, ℕ, [], ◌∷◌, IfErr, IfOk, IsTrue, MatchResult};
+ghost use Rattle.join_rules.specs.Joiners.{policy_of as policy_stored};
+ghost use Rattle.scope_rules.specs.Answers.{listing_by};
+ghost use Rattle.scope_rules.specs.Tasks.{state};
+ghost use Rattle.realm_core.specs.Calls.{SeesMore, history_seen};
 ghost use Rattle.quote_plan.specs.Answering.{Answers};
 ghost use Rattle.quote_plan.specs.AnswerText.{answer_text};
-ghost use Rattle.quote_gateway.specs.Requests.{Allows, Fails, IsOfCall, IsPartial, MakesNone, RestsOnJoin, WasRead};
+ghost use Rattle.quote_plan.specs.Plans.{labels_of, policy_of};
+ghost use Rattle.quote_gateway.specs.Going.{EndsScope, ForkTurnedDown, ForkedAs, HasForked, HasJoined, IsOpenHere, IsTaskHere, IsTurnedDown, KeepsScopes, KeepsTasks, Opens, OpensNone, task_in};
+ghost use Rattle.quote_gateway.specs.Offers.{labels_in};
+ghost use Rattle.quote_gateway.specs.Requests.{Allows, FindsNone, IsFound, IsPartial, MakesAnswer, MakesNone};
 
 use crate::faults::GatewayFault;
 use job_runner::{Answers, JobWork, NamedJob, TaskCtx};
@@ -11,7 +17,7 @@ use join_rules::Joiner;
 use quote_plan::{Answer, Mode, Plan, answer};
 use realm_lock::RealmName;
 use scope_rules::{Due, ForkReply, Options, Outcome, ScopeId, TaskId, TaskState};
-use std::alloc::Global;
+use std::alloc::{AllocError, Global};
 use std::sync::Wait;
 use thread_crew::{Spawner, Spawns};
 
@@ -22,8 +28,9 @@ pub(crate) fn open_scope<N: RealmName, S: Spawner<N>, R: Wait>(
     mode: Mode,
     options: Options,
 ) -> Result<ScopeId, GatewayFault>
-    ensures token { ctx.new.token ≡ record ctx.old.token { seen = ctx.new.token.seen } }
-    ensures refused { IfErr result IsOfCall }
+    ensures token { SeesMore ctx.old.token ctx.new.token }
+    ensures opened { IfOk result (Opens ctx.old.token ctx.new.token (policy_of mode) options) }
+    ensures refused { IfErr result (OpensNone ctx.old.token ctx.new.token (policy_of mode) options) }
 {
     match ctx.open(rt, joiner_of(mode), options) {
         Ok(scope) => Ok(scope),
@@ -32,7 +39,9 @@ pub(crate) fn open_scope<N: RealmName, S: Spawner<N>, R: Wait>(
 }
 
 /// The joiner of the mode.
-fn joiner_of(mode: Mode) -> Joiner {
+fn joiner_of(mode: Mode) -> Joiner
+    ensures { policy_stored result ≡ policy_of mode }
+{
     match mode {
         Mode::Best => Joiner::AwaitAll,
         Mode::All => Joiner::All,
@@ -40,7 +49,8 @@ fn joiner_of(mode: Mode) -> Joiner {
     }
 }
 
-/// Forks the jobs, in order, and gives their tasks. At the first that is refused it forks no more.
+/// Forks the jobs in the scope, which has no tasks yet, in order, and gives their tasks. At the first that is
+/// refused it forks no more.
 pub(crate) fn fork_all<N: RealmName, J: Answers + Drop, S: Spawns<N, JobWork<Due, N, J>>, R: Wait>(
     rt: &R,
     alloc: Global,
@@ -48,8 +58,11 @@ pub(crate) fn fork_all<N: RealmName, J: Answers + Drop, S: Spawns<N, JobWork<Due
     scope: ScopeId,
     jobs: Vec<NamedJob<Due, J>>,
 ) -> Result<Vec<TaskId>, GatewayFault>
-    ensures token { ctx.new.token ≡ record ctx.old.token { seen = ctx.new.token.seen } }
-    ensures refused { IfErr result IsOfCall }
+    requires empty { HasForked ctx.old.token scope [] [] }
+    ensures token { SeesMore ctx.old.token ctx.new.token }
+    ensures keeps { KeepsScopes ctx.old.token ctx.new.token }
+    ensures forked { IfOk result (λ tasks. HasForked ctx.new.token scope (labels_in jobs.items) tasks.items) }
+    ensures refused { IfErr result (IsTurnedDown (ForkTurnedDown ctx.old.token ctx.new.token scope (labels_in jobs.items))) }
 {
     let mut tasks = Vec::new(alloc);
     if tasks.reserve(jobs.len()).is_err() {
@@ -71,12 +84,24 @@ fn fork<N: RealmName, J: Answers + Drop, S: Spawns<N, JobWork<Due, N, J>>, R: Wa
     scope: ScopeId,
     job: NamedJob<Due, J>,
 ) -> Result<TaskId, GatewayFault>
-    ensures token { ctx.new.token ≡ record ctx.old.token { seen = ctx.new.token.seen } }
-    ensures refused { IfErr result IsOfCall }
+    requires here { IsOpenHere ctx.old.token scope }
+    ensures token { SeesMore ctx.old.token ctx.new.token }
+    ensures keeps { KeepsScopes ctx.old.token ctx.new.token }
+    ensures forked { IfOk result (ForkedAs ctx.old.token ctx.new.token scope job.label) }
+    ensures refused { IfErr result (IsTurnedDown (ForkTurnedDown ctx.old.token ctx.new.token scope (job.label ∷ []))) }
 {
     match ctx.fork_job(rt, scope, job) {
-        Ok(ForkReply::Thread(task) | ForkReply::Never(task)) => Ok(task),
+        Ok(reply) => Ok(task_in(reply)),
         Err((why, _job)) => Err(GatewayFault::of_refusal(why.refusal())),
+    }
+}
+
+/// The task that was forked.
+fn task_in(reply: ForkReply) -> TaskId
+    ensures { result ≡ task_in reply }
+{
+    match reply {
+        ForkReply::Thread(task) | ForkReply::Never(task) => task,
     }
 }
 
@@ -91,52 +116,57 @@ pub(crate) fn join_and_answer<N: RealmName, S: Spawner<N>, R: Wait>(
     tasks: &[TaskId],
     expired: bool,
 ) -> Result<Answer, GatewayFault>
-    ensures token { ctx.new.token ≡ record ctx.old.token { seen = ctx.new.token.seen } }
+    requires forked { HasForked ctx.old.token scope (labels_of plan.now) tasks.now }
+    ensures token { SeesMore ctx.old.token ctx.new.token }
+    ensures keeps { KeepsTasks ctx.old.token ctx.new.token }
     ensures allowed { IfOk result (λ a. Allows plan.now (IsTrue expired) (answer_text a)) }
-    ensures rests { MatchResult result (RestsOnJoin ctx.old.token.table plan.now) (Fails ctx.old.token.table plan.now (IsTrue expired)) }
+    ensures found { MatchResult result (λ a. IsFound (history_seen ctx.new.token) plan.now scope (MakesAnswer plan.now a)) (FindsNone ctx.old.token ctx.new.token plan.now scope (IsTrue expired)) }
 {
     let joined = match ctx.join(rt, scope) {
         Ok(joined) => joined,
         Err(refusal) => return Err(GatewayFault::of_refusal(refusal)),
     };
-    let states = states_of(rt, alloc, ctx, tasks)?;
+    let states = match states_of(rt, alloc, ctx, tasks) {
+        Ok(states) => states,
+        Err(_memory) => return Err(GatewayFault::Memory),
+    };
     answer_by(alloc, plan, states.as_slice(), &joined.outcome, expired)
 }
 
-/// The tasks with their states.
+/// The tasks of a joined scope with their states.
 fn states_of<N: RealmName, S: Spawner<N>, R: Wait>(
     rt: &R,
     alloc: Global,
     ctx: &mut TaskCtx<Due, S, N>,
     tasks: &[TaskId],
-) -> Result<Vec<TaskState>, GatewayFault>
-    ensures token { ctx.new.token ≡ record ctx.old.token { seen = ctx.new.token.seen } }
-    ensures read { IfOk result (λ states. All (WasRead ctx.old.token.table) states.items) }
-    ensures refused { IfErr result IsOfCall }
+) -> Result<Vec<TaskState>, AllocError>
+    requires joined { (s : ℕ) × HasJoined ctx.old.token s tasks.now }
+    ensures token { SeesMore ctx.old.token ctx.new.token }
+    ensures keeps { KeepsTasks ctx.old.token ctx.new.token }
+    ensures read { IfOk result (λ states. states.items ≡ listing_by (state (history_seen ctx.new.token)) tasks.now) }
 {
     let mut states = Vec::new(alloc);
     for task in tasks {
-        let read = state_of(rt, ctx, *task)?;
-        if states.push(read).is_err() {
-            return Err(GatewayFault::Memory);
-        }
+        let read = state_of(rt, ctx, *task);
+        states.push(read)?;
     }
     Ok(states)
 }
 
-/// The task with its state.
+/// The task, which is one of an open scope, with its state.
 fn state_of<N: RealmName, S: Spawner<N>, R: Wait>(
     rt: &R,
     ctx: &mut TaskCtx<Due, S, N>,
     task: TaskId,
-) -> Result<TaskState, GatewayFault>
-    ensures token { ctx.new.token ≡ record ctx.old.token { seen = ctx.new.token.seen } }
-    ensures read { IfOk result (WasRead ctx.old.token.table) }
-    ensures refused { IfErr result IsOfCall }
+) -> TaskState
+    requires forked { (s : ℕ) × IsTaskHere ctx.old.token s task }
+    ensures token { SeesMore ctx.old.token ctx.new.token }
+    ensures keeps { KeepsTasks ctx.old.token ctx.new.token }
+    ensures read { result ≡ record { task = task; state = state (history_seen ctx.new.token) task } }
 {
     match ctx.state(rt, task) {
-        Ok(state) => Ok(TaskState { task, state }),
-        Err(refusal) => Err(GatewayFault::of_refusal(refusal)),
+        Ok(state) => TaskState { task, state },
+        Err(_) => unreachable!(),
     }
 }
 
@@ -176,9 +206,14 @@ pub(crate) fn close_scope<N: RealmName, S: Spawner<N>, R: Wait>(
     ctx: &mut TaskCtx<Due, S, N>,
     scope: ScopeId,
 )
-    ensures token { ctx.new.token ≡ record ctx.old.token { seen = ctx.new.token.seen } }
+    requires here { IsOpenHere ctx.old.token scope }
+    ensures token { SeesMore ctx.old.token ctx.new.token }
+    ensures ends { EndsScope ctx.old.token ctx.new.token scope }
 {
-    if ctx.close_scope(rt, scope).is_err() {
-        let _how = ctx.close_scope_bare(rt, scope);
+    match ctx.close_scope(rt, scope) {
+        Ok(_report) => {}
+        Err(_why) => {
+            let _how = ctx.close_scope_bare(rt, scope);
+        }
     }
 }

@@ -2,13 +2,14 @@
 use Rattle.std.specs.Prelude.{◌≡◌, ◌⊎◌, ⊤, ℕ, Bool, true, Option, List}
 use Rattle.std.specs.Io.KnownBytes.{Appends}
 use Rattle.atomic_table.specs.Seated.{TableId}
+use Rattle.share_ledger.specs.Values.{OwnerValue}
 use Rattle.scope_script.specs.Streams.{AppendsPart}
 use Rattle.quote_plan.specs.PlanFaults.{FaultIn}
 use Rattle.quote_plan.specs.PlanReading.{SayPlan, lines_of}
 use Rattle.quote_plan.specs.Plans.{PlanValue}
 use Rattle.quote_plan.specs.declared.lines.PlanLine.{PlanLine}
 use Rattle.quote_plan.specs.declared.reading.PlanFault.TheVariants as plan_fault
-use Rattle.quote_gateway.specs.Requests.{Fails}
+use Rattle.quote_gateway.specs.Requests.{Fails, unused, without_deadline}
 use Rattle.quote_gateway.specs.declared.faults.GatewayFault.{GatewayFault}
 use Rattle.quote_gateway.specs.declared.faults.GatewayFault.TheVariants as service
 use Rattle.command_line.specs.declared.lines.CommandLine.{CommandLine}
@@ -26,11 +27,14 @@ IsSaid text said said_new failed =
 
 -- ---- a plan's faults
 
--- the lines say a plan that has no answer, for this cause, in the realm of this name
+-- the lines say a plan that has no answer, for this cause, by what main's token of the realm of this name has seen
 pub record HasNoAnswer (name : TableId) (lines : List PlanLine) (why : GatewayFault) : Type 0 where
   pub plan : PlanValue
   pub say_plan : SayPlan lines plan
-  pub fails : Fails name plan ⊥ why
+  pub token : OwnerValue
+  pub named : token.table ≡ name
+  pub main : token.actor ≡ 0
+  pub fails : Fails (unused token) token plan without_deadline ⊥ why
 
 -- a bad word stands in the first bad line; the service fails at a plan that was read, and its jobs are
 -- never strange

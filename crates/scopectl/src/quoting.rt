@@ -8,7 +8,7 @@ ghost use Rattle.scopectl.specs.Naming.{CameFrom, IsInPlan, IsOfPlan};
 
 use crate::fault::ProgramFault;
 use job_runner::JobWork;
-use quote_gateway::{Answer, OfferJob, jobs_of, read_plan, serve};
+use quote_gateway::{Answer, OfferJob, Served, jobs_of, read_plan, serve};
 use realm_lock::{RealmName, Seed};
 use scope_rules::Due;
 use scope_script::Watched;
@@ -89,7 +89,13 @@ fn answered<N: RealmName, S: Spawns<N, JobWork<Due, N, OfferJob>> + Drop, T: Wai
     let Ok(jobs) = jobs_of(alloc, &plan) else {
         return Err(ProgramFault::Memory);
     };
-    let answer = match serve::<N, OfferJob, S, T>(rt, alloc, seed, &plan, jobs, spawner) {
+    let served = match serve::<N, OfferJob, S, T>(rt, alloc, seed, &plan, jobs, spawner) {
+        Ok(served) => served,
+        Err(fault) => return Err(ProgramFault::of_service(fault)),
+    };
+    let Served { found, ctx } = served;
+    let (_token, _spawner) = ctx.leave(rt);
+    let answer = match found {
         Ok(answer) => answer,
         Err(fault) => return Err(ProgramFault::of_service(fault)),
     };

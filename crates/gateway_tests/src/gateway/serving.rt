@@ -4,7 +4,7 @@ ghost use Rattle.std.specs.Prelude.{◌≡◌};
 use super::asking::{Asked, Duty, jobs_with};
 use super::plans::plan_of;
 use job_runner::{JobWork, NamedJob, SetClock};
-use quote_gateway::{GatewayFault, Plan, serve, serve_by};
+use quote_gateway::{GatewayFault, Plan, Served as Found, serve, serve_by};
 use realm_lock::{RealmName, Seed};
 use scope_rules::Due;
 use std::alloc::Global;
@@ -67,14 +67,16 @@ where
     R: Wait,
     requires { seed ≡ N.table }
 {
-    let answer = match timed {
+    let served = match timed {
         None => serve::<N, _, _, _>(rt, alloc, seed, plan, jobs, spawner)?,
         Some(Timed { deadline, reading }) => {
             let mut clock = SetClock::new(reading);
             serve_by::<N, _, _, _, _>(rt, alloc, seed, plan, jobs, spawner, deadline, &mut clock)?
         }
     };
-    match answer.text(alloc) {
+    let Found { found, ctx } = served;
+    let (_token, _spawner) = ctx.leave(rt);
+    match found?.text(alloc) {
         Ok(line) => Ok(line),
         Err(_) => Err(GatewayFault::Memory),
     }

@@ -1,17 +1,32 @@
-use Rattle.std.proofs.Common.{◌++◌, ◌∷◌, [], sym, ap, subst}
-use Rattle.std.specs.List.{All}
-use Rattle.std.proofs.lemmas.List.Elements.{All-push}
-use Rattle.quote_gateway.specs.Requests.{WasRead}
-use Rattle.quote_gateway.proofs.Served.{chosen, onward}
+use Rattle.std.proofs.Common.{◌∙◌, sym}
+use Rattle.realm_core.specs.Calls.{history_seen}
+use Rattle.quote_gateway.specs.Going.{shapes}
+use Rattle.quote_gateway.proofs.Going.{sees_on, tokens_on}
+use Rattle.quote_gateway.proofs.Reading.{front_still, joined_still, read_next, task_at}
 use Rattle.quote_gateway.proofs.requests.states_of.Goals as goal
+
+pub state_of-read-requires : goal.state_of-read-requires
+state_of-read-requires g c =
+    let old = c.args.ctx.now.token in
+    let now = c.loop-task.ctx.token in
+    let tasks = c.args.tasks.now in
+    let inv = c.loop-task.invariant in
+    let it = c.requires.joined in
+    let here = joined_still old now it.0 tasks inv.0 inv.1 it.1 in
+    record { forked = (it.0, record { here = here.here; of = task_at (history_seen now) it.0 tasks c.loop-task.task-index here.are c.loop-task-test.true }) }
 
 pub loop-task-preserved : goal.loop-task-preserved
 loop-task-preserved g c =
-    let name = c.args.ctx.now.token.table in
-    let before = c.loop-task.states.items in
-    let named = ap (λ x. x.table) c.loop-task.invariant.0 in
-    let read = subst (λ t. WasRead t c.in_ok-read.read) named c.in_ok-read.ensures.read in
-    let items = chosen _ c.push.new.self.items (before ++ c.in_ok-read.read ∷ []) _ c.push.ensures.items c.if-is_err.ensures.negation in (
-      onward c.args.ctx.now.token c.loop-task.ctx.token c.state_of.new.ctx.token c.loop-task.invariant.0 c.state_of.ensures.token,
-      subst (All (WasRead name)) (sym items) (All-push (WasRead name) before c.in_ok-read.read c.loop-task.invariant.1 read),
+    let old = c.args.ctx.now.token in
+    let mid = c.loop-task.ctx.token in
+    let new = c.state_of-read.new.ctx.token in
+    let tasks = c.args.tasks.now in
+    let i = c.loop-task.task-index in
+    let inv = c.loop-task.invariant in
+    let it = c.requires.joined in
+    let here = joined_still old mid it.0 tasks inv.0 inv.1 it.1 in
+    let front = front_still mid new it.0 i tasks c.state_of-read.ensures.token c.state_of-read.ensures.keeps here in (
+      sees_on old mid new inv.0 c.state_of-read.ensures.token,
+      tokens_on old mid new shapes inv.0 inv.1 c.state_of-read.ensures.keeps,
+      read_next (history_seen new) tasks i c.loop-task.states.items c.push.new.self.items c.state_of-read.result c.loop-task-test.true (inv.2 ∙ sym front) c.state_of-read.ensures.read c.in_ok-push.ensures.items,
     )
