@@ -1,3 +1,4 @@
 pub mod Texts
 pub mod Program
 pub mod Naming
+pub mod Acting

@@ -1,5 +1,8 @@
 //! The threads of a plan's jobs, which there are only where the words say a quote.
-ghost use Rattle.std.specs.Prelude.{◌≡◌, false};
+ghost use Rattle.std.specs.Prelude.{◌≡◌, ◌⊎◌, false, true, map};
+ghost use Rattle.atomic_table.specs.Seated.{TableId};
+ghost use Rattle.scopectl.specs.Acting.{Acts};
+ghost use Rattle.scopectl.specs.Naming.{IsOfPlan};
 
 use crate::act::{act, refuse_words};
 use command_line::Job;
@@ -18,7 +21,7 @@ use thread_crew::{Crew, CrewRuntime, Nobody, OsThreads};
 const KEPT: usize = 4;
 
 /// Does what the words say, and answers the exit status: `act` over threads where the words say a quote,
-/// and over none else.
+/// and over none else. Of words that memory is refused for, it says so and does nothing.
 pub fn act_on<T: CrewRuntime, R: Read + Drop, W: Write + Drop, E: Write + Drop>(
     rt: &T,
     alloc: Global,
@@ -29,6 +32,7 @@ pub fn act_on<T: CrewRuntime, R: Read + Drop, W: Write + Drop, E: Write + Drop>(
 ) -> u8
     requires reader { reader.old.failed ≡ false }
     requires writer { writer.old.failed ≡ false }
+    ensures acts { Acts owned.now (reader.new ≡ reader.old) (writer.new ≡ writer.old) (errors.new ≡ errors.old) ((reader.new.failed ≡ true) ⊎ (reader.new.reads ≡ u64.MAX)) (R.remaining reader.old.inner) (R.remaining reader.new.inner) (W.contents writer.old.inner) (W.contents writer.new.inner) (E.contents errors.old.inner) (E.contents errors.new.inner) writer.new.failed errors.new.failed (λ fault. (name : TableId) × IsOfPlan name (R.remaining reader.old.inner) (R.remaining reader.new.inner) fault) result }
 {
     let words: Vec<&str> = match owned.iter().map(|word| word.as_str()).collect(alloc) {
         Ok(words) => words,
@@ -65,6 +69,7 @@ fn act_alone<'a, N: RealmName, T: Wait, R: Read + Drop, W: Write + Drop, E: Writ
     requires named { seed ≡ N.table }
     requires reader { reader.old.failed ≡ false }
     requires writer { writer.old.failed ≡ false }
+    ensures acts { Acts (map (λ word. word.now) words.now) (reader.new ≡ reader.old) (writer.new ≡ writer.old) (errors.new ≡ errors.old) ((reader.new.failed ≡ true) ⊎ (reader.new.reads ≡ u64.MAX)) (R.remaining reader.old.inner) (R.remaining reader.new.inner) (W.contents writer.old.inner) (W.contents writer.new.inner) (E.contents errors.old.inner) (E.contents errors.new.inner) writer.new.failed errors.new.failed (IsOfPlan N.table (R.remaining reader.old.inner) (R.remaining reader.new.inner)) result }
 {
     act::<N, Nobody, T, R, W, E>(rt, alloc, seed, Nobody, words, reader, writer, errors)
 }
@@ -90,6 +95,7 @@ fn act_with_crew<
     requires named { seed ≡ N.table }
     requires reader { reader.old.failed ≡ false }
     requires writer { writer.old.failed ≡ false }
+    ensures acts { Acts (map (λ word. word.now) words.now) (reader.new ≡ reader.old) (writer.new ≡ writer.old) (errors.new ≡ errors.old) ((reader.new.failed ≡ true) ⊎ (reader.new.reads ≡ u64.MAX)) (R.remaining reader.old.inner) (R.remaining reader.new.inner) (W.contents writer.old.inner) (W.contents writer.new.inner) (E.contents errors.old.inner) (E.contents errors.new.inner) writer.new.failed errors.new.failed (IsOfPlan N.table (R.remaining reader.old.inner) (R.remaining reader.new.inner)) result }
 {
     let Ok(crew) = Crew::<N, JobWork<Due, N, OfferJob>>::open(rt, alloc, KEPT) else {
         return act_alone::<N, T, R, W, E>(rt, alloc, seed, words, reader, writer, errors);
