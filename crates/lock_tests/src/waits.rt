@@ -12,7 +12,6 @@ use std::sync::Wait;
 use std::test::Fail;
 use std::thread;
 use std::thread::Threads;
-use std::time::Duration;
 
 /// By what the scope becomes cancelled for which main waits.
 #[derive(Clone, Copy)]
@@ -22,9 +21,11 @@ pub enum Waker {
     Move,
 }
 
-/// So long that the other thread has gone to sleep by then.
-fn pause<R: Wait>(rt: &R) {
-    thread::sleep(rt, Duration::from_millis(20));
+/// So long that the other thread has gone to sleep by then, as a rule.
+fn pause() {
+    for _ in 0..20_000u32 {
+        thread::yield_now();
+    }
 }
 
 /// After a pause, the one call. Whether it is accepted.
@@ -37,7 +38,7 @@ fn wake<N: RealmName, R: Wait>(
 ) -> bool
     requires { token.table ≡ N.table }
 {
-    pause(rt);
+    pause();
     match waker {
         Waker::Cancel => realm.cancel(rt, &mut token, scope).is_ok(),
         Waker::Tick => realm.tick(rt, &mut token, 9).is_ok(),
@@ -78,7 +79,7 @@ pub fn a_cancel_wakes<N: RealmName + Send + Sync, R: Threads + Wait + Abort + Sy
 fn reject_later<N: RealmName, R: Wait>(rt: &R, realm: &Realm<AnyEnd, N>, ticket: Ticket)
     requires { (ticket.table ≡ N.table) × IsWaiting ticket }
 {
-    pause(rt);
+    pause();
     let _rejected = realm.reject(rt, ticket);
 }
 
@@ -114,7 +115,7 @@ fn close_later<N: RealmName, R: Wait>(
 ) -> bool
     requires { main.old.table ≡ N.table }
 {
-    pause(rt);
+    pause();
     realm.begin_close(rt, main, scope).is_ok()
 }
 
@@ -149,7 +150,7 @@ fn serve_later<N: RealmName, R: Wait>(rt: &R, realm: &Realm<AnyEnd, N>, ticket: 
     requires { (ticket.table ≡ N.table) × IsWaiting ticket }
 {
     let (ticket, token) = realm.start(rt, ticket);
-    pause(rt);
+    pause();
     finish(rt, realm, ticket, token, Ok(Value::Num(1))).is_some()
 }
 
