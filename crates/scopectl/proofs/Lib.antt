@@ -1,1 +1,2 @@
 mod Jobs
+pub mod Acted

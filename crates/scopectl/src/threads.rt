@@ -1,5 +1,6 @@
 //! The threads of a plan's jobs, which there are only where the words say a quote.
-ghost use Rattle.std.specs.Prelude.{◌≡◌, ◌⊎◌, false, true, map};
+ghost use Rattle.std.specs.Prelude.{◌≡◌, ◌⊎◌, false, true, map, IfOk};
+ghost use Rattle.std.specs.String.{string_bytes};
 ghost use Rattle.atomic_table.specs.Seated.{TableId};
 ghost use Rattle.scopectl.specs.Acting.{Acts};
 ghost use Rattle.scopectl.specs.Naming.{IsOfPlan};
@@ -11,7 +12,7 @@ use quote_gateway::OfferJob;
 use realm_lock::{RealmName, Seed};
 use scope_rules::Due;
 use scope_script::Watched;
-use std::alloc::Global;
+use std::alloc::{AllocError, Global};
 use std::io::{ErrorKind, Read, Write};
 use std::marker::Brand;
 use std::sync::Wait;
@@ -32,11 +33,10 @@ pub fn act_on<T: CrewRuntime, R: Read + Drop, W: Write + Drop, E: Write + Drop>(
 ) -> u8
     requires reader { reader.old.failed ≡ false }
     requires writer { writer.old.failed ≡ false }
-    ensures acts { Acts owned.now (reader.new ≡ reader.old) (writer.new ≡ writer.old) (errors.new ≡ errors.old) ((reader.new.failed ≡ true) ⊎ (reader.new.reads ≡ u64.MAX)) (R.remaining reader.old.inner) (R.remaining reader.new.inner) (W.contents writer.old.inner) (W.contents writer.new.inner) (E.contents errors.old.inner) (E.contents errors.new.inner) writer.new.failed errors.new.failed (λ fault. (name : TableId) × IsOfPlan name (R.remaining reader.old.inner) (R.remaining reader.new.inner) fault) result }
+    ensures acts { Acts (map string_bytes owned.now) (reader.new ≡ reader.old) (writer.new ≡ writer.old) (errors.new ≡ errors.old) ((reader.new.failed ≡ true) ⊎ (reader.new.reads ≡ u64.MAX)) (R.remaining reader.old.inner) (R.remaining reader.new.inner) (W.contents writer.old.inner) (W.contents writer.new.inner) (E.contents errors.old.inner) (E.contents errors.new.inner) writer.new.failed errors.new.failed (λ fault. (name : TableId) × IsOfPlan name (R.remaining reader.old.inner) (R.remaining reader.new.inner) fault) result }
 {
-    let words: Vec<&str> = match owned.iter().map(|word| word.as_str()).collect(alloc) {
-        Ok(words) => words,
-        Err(_) => return refuse_words(ErrorKind::OutOfMemory, errors),
+    let Ok(words) = borrowed(alloc, owned) else {
+        return refuse_words(ErrorKind::OutOfMemory, errors);
     };
     let Ok(seed) = Seed::new(alloc) else {
         return refuse_words(ErrorKind::OutOfMemory, errors);
@@ -46,6 +46,17 @@ pub fn act_on<T: CrewRuntime, R: Read + Drop, W: Write + Drop, E: Write + Drop>(
     } else {
         act_alone::<Brand, T, R, W, E>(rt, alloc, seed, &words, reader, writer, errors)
     }
+}
+
+/// The words, borrowed. Refused where memory is.
+fn borrowed<'a>(alloc: Global, owned: &'a [String]) -> Result<Vec<&'a str>, AllocError>
+    ensures { IfOk result (λ words. map (λ word. word.now) words.items ≡ map string_bytes owned.now) }
+{
+    let mut words = Vec::new(alloc);
+    for word in owned {
+        words.push(word.as_str())?;
+    }
+    Ok(words)
 }
 
 /// Whether the words may say a job that runs on threads.
@@ -100,12 +111,39 @@ fn act_with_crew<
     let Ok(crew) = Crew::<N, JobWork<Due, N, OfferJob>>::open(rt, alloc, KEPT) else {
         return act_alone::<N, T, R, W, E>(rt, alloc, seed, words, reader, writer, errors);
     };
-    let status = match crew.threads() {
+    let status = act_over::<N, T, R, W, E>(rt, alloc, seed, &crew, words, reader, writer, errors);
+    crew.close(rt);
+    status
+}
+
+/// Does what the words say over the crew's threads. Where there is no room for a spawner of them, each job's
+/// thread is refused.
+fn act_over<
+    'a,
+    N: RealmName + Send + Sync + 'static,
+    T: CrewRuntime,
+    R: Read + Drop,
+    W: Write + Drop,
+    E: Write + Drop,
+>(
+    rt: &T,
+    alloc: Global,
+    seed: Seed,
+    crew: &Crew<N, JobWork<Due, N, OfferJob>>,
+    words: &'a [&'a str],
+    reader: &mut Watched<R>,
+    writer: &mut Watched<W>,
+    errors: &mut Watched<E>,
+) -> u8
+    requires named { seed ≡ N.table }
+    requires reader { reader.old.failed ≡ false }
+    requires writer { writer.old.failed ≡ false }
+    ensures acts { Acts (map (λ word. word.now) words.now) (reader.new ≡ reader.old) (writer.new ≡ writer.old) (errors.new ≡ errors.old) ((reader.new.failed ≡ true) ⊎ (reader.new.reads ≡ u64.MAX)) (R.remaining reader.old.inner) (R.remaining reader.new.inner) (W.contents writer.old.inner) (W.contents writer.new.inner) (E.contents errors.old.inner) (E.contents errors.new.inner) writer.new.failed errors.new.failed (IsOfPlan N.table (R.remaining reader.old.inner) (R.remaining reader.new.inner)) result }
+{
+    match crew.threads() {
         Ok(threads) => act::<N, OsThreads<N, JobWork<Due, N, OfferJob>>, T, R, W, E>(
             rt, alloc, seed, threads, words, reader, writer, errors,
         ),
         Err(_) => act_alone::<N, T, R, W, E>(rt, alloc, seed, words, reader, writer, errors),
-    };
-    crew.close(rt);
-    status
+    }
 }

@@ -1,0 +1,7 @@
+-- The words so far are borrowed.
+use Rattle.std.proofs.Common.{◌≡◌, map, take}
+use Rattle.std.specs.String.{string_bytes}
+use Rattle.scopectl.proofs.threads.borrowed.Given as goal
+
+abbrev pub invariant-loop-word : goal.invariant-loop-word
+invariant-loop-word l = map (λ word. word.now) l.words.items ≡ map string_bytes (take l.word-index l.owned)
