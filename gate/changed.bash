@@ -76,6 +76,11 @@ test_program_of() {
     fi
 }
 
+# test_growth_of NAME..: the scenarios of growth, where that is one of these crates.
+test_growth_of() {
+    ! is_among growth "$@" || test_growth crates/growth/out/growth
+}
+
 check_changed() {
     local base=$1 name changed above=() edits=()
     git rev-parse --verify --quiet "$base^{commit}" >/dev/null || { complain "there is no commit $base"; return; }
@@ -85,6 +90,7 @@ check_changed() {
     ((${#changed[@]} == 0)) || mapfile -t above < <(with_those_above "${changed[@]}")
     for name in "${above[@]}"; do check_crate "$name"; done
     ((failed > 0)) || test_program_of "$base" "${above[@]}"
+    ((failed > 0)) || test_growth_of "${above[@]}"
     for name in $(changed_since "$base" src specs proofs must-fail); do
         ((edit_count[$name] == 0)) || [[ -n ${tried_day[$name]:-} ]] || edits+=("$name")
     done

@@ -1,6 +1,7 @@
 /* Stands before the system's allocator, put there by the loader (LD_PRELOAD), and refuses requests for memory, as
-   the word REFUSE says: `N` the N-th request alone, `N+` that one and all behind it. They are counted from the
-   program's beginning, over all its threads. Each refusal writes a byte to the descriptor 9. */
+   the word REFUSE says: `N` the N-th request alone, `N+` that one and all behind it, `/N` one in N, by numbers that
+   look random. They are counted from the program's beginning, over all its threads. Each refusal writes a byte to the
+   descriptor 9. */
 #include <errno.h>
 #include <stdatomic.h>
 #include <stdlib.h>
@@ -11,6 +12,7 @@ extern void *__libc_realloc(void *old, size_t size);
 
 static long first;
 static int and_all_behind;
+static int at_random;
 static atomic_long requests;
 
 __attribute__((constructor)) static void read_orders(void)
@@ -20,16 +22,26 @@ __attribute__((constructor)) static void read_orders(void)
 
     if (orders == NULL)
         return;
-    first = strtol(orders, &rest, 10);
+    at_random = *orders == '/';
+    first = strtol(orders + at_random, &rest, 10);
     and_all_behind = *rest == '+';
     atomic_store(&requests, 0);
+}
+
+static int is_chosen(long number)
+{
+    if (first == 0)
+        return 0;
+    if (at_random)
+        return ((unsigned long)number * 0x9E3779B97F4A7C15ul >> 33) % (unsigned long)first == 0;
+    return and_all_behind ? number >= first : number == first;
 }
 
 static int is_refused(void)
 {
     long number = atomic_fetch_add(&requests, 1) + 1;
 
-    if (first == 0 || (and_all_behind ? number < first : number != first))
+    if (!is_chosen(number))
         return 0;
     if (write(9, "x", 1) != 1)
         _exit(70);

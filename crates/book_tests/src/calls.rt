@@ -5,7 +5,8 @@ use join_rules::Joiner;
 use scope_book::BookState;
 use scope_rules::types::values::MAIN;
 use scope_rules::{
-    AnyEnd, Expiry, Label, Limits, Name, Options, Outcome, Policy, Refusal, Rule, Value, Verdict,
+    AnyEnd, Base, Expiry, Label, Limits, Name, Options, Outcome, Policy, Refusal, Rule, Value,
+    Verdict,
 };
 use std::alloc::Global;
 use std::process::Abort;
@@ -55,6 +56,20 @@ fn the_example_of_the_readme(rt: HostRuntime) -> Result<(), Fail> {
     };
     let mut book: Book = BookState::new(rt.alloc(), Limits::GREATEST);
     check_one_task(&rt, &mut book, label)
+}
+
+/// Behind a base that has all numbers of scopes there is none for an open.
+#[test]
+fn no_scope_has_a_number_past_the_greatest(rt: HostRuntime) -> Result<(), Fail> {
+    let alloc = rt.alloc();
+    let base = Base::new(0, u32::MAX, 0, Vec::new(alloc));
+    let mut book: Book = BookState::with_base(alloc, Limits::GREATEST, base)?;
+    let refused = match book.open(MAIN, Joiner::AwaitAll, OPTIONS) {
+        Ok(_) => None,
+        Err((refusal, _)) => Some(refusal),
+    };
+    assert!(rt; refused == Some(Refusal::TooMany));
+    Ok(())
 }
 
 const UNTIL_TWO: Policy = Policy::Until(Rule::SuccessesAtLeast(2));

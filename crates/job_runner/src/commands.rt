@@ -37,6 +37,22 @@ impl<C: Catalog, S: Spawner<N>, N: RealmName> TaskCtx<C, S, N> {
         self.realm.lent().cancel(rt, &mut token.held, scope)
     }
 
+    /// Sets the deadline of the scope anew, in milliseconds, or takes it away, whoever's it is (Trio: a
+    /// cancel scope's deadline may be moved). Refused as `Realm::move_deadline` is.
+    pub fn move_deadline<R: Wait>(
+        &mut self,
+        rt: &R,
+        scope: ScopeId,
+        deadline: Option<u64>,
+    ) -> Result<(), Refusal>
+        ensures answer { (self.new ≡ record self.old { token = self.new.token }) × DoesOrMemory self.old.token self.new.token (RealmStep.Asked self.old.token.actor (Ask.Move scope deadline)) (λ _. tt) result }
+    {
+        let token = &mut self.token;
+        self.realm
+            .lent()
+            .move_deadline(rt, &mut token.held, scope, deadline)
+    }
+
     /// Sets the moment, in milliseconds. Refused as `Realm::tick` is.
     pub fn tick<R: Wait>(&mut self, rt: &R, now: u64) -> Result<(), Refusal>
         ensures answer { (self.new ≡ record self.old { token = self.new.token }) × DoesOrMemory self.old.token self.new.token (RealmStep.Asked self.old.token.actor (Ask.Tick now)) (λ _. tt) result }

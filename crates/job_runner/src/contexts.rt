@@ -1,4 +1,6 @@
 ghost use Rattle.std.specs.Prelude.{◌≡◌, [], None};
+ghost use Rattle.scope_rules.specs.Scopes.{innermost};
+ghost use Rattle.realm_core.specs.Calls.{history_seen};
 
 use crate::held::HeldRealm;
 use crate::markers::Marker;
@@ -34,14 +36,17 @@ pub struct TaskCtx<C: Catalog, S: Spawner<N>, N: RealmName> {
 }
 
 impl<C: Catalog, S: Spawner<N>, N: RealmName> TaskCtx<C, S, N> {
-    /// Main's context, with main's token of the realm: it has no scope listed, and no thread.
+    /// Main's context, with main's token of the realm, to which main has no scope that is not closed: a scope
+    /// that was opened by the realm itself, before, would have no mark here, and no thread. So it has no scope
+    /// listed, and no thread.
     pub fn main(
         alloc: Global,
         realm: Realm<C, N>,
         token: ActorToken,
         spawner: S,
     ) -> TaskCtx<C, S, N>
-        requires { token.table ≡ N.table }
+        requires named { token.table ≡ N.table }
+        requires idle { innermost (history_seen token) token.actor ≡ None }
         ensures { (result.token ≡ token) × (result.opened.items ≡ []) × (result.team.running ≡ []) × (result.around ≡ None) }
     {
         TaskCtx::of_actor(alloc, HeldRealm::new(realm), token, spawner, None)

@@ -1,15 +1,16 @@
-ghost use Rattle.std.specs.Prelude.{◌≡◌, Err};
+ghost use Rattle.std.specs.Prelude.{◌≡◌, Err, MatchResult};
 ghost use Rattle.scope_rules.specs.Tasks.{state};
+ghost use Rattle.scope_rules.specs.Cancels.{effective};
 ghost use Rattle.scope_rules.specs.Checks.{task_check};
-ghost use Rattle.scope_rules.specs.Table.{answering};
+ghost use Rattle.scope_rules.specs.Table.{answering, until_check};
 ghost use Rattle.scope_rules.specs.Replies.{result_reply, fault_reply, binding_reply};
 ghost use Rattle.kept_realm.specs.Fits.{Fitting};
 ghost use Rattle.realm_core.specs.Calls.{Reads, history_seen};
-ghost use Rattle.realm_core.specs.Views.{Joins, ViewAnswers};
+ghost use Rattle.realm_core.specs.Views.{Joins, MarkedViewAnswers, ViewAnswers};
 
 use crate::contexts::TaskCtx;
-use realm_lock::{Joined, RealmName, View};
-use scope_rules::{Catalog, Fault, Name, Refusal, ScopeId, State, TaskId, Value};
+use realm_lock::{Joined, Mark, RealmName, View};
+use scope_rules::{Catalog, Effective, Event, Fault, Name, Refusal, ScopeId, State, TaskId, Value};
 use std::sync::Wait;
 use thread_crew::Spawner;
 
@@ -69,5 +70,43 @@ impl<C: Catalog, S: Spawner<N>, N: RealmName> TaskCtx<C, S, N> {
     {
         let token = &mut self.token;
         self.realm.lent().view(rt, &mut token.held, scope)
+    }
+
+    /// The same, where the scope is cancelled as the mark says. Refused as `Realm::view_with` is.
+    pub fn view_with<R: Wait>(
+        &mut self,
+        rt: &R,
+        scope: ScopeId,
+        mark: &Mark,
+    ) -> Result<View, Refusal>
+        ensures answer { (self.new ≡ record self.old { token = self.new.token }) × Reads self.old.token self.new.token (λ h. MarkedViewAnswers h scope mark.now.cause mark.now.number result × Fitting C.fitting h) }
+    {
+        let token = &mut self.token;
+        self.realm
+            .lent()
+            .view_with(rt, &mut token.held, scope, mark)
+    }
+
+    /// The earliest deadline in effect for the scope, in milliseconds (Trio, `current_effective_deadline`).
+    /// Refused as `Realm::effective_deadline` is.
+    pub fn effective_deadline<R: Wait>(
+        &mut self,
+        rt: &R,
+        scope: ScopeId,
+    ) -> Result<Effective, Refusal>
+        ensures answer { (self.new ≡ record self.old { token = self.new.token }) × Reads self.old.token self.new.token (λ h. result ≡ answering (until_check h scope) (effective h scope)) }
+    {
+        let token = &mut self.token;
+        self.realm
+            .lent()
+            .effective_deadline(rt, &mut token.held, scope)
+    }
+
+    /// All events since the last retirement, in order. Refused as `Realm::history` is.
+    pub fn history<R: Wait>(&mut self, rt: &R) -> Result<Vec<Event>, Refusal>
+        ensures answer { (self.new ≡ record self.old { token = self.new.token }) × Reads self.old.token self.new.token (λ h. MatchResult result (λ events. events.items ≡ h.events) (λ refusal. refusal ≡ Refusal.Memory) × Fitting C.fitting h) }
+    {
+        let token = &mut self.token;
+        self.realm.lent().history(rt, &mut token.held)
     }
 }

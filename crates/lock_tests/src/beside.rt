@@ -2,9 +2,8 @@
 //! main's views show what the engine's book tells.
 ghost use Rattle.std.specs.Prelude.{◌≡◌};
 
-use crate::driven::driven;
-use crate::hands::Hands;
 use crate::views::is_seen_alike;
+use realm_hands::{Hands, driven};
 use realm_lock::{Realm, RealmName, Seed};
 use scope_book::BookState;
 use scope_rules::types::values::MAIN;
@@ -58,7 +57,7 @@ impl<N: RealmName> Beside<N> {
         Ok(Beside {
             alloc,
             realm,
-            hands: Hands::new(alloc, main)?,
+            hands: Hands::new(alloc, main).ok_or("memory")?,
             book: BookState::new(alloc, limits),
             accepted: 0,
         })
@@ -73,7 +72,7 @@ impl<N: RealmName> Beside<N> {
     pub fn give<R: Wait>(&mut self, rt: &R, command: Command) -> Result<(), Fail> {
         let said = perform(&mut self.book, command)?;
         let answer = if may_call(command, &said) {
-            driven(rt, &self.realm, &mut self.hands, command)?
+            driven(rt, &self.realm, &mut self.hands, command)
         } else {
             None
         };
@@ -104,7 +103,7 @@ impl<N: RealmName> Beside<N> {
                 _ => Err("nobody held what a call needs that the program accepts")?,
             };
         };
-        if !is_same(self.alloc, reply, said)? {
+        if !self.hands.is_right() || !is_same(self.alloc, reply, said)? {
             return Err("the realm answers otherwise")?;
         }
         if !is_refused {
@@ -117,7 +116,7 @@ impl<N: RealmName> Beside<N> {
     fn is_seen<R: Wait>(&mut self, rt: &R, scope: ScopeId) -> Result<bool, Fail> {
         let mut main = self.hands.token(MAIN).ok_or("main's token")?;
         let is_alike = is_seen_alike(rt, &self.realm, &mut main, &self.book, scope);
-        self.hands.keep_token(MAIN, main)?;
+        self.hands.keep_token(MAIN, main);
         Ok(is_alike)
     }
 

@@ -6,9 +6,7 @@ mod beside;
 #[cfg(test)]
 mod common;
 #[cfg(test)]
-mod driven;
-#[cfg(test)]
-mod hands;
+mod lines;
 #[cfg(test)]
 mod marks;
 #[cfg(test)]
@@ -25,8 +23,6 @@ mod scripts;
 mod stress;
 #[cfg(test)]
 mod threads;
-#[cfg(test)]
-mod throws;
 #[cfg(test)]
 mod views;
 #[cfg(test)]

@@ -1,6 +1,6 @@
 //! Commands at random, of which a good part is accepted.
 
-use crate::throws::Throws;
+use realm_hands::Throws;
 use scope_rules::{
     Actor, Binding, End, Event, Expiry, Fault, Label, Name, Options, Policy, Rule, ScopeId, TaskId,
     Value,

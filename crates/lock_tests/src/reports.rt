@@ -2,8 +2,8 @@
 ghost use Rattle.std.specs.Prelude.{◌≡◌, IfOk, All};
 ghost use Rattle.share_ledger.specs.Values.{TicketValue};
 
-use crate::driven::play;
-use crate::hands::Hands;
+use crate::lines::play;
+use realm_hands::Hands;
 use realm_lock::{CloseReport, Realm, RealmName, Ticket};
 use scope_log::LogEntry;
 use scope_rules::{Actor, AnyEnd, End, Fault, Name, Refusal, ScopeId, TaskId, Value, Verdict};
@@ -67,7 +67,7 @@ fn closed<N: RealmName, R: Wait>(
     let tickets = tickets_of(alloc, hands, tasks)?;
     let mut token = hands.token(closes.0).ok_or("a token")?;
     let answer = realm.close(rt, &mut token, closes.1, tickets);
-    hands.keep_token(closes.0, token)?;
+    hands.keep_token(closes.0, token);
     match answer {
         Ok(report) => Ok(Ok(report)),
         Err((refusal, back)) => Ok(Err((refusal, back.len()))),

@@ -2,12 +2,12 @@
 //! through others.
 ghost use Rattle.std.specs.Prelude.{◌≡◌};
 
-use crate::hands::Hands;
 use crate::marks::{one_marked, one_of_two_marked};
 use crate::reports::{a_report_shows_each_run, closes_are_refused};
 use crate::stress::ten_thousand_rounds;
 use crate::threads::{ten_rounds, two_served, waited};
 use crate::waits::{Waker, a_cancel_wakes, a_close_wakes, a_reject_wakes, an_end_wakes_a_close};
+use realm_hands::Hands;
 use realm_lock::{ActorToken, Realm, RealmName, Seed};
 use scope_rules::{AnyEnd, Limits};
 use std::alloc::Global;
@@ -58,7 +58,7 @@ fn play_with<N: RealmName + Send + Sync, R: Threads + Wait + Abort + Sync>(
     if let Row::TenRounds = row {
         return ten_rounds(rt, realm, main);
     }
-    let mut hands = Hands::<N>::new(alloc, main)?;
+    let mut hands = Hands::<N>::new(alloc, main).ok_or("memory")?;
     match row {
         Row::Reported => a_report_shows_each_run(rt, alloc, realm, &mut hands),
         _ => closes_are_refused(rt, alloc, realm, &mut hands),

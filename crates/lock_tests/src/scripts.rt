@@ -2,7 +2,7 @@
 ghost use Rattle.std.specs.Prelude.{◌≡◌};
 
 use crate::beside::Beside;
-use crate::driven::command_of;
+use crate::lines::command_of;
 use crate::random::Commands;
 use realm_lock::{RealmName, Seed};
 use scope_rules::{Event, Limits, Value};

@@ -5,9 +5,9 @@ ghost use Rattle.share_ledger.specs.Values.{IsWaiting};
 
 use crate::common::{PLAIN, finish, fork_two, open};
 use crate::replay::Replay;
-use crate::throws::Throws;
 use crate::views::is_seen_alike;
 use join_rules::Joiner;
+use realm_hands::Throws;
 use realm_lock::{ActorToken, Forked, Realm, RealmName, Ticket};
 use scope_rules::{AnyEnd, Cancelling, Counts, ForkReply, Label, Name, ScopeId, TaskId, Value};
 use scope_script::{Reply, append_line};

@@ -12,7 +12,7 @@ use Rattle.scope_rules.specs.declared.types.refusals.Refusal.{Refusal}
 use Rattle.scope_rules.specs.Origin.{Origin}
 use Rattle.scope_rules.specs.declared.types.refusals.Refusal.TheVariants.{NoScope, Retired}
 use Rattle.scope_rules.specs.Checks.{refuse_if, scope_check}
-use Rattle.scope_rules.specs.History.{History, followed, is_open, opened_count, opening}
+use Rattle.scope_rules.specs.History.{History, followed, is_open, opening}
 use Rattle.scope_rules.proofs.Innermosts.{opened_after}
 use Rattle.scope_rules.specs.Replies.{next_scope}
 use Rattle.scope_rules.specs.Legal.{Legal}

@@ -1,6 +1,5 @@
 -- As a history goes on, marks stay, and new ones come behind them.
-use Rattle.std.proofs.Common.{◌≡◌, ◌⊎◌, inl, inr, ℕ, zero, suc, ◌+◌, ◌-◌, ◌<◌, ◌≤◌, max, Bool, true, false, not, cond, is_some, Option, None, Some, option_map, List, [], ◌∷◌, ◌++◌, length, get_or, AllPairs, Contains, filter, refl, sym, ap, ◌∙◌, subst, arith, length-append}
-use Rattle.std.specs.Option.{option_and_then}
+use Rattle.std.proofs.Common.{◌≡◌, inl, inr, ℕ, zero, suc, ◌-◌, ◌<◌, ◌≤◌, max, Bool, true, false, not, cond, is_some, Option, None, Some, List, [], ◌∷◌, ◌++◌, length, get_or, AllPairs, Contains, filter, refl, sym, ap, ◌∙◌, subst, arith, length-append}
 use Rattle.std.proofs.lemmas.Bool.{both_ways, cases_lt}
 use Rattle.std.proofs.lemmas.List.{get_or_append_left, get_or-append_right}
 use Rattle.std.proofs.lemmas.List.Elements.{Contains-append_left, Contains-append_right, Contains-append_cases, Contains-get_or}
@@ -9,13 +8,12 @@ use Rattle.scope_rules.specs.declared.types.capacity.Limits.{Limits}
 use Rattle.scope_rules.specs.declared.types.events.Event.{Event}
 use Rattle.scope_rules.specs.declared.types.records.Opening.{Opening}
 use Rattle.scope_rules.specs.declared.types.records.Cut.{Cut}
-use Rattle.scope_rules.specs.History.{History, followed, opening, opening_of}
+use Rattle.scope_rules.specs.History.{History, followed, opening}
 use Rattle.scope_rules.specs.Cancels.{cut, cause, is_cancelled, cancelled_at}
 use Rattle.scope_rules.specs.Legal.{Legal}
 use Rattle.scope_rules.proofs.CutsGrow.{cut_new}
 use Rattle.scope_rules.proofs.Earlier.{opening_within, opening_shown}
 use Rattle.scope_rules.proofs.Growing.{opening_stays}
-use Rattle.scope_rules.proofs.Nesting.{IsOpened}
 use Rattle.scope_rules.proofs.OneEventMore.{opening_split}
 use Rattle.scope_rules.proofs.Staying.{cut_opened, cut_stays, cut_within_history}
 use Rattle.cancel_marks.specs.declared.cancellation.Cancellation.{Cancellation}

@@ -1,5 +1,5 @@
 -- How setters that lag behind are brought up to a history.
-use Rattle.std.proofs.Common.{◌≡◌, ◌≢◌, ◌⊎◌, inl, inr, ℕ, zero, suc, ◌+◌, ◌-◌, ◌<◌, ◌≤◌, ◌==◌, Bool, true, false, Option, None, Some, option_map, List, [], ◌∷◌, ◌++◌, length, map, get_or, set, slice_get, AllPairs, Contains, eqb, refl, sym, ap, ◌∙◌, subst, arith, length-append}
+use Rattle.std.proofs.Common.{◌≡◌, ◌≢◌, ◌⊎◌, inl, inr, ℕ, zero, suc, ◌+◌, ◌-◌, ◌<◌, ◌≤◌, true, Option, None, Some, option_map, List, [], ◌∷◌, ◌++◌, length, map, get_or, set, slice_get, AllPairs, eqb, refl, sym, ap, ◌∙◌, subst, arith, length-append}
 use Rattle.std.specs.List.{list_any}
 use Rattle.std.specs.Option.{option_and_then, option_or}
 use Rattle.std.proofs.lemmas.Bool.{cases_lt, cases_eq, eqb-true}
@@ -10,11 +10,10 @@ use Rattle.std.proofs.lemmas.List.{get_or-map, length-map, length-set}
 use Rattle.std.proofs.lemmas.List.Folds.{Any-from_list_any}
 use Rattle.std.proofs.lemmas.Map.Made.{IsDistinct-from_AllPairs}
 use Rattle.std.proofs.lemmas.Map.Steps.{length-le_from_distinct_below}
-use Rattle.std.proofs.lemmas.Option.{slice_get_within, slice_get_read, slice_get_past, slice_get-get_or, get_or_from_slice_get, same_Some}
+use Rattle.std.proofs.lemmas.Option.{slice_get_within, slice_get_read, slice_get-get_or, get_or_from_slice_get, same_Some}
 use Rattle.scope_rules.specs.declared.types.answers.Cause.{Cause}
-use Rattle.scope_rules.specs.declared.types.records.Opening.{Opening}
 use Rattle.scope_rules.specs.Origin.{Origin}
-use Rattle.scope_rules.specs.History.{History, opening, opened_count}
+use Rattle.scope_rules.specs.History.{History, opened_count}
 use Rattle.scope_rules.specs.Cancels.{cause, is_cancelled, cancelled_at}
 use Rattle.scope_rules.proofs.Innermosts.{opened_after}
 use Rattle.cancel_marks.specs.declared.cancellation.Cancellation.{Cancellation}
@@ -24,7 +23,7 @@ use Rattle.scope_cuts.specs.CutsOf.{IsCancelOrderOf}
 use Rattle.cancel_tree.proofs.OrderLaws.{order_unique}
 use Rattle.realm_steps.specs.Steps.{history_of}
 use Rattle.realm_core.specs.Cores.{CoreValue}
-use Rattle.realm_lock.specs.Marked.{mark_of, IsSetterOf, AreSetters, AreMarks, MarksValue, CancelsGrow, AreBehind, UsesSetter}
+use Rattle.realm_lock.specs.Marked.{mark_of, IsSetterOf, AreSetters, AreMarks, MarksValue, AreBehind, UsesSetter}
 use Rattle.realm_lock.proofs.CancelsGrow.{marked, mark_there, cancelled_there, order_grows}
 
 -- there is one setter for each scope since the base, and those of the first n scopes in order of their

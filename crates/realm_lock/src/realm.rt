@@ -1,5 +1,7 @@
-ghost use Rattle.std.specs.Prelude.{◌≡◌, [], MatchResult};
+ghost use Rattle.std.specs.Prelude.{◌≡◌, [], IfOk, MatchResult, None};
+ghost use Rattle.scope_rules.specs.Scopes.{innermost};
 ghost use Rattle.scope_rules.specs.declared.types.refusals.Refusal.TheVariants.{Memory};
+ghost use Rattle.realm_core.specs.Calls.{history_seen};
 
 use crate::marked::MarkedCore;
 use realm_core::RealmName;
@@ -28,15 +30,16 @@ pub struct Realm<C: Catalog, N: RealmName> {
 }
 
 impl<C: Catalog, N: RealmName> Realm<C, N> {
-    /// A realm that begins, and main's token, which has seen nothing yet. Refused where memory is
-    /// (`Memory`).
+    /// A realm that begins, and main's token, which has seen nothing yet, and so no scope. Refused where
+    /// memory is (`Memory`).
     pub fn new(
         alloc: Global,
         seed: Seed,
         limits: Limits,
     ) -> Result<(Realm<C, N>, OwnerShare), Refusal>
         requires named { seed ≡ N.table }
-        ensures { MatchResult result (λ made. made.1 ≡ record { table = N.table; limits = limits; actor = MAIN; seen = [] }) (λ refusal. refusal ≡ Memory) }
+        ensures made { MatchResult result (λ made. made.1 ≡ record { table = N.table; limits = limits; actor = MAIN; seen = [] }) (λ refusal. refusal ≡ Memory) }
+        ensures idle { IfOk result (λ made. innermost (history_seen made.1) made.1.actor ≡ None) }
     {
         let (locked, token) = MarkedCore::new(alloc, seed, limits);
         let room = Room {

@@ -1,5 +1,5 @@
 //! A command of a script as a call of a realm, by one thread that plays all actors.
-ghost use Rattle.std.specs.Prelude.{◌≡◌, IfOk, IfErr, IfSome};
+ghost use Rattle.std.specs.Prelude.{◌≡◌, IfErr, IfSome};
 ghost use Rattle.share_ledger.specs.Values.{IsWaiting};
 ghost use Rattle.realm_core.specs.Tasks.{IsRunning};
 
@@ -10,10 +10,8 @@ use scope_rules::{
     Actor, AnyEnd, Base, Cancelling, End, Event, ForkReply, Label, Options, Policy, Refusal,
     ScopeId, TaskId,
 };
-use scope_script::{Command, Line, Question, Reply, append_line, read_line};
-use std::alloc::{AllocError, Global};
+use scope_script::{Command, Question, Reply};
 use std::sync::Wait;
-use std::test::Fail;
 
 fn joiner_of(policy: Policy) -> Joiner {
     match policy {
@@ -156,18 +154,18 @@ fn forked<N: RealmName, R: Wait>(
     token: &mut ActorToken,
     scope: ScopeId,
     label: Label,
-) -> Result<Reply, Fail>
+) -> Reply
     requires { token.old.table ≡ N.table }
     ensures { token.new ≡ record token.old { seen = token.new.seen } }
 {
     match realm.fork(rt, token, scope, label) {
         Ok(Forked::Thread(ticket)) => {
             let task = ticket.task();
-            hands.keep_ticket(task, ticket)?;
-            Ok(Reply::Task(ForkReply::Thread(task)))
+            hands.keep_ticket(task, ticket);
+            Reply::Task(ForkReply::Thread(task))
         }
-        Ok(Forked::Never(task)) => Ok(Reply::Task(ForkReply::Never(task))),
-        Err(refusal) => Ok(Reply::Refused(refusal)),
+        Ok(Forked::Never(task)) => Reply::Task(ForkReply::Never(task)),
+        Err(refusal) => Reply::Refused(refusal),
     }
 }
 
@@ -196,46 +194,36 @@ fn begun<N: RealmName, R: Wait>(
     hands: &mut Hands<N>,
     task: TaskId,
     starts: bool,
-) -> Result<Option<Reply>, Fail> {
-    let Some(ticket) = hands.ticket(task) else {
-        return Ok(None);
-    };
+) -> Option<Reply> {
+    let ticket = hands.ticket(task)?;
     if ticket.given() == 0 || ticket.started() != 0 {
-        hands.keep_ticket(task, ticket)?;
-        return Ok(None);
+        hands.keep_ticket(task, ticket);
+        return None;
     }
     let (ticket, token) = stepped(rt, realm, ticket, starts);
-    let counted = (ticket.given(), ticket.started());
-    hands.keep_ticket(task, ticket)?;
-    if let Some(token) = token {
-        hands.keep_token(task, token)?;
-    }
-    if counted != (u64::from(starts), u64::from(starts)) {
-        return Err("the ticket counts otherwise")?;
-    }
-    Ok(Some(if starts {
-        Reply::Started
-    } else {
-        Reply::Rejected
-    }))
+    hands.check((ticket.given(), ticket.started()) == (u64::from(starts), u64::from(starts)));
+    hands.keep_ticket(task, ticket);
+    let Some(token) = token else {
+        return Some(Reply::Rejected);
+    };
+    hands.keep_token(task, token);
+    Some(Reply::Started)
 }
 
 /// Takes out the ticket of the task, if it runs.
-fn running<N: RealmName>(hands: &mut Hands<N>, task: TaskId) -> Result<Option<Ticket>, AllocError>
-    ensures { IfOk result (λ found. IfSome found (λ ticket. (ticket.table ≡ N.table) × IsRunning ticket × (ticket.task ≡ task))) }
+fn running<N: RealmName>(hands: &mut Hands<N>, task: TaskId) -> Option<Ticket>
+    ensures { IfSome result (λ ticket. (ticket.table ≡ N.table) × IsRunning ticket × (ticket.task ≡ task)) }
 {
-    let Some(ticket) = hands.ticket(task) else {
-        return Ok(None);
-    };
+    let ticket = hands.ticket(task)?;
     if ticket.given() == 0
         || ticket.started() == 0
         || ticket.finished() != 0
         || ticket.task() != task
     {
-        hands.keep_ticket(task, ticket)?;
-        return Ok(None);
+        hands.keep_ticket(task, ticket);
+        return None;
     }
-    Ok(Some(ticket))
+    Some(ticket)
 }
 
 /// Ends the ticket's task. The token comes back where that is refused.
@@ -264,26 +252,24 @@ fn ended<N: RealmName, R: Wait>(
     hands: &mut Hands<N>,
     task: TaskId,
     end: End,
-) -> Result<Option<Reply>, Fail> {
-    let Some(ticket) = running(hands, task)? else {
-        return Ok(None);
-    };
-    let Some(token) = hands.token(task) else {
-        hands.keep_ticket(task, ticket)?;
-        return Ok(None);
+) -> Option<Reply> {
+    let token = hands.token(task)?;
+    let Some(ticket) = running(hands, task) else {
+        hands.keep_token(task, token);
+        return None;
     };
     if token.actor() != task {
-        return Err("another's token")?;
+        hands.check(false);
+        return None;
     }
     let (ticket, answer) = finished(rt, realm, ticket, token, end);
-    let told = ticket.end();
-    hands.keep_ticket(task, ticket)?;
+    hands.check(answer.is_err() || ticket.end() == Some(end));
+    hands.keep_ticket(task, ticket);
     match answer {
-        Ok(()) if told == Some(end) => Ok(Some(Reply::Finished)),
-        Ok(()) => Err("the ticket tells another end")?,
+        Ok(()) => Some(Reply::Finished),
         Err((refusal, token)) => {
-            hands.keep_token(task, token)?;
-            Ok(Some(Reply::Refused(refusal)))
+            hands.keep_token(task, token);
+            Some(Reply::Refused(refusal))
         }
     }
 }
@@ -295,13 +281,13 @@ fn answered<N: RealmName, R: Wait>(
     hands: &mut Hands<N>,
     token: &mut ActorToken,
     command: Command,
-) -> Result<Option<Reply>, Fail>
+) -> Option<Reply>
     requires { token.old.table ≡ N.table }
     ensures { token.new ≡ record token.old { seen = token.new.seen } }
 {
-    Ok(match command {
+    match command {
         Command::Do(Event::Fork { scope, label, .. }) => {
-            Some(forked(rt, realm, hands, token, scope, label)?)
+            Some(forked(rt, realm, hands, token, scope, label))
         }
         Command::Do(event) => acted(rt, realm, token, event),
         Command::Ask(question) => asked(rt, realm, token, question),
@@ -312,7 +298,7 @@ fn answered<N: RealmName, R: Wait>(
             },
             Err(refusal) => Reply::Refused(refusal),
         }),
-    })
+    }
 }
 
 /// What the realm answers to the command. None where nobody holds what its call needs.
@@ -321,7 +307,7 @@ pub fn driven<N: RealmName, R: Wait>(
     realm: &Realm<AnyEnd, N>,
     hands: &mut Hands<N>,
     command: Command,
-) -> Result<Option<Reply>, Fail> {
+) -> Option<Reply> {
     match command {
         Command::Do(Event::Reject { task }) => return begun(rt, realm, hands, task, false),
         Command::Do(Event::Start { task }) => return begun(rt, realm, hands, task, true),
@@ -329,51 +315,8 @@ pub fn driven<N: RealmName, R: Wait>(
         _ => {}
     }
     let actor = actor_of(command);
-    let Some(mut token) = hands.token(actor) else {
-        return Ok(None);
-    };
-    let reply = answered(rt, realm, hands, &mut token, command)?;
-    hands.keep_token(actor, token)?;
-    Ok(reply)
-}
-
-/// The command of the line.
-pub fn command_of(line: &str) -> Result<Command, Fail> {
-    match read_line(line.as_bytes()) {
-        Line::Command(command) => Ok(command),
-        _ => Err("a command")?,
-    }
-}
-
-/// Whether the realm answers the line so.
-fn is_answered<N: RealmName, R: Wait>(
-    rt: &R,
-    alloc: Global,
-    realm: &Realm<AnyEnd, N>,
-    hands: &mut Hands<N>,
-    line: &str,
-    wanted: &str,
-) -> Result<bool, Fail> {
-    let Some(reply) = driven(rt, realm, hands, command_of(line)?)? else {
-        return Ok(false);
-    };
-    let mut said = Vec::new(alloc);
-    append_line(&mut said, &reply)?;
-    Ok(said.as_slice().strip_suffix(b"\n") == Some(wanted.as_bytes()))
-}
-
-/// Drives the realm by lines, each of which it is to answer as is said beside it.
-pub fn play<N: RealmName, R: Wait>(
-    rt: &R,
-    alloc: Global,
-    realm: &Realm<AnyEnd, N>,
-    hands: &mut Hands<N>,
-    lines: &[(&str, &str)],
-) -> Result<(), Fail> {
-    for (line, wanted) in lines {
-        if !is_answered(rt, alloc, realm, hands, line, wanted)? {
-            return Err("the realm answers a line otherwise")?;
-        }
-    }
-    Ok(())
+    let mut token = hands.token(actor)?;
+    let reply = answered(rt, realm, hands, &mut token, command);
+    hands.keep_token(actor, token);
+    reply
 }

@@ -23,6 +23,12 @@ impl Throws {
         u32::try_from(self.state >> 33).unwrap_or(0) % bound
     }
 
+    /// A number of any size.
+    pub fn any(&mut self) -> u64 {
+        let high = u64::from(self.below(u32::MAX));
+        (high << 31) | u64::from(self.below(1 << 31))
+    }
+
     /// Whether something happens that does once in so many times.
     pub fn one_in(&mut self, times: u32) -> bool
         requires { 0 < times }

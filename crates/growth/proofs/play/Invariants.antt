@@ -1,0 +1,8 @@
+-- Each realm's name is that of the seed's table.
+use Rattle.growth.proofs.play.Given as goal
+
+abbrev pub ghosts-play : goal.ghosts-play
+ghosts-play g a = record { table = a.seed }
+
+abbrev pub ghosts-play-2 : goal.ghosts-play-2
+ghosts-play-2 g a = record { table = a.seed }

@@ -1,0 +1,231 @@
+//! Jobs on threads: two that see each other, one that leaves a scope open with a job in it, a close with a report,
+//! a cancel, and a retirement.
+ghost use Rattle.std.specs.Prelude.{◌≡◌};
+
+use crate::duties::{Board, Duty, PLAIN, Shared, Worker, fork, open};
+use crate::refusals::{Call, again};
+use job_runner::{JobWork, TaskCtx};
+use realm_lock::{Mark, Realm, RealmName, Seed};
+use scope_log::{LogEntry, ScopeLog};
+use scope_rules::{AnyEnd, ForkReply, Limits, Options, Refusal, ScopeId, TaskId, Value};
+use std::alloc::Global;
+use std::sync::Wait;
+use thread_crew::{Crew, CrewRuntime, OsThreads, Spawner, Spawns};
+
+/// The same with a shield.
+const SHIELD: Options = Options {
+    shield: true,
+    ..PLAIN
+};
+
+/// Joins the scope.
+fn join<N: RealmName, S: Spawner<N>, R: Wait>(
+    rt: &R,
+    ctx: &mut TaskCtx<AnyEnd, S, N>,
+    scope: ScopeId,
+) -> Result<(), Refusal>
+    ensures { ctx.new.token.actor ≡ ctx.old.token.actor }
+{
+    match ctx.join(rt, scope) {
+        Ok(_) => Ok(()),
+        Err(refusal) => Err(refusal),
+    }
+}
+
+/// Binds the key anew, forks a job that reads it, in a shield, and leaves the scope open.
+pub fn nest<N: RealmName, S: Spawns<N, JobWork<AnyEnd, N, Worker>>, R: Wait>(
+    rt: &R,
+    ctx: &mut TaskCtx<AnyEnd, S, N>,
+    board: &Shared,
+)
+    ensures { ctx.new.token.actor ≡ ctx.old.token.actor }
+{
+    let bound = again!(
+        board.refusals,
+        Call::Bind,
+        ctx.bind(rt, board.key, Value::Num(8))
+    );
+    board.check(bound.is_ok());
+    let Ok(scope) = open(rt, ctx, board, SHIELD) else {
+        return board.check(false);
+    };
+    let Some(task) = threaded(fork(rt, ctx, board, scope, Duty::Reads)) else {
+        return board.check(false);
+    };
+    board.check(again!(board.refusals, Call::Join, join(rt, ctx, scope)).is_ok());
+    board.check(ctx.result(rt, task) == Ok(Value::Num(8)));
+}
+
+/// The number of a task that has a thread.
+fn threaded(forked: Result<ForkReply, Refusal>) -> Option<TaskId> {
+    match forked {
+        Ok(ForkReply::Thread(task)) => Some(task),
+        _ => None,
+    }
+}
+
+/// How many starts and ends the log has.
+fn starts_and_ends(log: &ScopeLog) -> (u32, u32) {
+    let mut starts = 0u32;
+    let mut ends = 0u32;
+    for entry in log.entries() {
+        match entry {
+            LogEntry::Start { .. } => starts = starts.saturating_add(1),
+            LogEntry::Finish { .. } => ends = ends.saturating_add(1),
+            _ => {}
+        }
+    }
+    (starts, ends)
+}
+
+/// Closes the scope with a report: how many starts and ends that has.
+fn close<N: RealmName, S: Spawner<N>, R: Wait>(
+    rt: &R,
+    ctx: &mut TaskCtx<AnyEnd, S, N>,
+    scope: ScopeId,
+) -> Result<(u32, u32), Refusal> {
+    match ctx.close_scope(rt, scope) {
+        Ok(report) => Ok(starts_and_ends(&report.log)),
+        Err(refusal) => Err(refusal),
+    }
+}
+
+/// How many tasks of the scope have ended.
+fn ended<N: RealmName, S: Spawner<N>, R: Wait>(
+    rt: &R,
+    ctx: &mut TaskCtx<AnyEnd, S, N>,
+    scope: ScopeId,
+) -> Result<u32, Refusal> {
+    match ctx.view(rt, scope) {
+        Ok(view) => Ok(view.counts.finished),
+        Err(refusal) => Err(refusal),
+    }
+}
+
+/// Whether the view by the mark shows its cause.
+fn is_shown<N: RealmName, S: Spawner<N>, R: Wait>(
+    rt: &R,
+    ctx: &mut TaskCtx<AnyEnd, S, N>,
+    mark: &Mark,
+) -> Result<bool, Refusal> {
+    match ctx.view_with(rt, mark.scope, mark) {
+        Ok(view) => Ok(view.cause == Some(mark.cause)),
+        Err(refusal) => Err(refusal),
+    }
+}
+
+/// Two jobs that see each other, and one that leaves a scope open.
+fn three_jobs<N: RealmName, S: Spawns<N, JobWork<AnyEnd, N, Worker>>, R: Wait>(
+    rt: &R,
+    ctx: &mut TaskCtx<AnyEnd, S, N>,
+    board: &Shared,
+    scope: ScopeId,
+) -> Option<()> {
+    let first = threaded(fork(rt, ctx, board, scope, Duty::Meets { is_first: true }))?;
+    let second = threaded(fork(rt, ctx, board, scope, Duty::Meets { is_first: false }))?;
+    let nests = threaded(fork(rt, ctx, board, scope, Duty::Nests))?;
+    board.check(again!(board.refusals, Call::Join, join(rt, ctx, scope)).is_ok());
+    board.check(ctx.result(rt, first) == Ok(Value::Num(1)));
+    board.check(ctx.result(rt, second) == Ok(Value::Num(1)));
+    board.check(ctx.fault(rt, nests).is_ok());
+    board.check(again!(board.refusals, Call::View, ended(rt, ctx, scope)) == Ok(3));
+    board.check(again!(board.refusals, Call::Close, close(rt, ctx, scope)) == Ok((3, 3)));
+    Some(())
+}
+
+/// A scope that is cancelled, which its mark shows: a job that is forked then is let go.
+fn one_cancelled<N: RealmName, S: Spawns<N, JobWork<AnyEnd, N, Worker>>, R: Wait>(
+    rt: &R,
+    ctx: &mut TaskCtx<AnyEnd, S, N>,
+    board: &Shared,
+) -> Option<()> {
+    let scope = open(rt, ctx, board, PLAIN).ok()?;
+    board.check(again!(
+        board.refusals,
+        Call::Move,
+        ctx.move_deadline(rt, scope, Some(9))
+    )
+    .is_ok());
+    board.check(again!(board.refusals, Call::Tick, ctx.tick(rt, 5)).is_ok());
+    board.check(ctx.checkpoint().is_none());
+    board.check(again!(board.refusals, Call::Cancel, ctx.cancel(rt, scope)).is_ok());
+    let mark = ctx.checkpoint()?;
+    board.check(mark.scope == scope);
+    board.check(again!(board.refusals, Call::ViewWith, is_shown(rt, ctx, &mark)) == Ok(true));
+    let never = fork(rt, ctx, board, scope, Duty::Reads);
+    board.check(matches!(never, Ok(ForkReply::Never(_))));
+    board.check(ctx.close_scope_bare(rt, scope).is_ok());
+    Some(())
+}
+
+/// What main does in its context. At its end main's binding is taken away, once, and the realm retires: so many
+/// scopes were opened, and jobs called.
+fn in_context<N: RealmName, S: Spawns<N, JobWork<AnyEnd, N, Worker>>, R: Wait>(
+    rt: &R,
+    ctx: &mut TaskCtx<AnyEnd, S, N>,
+    board: &Shared,
+) -> Option<bool> {
+    board.check(again!(
+        board.refusals,
+        Call::Bind,
+        ctx.bind(rt, board.key, Value::Num(7))
+    )
+    .is_ok());
+    let scope = open(rt, ctx, board, PLAIN).ok()?;
+    three_jobs(rt, ctx, board, scope)?;
+    one_cancelled(rt, ctx, board)?;
+    board.check(again!(board.refusals, Call::Unbind, ctx.unbind(rt)).is_ok());
+    board.check(ctx.unbind(rt) == Err(Refusal::NotBound));
+    board.check(again!(board.refusals, Call::Retire, retire(rt, ctx)) == Ok(3));
+    Some(board.counts() == (4, 4, 0))
+}
+
+/// Retires the realm: how many scopes there were.
+fn retire<N: RealmName, S: Spawner<N>, R: Wait>(
+    rt: &R,
+    ctx: &mut TaskCtx<AnyEnd, S, N>,
+) -> Result<ScopeId, Refusal> {
+    match ctx.retire(rt) {
+        Ok(base) => Ok(base.scopes()),
+        Err(refusal) => Err(refusal),
+    }
+}
+
+/// In a realm, over the crew's threads.
+fn over_threads<N: RealmName, R: Wait>(
+    rt: &R,
+    alloc: Global,
+    seed: Seed,
+    threads: OsThreads<N, JobWork<AnyEnd, N, Worker>>,
+    board: &Shared,
+) -> Option<bool>
+    requires { seed ≡ N.table }
+{
+    let Ok((realm, token)) = Realm::<AnyEnd, N>::new(alloc, seed, Limits::GREATEST) else {
+        return None;
+    };
+    let mut ctx = TaskCtx::main(alloc, realm, token, threads);
+    let is_right = in_context(rt, &mut ctx, board) == Some(true);
+    let (_token, _threads) = ctx.leave(rt);
+    Some(is_right)
+}
+
+/// Plays the scenario on a crew: false where something is otherwise than without a refusal. None where memory was
+/// refused before.
+pub fn play<N: RealmName + Send + Sync + 'static, R: CrewRuntime + Eprint>(
+    rt: &R,
+    alloc: Global,
+    seed: Seed,
+) -> Option<bool>
+    requires { seed ≡ N.table }
+{
+    let board = Board::shared(alloc)?;
+    let crew = Crew::<N, JobWork<AnyEnd, N, Worker>>::open(rt, alloc, 2).ok()?;
+    let is_right = match crew.threads() {
+        Ok(threads) => over_threads::<N, R>(rt, alloc, seed, threads, &board),
+        Err(_) => None,
+    };
+    crew.close(rt);
+    board.refusals.tell(rt);
+    is_right
+}

@@ -1,0 +1,110 @@
+//! The parts below a book, each call that takes memory: what it answers, and what the part tells then.
+ghost use Rattle.std.specs.Prelude.{◌≡◌};
+ghost use Rattle.scope_rules.specs.Joining.{meets};
+
+use crate::refusals::{Call, Refusals};
+use cancel_tree::Tree;
+use deadline_core::Deadlines;
+use join_rules::{CompletionTest, Joiner, Progress, UntilTest};
+use scope_rules::{Completion, Name, Rule, Value};
+use scoped_env::Env;
+use std::alloc::{AllocError, Global};
+
+/// As `again` is, for calls that are refused for memory alone.
+macro_rules! once_more {
+    ($refusals:expr, $call:expr, $made:expr) => {
+        match $made {
+            Err(_) => {
+                $refusals.note($call);
+                $made
+            }
+            answer => answer,
+        }
+    };
+}
+
+/// A progress whose closure says cancel of every list.
+#[tactic(auto, unfolding(scope_rules::specs::Joining::meets))]
+fn always_fires(alloc: Global) -> Result<Progress, AllocError> {
+    let test: CompletionTest = Box::new(
+        alloc,
+        |list: &[Completion]|
+            ensures { result ≡ meets (Rule.SuccessesAtLeast 0) list.now }
+        { true },
+    )?;
+    let joiner = Joiner::Until(UntilTest::new(Rule::SuccessesAtLeast(0), test));
+    Ok(Progress::new(alloc, joiner))
+}
+
+/// A closure is handed a completion for which no room was reserved, and then one for which it was.
+fn count(progress: &mut Progress, refusals: &Refusals) -> bool {
+    let done = Completion {
+        task: 1,
+        end: Ok(Value::Num(1)),
+    };
+    if progress.completions() != 0 {
+        return false;
+    }
+    let fires = once_more!(refusals, Call::Completed, progress.completed(done)) == Ok(true);
+    let is_one = progress.completions() == 1;
+    let has_room = once_more!(refusals, Call::Reserve, progress.reserve(1_000)).is_ok();
+    let is_kept = progress.completions() == 1 && progress.successes() == 1;
+    fires && is_one && has_room && is_kept
+}
+
+/// Three deadlines, of which two pass.
+fn pass(deadlines: &mut Deadlines, refusals: &Refusals) -> bool {
+    for scope in 1..4u32 {
+        let deadline = u64::from(scope).saturating_mul(100);
+        let is_new = deadlines.get(scope).is_none();
+        let is_set = once_more!(
+            refusals,
+            Call::SetDeadline,
+            deadlines.set(scope, deadline)
+        ).is_ok();
+        if !(is_new && is_set) {
+            return false;
+        }
+    }
+    is_passed(deadlines, refusals) && deadlines.earliest() == Some((300, 3))
+}
+
+/// Two have passed at 200.
+fn is_passed(deadlines: &mut Deadlines, refusals: &Refusals) -> bool {
+    match once_more!(refusals, Call::Expire, deadlines.expire(200)) {
+        Ok(passed) => passed.as_slice() == [1, 2].as_slice(),
+        Err(_) => false,
+    }
+}
+
+/// Two scopes, one in the other.
+fn grow(alloc: Global, refusals: &Refusals) -> bool {
+    let mut tree = Tree::new(alloc);
+    if once_more!(refusals, Call::AddScope, tree.add(1, None, false, 0)).is_err() {
+        return false;
+    }
+    let is_added = once_more!(refusals, Call::AddScope, tree.add(2, Some(1), true, 1)).is_ok();
+    is_added && tree.len() == 2 && tree.level(2) == 2
+}
+
+/// A binding, an environment that inherits it, and one that binds anew there.
+fn bind(env: &mut Env, key: Name, refusals: &Refusals) -> bool {
+    let is_bound = once_more!(refusals, Call::BindPair, env.bind(key, Value::Num(1))).is_ok();
+    let is_one = env.depth() == 1;
+    let Ok(mut inner) = once_more!(refusals, Call::Inherit, env.inherit()) else {
+        return false;
+    };
+    let is_hidden = once_more!(refusals, Call::BindPair, inner.bind(key, Value::Num(2))).is_ok();
+    let sees = env.get(key) == Some(Value::Num(1)) && inner.get(key) == Some(Value::Num(2));
+    is_bound && is_one && is_hidden && sees && inner.unbind().is_ok() && env.depth() == 1
+}
+
+/// All parts: false where one is otherwise than without a refusal. None where memory was refused before.
+pub fn play(alloc: Global, refusals: &Refusals) -> Option<bool> {
+    let key = Name::new(b"user")?;
+    let mut progress = always_fires(alloc).ok()?;
+    let is_counted = count(&mut progress, refusals);
+    let is_passed = pass(&mut Deadlines::new(alloc), refusals);
+    let is_bound = bind(&mut Env::new(alloc), key, refusals);
+    Some(is_counted && is_passed && is_bound && grow(alloc, refusals))
+}

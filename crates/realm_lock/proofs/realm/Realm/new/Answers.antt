@@ -1,0 +1,15 @@
+-- Main's token has seen nothing, so no scope.
+use Rattle.std.proofs.Common.{◌≡◌, ◌∙◌, ap, refl, [], None, ℕ}
+use Rattle.scope_rules.specs.Search.{latest}
+use Rattle.scope_rules.specs.Scopes.{innermost}
+use Rattle.share_ledger.specs.Values.{OwnerValue}
+use Rattle.realm_core.specs.Calls.{history_seen}
+use Rattle.realm_steps.specs.Steps.{history_of}
+use Rattle.realm_lock.proofs.realm.Realm.new.Goals as goal
+
+no_scope_yet : (a : ℕ) → innermost (history_of []) a ≡ None
+unfolding history_of innermost latest
+no_scope_yet a = refl
+
+pub returns-in-Ok-clause-idle : goal.returns-in-Ok-clause-idle
+returns-in-Ok-clause-idle c o = ap (λ (v : OwnerValue). innermost (history_seen v) v.actor) o.new-locked.ensures.token ∙ no_scope_yet 0
