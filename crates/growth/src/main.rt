@@ -7,6 +7,7 @@
 //!     growth realm FILE     the same on a realm under its lock
 //!     growth parts          the parts below a book, each call that takes memory
 //!     growth marks          marks of a realm
+//!     growth tickets        a close with its ticket
 //!     growth jobs           jobs on threads
 //!     growth stress N SEED  N realms in which main and its jobs do anything, by numbers that look random
 //!
@@ -23,6 +24,7 @@ mod reports;
 mod roaming;
 mod scripts;
 mod stress;
+mod tickets;
 
 use refusals::Refusals;
 use share_ledger::Seed;
@@ -35,7 +37,8 @@ use std::sync::Wait;
 use thread_crew::CrewRuntime;
 
 /// What the words say, the first of them the program's name.
-const WORDS: &str = "growth book FILE | realm FILE | parts | marks | jobs | stress N SEED";
+const WORDS: &str =
+    "growth book FILE | realm FILE | parts | marks | tickets | jobs | stress N SEED";
 
 /// The status where something was otherwise than without a refusal.
 const WRONG: u8 = 1;
@@ -90,6 +93,10 @@ fn play<R: CrewRuntime + Files + AllocGlobal + Print + Eprint>(
         "book" | "realm" => play_script(rt, words, refusals),
         "parts" => parts::play(alloc, refusals),
         "marks" => marks::play::<Brand, R>(rt, alloc, Seed::new(alloc).ok()?, refusals),
+        "tickets" => {
+            let seed = Seed::new(alloc).ok()?;
+            tickets::close_with_a_ticket::<Brand, R>(rt, alloc, seed, refusals)
+        }
         "jobs" => jobs::play::<Brand, R>(rt, alloc, Seed::new(alloc).ok()?),
         "stress" => {
             let (realms, seed) = (word(words, 2).parse().ok(), word(words, 3).parse().ok());

@@ -14,6 +14,7 @@ pub enum Call {
     Unbind,
     Join,
     Close,
+    CloseWith,
     Retire,
     Outcome,
     Project,
@@ -35,7 +36,7 @@ pub enum Call {
 }
 
 /// Each call, and what it is called where the gate reads it.
-const CALLS: [(Call, &str); 27] = [
+const CALLS: [(Call, &str); 28] = [
     (Call::Open, "open"),
     (Call::Fork, "fork"),
     (Call::Cancel, "cancel"),
@@ -45,6 +46,7 @@ const CALLS: [(Call, &str); 27] = [
     (Call::Unbind, "unbind"),
     (Call::Join, "join"),
     (Call::Close, "close"),
+    (Call::CloseWith, "close_with"),
     (Call::Retire, "retire"),
     (Call::Outcome, "outcome"),
     (Call::Project, "project"),

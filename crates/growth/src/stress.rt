@@ -17,6 +17,16 @@ use thread_crew::{Crew, CrewRuntime, OsThreads, RefuseNth};
 /// How deep jobs fork jobs.
 const DEPTH: u32 = 2;
 
+/// What the book says to the event, again and again where memory is refused.
+fn performed(book: &mut BookState<AnyEnd>, event: Event) -> Option<Reply> {
+    for _ in 0..1_000u32 {
+        if let Ok(said) = perform(book, Command::Do(event)) {
+            return Some(said);
+        }
+    }
+    None
+}
+
 /// How many tasks the history starts and ends; None where a fresh book doesn't accept it, or leaves a scope open.
 fn replayed(alloc: Global, history: &[Event]) -> Option<(u64, u64)> {
     let mut book = BookState::<AnyEnd>::new(alloc, Limits::GREATEST);
@@ -28,10 +38,7 @@ fn replayed(alloc: Global, history: &[Event]) -> Option<(u64, u64)> {
             Event::Finish { .. } => ends = ends.saturating_add(1),
             _ => {}
         }
-        let said = match perform(&mut book, Command::Do(*event)) {
-            Ok(said) => said,
-            Err(_) => perform(&mut book, Command::Do(*event)).ok()?,
-        };
+        let said = performed(&mut book, *event)?;
         if matches!(said, Reply::Already) || is_refused(event, &said) {
             return None;
         }

@@ -6,3 +6,6 @@ ghosts-play g a = record { table = a.seed }
 
 abbrev pub ghosts-play-2 : goal.ghosts-play-2
 ghosts-play-2 g a = record { table = a.seed }
+
+abbrev pub ghosts-close_with_a_ticket : goal.ghosts-close_with_a_ticket
+ghosts-close_with_a_ticket g a = record { table = a.seed }
