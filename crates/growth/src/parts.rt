@@ -1,14 +1,10 @@
 //! The parts below a book, each call that takes memory: what it answers, and what the part tells then.
-ghost use Rattle.std.specs.Prelude.{◌≡◌};
-ghost use Rattle.scope_rules.specs.Joining.{meets};
-
 use crate::refusals::{Call, Refusals};
 use cancel_tree::Tree;
 use deadline_core::Deadlines;
-use join_rules::{CompletionTest, Joiner, Progress, UntilTest};
-use scope_rules::{Completion, Name, Rule, Value};
+use scope_rules::{Name, Value};
 use scoped_env::Env;
-use std::alloc::{AllocError, Global};
+use std::alloc::Global;
 
 /// As `again` is, for calls that are refused for memory alone.
 macro_rules! once_more {
@@ -21,35 +17,6 @@ macro_rules! once_more {
             answer => answer,
         }
     };
-}
-
-/// A progress whose closure says cancel of every list.
-#[tactic(auto, unfolding(scope_rules::specs::Joining::meets))]
-fn always_fires(alloc: Global) -> Result<Progress, AllocError> {
-    let test: CompletionTest = Box::new(
-        alloc,
-        |list: &[Completion]|
-            ensures { result ≡ meets (Rule.SuccessesAtLeast 0) list.now }
-        { true },
-    )?;
-    let joiner = Joiner::Until(UntilTest::new(Rule::SuccessesAtLeast(0), test));
-    Ok(Progress::new(alloc, joiner))
-}
-
-/// A closure is handed a completion for which no room was reserved, and then one for which it was.
-fn count(progress: &mut Progress, refusals: &Refusals) -> bool {
-    let done = Completion {
-        task: 1,
-        end: Ok(Value::Num(1)),
-    };
-    if progress.completions() != 0 {
-        return false;
-    }
-    let fires = once_more!(refusals, Call::Completed, progress.completed(done)) == Ok(true);
-    let is_one = progress.completions() == 1;
-    let has_room = once_more!(refusals, Call::Reserve, progress.reserve(1_000)).is_ok();
-    let is_kept = progress.completions() == 1 && progress.successes() == 1;
-    fires && is_one && has_room && is_kept
 }
 
 /// Three deadlines, of which two pass.
@@ -102,9 +69,7 @@ fn bind(env: &mut Env, key: Name, refusals: &Refusals) -> bool {
 /// All parts: false where one is otherwise than without a refusal. None where memory was refused before.
 pub fn play(alloc: Global, refusals: &Refusals) -> Option<bool> {
     let key = Name::new(b"user")?;
-    let mut progress = always_fires(alloc).ok()?;
-    let is_counted = count(&mut progress, refusals);
     let is_passed = pass(&mut Deadlines::new(alloc), refusals);
     let is_bound = bind(&mut Env::new(alloc), key, refusals);
-    Some(is_counted && is_passed && is_bound && grow(alloc, refusals))
+    Some(is_passed && is_bound && grow(alloc, refusals))
 }

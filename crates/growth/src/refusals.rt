@@ -26,8 +26,6 @@ pub enum Call {
     Cell,
     ForkJob,
     Thread,
-    Reserve,
-    Completed,
     SetDeadline,
     Expire,
     AddScope,
@@ -36,7 +34,7 @@ pub enum Call {
 }
 
 /// Each call, and what it is called where the gate reads it.
-const CALLS: [(Call, &str); 28] = [
+const CALLS: [(Call, &str); 26] = [
     (Call::Open, "open"),
     (Call::Fork, "fork"),
     (Call::Cancel, "cancel"),
@@ -58,8 +56,6 @@ const CALLS: [(Call, &str); 28] = [
     (Call::Cell, "cell"),
     (Call::ForkJob, "fork_job"),
     (Call::Thread, "thread"),
-    (Call::Reserve, "reserve"),
-    (Call::Completed, "completed"),
     (Call::SetDeadline, "set_deadline"),
     (Call::Expire, "expire"),
     (Call::AddScope, "add_scope"),

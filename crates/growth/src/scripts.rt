@@ -102,31 +102,6 @@ fn read_of(line: &str) -> Read {
     }
 }
 
-/// Gives the book the command, once more where memory is refused: false where it is then too. A join that was
-/// recorded, but whose outcome had no memory, is answered that it was.
-fn tell(
-    book: &mut BookState<AnyEnd>,
-    command: Command,
-    refusals: &Refusals,
-    said: &mut Said,
-) -> bool {
-    if let Ok(reply) = perform(book, command) {
-        said.say(&reply);
-        return true;
-    }
-    refusals.note(call_of(command));
-    if let Command::Do(Event::Join { scope, .. }) = command {
-        return say_outcome(book, scope, said).is_ok();
-    }
-    match perform(book, command) {
-        Ok(reply) => {
-            said.say(&reply);
-            true
-        }
-        Err(_) => false,
-    }
-}
-
 /// Says what the scope's join gave.
 fn say_outcome(book: &BookState<AnyEnd>, scope: ScopeId, said: &mut Said) -> Result<(), Refusal> {
     match book.outcome(scope) {
@@ -203,8 +178,8 @@ fn look(book: &BookState<AnyEnd>, is_used_up: bool, refusals: &Refusals, said: &
     }
 }
 
-/// Plays the script on a book, and writes what is answered: false where a call was refused memory twice. None where
-/// memory was refused before it began.
+/// Plays the script on a book, and writes what is answered: false where a call was refused memory twice. A join that was
+/// recorded, but whose outcome had no memory, is asked for that. None where memory was refused before it began.
 pub fn on_a_book<R: Print>(
     rt: &R,
     alloc: Global,
@@ -223,7 +198,21 @@ pub fn on_a_book<R: Print>(
             }
             Read::Nothing => {}
             Read::Command(command) => {
-                is_played = tell(&mut book, command, refusals, &mut said) && is_played;
+                let mut reply = perform(&mut book, command);
+                if reply.is_err() {
+                    refusals.note(call_of(command));
+                    reply = perform(&mut book, command);
+                }
+                match (reply, command) {
+                    (
+                        Ok(Reply::Refused(Refusal::AlreadyJoined)),
+                        Command::Do(Event::Join { scope, .. }),
+                    ) => {
+                        is_played = say_outcome(&book, scope, &mut said).is_ok() && is_played;
+                    }
+                    (Ok(reply), _) => said.say(&reply),
+                    (Err(_), _) => is_played = false,
+                }
                 look(&book, is_used_up, refusals, &mut said);
             }
         }

@@ -17,16 +17,6 @@ use thread_crew::{Crew, CrewRuntime, OsThreads, RefuseNth};
 /// How deep jobs fork jobs.
 const DEPTH: u32 = 2;
 
-/// What the book says to the event, again and again where memory is refused.
-fn performed(book: &mut BookState<AnyEnd>, event: Event) -> Option<Reply> {
-    for _ in 0..1_000u32 {
-        if let Ok(said) = perform(book, Command::Do(event)) {
-            return Some(said);
-        }
-    }
-    None
-}
-
 /// How many tasks the history starts and ends; None where a fresh book doesn't accept it, or leaves a scope open.
 fn replayed(alloc: Global, history: &[Event]) -> Option<(u64, u64)> {
     let mut book = BookState::<AnyEnd>::new(alloc, Limits::GREATEST);
@@ -38,7 +28,13 @@ fn replayed(alloc: Global, history: &[Event]) -> Option<(u64, u64)> {
             Event::Finish { .. } => ends = ends.saturating_add(1),
             _ => {}
         }
-        let said = performed(&mut book, *event)?;
+        let mut said = perform(&mut book, Command::Do(*event));
+        for _ in 0..100u32 {
+            if said.is_err() {
+                said = perform(&mut book, Command::Do(*event));
+            }
+        }
+        let said = said.ok()?;
         if matches!(said, Reply::Already) || is_refused(event, &said) {
             return None;
         }
