@@ -10,6 +10,7 @@ ghost use Rattle.scope_rules.specs.Scopes.{forked_in, surrounding, level};
 ghost use Rattle.scope_rows.specs.Agreement.{AreRowsOf, IsScopeRow, IsTaskRow};
 ghost use Rattle.scope_checks.specs.Passes.{Passes};
 ghost use Rattle.scope_cuts.specs.CutsOf.{AreCutsOf};
+ghost use Rattle.scope_cuts.specs.Coming.{IsNextDeadline, NoDeadlineComes};
 ghost use Rattle.scope_envs.specs.Agreement.{AreEnvsOf};
 ghost use Rattle.kept_realm.specs.Readings.{counts_some, opened_as_high};
 
@@ -41,6 +42,13 @@ impl KeptRealm {
     {
         let _legal = self.journal.limits();
         self.kept.cuts()
+    }
+
+    /// The deadline that comes next, in milliseconds: the earliest after the moment of those that count.
+    pub fn next_deadline(&self) -> Option<u64>
+        ensures { MatchOption result (NoDeadlineComes self.now.history) (IsNextDeadline self.now.history) }
+    {
+        self.cuts().next_deadline()
     }
 
     /// What the actors see bound.

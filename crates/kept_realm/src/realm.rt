@@ -84,6 +84,13 @@ impl KeptRealm {
         self.journal.limits()
     }
 
+    /// What the history begins with.
+    pub fn base(&self) -> &Base
+        ensures { result.now ≡ self.now.history.base }
+    {
+        self.journal.base()
+    }
+
     /// The events since the base, in order.
     pub fn events(&self) -> &[Event]
         ensures { result.now ≡ self.now.history.events }

@@ -11,4 +11,5 @@ pub mod Moves
 pub mod Passing
 pub mod Opens
 pub mod Kept
+pub mod Coming
 mod CancelOrders

@@ -57,7 +57,7 @@ row_within : (told : List Told) (n : ℕ) (t : Told) → rows.row told n ≡ Som
 row_within told zero t there = absurd cc
 row_within told (suc i) t there = within_get told i t there
 
-none_of : {A : Type 0} (x : A) → None ≡ Some x → ⊥
+pub none_of : {A : Type 0} (x : A) → None ≡ Some x → ⊥
 none_of x is = absurd cc
 
 -- a scope whose deadline is still to come has a row

@@ -58,7 +58,7 @@ parent_unopened : (h : History) (s : ℕ) → opening h s ≡ None → rules.par
 unfolding rules.parent
 parent_unopened h s none = rw none refl
 
-counting_unopened : (L : Limits) (h : History) (s : ℕ) → Legal L h → opening h s ≡ None → counting_deadline h s ≡ None
+pub counting_unopened : (L : Limits) (h : History) (s : ℕ) → Legal L h → opening h s ≡ None → counting_deadline h s ≡ None
 unfolding counting_deadline deadline
 counting_unopened L h s legal none =
     let never : IsOpened h s → ⊥ = λ it. absurd (cc (it.is, none)) in
@@ -121,7 +121,7 @@ effective_read L h t n legal was =
     (own_of t.told) (own_cut h) (deadline_of t.told) (counting_deadline h) n (own_read h t was) (deadline_read L h t legal was)
 
 -- the number of a scope's row
-numbered : (t : CutTable) (s : ℕ) → HasRow t s → t.before + (s - t.before) ≡ s
+pub numbered : (t : CutTable) (s : ℕ) → HasRow t s → t.before + (s - t.before) ≡ s
 numbered t s has = omega (arith, has.after)
 
 pub cut_at_scope : (L : Limits) (h : History) (t : CutTable) (s : ℕ) → HasRow t s → Legal L h → AreCutsOf h t → cut h s ≡ option_map (shifted t.before) (cut_of t.told (s - t.before))

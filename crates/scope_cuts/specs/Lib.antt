@@ -1,4 +1,5 @@
 pub mod CutTables
 pub mod CutsOf
+pub mod Coming
 pub mod Lent
 pub mod Lending

@@ -1,5 +1,5 @@
 ghost use Rattle.scope_rules.specs.Chains.{shifted};
-ghost use Rattle.std.specs.Prelude.{◌≡◌, ℕ, ◌+◌, ◌-◌, ◌^◌, ◌<◌, ◌≤◌, [], false, Option, Some, None, IfSome, OnOk, OnErr, option_map, List, drop, length, slice_get};
+ghost use Rattle.std.specs.Prelude.{◌≡◌, ℕ, ◌+◌, ◌-◌, ◌^◌, ◌<◌, ◌≤◌, [], false, Option, Some, None, IfSome, MatchOption, OnOk, OnErr, option_map, List, drop, length, slice_get};
 ghost use Rattle.scope_rules.specs.declared.types.capacity.Limits.{Limits};
 ghost use Rattle.scope_rules.specs.declared.types.events.Event.{Event};
 ghost use Rattle.scope_rules.specs.declared.types.capacity.TheConstants.{LEVEL_LIMIT, TASK_LIMIT};
@@ -12,6 +12,7 @@ ghost use Rattle.cancel_tree.specs.Rows.{IsAdded, IsLatest, level_in};
 ghost use Rattle.join_rules.specs.JoinerStanding.{HasRoom, StandsFor};
 ghost use Rattle.scope_cuts.specs.CutTables.{CutTable, HasRow, HasReserved, HasCounted, AreOneMore, account_at, cancelled, deadlined, with_scope};
 ghost use Rattle.scope_cuts.specs.CutsOf.{AreCutsOf, IsCancelOrderOf, IsMoved, IsOpened};
+ghost use Rattle.scope_cuts.specs.Coming.{IsNextDeadline, NoDeadlineComes};
 ghost use Rattle.scope_cuts.specs.Lending.{KeepsTable};
 ghost use Rattle.scope_cuts.specs.Lent.{scopes_of};
 ghost use Rattle.std.specs.Borrow.{sem};
@@ -83,6 +84,17 @@ impl Cuts {
         ensures { (L : Limits) (h : History) → Legal L h → AreCutsOf h self.now → result ≡ effective h scope }
     {
         self.tree.effective_deadline(scope - self.before)
+    }
+
+    /// The deadline that comes next, in milliseconds: the earliest after the moment of those that count.
+    #[tactic(auto, using(crate::proofs::Coming::next_found, crate::proofs::Coming::none_comes))]
+    pub fn next_deadline(&self) -> Option<u64>
+        ensures { (L : Limits) (h : History) → Legal L h → AreCutsOf h self.now → MatchOption result (NoDeadlineComes h) (IsNextDeadline h) }
+    {
+        match self.deadlines.earliest() {
+            Some((deadline, _)) => Some(deadline),
+            None => None,
+        }
     }
 
     /// The cancelled scopes in order of their cancellation, those that one event cancelled by their

@@ -10,7 +10,6 @@ pub mod LogCounts
 pub mod LogOutcomes
 pub mod LogTells
 pub mod LogJoins
-pub mod NameBytes
 pub mod MarkPlaces
 pub mod LogSizes
 pub mod LogPlaces

@@ -2,17 +2,15 @@
 use Rattle.std.specs.Prelude.{ℕ, Bool, true, false, List, [], ◌∷◌, ◌++◌, Option, None, Some, Ok, Err, codes}
 use Rattle.std.specs.List.{flat_map}
 use Rattle.std.specs.Fmt.{decimal, signed_decimal}
-use Rattle.scope_rules.specs.declared.types.answers.CauseKind.{CauseKind}
-use Rattle.scope_rules.specs.declared.types.answers.CauseKind.TheVariants.{Call, Close, Joiner, Deadline}
 use Rattle.scope_rules.specs.declared.types.events.Expiry.{Expiry}
 use Rattle.scope_rules.specs.declared.types.events.Expiry.TheVariants.{Fail, MoveOn}
 use Rattle.scope_rules.specs.declared.types.events.Options.{Options}
 use Rattle.scope_rules.specs.declared.types.joiners.Policy.{Policy}
 use Rattle.scope_rules.specs.declared.types.joiners.Policy.TheVariants.{All, Any, AwaitAll, AwaitOk, Until}
 use Rattle.scope_rules.specs.declared.types.joiners.Rule.TheVariants.{FailuresAtLeast, SuccessesAtLeast, SumAtLeast}
-use Rattle.scope_rules.specs.declared.types.values.Value.TheVariants.{Num, Text}
 use Rattle.scope_rules.specs.Ends.{EndValue}
 use Rattle.scope_rules.specs.Names.{text_of}
+use Rattle.scope_rules.specs.Texts.{fault_text, kind_word, value_text}
 use Rattle.scope_log.specs.declared.entries.LogEntry.{LogEntry}
 use Rattle.scope_log.specs.declared.entries.LogEntry.TheVariants as entry
 use Rattle.scope_log.specs.Log.{LogValue}
@@ -45,19 +43,12 @@ options_text o = limit_text o.deadline ++ expiry_text o.expiry ++ shield_text o.
 
 -- how a task ended: `ok K VALUE` or `fail K NAME`
 abbrev pub end_line : ℕ → EndValue → List ℕ
-end_line k (Ok (Num n)) = codes "ok " ++ decimal k ++ codes " " ++ signed_decimal n
-end_line k (Ok (Text name)) = codes "ok " ++ decimal k ++ codes " " ++ text_of name
-end_line k (Err fault) = codes "fail " ++ decimal k ++ codes " " ++ text_of fault.0
+end_line k (Ok value) = codes "ok " ++ decimal k ++ codes " " ++ value_text value
+end_line k (Err fault) = codes "fail " ++ decimal k ++ codes " " ++ fault_text fault
 
 abbrev pub move_line : ℕ → Option ℕ → List ℕ
 move_line s None = codes "move " ++ decimal s ++ codes " never"
 move_line s (Some moment) = codes "move " ++ decimal s ++ codes " " ++ decimal moment
-
-abbrev pub kind_text : CauseKind → List ℕ
-kind_text Call = codes "call"
-kind_text Close = codes "close"
-kind_text Joiner = codes "joiner"
-kind_text Deadline = codes "deadline"
 
 -- the line of an entry of scope s: that of its command, with the number that a fork gave, and
 -- `cancelled P KIND` for the mark
@@ -72,7 +63,7 @@ entry_line s (entry.Move deadline) = move_line s deadline
 entry_line s (entry.Join actor) = codes "join " ++ decimal actor ++ codes " " ++ decimal s
 entry_line s (entry.BeginClose actor) = codes "close " ++ decimal actor ++ codes " " ++ decimal s
 entry_line s (entry.EndClose actor) = codes "closed " ++ decimal actor ++ codes " " ++ decimal s
-entry_line s (entry.Cancelled cause) = codes "cancelled " ++ decimal cause.scope ++ codes " " ++ kind_text cause.kind
+entry_line s (entry.Cancelled cause) = codes "cancelled " ++ decimal cause.scope ++ codes " " ++ kind_word cause.kind
 
 -- the lines of the entries, each ended by a line feed
 unfoldable pub lines_text : ℕ → List LogEntry → List ℕ

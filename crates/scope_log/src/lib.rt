@@ -13,4 +13,4 @@ mod shown;
 pub use entries::LogEntry;
 pub use log::ScopeLog;
 pub use previews::Preview;
-pub use shown::ShownEntry;
+pub use shown::{ShownEnd, ShownEntry, ShownJoiner, ShownOptions};

@@ -1,13 +1,12 @@
 //! How a log is shown: a line for each entry, in the words of the script.
 
 ghost use Rattle.std.specs.Prelude.{◌≡◌, Some};
-ghost use Rattle.scope_rules.specs.Names.{text_of};
-ghost use Rattle.scope_log.specs.LogText.{joiner_text, options_text, limit_text, expiry_text, shield_text, end_line, kind_text, entry_line, lines_text, log_text};
+ghost use Rattle.scope_log.specs.LogText.{joiner_text, options_text, limit_text, expiry_text, shield_text, end_line, entry_line, lines_text, log_text};
 
 use crate::entries::LogEntry;
 use crate::log::ScopeLog;
-use scope_rules::{CauseKind, End, Expiry, Name, Options, Policy, Rule, ScopeId, TaskId, Value};
-use std::{fmt, str};
+use scope_rules::{End, Expiry, Options, Policy, Rule, ScopeId, TaskId};
+use std::fmt;
 
 /// An entry of the log of this scope. It is shown as the line of its command in a script, with the
 /// number that a fork gave; the mark as `cancelled P KIND`, with the scope P whose own cancel it was.
@@ -35,8 +34,7 @@ impl fmt::Display for ShownEntry {
                 ShownOptions(options)
             ),
             LogEntry::Fork { task, actor, label } => {
-                let name = name_text(&label.name);
-                write!(f, "fork {actor} {scope} {name} task {task}")
+                write!(f, "fork {actor} {scope} {} task {task}", label.name)
             }
             LogEntry::Reject { task } => write!(f, "reject {task}"),
             LogEntry::Start { task } => write!(f, "start {task}"),
@@ -50,7 +48,7 @@ impl fmt::Display for ShownEntry {
             LogEntry::BeginClose { actor } => write!(f, "close {actor} {scope}"),
             LogEntry::EndClose { actor } => write!(f, "closed {actor} {scope}"),
             LogEntry::Cancelled(cause) => {
-                write!(f, "cancelled {} {}", cause.scope, kind_text(cause.kind))
+                write!(f, "cancelled {} {}", cause.scope, cause.kind.word())
             }
         }
     }
@@ -94,7 +92,7 @@ impl fmt::Display for ScopeLog {
 
 /// A joiner: its word.
 #[derive(Clone, Copy)]
-struct ShownJoiner(Policy);
+pub struct ShownJoiner(pub Policy);
 
 impl fmt::Display for ShownJoiner {
     ghost output = { λ p. Some (joiner_text p.0) };
@@ -114,7 +112,7 @@ impl fmt::Display for ShownJoiner {
 
 /// What a scope is opened with beside its joiner, each after a space.
 #[derive(Clone, Copy)]
-struct ShownOptions(Options);
+pub struct ShownOptions(pub Options);
 
 impl fmt::Display for ShownOptions {
     ghost output = { λ o. Some (options_text o.0) };
@@ -131,9 +129,9 @@ impl fmt::Display for ShownOptions {
 
 /// How the task ended: `ok K VALUE` or `fail K NAME`.
 #[derive(Clone, Copy)]
-struct ShownEnd {
-    task: TaskId,
-    end: End,
+pub struct ShownEnd {
+    pub task: TaskId,
+    pub end: End,
 }
 
 impl fmt::Display for ShownEnd {
@@ -142,9 +140,8 @@ impl fmt::Display for ShownEnd {
     fn fmt<W: fmt::Write>(&self, f: &mut fmt::Formatter<W>) -> fmt::Result {
         let task = self.task;
         match &self.end {
-            Ok(Value::Num(number)) => write!(f, "ok {task} {number}"),
-            Ok(Value::Text(text)) => write!(f, "ok {task} {}", name_text(text)),
-            Err(fault) => write!(f, "fail {task} {}", name_text(&fault.0)),
+            Ok(value) => write!(f, "ok {task} {value}"),
+            Err(fault) => write!(f, "fail {task} {fault}"),
         }
     }
 }
@@ -164,26 +161,4 @@ fn shield_text(shield: bool) -> &'static str
     ensures { result.now ≡ shield_text shield }
 {
     if shield { " shield" } else { "" }
-}
-
-/// What made the own cancel of a scope.
-fn kind_text(kind: CauseKind) -> &'static str
-    ensures { result.now ≡ kind_text kind }
-{
-    match kind {
-        CauseKind::Call => "call",
-        CauseKind::Close => "close",
-        CauseKind::Joiner => "joiner",
-        CauseKind::Deadline => "deadline",
-    }
-}
-
-/// The text of a name.
-fn name_text(name: &Name) -> &str
-    ensures { result.now ≡ text_of name.now }
-{
-    let Ok(text) = str::from_utf8(name.as_bytes()) else {
-        unreachable!();
-    };
-    text
 }

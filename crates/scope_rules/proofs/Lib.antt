@@ -49,3 +49,4 @@ pub mod Tallies
 pub mod Bound
 pub mod NewScopes
 pub mod VerdictSteps
+pub mod NameBytes

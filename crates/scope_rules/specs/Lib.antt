@@ -16,6 +16,7 @@ pub mod Completions
 pub mod Cancels
 pub mod Tasks
 pub mod Answers
+pub mod Texts
 pub mod Outcomes
 pub mod Bindings
 pub mod StackSteps

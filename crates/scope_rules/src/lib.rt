@@ -4,6 +4,7 @@
 
 pub mod joins;
 pub mod laws;
+mod shown;
 pub mod types;
 
 pub use types::answers::{

@@ -25,11 +25,10 @@ use Rattle.scope_rules.specs.declared.types.refusals.Refusal.TheVariants as refu
 use Rattle.scope_rules.specs.declared.types.values.Value.{Value}
 use Rattle.scope_rules.specs.declared.types.values.Value.TheVariants as value
 use Rattle.scope_rules.specs.Refusals.{word_of, line_of}
+use Rattle.scope_rules.specs.Texts.{end_text, kind_word, outcome_text, stage_word, state_word, states_text, task_state_text, task_value_text, value_text, values_text}
 use Rattle.script_replies.specs.declared.reply.Reply.TheVariants as reply
-use Rattle.script_replies.specs.OutcomeText.{value_text, end_text, task_value_text, task_state_text, values_text, states_text, outcome_line}
 use Rattle.script_replies.specs.ReplyText.{task_line, closed_line, cause_line, until_line, counts_line, reply_text}
 use Rattle.script_replies.specs.Printable.{LinesArePrintable}
-use Rattle.script_replies.specs.Words.{state_word, stage_word, kind_word}
 use Rattle.script_replies.proofs.PrintableText.{Shows, decimal_shows, signed_shows, name_shows, each_shows}
 
 value_shows : (v : Value) → Shows (value_text v)
@@ -55,8 +54,8 @@ states_show : (states : List TaskState) → Shows (states_text states)
 unfolding states_text
 states_show states = each_shows (λ t. codes " " ++ task_state_text t) state_entry_shows states
 
-outcome_shows : (o : Outcome) → Shows (outcome_line o)
-unfolding outcome_line
+outcome_shows : (o : Outcome) → Shows (outcome_text o)
+unfolding outcome_text
 outcome_shows (outcome.All values) = values_show values
 outcome_shows (outcome.Any task value) = simp (list_all-append, decimal_shows, value_shows)
 outcome_shows outcome.Empty = refl

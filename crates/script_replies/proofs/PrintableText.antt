@@ -1,16 +1,14 @@
 -- The parts of a line are printable, and so is each line.
-use Rattle.std.proofs.Common.{◌≡◌, ℕ, zero, suc, ◌/◌, ◌%◌, ◌<◌, ◌==◌, true, false, List, [], ◌∷◌, ◌++◌, take, get_or, refl, arith, cond}
+use Rattle.std.proofs.Common.{◌≡◌, ℕ, zero, suc, ◌/◌, ◌%◌, ◌<◌, ◌==◌, true, false, List, [], ◌∷◌, ◌++◌, take, refl, arith, cond}
 use Rattle.std.proofs.Props.{props}
 use Rattle.std.proofs.Math.Logic.{∥∥₁_elim}
 use Rattle.std.proofs.lemmas.Bool.Decides.{nat_tests}
 use Rattle.std.proofs.lemmas.Grind.{common_steps}
 use Rattle.std.proofs.lemmas.List.Folds.{list_all-append}
-use Rattle.std.proofs.lemmas.Str.{IsUtf8-from_ascii}
 use Rattle.std.specs.Cmp.Derive.{both_true}
 use Rattle.std.specs.Fmt.{decimal, signed_decimal, digits, digits_onto, digit_glyph}
 use Rattle.std.specs.List.{list_all, flat_map}
 use Rattle.std.specs.Prelude.{ℤ, pos, negsuc}
-use Rattle.std.specs.Str.{IsUtf8}
 use Rattle.scope_rules.specs.NameText.{is_inner, is_name, is_stored}
 use Rattle.scope_rules.specs.Names.{text_of}
 use Rattle.scope_rules.specs.declared.types.names.Name.{Name}
@@ -66,15 +64,3 @@ name_shows name =
 pub each_shows : {X : Type 0} (text : X → List ℕ) → ((x : X) → Shows (text x)) → (xs : List X) → Shows (flat_map text xs)
 each_shows text h [] = refl
 each_shows text h (x ∷ xs) = both (text x) (flat_map text xs) (h x) (each_shows text h xs)
-
-printable_is_ascii : (b : ℕ) → is_printable b ≡ true → b < 128
-printable_is_ascii b h = grind (arith, nat_tests)
-
-ascii_at : (bs : List ℕ) → Shows bs → (i : ℕ) → get_or bs i 0 < 128
-ascii_at [] h i = omega arith
-ascii_at (b ∷ bs) h zero = printable_is_ascii b (grind (arith, common_steps))
-ascii_at (b ∷ bs) h (suc i) = ascii_at bs (grind (arith, common_steps)) i
-
--- what is printable is ASCII, and so UTF-8
-pub name_is_utf8 : (name : Name) → IsUtf8 (text_of name)
-name_is_utf8 name = IsUtf8-from_ascii _ (ascii_at _ (name_shows name))

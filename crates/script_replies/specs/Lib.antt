@@ -1,4 +1,2 @@
-pub mod OutcomeText
 pub mod ReplyText
 pub mod Printable
-pub mod Words

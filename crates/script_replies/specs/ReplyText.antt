@@ -2,6 +2,7 @@
 use Rattle.std.specs.Prelude.{ℕ, List, ◌++◌, Option, None, Some, codes}
 use Rattle.std.specs.Fmt.{decimal}
 use Rattle.scope_rules.specs.Refusals.{line_of}
+use Rattle.scope_rules.specs.Texts.{fault_text, kind_word, outcome_text, stage_word, state_word, value_text}
 use Rattle.scope_rules.specs.declared.types.answers.Cause.{Cause}
 use Rattle.scope_rules.specs.declared.types.answers.Counts.{Counts}
 use Rattle.scope_rules.specs.declared.types.answers.Effective.{Effective}
@@ -12,8 +13,6 @@ use Rattle.scope_rules.specs.declared.types.answers.Verdict.{Verdict}
 use Rattle.scope_rules.specs.declared.types.answers.Verdict.TheVariants as verdict
 use Rattle.script_replies.specs.declared.reply.Reply.{Reply}
 use Rattle.script_replies.specs.declared.reply.Reply.TheVariants as reply
-use Rattle.script_replies.specs.OutcomeText.{value_text, fault_text, outcome_line}
-use Rattle.script_replies.specs.Words.{state_word, stage_word, kind_word}
 
 abbrev pub task_line : ForkReply → List ℕ
 task_line (fork.Thread task) = codes "task " ++ decimal task ++ codes " thread"
@@ -51,7 +50,7 @@ reply_text reply.Moved = codes "moved"
 reply_text (reply.Moment moment) = codes "moment " ++ decimal moment
 reply_text reply.Bound = codes "bound"
 reply_text reply.Unbound = codes "unbound"
-reply_text (reply.Outcome outcome) = outcome_line outcome
+reply_text (reply.Outcome outcome) = codes "outcome " ++ outcome_text outcome
 reply_text reply.Closing = codes "closing"
 reply_text (reply.Closed verdict) = closed_line verdict
 reply_text (reply.Retired scopes tasks) = codes "retired " ++ decimal scopes ++ codes " " ++ decimal tasks

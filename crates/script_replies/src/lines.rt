@@ -2,10 +2,8 @@
 ghost use Rattle.std.specs.Prelude.{◌≡◌, ◌++◌, ◌∷◌, [], Some, OnOk, OnErr};
 ghost use Rattle.script_replies.specs.ReplyText.{reply_text};
 
-use crate::outcomes::ShownOutcome;
-use crate::parts::{ShownCounts, ShownFault, ShownValue};
+use crate::parts::ShownCounts;
 use crate::reply::Reply;
-use crate::words::{kind_word, stage_word, state_word};
 use arrayvec::ArrayString;
 use scope_rules::{Effective, ForkReply, Verdict};
 use std::alloc::AllocError;
@@ -38,14 +36,14 @@ impl fmt::Display for Reply {
             Reply::Task(ForkReply::Thread(task)) => return write!(f, "task {task} thread"),
             Reply::Task(ForkReply::Never(task)) => return write!(f, "task {task} none"),
             Reply::Moment(moment) => return write!(f, "moment {moment}"),
-            Reply::Outcome(outcome) => return ShownOutcome(outcome).fmt(f),
+            Reply::Outcome(outcome) => return write!(f, "outcome {outcome}"),
             Reply::Retired { scopes, tasks } => return write!(f, "retired {scopes} {tasks}"),
-            Reply::State(state) => return write!(f, "state {}", state_word(*state)),
-            Reply::Stage(stage) => return write!(f, "stage {}", stage_word(*stage)),
-            Reply::Value(value) => return write!(f, "value {}", ShownValue(*value)),
-            Reply::Fault(fault) => return write!(f, "fault {}", ShownFault(*fault)),
+            Reply::State(state) => return write!(f, "state {}", state.word()),
+            Reply::Stage(stage) => return write!(f, "stage {}", stage.word()),
+            Reply::Value(value) => return write!(f, "value {value}"),
+            Reply::Fault(fault) => return write!(f, "fault {fault}"),
             Reply::Cause(Some(cause)) => {
-                return write!(f, "cancelled {} {}", cause.scope, kind_word(cause.kind));
+                return write!(f, "cancelled {} {}", cause.scope, cause.kind.word());
             }
             Reply::Until(Effective::At(moment)) => return write!(f, "at {moment}"),
             Reply::Counts(counts) => return ShownCounts(*counts).fmt(f),

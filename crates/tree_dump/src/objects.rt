@@ -8,7 +8,6 @@ use crate::told::TaskTold;
 use crate::words::{expiry_word, joiner_word, scope_stage_word};
 use scope_rules::Cause;
 use scope_rules::types::infos::ScopeInfo;
-use script_replies::{kind_word, name_text, stage_word, state_word};
 use serde_json::{Value, json};
 use std::alloc::{AllocError, Global};
 
@@ -41,7 +40,7 @@ fn cause_or_null(alloc: Global, cause: Option<Cause>) -> Result<Value, AllocErro
     ensures { IfOk result (λ value. view value ≡ cause_or_null cause) }
 {
     match cause {
-        Some(cause) => json!(in alloc; {"by": cause.scope, "kind": kind_word(cause.kind)}),
+        Some(cause) => json!(in alloc; {"by": cause.scope, "kind": cause.kind.word()}),
         None => Ok(nothing()),
     }
 }
@@ -83,8 +82,8 @@ pub fn task_object(alloc: Global, told: TaskTold, inner: Value) -> Result<Value,
     json!(in alloc; {
         "id": told.task,
         "inner": inner,
-        "name": name_text(&told.label.name),
-        "stage": stage_word(told.stage),
-        "state": state_word(told.state)
+        "name": told.label.name.as_str(),
+        "stage": told.stage.word(),
+        "state": told.state.word()
     })
 }

@@ -1,5 +1,6 @@
 ghost use Rattle.std.specs.Prelude.{◌≡◌};
 ghost use Rattle.scope_rules.specs.Tasks.{state_by_end};
+ghost use Rattle.scope_rules.specs.Texts.{kind_word, stage_word, state_word};
 
 use crate::types::values::{End, Fault, ScopeId, TaskId, Value};
 
@@ -12,6 +13,20 @@ pub enum Stage {
     Waiting,
     Running,
     Finished,
+}
+
+impl Stage {
+    /// The stage's word.
+    pub fn word(self) -> &'static str
+        ensures { result.now ≡ stage_word self }
+    {
+        match self {
+            Stage::Never => "never",
+            Stage::Waiting => "waiting",
+            Stage::Running => "running",
+            Stage::Finished => "finished",
+        }
+    }
 }
 
 /// What can be read of a task (JEP 505, `Subtask.State`).
@@ -33,6 +48,17 @@ impl State {
             Err(fault) => State::Failed(fault),
         }
     }
+
+    /// The state's word, without the end.
+    pub fn word(self) -> &'static str
+        ensures { result.now ≡ state_word self }
+    {
+        match self {
+            State::Unavailable => "unavailable",
+            State::Success(_) => "success",
+            State::Failed(_) => "failed",
+        }
+    }
 }
 
 /// What made the own cancel of a scope.
@@ -46,6 +72,20 @@ pub enum CauseKind {
     Joiner,
     /// Its deadline passed.
     Deadline,
+}
+
+impl CauseKind {
+    /// The cause's word.
+    pub fn word(self) -> &'static str
+        ensures { result.now ≡ kind_word self }
+    {
+        match self {
+            CauseKind::Call => "call",
+            CauseKind::Close => "close",
+            CauseKind::Joiner => "joiner",
+            CauseKind::Deadline => "deadline",
+        }
+    }
 }
 
 /// Why a scope is cancelled: the scope whose own cancel reached it, and what made that.

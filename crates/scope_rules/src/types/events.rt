@@ -1,3 +1,5 @@
+ghost use Rattle.std.specs.Prelude.{◌≡◌, Some, false, true};
+
 use crate::types::joiners::Policy;
 use crate::types::names::Name;
 use crate::types::values::{Actor, End, Label, ScopeId, TaskId, Value};
@@ -20,6 +22,50 @@ pub struct Options {
     pub shield: bool,
     /// What the join answers once the scope's own deadline has cancelled it.
     pub expiry: Expiry,
+}
+
+impl Options {
+    /// Plain options: no deadline, no shield, and where a deadline is set later and passes, the scope's
+    /// outcome is a timeout. They are those of a scope of JEP 505 that is opened with a joiner alone, and of
+    /// a plain `CancelScope` of Trio.
+    pub const PLAIN: Options = Options {
+        deadline: None,
+        shield: false,
+        expiry: Expiry::Fail,
+    };
+
+    /// Plain options with a deadline, at this moment of the realm, in milliseconds: where it passes, the
+    /// scope's outcome is a timeout (JEP 505, `withTimeout`; Trio, `fail_at`).
+    pub const fn by(deadline: u64) -> Options
+        ensures { result ≡ record { deadline = Some deadline; shield = false; expiry = Expiry.Fail } }
+    {
+        Options {
+            deadline: Some(deadline),
+            ..Options::PLAIN
+        }
+    }
+
+    /// These options, but that the scope's outcome is what had come by then where its deadline passes
+    /// (Trio, `move_on_at`).
+    pub const fn moving_on(self) -> Options
+        ensures { result ≡ record self { expiry = Expiry.MoveOn } }
+    {
+        Options {
+            expiry: Expiry::MoveOn,
+            ..self
+        }
+    }
+
+    /// These options, but that cancels of the scopes around the scope stop short of it (Trio,
+    /// `shield=True`).
+    pub const fn shielded(self) -> Options
+        ensures { result ≡ record self { shield = true } }
+    {
+        Options {
+            shield: true,
+            ..self
+        }
+    }
 }
 
 /// A key and what it is bound to.

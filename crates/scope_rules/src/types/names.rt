@@ -2,7 +2,7 @@ ghost use Rattle.std.specs.Prelude.{◌≡◌, ◌<◌, ◌↔◌, IsSome, IfSom
 ghost use Rattle.std.specs.List.{list_all};
 ghost use Rattle.scope_rules.specs.NameText.{is_stored, is_name, is_inner, is_letter, begins_with_letter};
 
-use std::fmt;
+use std::str;
 
 /// How many bytes a name has at the most.
 pub const NAME_LIMIT: usize = 24;
@@ -37,12 +37,35 @@ impl Name {
         })
     }
 
+    /// The name with this text, which is one: it is written in the source, say. A text that is none, the
+    /// prover refuses. Where it computes the text of a literal, the function says
+    /// `#[tactic(auto, unfolding(scope_rules::specs::NameText::is_name))]`.
+    pub fn literal(text: &[u8]) -> Name
+        requires { IsTrue (is_name text.now) }
+        ensures { text_of result ≡ text.now }
+    {
+        match Name::new(text) {
+            Some(name) => name,
+            None => unreachable!(),
+        }
+    }
+
     /// The text, of ASCII bytes.
     pub fn as_bytes(&self) -> &[u8]
         ensures { result.now ≡ text_of self.now }
     {
         let len = usize::from(self.len).min(NAME_LIMIT);
         &self.bytes[..len]
+    }
+
+    /// The text.
+    pub fn as_str(&self) -> &str
+        ensures { result.now ≡ text_of self.now }
+    {
+        let Ok(text) = str::from_utf8(self.as_bytes()) else {
+            unreachable!();
+        };
+        text
     }
 
     /// Whether the two names are one.

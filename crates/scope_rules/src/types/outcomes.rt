@@ -1,4 +1,5 @@
-ghost use Rattle.std.specs.Prelude.{◌≡◌};
+ghost use Rattle.std.specs.Prelude.{◌≡◌, ◌↔◌, Some};
+ghost use Rattle.std.specs.Option.{MatchOption};
 
 use crate::types::answers::State;
 use crate::types::values::{Fault, ScopeId, TaskId, Value};
@@ -97,4 +98,41 @@ pub enum Outcome {
     Partial(TaskStates),
     /// The scope was cancelled by a call on it, or from the scope that is named.
     Cancelled(ScopeId),
+}
+
+impl Outcome {
+    ghost use Rattle.scope_rules.specs.declared.types.outcomes.Outcome.TheVariants.{All, Cancelled, Failed};
+
+    /// The values of all tasks of the scope, in fork order, where all succeeded (JEP 505, the result of
+    /// `allSuccessfulOrThrow`); none at any other outcome.
+    pub fn values(&self) -> Option<&[TaskValue]>
+        ensures { MatchOption result ((values : _) → self.now ≡ All values → ⊥) (λ values. self.now ≡ All values.now) }
+    {
+        match self {
+            Outcome::All(values) => Some(values.as_slice()),
+            _ => None,
+        }
+    }
+
+    /// The task that was the first to fail, with its fault, where the outcome is that one failed (JEP 505,
+    /// what `FailedException` is made of); none at any other outcome.
+    pub fn first_failure(&self) -> Option<(TaskId, Fault)>
+        ensures { (task : _) (fault : _) → (result ≡ Some (task, fault)) ↔ (self.now ≡ Failed task fault) }
+    {
+        match self {
+            Outcome::Failed { task, fault } => Some((*task, *fault)),
+            _ => None,
+        }
+    }
+
+    /// The scope from which the cancel came, by a call on it or by what it lies in, where the outcome is
+    /// that the scope was cancelled; none at any other outcome.
+    pub fn cancelled_from(&self) -> Option<ScopeId>
+        ensures { (scope : _) → (result ≡ Some scope) ↔ (self.now ≡ Cancelled scope) }
+    {
+        match self {
+            Outcome::Cancelled(scope) => Some(*scope),
+            _ => None,
+        }
+    }
 }

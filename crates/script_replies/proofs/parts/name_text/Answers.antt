@@ -1,6 +1,0 @@
--- The bytes of a name are UTF-8.
-use Rattle.script_replies.proofs.PrintableText.{name_is_utf8}
-use Rattle.script_replies.proofs.parts.name_text.Goals as goal
-
-pub unreachable-requires : goal.unreachable-requires
-unreachable-requires c = c.in_default.ensures.cases.0 (rw c.as_bytes.ensures (name_is_utf8 c.args.name.now))
