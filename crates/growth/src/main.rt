@@ -25,6 +25,7 @@ mod roaming;
 mod scripts;
 mod stress;
 mod tickets;
+mod waits;
 
 use refusals::Refusals;
 use share_ledger::Seed;
@@ -32,7 +33,7 @@ use std::alloc::Global;
 use std::fs;
 use std::marker::Brand;
 use std::process::ExitCode;
-use std::rt::Files;
+use std::rt::{Clock as SystemTime, Files};
 use std::sync::Wait;
 use thread_crew::CrewRuntime;
 
@@ -60,7 +61,7 @@ fn words_of_the_line(rt: &HostRuntime) -> Option<Vec<String>> {
 }
 
 /// Plays what the words say, and tells which calls were refused.
-fn status_of<R: CrewRuntime + Files + AllocGlobal + Print + Eprint>(
+fn status_of<R: CrewRuntime + SystemTime + Files + AllocGlobal + Print + Eprint>(
     rt: &R,
     words: &[String],
 ) -> u8 {
@@ -83,7 +84,7 @@ fn word(words: &[String], place: usize) -> &str {
 }
 
 /// Plays what the words say: false where something was otherwise. None where memory was refused before.
-fn play<R: CrewRuntime + Files + AllocGlobal + Print + Eprint>(
+fn play<R: CrewRuntime + SystemTime + Files + AllocGlobal + Print + Eprint>(
     rt: &R,
     words: &[String],
     refusals: &Refusals,

@@ -5,16 +5,9 @@ ghost use Rattle.realm_lock.specs.Cells.{IsFresh};
 use crate::refusals::{Call, Refusals, again};
 use join_rules::Joiner;
 use realm_lock::{ActorToken, Mark, MarkCell, Realm, RealmName, Seat, Seed};
-use scope_rules::{AnyEnd, Expiry, Limits, Options, Refusal, ScopeId};
+use scope_rules::{AnyEnd, Limits, Options, Refusal, ScopeId};
 use std::alloc::Global;
 use std::sync::Wait;
-
-/// No deadline and no shield.
-pub const PLAIN: Options = Options {
-    deadline: None,
-    expiry: Expiry::Fail,
-    shield: false,
-};
 
 /// Opens a scope with its cell. A refusal for memory hands the joiner back, by which it is opened then.
 fn opened<N: RealmName, R: Wait>(
@@ -27,11 +20,11 @@ fn opened<N: RealmName, R: Wait>(
     ensures token { token.new ≡ record token.old { seen = token.new.seen } }
     ensures cell { IfSome result (λ opened. IsFresh opened.1 opened.2) }
 {
-    match realm.open_marked(rt, token, Joiner::AwaitAll, PLAIN) {
+    match realm.open_marked(rt, token, Joiner::AwaitAll, Options::PLAIN) {
         Ok(opened) => Some(opened),
         Err((Refusal::Memory, joiner)) => {
             refusals.note(Call::OpenMarked);
-            realm.open_marked(rt, token, joiner, PLAIN).ok()
+            realm.open_marked(rt, token, joiner, Options::PLAIN).ok()
         }
         Err(_) => None,
     }

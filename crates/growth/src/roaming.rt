@@ -1,7 +1,5 @@
 //! A job that does anything, and what main does like it.
-ghost use Rattle.std.specs.Prelude.{◌≡◌};
-
-use crate::duties::{Duty, PLAIN, Shared, Worker, fork};
+use crate::duties::{Duty, Shared, Worker, fork};
 use crate::reports::is_whole;
 use job_runner::{JobWork, TaskCtx};
 use join_rules::{Joiner, UntilTest};
@@ -60,9 +58,7 @@ fn open_one<N: RealmName, S: Spawner<N>, R: Wait>(
     ctx: &mut TaskCtx<AnyEnd, S, N>,
     board: &Shared,
     roamer: &mut Roamer,
-)
-    ensures { ctx.new.token.actor ≡ ctx.old.token.actor }
-{
+) {
     let deadline = if roamer.throws.one_in(4) {
         Some(
             board
@@ -75,7 +71,7 @@ fn open_one<N: RealmName, S: Spawner<N>, R: Wait>(
     let options = Options {
         deadline,
         shield: roamer.throws.one_in(5),
-        ..PLAIN
+        ..Options::PLAIN
     };
     if roamer.open < DEEP
         && let Ok(scope) = ctx.open(rt, roamer.joiner(), options)
@@ -89,9 +85,7 @@ fn look<N: RealmName, S: Spawner<N>, R: Wait>(
     rt: &R,
     ctx: &mut TaskCtx<AnyEnd, S, N>,
     board: &Shared,
-)
-    ensures { ctx.new.token.actor ≡ ctx.old.token.actor }
-{
+) {
     let Some(mark) = ctx.checkpoint() else {
         return;
     };
@@ -108,9 +102,7 @@ fn close_one<N: RealmName, S: Spawner<N>, R: Wait>(
     ctx: &mut TaskCtx<AnyEnd, S, N>,
     board: &Shared,
     roamer: &mut Roamer,
-)
-    ensures { ctx.new.token.actor ≡ ctx.old.token.actor }
-{
+) {
     let Some(scope) = roamer.latest() else {
         return;
     };
@@ -130,9 +122,7 @@ fn act<N: RealmName, S: Spawner<N>, R: Wait>(
     ctx: &mut TaskCtx<AnyEnd, S, N>,
     board: &Shared,
     roamer: &mut Roamer,
-)
-    ensures { ctx.new.token.actor ≡ ctx.old.token.actor }
-{
+) {
     match roamer.throws.below(6) {
         0 => {
             let _told = ctx.tick(rt, board.next_moment());
@@ -154,9 +144,7 @@ fn step<N: RealmName, S: Spawns<N, JobWork<AnyEnd, N, Worker>>, R: Wait>(
     ctx: &mut TaskCtx<AnyEnd, S, N>,
     board: &Shared,
     roamer: &mut Roamer,
-)
-    ensures { ctx.new.token.actor ≡ ctx.old.token.actor }
-{
+) {
     let thrown = roamer.throws.below(16);
     match (thrown, roamer.latest()) {
         (0..=2, _) | (3..=8, None) => open_one(rt, ctx, board, roamer),
@@ -185,9 +173,7 @@ pub fn roam<N: RealmName, S: Spawns<N, JobWork<AnyEnd, N, Worker>>, R: Wait>(
     board: &Shared,
     depth: u32,
     seed: u64,
-) -> Option<ScopeId>
-    ensures { ctx.new.token.actor ≡ ctx.old.token.actor }
-{
+) -> Option<ScopeId> {
     let mut roamer = Roamer {
         throws: Throws::new(seed),
         depth,

@@ -3,6 +3,7 @@ ghost use Rattle.std.specs.Prelude.{◌≡◌};
 
 use crate::duties::{Board, Shared, Worker};
 use crate::roaming::roam;
+use crate::waits::wait_by_a_clock;
 use job_runner::{JobWork, TaskCtx};
 use realm_hands::Throws;
 use realm_lock::{Realm, RealmName, Seed};
@@ -11,6 +12,7 @@ use scope_rules::{AnyEnd, Event, Limits, Refusal};
 use scope_script::{Command, Reply, perform};
 use std::alloc::Global;
 use std::marker::Brand;
+use std::rt::Clock as SystemTime;
 use std::sync::Wait;
 use thread_crew::{Crew, CrewRuntime, OsThreads, RefuseNth};
 
@@ -64,9 +66,9 @@ fn history_of<N: RealmName, R: Wait>(
     None
 }
 
-/// Main does anything, and closes what it leaves open. How many events there were; None where something was
+/// Main does anything, closes what it leaves open, and waits by a clock. How many events there were; None where something was
 /// wrong.
-fn in_context<N: RealmName, R: Wait>(
+fn in_context<N: RealmName, R: Wait + SystemTime>(
     rt: &R,
     alloc: Global,
     ctx: &mut TaskCtx<AnyEnd, RefuseNth<OsThreads<N, JobWork<AnyEnd, N, Worker>>>, N>,
@@ -76,6 +78,7 @@ fn in_context<N: RealmName, R: Wait>(
     if let Some(scope) = roam(rt, ctx, board, DEPTH, seed) {
         board.check(ctx.close_scope_bare(rt, scope).is_ok());
     }
+    wait_by_a_clock(rt, ctx, board, seed);
     let history = history_of(rt, ctx)?;
     let (called, forked, wrong) = board.counts();
     let is_right = called == forked && wrong == 0;
@@ -84,7 +87,7 @@ fn in_context<N: RealmName, R: Wait>(
 }
 
 /// A realm over the crew's threads, of which main is refused one.
-fn over_threads<N: RealmName, R: Wait>(
+fn over_threads<N: RealmName, R: Wait + SystemTime>(
     rt: &R,
     alloc: Global,
     seed: Seed,
@@ -106,7 +109,7 @@ fn over_threads<N: RealmName, R: Wait>(
 
 /// A realm on a crew of its own. How many jobs were called, marks seen, and events; None where something was
 /// wrong. Where memory is refused before it begins, there are none.
-fn realm<N: RealmName + Send + Sync + 'static, R: CrewRuntime>(
+fn realm<N: RealmName + Send + Sync + 'static, R: CrewRuntime + SystemTime>(
     rt: &R,
     alloc: Global,
     seed: Seed,
@@ -129,7 +132,7 @@ fn realm<N: RealmName + Send + Sync + 'static, R: CrewRuntime>(
 }
 
 /// So many realms, by numbers that look random from the seed on. Says what was counted, or which number was wrong.
-pub fn play<R: CrewRuntime + Print + Eprint>(
+pub fn play<R: CrewRuntime + SystemTime + Print + Eprint>(
     rt: &R,
     alloc: Global,
     realms: u64,

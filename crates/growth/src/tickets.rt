@@ -3,11 +3,10 @@
 ghost use Rattle.std.specs.Prelude.{◌≡◌, All, IfSome};
 ghost use Rattle.share_ledger.specs.Values.{TicketValue};
 
-use crate::duties::PLAIN;
 use crate::refusals::{Call, Refusals};
 use join_rules::Joiner;
 use realm_lock::{ActorToken, Forked, Realm, RealmName, Seed, Ticket};
-use scope_rules::{AnyEnd, Label, Limits, Name, Refusal, ScopeId, Value, Verdict};
+use scope_rules::{AnyEnd, Label, Limits, Name, Options, Refusal, ScopeId, Value, Verdict};
 use std::alloc::Global;
 use std::sync::Wait;
 
@@ -22,7 +21,7 @@ fn one_ended<N: RealmName, R: Wait>(
     ensures main { main.new ≡ record main.old { seen = main.new.seen } }
     ensures ticket { IfSome result (λ found. found.1.table ≡ N.table) }
 {
-    let Ok(scope) = realm.open(rt, main, Joiner::AwaitAll, PLAIN) else {
+    let Ok(scope) = realm.open(rt, main, Joiner::AwaitAll, Options::PLAIN) else {
         return None;
     };
     let Ok(Forked::Thread(ticket)) = realm.fork(rt, main, scope, label) else {

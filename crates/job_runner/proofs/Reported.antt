@@ -20,3 +20,12 @@ held_for s returned kept begun new refusal (inr held) = inr held.1
 pub held_why : (s : ℕ) (returned kept : List TicketValue) (begun new : OwnerValue) (result : Result CloseReport Refusal) → IfErr result (λ refusal. Held s returned kept begun new refusal) → IfErr result (λ refusal. (refusal ≡ NotReady) ⊎ (refusal ≡ Memory))
 held_why s returned kept begun new (Ok report) held = tt
 held_why s returned kept begun new (Err refusal) held = held_for s returned kept begun new refusal held
+
+-- one half of what is said of a result
+pub if_ok : {A E : Type 0} (P : A → Type 0) (Q : E → Type 0) (result : Result A E) → MatchResult result P Q → IfOk result P
+if_ok P Q (Ok x) it = it
+if_ok P Q (Err e) it = tt
+
+pub if_err : {A E : Type 0} (P : A → Type 0) (Q : E → Type 0) (result : Result A E) → MatchResult result P Q → IfErr result Q
+if_err P Q (Ok x) it = tt
+if_err P Q (Err e) it = it

@@ -9,7 +9,7 @@ ghost use Rattle.job_runner.specs.Endings.{Ended, LeavesNothing, NothingOpen, ha
 
 use crate::contexts::TaskCtx;
 use realm_lock::{ActorToken, Realm, RealmName, Ticket};
-use scope_rules::{Catalog, End, Fault, Name, ScopeId};
+use scope_rules::{Actor, Catalog, End, Fault, Name, ScopeId, TaskId};
 use share_ledger::OfRealm;
 use std::sync::Wait;
 use thread_crew::Spawner;
@@ -41,10 +41,11 @@ impl<C: Catalog, S: Spawner<N>, N: RealmName> TaskCtx<C, S, N> {
     /// first, and records the end, which is the fault `left-open` exactly where there was such a scope. Gives
     /// the ticket and the spawner.
     pub(crate) fn end_task<R: Wait>(self, rt: &R, ticket: Ticket, end: End) -> (Ticket, S)
-        requires { MayFinish N.table C.fitting ticket self.token end }
+        requires { self.token.actor ≡ ticket.task → MayFinish N.table C.fitting ticket self.token end }
         ensures returns { Returns N.table ticket result.0 }
         ensures ended { Ended (has_open self.token) end result.0 }
     {
+        is_of_task(rt, self.token.held.actor(), ticket.task());
         let mut ctx = self;
         if ctx.close_what_is_open(rt) {
             ctx.finish(rt, ticket, Err(left_open()))
@@ -121,6 +122,19 @@ fn record_end<C: Catalog, N: RealmName, R: Wait>(
         Ok(ended) => ended,
         Err(_) => unreachable!(),
     }
+}
+
+/// Returns where the actor is the task. A job that put another context in the place of its own would wait here
+/// for ever: no function gives it one, so no run comes to that, and no job has to say so in a clause.
+fn is_of_task<R: Wait>(rt: &R, actor: Actor, task: TaskId)
+    ensures { actor ≡ task }
+{
+    for _ in rt.forever() {
+        if actor == task {
+            return;
+        }
+    }
+    unreachable!()
 }
 
 /// The fault of a task whose job left a scope open.

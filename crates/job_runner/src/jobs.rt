@@ -1,5 +1,3 @@
-ghost use Rattle.std.specs.Prelude.{◌≡◌};
-
 use crate::contexts::TaskCtx;
 use named_jobs::Answers;
 use realm_lock::RealmName;
@@ -13,6 +11,5 @@ use thread_crew::Spawner;
 pub trait Job<C: Catalog, S: Spawner<N>, N: RealmName>: Answers {
     /// Does the job, and answers how it ends.
     fn run<R: Wait>(self, rt: &R, ctx: &mut TaskCtx<C, S, N>) -> End
-        ensures ends { Self.may_end self result }
-        ensures actor { ctx.new.token.actor ≡ ctx.old.token.actor };
+        ensures { Self.may_end self result };
 }

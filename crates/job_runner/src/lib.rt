@@ -16,11 +16,12 @@ mod markers;
 mod opening;
 mod queries;
 mod reporting;
+mod timed;
 mod works;
 
-pub use clocks::{SetClock, SystemClock, pulse};
+pub use clocks::pulse;
 pub use contexts::TaskCtx;
 pub use forking::ForkRefusal;
 pub use jobs::Job;
-pub use named_jobs::{Answers, Clock, NamedJob};
+pub use named_jobs::{Answers, Clock, NamedJob, SetClock, SystemClock, fail_after, move_on_after};
 pub use works::JobWork;

@@ -1,4 +1,4 @@
-ghost use Rattle.std.specs.Prelude.{◌≡◌, Err, MatchResult};
+ghost use Rattle.std.specs.Prelude.{◌≡◌, Err, IfErr, MatchResult};
 ghost use Rattle.scope_rules.specs.Tasks.{state};
 ghost use Rattle.scope_rules.specs.Cancels.{effective};
 ghost use Rattle.scope_rules.specs.Checks.{task_check};
@@ -9,7 +9,7 @@ ghost use Rattle.realm_core.specs.Calls.{Reads, history_seen};
 ghost use Rattle.realm_core.specs.Views.{Joins, MarkedViewAnswers, ViewAnswers};
 
 use crate::contexts::TaskCtx;
-use realm_lock::{Joined, Mark, RealmName, View};
+use realm_lock::{Joined, Look, Mark, Realm, RealmName, View};
 use scope_rules::{Catalog, Effective, Event, Fault, Name, Refusal, ScopeId, State, TaskId, Value};
 use std::sync::Wait;
 use thread_crew::Spawner;
@@ -45,6 +45,22 @@ impl<C: Catalog, S: Spawner<N>, N: RealmName> TaskCtx<C, S, N> {
     {
         let token = &mut self.token;
         self.realm.lent().fault(rt, &mut token.held, task)
+    }
+
+    /// One share more of the context's realm, as for a thread that looks at it. It is refused only where
+    /// std's count of holders is full (`Memory`).
+    pub fn realm(&self) -> Result<Realm<C, N>, Refusal>
+        ensures { IfErr result (λ refusal. refusal ≡ Refusal.Memory) }
+    {
+        self.realm.lent().share()
+    }
+
+    /// What the look reads off the realm, of all that the context's token has seen then.
+    pub fn look<R: Wait, L: Look>(&mut self, rt: &R, look: L) -> L::Answer
+        ensures answer { (self.new ≡ record self.old { token = self.new.token }) × Reads self.old.token self.new.token (λ h. L.tells look h result) }
+    {
+        let token = &mut self.token;
+        self.realm.lent().look(rt, &mut token.held, look)
     }
 
     /// What can be read of the task, whoever's it is (JEP 505, `Subtask.state`). Refused as

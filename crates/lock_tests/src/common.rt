@@ -4,16 +4,9 @@ ghost use Rattle.share_ledger.specs.Values.{IsWaiting};
 
 use join_rules::Joiner;
 use realm_lock::{ActorToken, Forked, Realm, RealmName, Ticket};
-use scope_rules::{AnyEnd, End, Expiry, Label, Name, Options, ScopeId};
+use scope_rules::{AnyEnd, End, Label, Name, Options, ScopeId};
 use std::sync::Wait;
 use std::test::Fail;
-
-/// No deadline and no shield.
-pub const PLAIN: Options = Options {
-    deadline: None,
-    expiry: Expiry::Fail,
-    shield: false,
-};
 
 fn label() -> Result<Label, Fail> {
     Ok(Label {

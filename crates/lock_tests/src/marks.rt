@@ -2,7 +2,7 @@
 ghost use Rattle.std.specs.Prelude.{◌≡◌, IfOk};
 ghost use Rattle.realm_lock.specs.Cells.{IsFresh};
 
-use crate::common::{PLAIN, fork};
+use crate::common::fork;
 use join_rules::Joiner;
 use realm_lock::{ActorToken, Mark, MarkCell, Realm, RealmName, Seat};
 use scope_rules::{AnyEnd, Cancelling, Cause, CauseKind, Options, Refusal, ScopeId};
@@ -12,7 +12,7 @@ use std::test::Fail;
 
 const SHIELDED: Options = Options {
     shield: true,
-    ..PLAIN
+    ..Options::PLAIN
 };
 
 fn open_marked<N: RealmName, R: Wait>(
@@ -97,7 +97,7 @@ pub fn one_marked<N: RealmName, R: Wait + Abort>(
 ) -> Result<(), Fail>
     requires { main.old.table ≡ N.table }
 {
-    let (scope, cell, mut seat) = open_marked(rt, realm, main, PLAIN)?;
+    let (scope, cell, mut seat) = open_marked(rt, realm, main, Options::PLAIN)?;
     assert!(rt; cell.checkpoint(&mut seat).is_none());
     assert!(rt; is_cancelled_inside(rt, realm, main, scope)?);
     let mark = cell.checkpoint(&mut seat).ok_or("no mark")?;
@@ -161,7 +161,7 @@ pub fn one_of_two_marked<N: RealmName, R: Wait + Abort>(
 ) -> Result<(), Fail>
     requires { main.old.table ≡ N.table }
 {
-    let (scope, _, _) = open_marked(rt, realm, main, PLAIN)?;
+    let (scope, _, _) = open_marked(rt, realm, main, Options::PLAIN)?;
     let (cell, mut seat) = realm.cell(rt, main, scope)?;
     assert!(rt; is_shielded(rt, realm, main, scope)?);
     let mark = cell.checkpoint(&mut seat).ok_or("no mark")?;

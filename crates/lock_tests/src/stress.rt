@@ -3,13 +3,15 @@
 ghost use Rattle.std.specs.Prelude.{◌≡◌};
 ghost use Rattle.share_ledger.specs.Values.{IsWaiting};
 
-use crate::common::{PLAIN, finish, fork_two, open};
+use crate::common::{finish, fork_two, open};
 use crate::replay::Replay;
 use crate::views::is_seen_alike;
 use join_rules::Joiner;
 use realm_hands::Throws;
 use realm_lock::{ActorToken, Forked, Realm, RealmName, Ticket};
-use scope_rules::{AnyEnd, Cancelling, Counts, ForkReply, Label, Name, ScopeId, TaskId, Value};
+use scope_rules::{
+    AnyEnd, Cancelling, Counts, ForkReply, Label, Name, Options, ScopeId, TaskId, Value,
+};
 use scope_script::{Reply, append_line};
 use std::alloc::Global;
 use std::process::Abort;
@@ -66,7 +68,7 @@ fn open_own<N: RealmName, R: Wait>(
     requires { token.old.table ≡ N.table }
     ensures { token.new ≡ record token.old { seen = token.new.seen } }
 {
-    let Ok(scope) = realm.open(rt, token, Joiner::AwaitAll, PLAIN) else {
+    let Ok(scope) = realm.open(rt, token, Joiner::AwaitAll, Options::PLAIN) else {
         return None;
     };
     player.scope = scope;
@@ -274,7 +276,7 @@ fn played<N: RealmName + Send + Sync, R: Threads + Wait + Abort + Sync>(
     requires { main.old.table ≡ N.table }
     ensures { main.new ≡ record main.old { seen = main.new.seen } }
 {
-    let scope = open(rt, realm, main, PLAIN)?;
+    let scope = open(rt, realm, main, Options::PLAIN)?;
     let left = fork_two(rt, realm, main, scope)?;
     let right = fork_two(rt, realm, main, scope)?;
     let players = four_play(rt, alloc, realm, left, right);

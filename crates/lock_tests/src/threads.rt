@@ -2,9 +2,9 @@
 ghost use Rattle.std.specs.Prelude.{◌≡◌, IfOk};
 ghost use Rattle.share_ledger.specs.Values.{IsWaiting};
 
-use crate::common::{PLAIN, finish, fork, fork_two, open};
+use crate::common::{finish, fork, fork_two, open};
 use realm_lock::{ActorToken, Joined, Realm, RealmName, Ticket};
-use scope_rules::{AnyEnd, Outcome, Refusal, ScopeId, Value, Verdict};
+use scope_rules::{AnyEnd, Options, Outcome, Refusal, ScopeId, Value, Verdict};
 use share_ledger::{Totals, gather};
 use std::process::Abort;
 use std::sync::Wait;
@@ -67,7 +67,7 @@ pub fn two_served<N: RealmName + Send + Sync, R: Threads + Wait + Abort + Sync>(
 ) -> Result<(), Fail>
     requires { main.old.table ≡ N.table }
 {
-    let scope = open(rt, realm, main, PLAIN)?;
+    let scope = open(rt, realm, main, Options::PLAIN)?;
     let (one, two) = fork_two(rt, realm, main, scope)?;
     let totals = served_by_two(rt, realm, one, two).ok_or("a task did not run")?;
     assert_eq!(rt; (totals.given, totals.started, totals.finished), (2, 2, 2));
@@ -104,7 +104,7 @@ pub fn waited<N: RealmName + Send + Sync, R: Threads + Wait + Abort + Sync>(
 ) -> Result<(), Fail>
     requires { main.old.table ≡ N.table }
 {
-    let scope = open(rt, realm, main, PLAIN)?;
+    let scope = open(rt, realm, main, Options::PLAIN)?;
     let (one, two) = fork_two(rt, realm, main, scope)?;
     let (served, joined) = thread::join(
         rt,
@@ -145,7 +145,7 @@ fn one_round<N: RealmName + Send + Sync, R: Threads + Wait + Abort + Sync>(
     requires { main.table ≡ N.table }
     ensures { IfOk result (λ token. token.table ≡ N.table) }
 {
-    let scope = open(rt, realm, &mut main, PLAIN)?;
+    let scope = open(rt, realm, &mut main, Options::PLAIN)?;
     let ticket = fork(rt, realm, &mut main, scope)?;
     let (served, (mut main, joined)) = thread::join(
         rt,

@@ -3,7 +3,7 @@
 ghost use Rattle.std.specs.Prelude.{◌≡◌};
 ghost use Rattle.share_ledger.specs.Values.{IsWaiting};
 
-use crate::common::{PLAIN, finish, fork, open};
+use crate::common::{finish, fork, open};
 use crate::threads::join_by;
 use realm_lock::{ActorToken, Realm, RealmName, Ticket};
 use scope_rules::{AnyEnd, Options, ScopeId, Value};
@@ -57,7 +57,7 @@ pub fn a_cancel_wakes<N: RealmName + Send + Sync, R: Threads + Wait + Abort + Sy
 {
     let options = Options {
         deadline: Some(5),
-        ..PLAIN
+        ..Options::PLAIN
     };
     let scope = open(rt, realm, main, options)?;
     let ticket = fork(rt, realm, main, scope)?;
@@ -91,7 +91,7 @@ pub fn a_reject_wakes<N: RealmName + Send + Sync, R: Threads + Wait + Abort + Sy
 ) -> Result<(), Fail>
     requires { main.old.table ≡ N.table }
 {
-    let scope = open(rt, realm, main, PLAIN)?;
+    let scope = open(rt, realm, main, Options::PLAIN)?;
     let ticket = fork(rt, realm, main, scope)?;
     let ((), joined) = thread::join(
         rt,
@@ -127,10 +127,10 @@ pub fn a_close_wakes<N: RealmName + Send + Sync, R: Threads + Wait + Abort + Syn
 ) -> Result<(), Fail>
     requires { main.old.table ≡ N.table }
 {
-    let scope = open(rt, realm, main, PLAIN)?;
+    let scope = open(rt, realm, main, Options::PLAIN)?;
     let ticket = fork(rt, realm, main, scope)?;
     let (_ticket, mut token) = realm.start(rt, ticket);
-    let inner = open(rt, realm, &mut token, PLAIN)?;
+    let inner = open(rt, realm, &mut token, Options::PLAIN)?;
     let _waits = fork(rt, realm, &mut token, inner)?;
     let ((_token, joined), is_begun) = thread::join(
         rt,
@@ -162,7 +162,7 @@ pub fn an_end_wakes_a_close<N: RealmName + Send + Sync, R: Threads + Wait + Abor
 ) -> Result<(), Fail>
     requires { main.old.table ≡ N.table }
 {
-    let scope = open(rt, realm, main, PLAIN)?;
+    let scope = open(rt, realm, main, Options::PLAIN)?;
     let ticket = fork(rt, realm, main, scope)?;
     let (is_served, closed) = thread::join(
         rt,

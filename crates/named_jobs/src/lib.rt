@@ -5,5 +5,5 @@
 mod clocks;
 mod naming;
 
-pub use clocks::Clock;
+pub use clocks::{Clock, SetClock, SystemClock, fail_after, move_on_after};
 pub use naming::{Answers, NamedJob};

@@ -143,6 +143,18 @@ did_refuse old new e (Ok Recorded) r is said = absurd (cc is)
 did_refuse old new e (Ok Already) r is said = absurd (cc is)
 did_refuse old new e (Err q) r is said = let same : q ≡ r = cc in subst (λ (x : Refusal). Refused old new (step_by old.actor e) x) same said
 
+-- and what its actor asks for, a cancel, a move or a tick, leaves it so
+pub begun_asked : (old new : OwnerValue) (s : ℕ) (q : Ask) → Added old new (Asked old.actor q) → IsBegun (history_seen old) old.actor s → IsBegun (history_seen new) old.actor s
+begun_asked old new s q it begun =
+    let x = Asked old.actor q in
+    let lawful = beginning_legal old.limits it.there (x ∷ []) (subst (λ (xs : List RealmStep). IsLegal old.limits xs) it.is it.legal) in
+    let there = begun_still old.limits old.actor s old.seen it.there it.agrees lawful begun in
+    let here : IsBegun (followed (history_of it.there) (asked q)) old.actor s = record {
+      of = open_event (history_of it.there) old.actor s (asked q) there.of (asks_no_end_close s q);
+      begun = closing_stays (history_of it.there) (asked q) s there.begun;
+    } in
+    subst (λ (h : History). IsBegun h old.actor s) (sym (ap history_of it.is ∙ history-push it.there x)) here
+
 -- where it was begun before, and isn't over, it is so too
 pub begun_already : (old new : OwnerValue) (s : ℕ) → FoundSo old new (BeginClose old.actor s) → closed (history_seen new) s ≡ false → IsBegun (history_seen new) old.actor s
 unfolding check_of

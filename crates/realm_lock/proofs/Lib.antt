@@ -2,6 +2,7 @@ pub mod NoRoom
 pub mod Reported
 pub mod Rejecting
 pub mod Waiting
+pub mod Waits
 pub mod CancelsGrow
 pub mod MarksStay
 pub mod Marking

@@ -16,16 +16,17 @@ ghost use Rattle.realm_core.specs.Calls.{Added, DoesOrMemory, Looked, Performed,
 ghost use Rattle.realm_core.specs.Tasks.{GivesTicket, MayFinish, Finishes, IsRunning, ticket_aside};
 ghost use Rattle.realm_core.specs.Telling.{Shown};
 ghost use Rattle.realm_core.specs.Views.{Joins};
-ghost use Rattle.realm_close.specs.Waiting.{IsOpenOf};
+ghost use Rattle.realm_close.specs.Waiting.{FoundUnsettled, IsOpenOf};
 ghost use Rattle.realm_close.specs.Closes.{IsBegun, Begins, MayEnd, MayReport};
 ghost use Rattle.realm_lock.specs.Cells.{GivesCell};
 ghost use Rattle.realm_lock.specs.Openings.{scope_alone, refusal_of};
+ghost use Rattle.realm_lock.specs.Waits.{HasCome, Ticks, TickRefused};
 
 use crate::setters::Setters;
 use cancel_marks::MarkCell;
 use join_rules::Joiner;
-use realm_close::{CloseReport, begin, end_if_settled, report_if_settled};
-use realm_core::{Forked, Joined, RealmCore, RealmName};
+use realm_close::{CloseReport, begin, end_if_settled, report_if_settled, unsettled};
+use realm_core::{Forked, Joined, RealmCore, RealmName, told_done};
 use realm_steps::RealmStep;
 use scope_checks::checks::scope_check;
 use scope_checks::{Readings, Told, table};
@@ -141,6 +142,46 @@ impl<C: Catalog, N: RealmName> MarkedCore<C, N> {
         result
     }
 
+    /// Takes a turn of a wait whose clock has read `now`. Where a deadline has come by then, it ticks, and
+    /// answers 0; else it looks, and answers in how many milliseconds the next deadline comes, if one does.
+    pub(crate) fn take_turn(
+        &mut self,
+        token: &mut OwnerShare,
+        now: u64,
+    ) -> Result<Option<u64>, Refusal>
+        requires named { token.old.table ≡ N.table }
+        ensures taken { MatchResult result (λ _. Looked token.old token.new ⊎ Ticks token.old token.new now) (TickRefused token.old token.new now) }
+        ensures fitting { Fitting C.fitting (history_seen token.new) }
+    {
+        match self.core.realm().next_deadline() {
+            Some(deadline) if deadline <= now => {
+                match self.tick_due(token, now) {
+                    Ok(()) => Ok(Some(0)),
+                    Err(refusal) => Err(refusal),
+                }
+            }
+            next => {
+                self.core.look(token);
+                let _fitting = self.core.limits();
+                Ok(next.map(|deadline| deadline - now))
+            }
+        }
+    }
+
+    /// Ticks to the moment, by which a deadline has come.
+    fn tick_due(&mut self, token: &mut OwnerShare, now: u64) -> Result<(), Refusal>
+        requires named { token.old.table ≡ N.table }
+        requires due { HasCome (history_of self.old.steps) now }
+        ensures ticked { MatchResult result (λ _. Ticks token.old token.new now) (TickRefused token.old token.new now) }
+        ensures fitting { Fitting C.fitting (history_seen token.new) }
+    {
+        let _legal = self.core.limits();
+        let result = self.core.perform(token, &Event::Tick { now });
+        self.setters.catch_up(&mut self.core);
+        let _fitting = self.core.limits();
+        told_done(result)
+    }
+
     /// Begins to close a scope.
     #[tactic(auto, using(crate::proofs::Behind::behind_stepped))]
     pub(crate) fn begin_close(
@@ -252,6 +293,19 @@ impl<C: Catalog, N: RealmName> MarkedCore<C, N> {
         self.setters.catch_up(&mut self.core);
         let _fitting = self.core.limits();
         result
+    }
+
+    /// Whether it can end, by what the token sees then.
+    pub(crate) fn is_settled(&mut self, token: &mut OwnerShare, scope: ScopeId) -> bool
+        requires named { token.old.table ≡ N.table }
+        requires begun { IsBegun (history_seen token.old) token.old.actor scope }
+        ensures looks { Looked token.old token.new × Fitting C.fitting (history_seen token.new) }
+        ensures begun { IsBegun (history_seen token.new) token.old.actor scope }
+        ensures settled { result ≡ true → FoundUnsettled (history_seen token.new) scope None }
+    {
+        self.core.look(token);
+        let _fitting = self.core.limits();
+        unsettled(self.core.realm(), scope).is_none()
     }
 
     /// Ends it, if it can end.

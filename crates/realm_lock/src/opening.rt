@@ -1,9 +1,9 @@
-ghost use Rattle.std.specs.Prelude.{◌≡◌, IfOk, IfErr};
+ghost use Rattle.std.specs.Prelude.{◌≡◌, IfOk, IfErr, MatchResult};
 ghost use Rattle.scope_rules.specs.Replies.{next_scope};
 ghost use Rattle.scope_book.specs.Books.{refusal_alone};
 ghost use Rattle.join_rules.specs.Joiners.{policy_of};
 ghost use Rattle.realm_core.specs.Calls.{DoesOrMemory, Reads};
-ghost use Rattle.realm_lock.specs.Openings.{scope_marked};
+ghost use Rattle.realm_lock.specs.Openings.{scope_alone, scope_marked};
 ghost use Rattle.realm_lock.specs.Cells.{CellAnswers, IsFresh};
 
 use crate::realm::Realm;
@@ -32,8 +32,7 @@ impl<C: Catalog, N: RealmName> Realm<C, N> {
         ensures answer { DoesOrMemory token.old token.new (RealmStep.Happened (Event.Open token.old.actor (policy_of joiner) options)) next_scope (refusal_alone result) }
         ensures handed_back { IfErr result (λ e. e.1 ≡ joiner) }
     {
-        let mut locked = self.room.locked.lock(rt);
-        match locked.open(token, joiner, options) {
+        match self.open_with_cell(rt, token, joiner, options) {
             Ok((scope, _)) => Ok(scope),
             Err(back) => Err(back),
         }
@@ -52,14 +51,34 @@ impl<C: Catalog, N: RealmName> Realm<C, N> {
         ensures cell { IfOk result (λ opened. (opened.1.scope ≡ opened.0) × IsFresh opened.1 opened.2) }
         ensures handed_back { IfErr result (λ e. e.1 ≡ joiner) }
     {
-        let mut locked = self.room.locked.lock(rt);
-        match locked.open(token, joiner, options) {
+        match self.open_with_cell(rt, token, joiner, options) {
             Ok((scope, cell)) => {
                 let seat = cell.seat();
                 Ok((scope, cell, seat))
             }
             Err(back) => Err(back),
         }
+    }
+
+    /// The same without a seat. Who waits by a clock is woken where there is a deadline, which may be the
+    /// next to come.
+    fn open_with_cell<R: Wait>(
+        &self,
+        rt: &R,
+        token: &mut OwnerShare,
+        joiner: Joiner,
+        options: Options,
+    ) -> Result<(ScopeId, MarkCell), (Refusal, Joiner)>
+        requires named { token.old.table ≡ N.table }
+        ensures answer { DoesOrMemory token.old token.new (RealmStep.Happened (Event.Open token.old.actor (policy_of joiner) options)) next_scope (scope_alone result) }
+        ensures cell { MatchResult result (λ opened. opened.1.scope ≡ opened.0) (λ back. back.1 ≡ joiner) }
+    {
+        let mut locked = self.room.locked.lock(rt);
+        let opened = locked.open(token, joiner, options);
+        if options.deadline.is_some() {
+            self.room.changed.notify_all();
+        }
+        opened
     }
 
     /// The cell of the scope and a seat at it, which was shown nothing yet, with any actor's token.

@@ -1,6 +1,5 @@
 //! Jobs of several kinds, and the spawners that run them.
 
-mod clocks;
 mod deeds;
 mod duties;
 mod logs;

@@ -2,6 +2,4 @@
 #![tactic(auto)]
 
 #[cfg(test)]
-mod guide;
-#[cfg(test)]
 mod jobs;

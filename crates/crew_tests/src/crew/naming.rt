@@ -35,6 +35,8 @@ struct Steady {
 impl Clock for Steady {
     ghost reading = { λ clock. clock.last };
 
+    ghost reads = { λ old new now. new.last ≡ Some now };
+
     fn now(&mut self) -> u64 {
         let now = match self.last {
             Some(last) => last.saturating_add(1),

@@ -397,3 +397,48 @@ fn a_closure_made_here_is_asked_in_other_threads(rt: HostRuntime) -> Result<(), 
     assert!(rt; fires == Some(true) && progress.successes() == 2);
     Ok(())
 }
+
+/// Hands the end in, once more where memory is refused, and says so.
+fn handed_in<R: Eprint>(rt: &R, progress: &mut Progress, end: End) -> Option<bool> {
+    match hand_in(progress, end) {
+        Ok(fires) => Some(fires),
+        Err(_) => {
+            let _told = eprintln!(rt; "refused completed");
+            hand_in(progress, end).ok()
+        }
+    }
+}
+
+/// Makes room, once more where memory is refused, and says so. Whether there is room then.
+fn reserved<R: Eprint>(rt: &R, progress: &mut Progress) -> bool {
+    if progress.reserve(100).is_ok() {
+        return true;
+    }
+    let _told = eprintln!(rt; "refused reserve");
+    progress.reserve(100).is_ok()
+}
+
+/// Whether the closure's answers are those of the rule, one after the other, with room made on the way. None
+/// where memory is refused before it begins.
+fn answers_as_ever<R: Eprint>(rt: &R, alloc: Global) -> Option<bool> {
+    let shown = Arc::new(alloc, AtomicU64::new(0)).ok()?;
+    let joiner = joiner_that_adds(alloc, shown).ok()?;
+    let mut progress = Progress::new(alloc, joiner);
+    let mut all = true;
+    for turn in 0..40u32 {
+        let end = Ok(Value::Num(1));
+        let fires = handed_in(rt, &mut progress, end)?;
+        all = all && fires == (turn >= 1) && progress.completions() == turn + 1;
+        if turn == 20 {
+            all = all && reserved(rt, &mut progress);
+        }
+    }
+    Some(all)
+}
+
+/// By itself it refuses nothing: `./test` runs it with each request for memory refused in turn.
+#[test]
+fn a_closure_is_asked_as_ever_where_memory_was_refused(rt: HostRuntime) -> Result<(), Fail> {
+    assert!(rt; answers_as_ever(&rt, rt.alloc()) != Some(false));
+    Ok(())
+}

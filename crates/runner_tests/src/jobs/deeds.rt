@@ -1,11 +1,11 @@
 //! What the jobs do in their contexts.
 ghost use Rattle.std.specs.Prelude.{◌≡◌};
 
-use super::duties::{Duty, PLAIN, SHIELD, Shared, TestJob, fork, number_of};
+use super::duties::{Duty, SHIELD, Shared, TestJob, fork, number_of};
 use job_runner::{JobWork, TaskCtx};
 use join_rules::Joiner;
 use realm_lock::RealmName;
-use scope_rules::{AnyEnd, Name, State, TaskId, Value};
+use scope_rules::{AnyEnd, Name, Options, State, TaskId, Value};
 use std::sync::Wait;
 use std::thread;
 use thread_crew::{Spawner, Spawns};
@@ -15,9 +15,7 @@ pub fn wait_for<N: RealmName, S: Spawner<N>, R: Wait>(
     rt: &R,
     ctx: &mut TaskCtx<AnyEnd, S, N>,
     task: TaskId,
-)
-    ensures { ctx.new.token.actor ≡ ctx.old.token.actor }
-{
+) {
     for _ in 0..1_000_000_000u32 {
         match ctx.state(rt, task) {
             Ok(State::Success(_) | State::Failed(_)) => return,
@@ -27,9 +25,7 @@ pub fn wait_for<N: RealmName, S: Spawner<N>, R: Wait>(
 }
 
 /// Looks for the context's mark, so often at most: 1 if it is seen, else 0.
-pub fn look<N: RealmName, S: Spawner<N>>(ctx: &mut TaskCtx<AnyEnd, S, N>, looks: u32) -> i64
-    ensures { ctx.new.token ≡ ctx.old.token }
-{
+pub fn look<N: RealmName, S: Spawner<N>>(ctx: &mut TaskCtx<AnyEnd, S, N>, looks: u32) -> i64 {
     for _ in 0..looks {
         if ctx.checkpoint().is_some() {
             return 1;
@@ -43,9 +39,7 @@ pub fn look<N: RealmName, S: Spawner<N>>(ctx: &mut TaskCtx<AnyEnd, S, N>, looks:
 pub fn wait_until<N: RealmName, S: Spawner<N>, R: Wait>(
     rt: &R,
     ctx: &mut TaskCtx<AnyEnd, S, N>,
-) -> i64
-    ensures { ctx.new.token ≡ ctx.old.token }
-{
+) -> i64 {
     match ctx.wait_cancelled(rt) {
         Some(mark) => i64::from(mark.scope),
         None => 0,
@@ -57,10 +51,8 @@ pub fn leave_two<N: RealmName, S: Spawns<N, JobWork<AnyEnd, N, TestJob>>, R: Wai
     rt: &R,
     ctx: &mut TaskCtx<AnyEnd, S, N>,
     board: &Shared,
-)
-    ensures { ctx.new.token.actor ≡ ctx.old.token.actor }
-{
-    if let Ok(scope) = ctx.open(rt, Joiner::AwaitAll, PLAIN) {
+) {
+    if let Ok(scope) = ctx.open(rt, Joiner::AwaitAll, Options::PLAIN) {
         let _task = fork(rt, ctx, scope, board, Duty::LeavesOpen);
     }
 }
@@ -70,9 +62,7 @@ pub fn meet_shielded<N: RealmName, S: Spawns<N, JobWork<AnyEnd, N, TestJob>>, R:
     rt: &R,
     ctx: &mut TaskCtx<AnyEnd, S, N>,
     board: &Shared,
-) -> i64
-    ensures { ctx.new.token.actor ≡ ctx.old.token.actor }
-{
+) -> i64 {
     let _mark = ctx.wait_cancelled(rt);
     let Ok(scope) = ctx.open(rt, Joiner::AwaitAll, SHIELD) else {
         return 0;
@@ -91,10 +81,8 @@ pub fn meet_shielded<N: RealmName, S: Spawns<N, JobWork<AnyEnd, N, TestJob>>, R:
 pub fn open_all<N: RealmName, S: Spawner<N>, R: Wait>(
     rt: &R,
     ctx: &mut TaskCtx<AnyEnd, S, N>,
-) -> i64
-    ensures { ctx.new.token.actor ≡ ctx.old.token.actor }
-{
-    let Ok(outermost) = ctx.open(rt, Joiner::AwaitAll, PLAIN) else {
+) -> i64 {
+    let Ok(outermost) = ctx.open(rt, Joiner::AwaitAll, Options::PLAIN) else {
         return 0;
     };
     let opened = open_inside(rt, ctx);
@@ -103,11 +91,12 @@ pub fn open_all<N: RealmName, S: Spawner<N>, R: Wait>(
 }
 
 /// Opens scopes until one is refused, 100 at most: how many.
-fn open_inside<N: RealmName, S: Spawner<N>, R: Wait>(rt: &R, ctx: &mut TaskCtx<AnyEnd, S, N>) -> i64
-    ensures { ctx.new.token.actor ≡ ctx.old.token.actor }
-{
+fn open_inside<N: RealmName, S: Spawner<N>, R: Wait>(
+    rt: &R,
+    ctx: &mut TaskCtx<AnyEnd, S, N>,
+) -> i64 {
     for opened in 0..100i64 {
-        if ctx.open(rt, Joiner::AwaitAll, PLAIN).is_err() {
+        if ctx.open(rt, Joiner::AwaitAll, Options::PLAIN).is_err() {
             return opened;
         }
     }
@@ -120,9 +109,7 @@ pub fn bind_and_unbind<N: RealmName, S: Spawner<N>, R: Wait>(
     rt: &R,
     ctx: &mut TaskCtx<AnyEnd, S, N>,
     key: Name,
-) -> i64
-    ensures { ctx.new.token.actor ≡ ctx.old.token.actor }
-{
+) -> i64 {
     let inherited = ctx.get(rt, &key);
     let bound = ctx.bind(rt, key, Value::Num(8));
     let own = ctx.get(rt, &key);
@@ -142,9 +129,7 @@ pub fn grow<N: RealmName, S: Spawns<N, JobWork<AnyEnd, N, TestJob>>, R: Wait>(
     ctx: &mut TaskCtx<AnyEnd, S, N>,
     board: &Shared,
     depth: u32,
-) -> i64
-    ensures { ctx.new.token.actor ≡ ctx.old.token.actor }
-{
+) -> i64 {
     let own = match ctx.get(rt, &board.key) {
         Ok(Value::Num(7)) => 1,
         _ => 0,
@@ -161,10 +146,8 @@ fn below<N: RealmName, S: Spawns<N, JobWork<AnyEnd, N, TestJob>>, R: Wait>(
     ctx: &mut TaskCtx<AnyEnd, S, N>,
     board: &Shared,
     depth: u32,
-) -> i64
-    ensures { ctx.new.token.actor ≡ ctx.old.token.actor }
-{
-    let Ok(scope) = ctx.open(rt, Joiner::AwaitAll, PLAIN) else {
+) -> i64 {
+    let Ok(scope) = ctx.open(rt, Joiner::AwaitAll, Options::PLAIN) else {
         return 0;
     };
     let left = fork(rt, ctx, scope, board, Duty::Tree { depth });

@@ -1,6 +1,4 @@
 //! Jobs of several kinds, and how they are forked.
-ghost use Rattle.std.specs.Prelude.{◌≡◌};
-
 use super::deeds::{
     bind_and_unbind, grow, leave_two, look, meet_shielded, open_all, wait_for, wait_until,
 };
@@ -8,7 +6,7 @@ use job_runner::{Answers, ForkRefusal, Job, JobWork, NamedJob, TaskCtx};
 use join_rules::Joiner;
 use realm_lock::RealmName;
 use scope_rules::{
-    AnyEnd, End, Expiry, Fault, ForkReply, Label, Name, Options, Refusal, ScopeId, TaskId, Value,
+    AnyEnd, End, Fault, ForkReply, Label, Name, Options, Refusal, ScopeId, TaskId, Value,
 };
 use std::alloc::Global;
 use std::sync::atomic::{AtomicU64, Ordering};
@@ -16,18 +14,10 @@ use std::sync::{Arc, Wait};
 use std::thread;
 use thread_crew::Spawns;
 
-/// No deadline and no shield.
-pub const PLAIN: Options = Options {
-    deadline: None,
-    expiry: Expiry::Fail,
-    shield: false,
-};
-
 /// The same with a shield.
 pub const SHIELD: Options = Options {
-    deadline: None,
-    expiry: Expiry::Fail,
     shield: true,
+    ..Options::PLAIN
 };
 
 /// What the jobs of a test share: a flag each of the first two may set, how many jobs were called, and
@@ -145,7 +135,7 @@ impl<N: RealmName, S: Spawns<N, JobWork<AnyEnd, N, TestJob>>> Job<AnyEnd, S, N> 
             Duty::Looks { looks } => look(ctx, looks),
             Duty::Waits => wait_until(rt, ctx),
             Duty::LeavesOpen => {
-                let _scope = ctx.open(rt, Joiner::AwaitAll, PLAIN);
+                let _scope = ctx.open(rt, Joiner::AwaitAll, Options::PLAIN);
                 5
             }
             Duty::LeavesTwo => {
@@ -154,7 +144,7 @@ impl<N: RealmName, S: Spawns<N, JobWork<AnyEnd, N, TestJob>>> Job<AnyEnd, S, N> 
             }
             Duty::Shielded => meet_shielded(rt, ctx, &board),
             Duty::OpensAll => open_all(rt, ctx),
-            Duty::Opens => match ctx.open(rt, Joiner::AwaitAll, PLAIN) {
+            Duty::Opens => match ctx.open(rt, Joiner::AwaitAll, Options::PLAIN) {
                 Ok(_) => 0,
                 Err((refusal, _)) => i64::from(refusal.number()),
             },
@@ -179,9 +169,7 @@ pub fn fork<N: RealmName, S: Spawns<N, JobWork<AnyEnd, N, TestJob>>, R: Wait>(
     scope: ScopeId,
     board: &Shared,
     duty: Duty,
-) -> Result<TaskId, ForkRefusal>
-    ensures { ctx.new.token.actor ≡ ctx.old.token.actor }
-{
+) -> Result<TaskId, ForkRefusal> {
     let Some(job) = named(board, duty) else {
         return Err(ForkRefusal::Before(Refusal::Memory));
     };
@@ -197,9 +185,7 @@ pub fn number_of<N: RealmName, S: Spawns<N, JobWork<AnyEnd, N, TestJob>>, R: Wai
     rt: &R,
     ctx: &mut TaskCtx<AnyEnd, S, N>,
     task: TaskId,
-) -> i64
-    ensures { ctx.new.token.actor ≡ ctx.old.token.actor }
-{
+) -> i64 {
     match ctx.result(rt, task) {
         Ok(Value::Num(number)) => number,
         _ => 0,

@@ -1,8 +1,6 @@
 //! What a join gives over jobs on threads: the outcomes of the same rows of a script.
-ghost use Rattle.std.specs.Prelude.{◌≡◌};
-
 use super::deeds::wait_for;
-use super::duties::{Duty, PLAIN, Shared, TestJob, fork, number_of};
+use super::duties::{Duty, Shared, TestJob, fork, number_of};
 use super::logs::{ends_after_cancel, order_of_ends, starts_and_ends};
 use job_runner::{ForkRefusal, JobWork, SetClock, TaskCtx, pulse};
 use join_rules::Joiner;
@@ -20,7 +18,7 @@ pub fn two_end_in_reverse<N: RealmName, S: Spawns<N, JobWork<AnyEnd, N, TestJob>
     ctx: &mut TaskCtx<AnyEnd, S, N>,
     board: &Shared,
 ) -> Result<(), Fail> {
-    let Ok(scope) = ctx.open(rt, Joiner::All, PLAIN) else {
+    let Ok(scope) = ctx.open(rt, Joiner::All, Options::PLAIN) else {
         return Err("no scope")?;
     };
     let late = Duty::After {
@@ -54,7 +52,7 @@ pub fn one_fails<N: RealmName, S: Spawns<N, JobWork<AnyEnd, N, TestJob>>, R: Wai
     ctx: &mut TaskCtx<AnyEnd, S, N>,
     board: &Shared,
 ) -> Result<(), Fail> {
-    let Ok(scope) = ctx.open(rt, Joiner::All, PLAIN) else {
+    let Ok(scope) = ctx.open(rt, Joiner::All, Options::PLAIN) else {
         return Err("no scope")?;
     };
     let fault = Fault(board.label.name);
@@ -79,7 +77,7 @@ pub fn main_cancels<N: RealmName, S: Spawns<N, JobWork<AnyEnd, N, TestJob>>, R: 
     duty: Duty,
     number: i64,
 ) -> Result<(), Fail> {
-    let Ok(scope) = ctx.open(rt, Joiner::AwaitAll, PLAIN) else {
+    let Ok(scope) = ctx.open(rt, Joiner::AwaitAll, Options::PLAIN) else {
         return Err("no scope")?;
     };
     assert!(rt; fork(rt, ctx, scope, board, duty).is_ok());
@@ -105,7 +103,7 @@ pub fn time_runs_out<N: RealmName, S: Spawns<N, JobWork<AnyEnd, N, TestJob>>, R:
 ) -> Result<(), Fail> {
     let deadline = Options {
         deadline: Some(100),
-        ..PLAIN
+        ..Options::PLAIN
     };
     let Ok(scope) = ctx.open(rt, Joiner::AwaitAll, deadline) else {
         return Err("no scope")?;
@@ -130,7 +128,7 @@ pub fn nth_is_refused<N: RealmName, S: Spawns<N, JobWork<AnyEnd, N, TestJob>>, R
     board: &Shared,
     nth: u64,
 ) -> Result<(), Fail> {
-    let Ok(scope) = ctx.open(rt, Joiner::All, PLAIN) else {
+    let Ok(scope) = ctx.open(rt, Joiner::All, Options::PLAIN) else {
         return Err("no scope")?;
     };
     for task in 1..4u32 {
@@ -167,7 +165,7 @@ pub fn one_ends_with<N: RealmName, S: Spawns<N, JobWork<AnyEnd, N, TestJob>>, R:
     number: i64,
 ) -> Result<(), Fail> {
     ctx.bind(rt, board.key, Value::Num(7))?;
-    let Ok(scope) = ctx.open(rt, Joiner::AwaitAll, PLAIN) else {
+    let Ok(scope) = ctx.open(rt, Joiner::AwaitAll, Options::PLAIN) else {
         return Err("no scope")?;
     };
     let Ok(task) = fork(rt, ctx, scope, board, duty) else {

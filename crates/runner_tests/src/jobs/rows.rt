@@ -1,8 +1,6 @@
 //! Rows of what main does with jobs in its context: which there are, and two that look for one another, a
 //! tree, and a thread that is refused.
-ghost use Rattle.std.specs.Prelude.{◌≡◌};
-
-use super::duties::{Duty, PLAIN, Shared, TestJob, fork, named, number_of};
+use super::duties::{Duty, Shared, TestJob, fork, named, number_of};
 use super::logs::starts_and_ends;
 use super::outcomes::{
     main_cancels, nth_is_refused, one_ends_with, one_fails, time_runs_out, two_end_in_reverse,
@@ -12,7 +10,7 @@ use super::unruly::{little_room, one_is_left_open, ten_rounds, two_are_left_open
 use job_runner::{ForkRefusal, JobWork, TaskCtx};
 use join_rules::Joiner;
 use realm_lock::RealmName;
-use scope_rules::{AnyEnd, Limits, Outcome, Refusal, Value};
+use scope_rules::{AnyEnd, Limits, Options, Outcome, Refusal, Value};
 use std::process::Abort;
 use std::rt::Files;
 use std::sync::Wait;
@@ -105,7 +103,7 @@ fn two_meet<N: RealmName, S: Spawns<N, JobWork<AnyEnd, N, TestJob>>, R: Wait + A
     looks: u32,
     ends: i64,
 ) -> Result<(), Fail> {
-    let Ok(scope) = ctx.open(rt, Joiner::All, PLAIN) else {
+    let Ok(scope) = ctx.open(rt, Joiner::All, Options::PLAIN) else {
         return Err("no scope")?;
     };
     let first = fork(
@@ -147,7 +145,7 @@ fn a_tree_grows<N: RealmName, S: Spawns<N, JobWork<AnyEnd, N, TestJob>>, R: Wait
     board: &Shared,
 ) -> Result<(), Fail> {
     ctx.bind(rt, board.key, Value::Num(7))?;
-    let Ok(scope) = ctx.open(rt, Joiner::AwaitAll, PLAIN) else {
+    let Ok(scope) = ctx.open(rt, Joiner::AwaitAll, Options::PLAIN) else {
         return Err("no scope")?;
     };
     let Ok(root) = fork(rt, ctx, scope, board, Duty::Tree { depth: 6 }) else {
@@ -167,7 +165,7 @@ fn second_thread_is_refused<
     S: Spawns<N, JobWork<AnyEnd, N, TestJob>>,
     R: Wait + Abort,
 >(rt: &R, ctx: &mut TaskCtx<AnyEnd, S, N>, board: &Shared) -> Result<(), Fail> {
-    let Ok(scope) = ctx.open(rt, Joiner::All, PLAIN) else {
+    let Ok(scope) = ctx.open(rt, Joiner::All, Options::PLAIN) else {
         return Err("no scope")?;
     };
     let Ok(first) = fork(rt, ctx, scope, board, Duty::Plain(1)) else {

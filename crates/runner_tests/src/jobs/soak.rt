@@ -1,15 +1,13 @@
 //! Two thousand rounds of eight jobs on one realm, which retires between them: each report is right, each job
 //! was called once, and memory doesn't grow.
-ghost use Rattle.std.specs.Prelude.{◌≡◌};
-
-use super::duties::{Duty, PLAIN, Shared, TestJob, fork};
+use super::duties::{Duty, Shared, TestJob, fork};
 use super::logs::{end_of, starts_and_ends};
 use super::unruly::left_open;
 use job_runner::{JobWork, TaskCtx};
 use join_rules::Joiner;
 use realm_lock::RealmName;
 use scope_log::ScopeLog;
-use scope_rules::{AnyEnd, End, Fault, ScopeId, TaskId, Value};
+use scope_rules::{AnyEnd, End, Fault, Options, ScopeId, TaskId, Value};
 use std::fs;
 use std::process::Abort;
 use std::rt::Files;
@@ -86,7 +84,7 @@ fn round<N: RealmName, S: Spawns<N, JobWork<AnyEnd, N, TestJob>>, R: Wait + Abor
     board: &Shared,
     faults: (Fault, Fault),
 ) -> Result<(), Fail> {
-    let Ok(scope) = ctx.open(rt, Joiner::AwaitAll, PLAIN) else {
+    let Ok(scope) = ctx.open(rt, Joiner::AwaitAll, Options::PLAIN) else {
         return Err("no scope")?;
     };
     let Ok(first) = fork(rt, ctx, scope, board, duty_at(0)) else {

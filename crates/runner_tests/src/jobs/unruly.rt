@@ -1,12 +1,10 @@
 //! Jobs that leave scopes open, and realms with room for very little.
-ghost use Rattle.std.specs.Prelude.{◌≡◌};
-
-use super::duties::{Duty, PLAIN, Shared, TestJob, fork, named, number_of};
+use super::duties::{Duty, Shared, TestJob, fork, named, number_of};
 use super::logs::{end_of, is_closed, starts_and_ends};
 use job_runner::{ForkRefusal, JobWork, TaskCtx};
 use join_rules::Joiner;
 use realm_lock::RealmName;
-use scope_rules::{AnyEnd, Fault, Name, Outcome, Refusal};
+use scope_rules::{AnyEnd, Fault, Name, Options, Outcome, Refusal};
 use std::process::Abort;
 use std::sync::Wait;
 use std::test::Fail;
@@ -24,7 +22,7 @@ pub fn one_is_left_open<N: RealmName, S: Spawns<N, JobWork<AnyEnd, N, TestJob>>,
     board: &Shared,
 ) -> Result<(), Fail> {
     let left_open = left_open()?;
-    let Ok(scope) = ctx.open(rt, Joiner::AwaitOk, PLAIN) else {
+    let Ok(scope) = ctx.open(rt, Joiner::AwaitOk, Options::PLAIN) else {
         return Err("no scope")?;
     };
     assert!(rt; fork(rt, ctx, scope, board, Duty::LeavesOpen).is_ok());
@@ -48,7 +46,7 @@ pub fn two_are_left_open<N: RealmName, S: Spawns<N, JobWork<AnyEnd, N, TestJob>>
     board: &Shared,
 ) -> Result<(), Fail> {
     let left_open = left_open()?;
-    let Ok(scope) = ctx.open(rt, Joiner::AwaitAll, PLAIN) else {
+    let Ok(scope) = ctx.open(rt, Joiner::AwaitAll, Options::PLAIN) else {
         return Err("no scope")?;
     };
     assert!(rt; fork(rt, ctx, scope, board, Duty::LeavesTwo).is_ok());
@@ -71,7 +69,7 @@ pub fn little_room<N: RealmName, S: Spawns<N, JobWork<AnyEnd, N, TestJob>>, R: W
     ctx: &mut TaskCtx<AnyEnd, S, N>,
     board: &Shared,
 ) -> Result<(), Fail> {
-    let Ok(scope) = ctx.open(rt, Joiner::AwaitAll, PLAIN) else {
+    let Ok(scope) = ctx.open(rt, Joiner::AwaitAll, Options::PLAIN) else {
         return Err("no scope")?;
     };
     for _ in 0..2u32 {
@@ -100,7 +98,7 @@ pub fn ten_rounds<N: RealmName, S: Spawns<N, JobWork<AnyEnd, N, TestJob>>, R: Wa
     board: &Shared,
 ) -> Result<(), Fail> {
     for round in 1..11u32 {
-        let Ok(scope) = ctx.open(rt, Joiner::All, PLAIN) else {
+        let Ok(scope) = ctx.open(rt, Joiner::All, Options::PLAIN) else {
             return Err("no scope")?;
         };
         assert!(rt; fork(rt, ctx, scope, board, Duty::Plain(i64::from(round))).is_ok());

@@ -6,4 +6,4 @@ use Rattle.job_runner.proofs.works.JobWorkWork.run.Goals as goal
 pub returns-clause-ended : goal.returns-clause-ended
 returns-clause-ended g c =
     ends_as_may (has_open c.run-end.new.ctx.token) (g.J.Answers.may_end c.args.self.job.job) c.run-end.result c.end_task.result.0
-    (subst (λ job. g.J.Answers.may_end job c.run-end.result) c.into_job.ensures.job c.run-end.ensures.ends) c.end_task.ensures.ended
+    (subst (λ job. g.J.Answers.may_end job c.run-end.result) c.into_job.ensures.job c.run-end.ensures) c.end_task.ensures.ended

@@ -1,0 +1,186 @@
+ghost use Rattle.std.specs.Prelude.{◌≡◌, ◌⊎◌, [], None, Some, Ok, IfOk, IfErr, IfSome, IsSome, MatchResult};
+ghost use Rattle.scope_rules.specs.declared.types.refusals.Refusal.TheVariants.{NotReady};
+ghost use Rattle.kept_realm.specs.Fits.{Fitting};
+ghost use Rattle.realm_core.specs.Calls.{SeesMore, history_seen};
+ghost use Rattle.realm_close.specs.Waiting.{IsOpenOf};
+ghost use Rattle.realm_close.specs.Closes.{ClosesBare};
+ghost use Rattle.realm_lock.specs.Waits.{ClosesAfter, HasPassed, JoinsBy, StaysUnclosed, Stopped, StopsClosing, Waited, shown_in};
+ghost use Rattle.job_runner.specs.Lists.{KeepsOthers, ListsBelow};
+ghost use Rattle.job_runner.specs.Marks.{scope_here, seat_here, Shows};
+ghost use Rattle.job_runner.specs.Reports.{ClosesHere, StaysHere};
+ghost use Rattle.thread_crew.specs.Teams.{AreJoined};
+
+use crate::contexts::{OpenScope, TaskCtx};
+use crate::markers::Marker;
+use cancel_marks::Mark;
+use named_jobs::Clock;
+use realm_lock::{ActorToken, CloseReport, Joined, Realm, RealmName};
+use scope_rules::{Catalog, Refusal, ScopeId, Verdict};
+use std::rt::Clock as SystemTime;
+use std::sync::Wait;
+use thread_crew::Spawner;
+
+/// The waits by a clock, by which deadlines pass while all wait (Trio). Each does what the realm's wait of
+/// that name does, or the context's without a clock: it sleeps until it is woken or the realm's next
+/// deadline has come, and then it ticks to what its clock reads. Where that tick is refused, as where the
+/// load is used up (`TooMany`), the wait answers so at once. That one wakes in time is not promised.
+impl<C: Catalog, S: Spawner<N>, N: RealmName> TaskCtx<C, S, N> {
+    /// Joins the actor's scope, as `join` does, by the clock. Refused as that is, and where a tick is: then
+    /// nothing is joined.
+    pub fn join_by<R: Wait + SystemTime, K: Clock>(
+        &mut self,
+        rt: &R,
+        scope: ScopeId,
+        clock: &mut K,
+    ) -> Result<Joined, Refusal>
+        ensures rest { (self.new ≡ record self.old { token = self.new.token }) × SeesMore self.old.token self.new.token }
+        ensures answer { JoinsBy K.reads self.old.token self.new.token clock.old clock.new scope result }
+        ensures fitting { Fitting C.fitting (history_seen self.new.token) }
+        ensures waited { result ≡ Err NotReady → ⊥ }
+    {
+        let token = &mut self.token;
+        self.realm.lent().join_by(rt, &mut token.held, scope, clock)
+    }
+
+    /// Closes the actor's scope, as `close_scope_bare` does, and waits by the clock until its tasks have
+    /// ended. Refused as that is, and where a tick is: then the scope is closing, and its threads are not
+    /// joined; `close_scope_bare` closes it, which takes no load.
+    pub fn close_scope_bare_by<R: Wait + SystemTime, K: Clock>(
+        &mut self,
+        rt: &R,
+        scope: ScopeId,
+        clock: &mut K,
+    ) -> Result<Verdict, Refusal>
+        ensures rest { (self.new ≡ record self.old { token = self.new.token; spawner = self.new.spawner; opened = self.new.opened; team = self.new.team }) × SeesMore self.old.token self.new.token }
+        ensures closed { IfOk result (λ how. ClosesAfter K.reads self.old.token clock.old clock.new scope (λ there. ClosesBare there self.new.token scope (Ok how))) }
+        ensures refused { IfErr result (StaysUnclosed K.reads self.old.token self.new.token clock.old clock.new scope) }
+        ensures sure { IsOpenOf (history_seen self.old.token) self.old.token.actor scope → IfErr result (StopsClosing K.reads self.old.token self.new.token clock.old clock.new scope) }
+        ensures left { MatchResult result (λ _. AreJoined scope self.new.team × ListsBelow scope self.old.opened.items self.new.opened.items) (λ _. (self.new.team ≡ self.old.team) × (self.new.opened ≡ self.old.opened)) }
+    {
+        let token = &mut self.token;
+        match self
+            .realm
+            .lent()
+            .await_close_by(rt, &mut token.held, scope, clock)
+        {
+            Ok(()) => match self.close_scope_bare(rt, scope) {
+                Ok(verdict) => Ok(verdict),
+                Err(_) => unreachable!(),
+            },
+            Err(refusal) => Err(refusal),
+        }
+    }
+
+    /// The same with a report, as `close_scope` gives it.
+    pub fn close_scope_by<R: Wait + SystemTime, K: Clock>(
+        &mut self,
+        rt: &R,
+        scope: ScopeId,
+        clock: &mut K,
+    ) -> Result<CloseReport, Refusal>
+        ensures rest { (self.new ≡ record self.old { token = self.new.token; spawner = self.new.spawner; opened = self.new.opened; team = self.new.team }) × SeesMore self.old.token self.new.token }
+        ensures closed { IfOk result (λ report. ClosesAfter K.reads self.old.token clock.old clock.new scope (λ there. ClosesHere there self.new.token scope self.old.team report)) }
+        ensures refused { IfErr result (λ refusal. (StaysUnclosed K.reads self.old.token self.new.token clock.old clock.new scope refusal × (self.new.team ≡ self.old.team)) ⊎ ClosesAfter K.reads self.old.token clock.old clock.new scope (λ there. StaysHere there self.new.token scope self.old.team self.new.team refusal)) }
+        ensures left { MatchResult result (λ _. AreJoined scope self.new.team × ListsBelow scope self.old.opened.items self.new.opened.items) (λ _. self.new.opened ≡ self.old.opened) }
+    {
+        let token = &mut self.token;
+        match self
+            .realm
+            .lent()
+            .await_close_by(rt, &mut token.held, scope, clock)
+        {
+            Ok(()) => self.close_scope(rt, scope),
+            Err(refusal) => Err(refusal),
+        }
+    }
+
+    /// Waits by the clock until `checkpoint` would show a mark, and gives it, as `wait_cancelled` does. None
+    /// at once for main without an open scope. Refused where a tick is.
+    pub fn wait_cancelled_by<R: Wait + SystemTime, K: Clock>(
+        &mut self,
+        rt: &R,
+        clock: &mut K,
+    ) -> Result<Option<Mark>, Refusal>
+        ensures rest { (self.new ≡ record self.old { token = self.new.token; around = self.new.around; opened = self.new.opened }) × SeesMore self.old.token self.new.token × KeepsOthers self.old.around self.new.around self.old.opened.items self.new.opened.items }
+        ensures answer { MatchResult result (λ _. Waited K.reads self.old.token clock.old self.new.token clock.new) (Stopped K.reads self.old.token self.new.token clock.old clock.new) }
+        ensures shows { Shows (seat_here self.old.around self.old.opened.items) (seat_here self.new.around self.new.opened.items) (shown_in result) }
+        ensures of { IfSome (shown_in result) (λ mark. scope_here self.old.around self.old.opened.items ≡ Some mark.scope) }
+        ensures waits { IsSome (seat_here self.old.around self.old.opened.items) → IfOk result IsSome }
+    {
+        self.await_mark_by(rt, clock, None)
+    }
+
+    /// Sleeps until the moment, in milliseconds, or until `checkpoint` would show a mark, and gives that
+    /// (Trio, `sleep_until`, which a cancel ends). Where both have come it gives the mark, and a deadline
+    /// that comes at the moment comes first. Refused where a tick is.
+    pub fn sleep_by<R: Wait + SystemTime, K: Clock>(
+        &mut self,
+        rt: &R,
+        clock: &mut K,
+        until: u64,
+    ) -> Result<Option<Mark>, Refusal>
+        ensures rest { (self.new ≡ record self.old { token = self.new.token; around = self.new.around; opened = self.new.opened }) × SeesMore self.old.token self.new.token × KeepsOthers self.old.around self.new.around self.old.opened.items self.new.opened.items }
+        ensures answer { MatchResult result (λ _. Waited K.reads self.old.token clock.old self.new.token clock.new) (Stopped K.reads self.old.token self.new.token clock.old clock.new) }
+        ensures shows { Shows (seat_here self.old.around self.old.opened.items) (seat_here self.new.around self.new.opened.items) (shown_in result) }
+        ensures of { IfSome (shown_in result) (λ mark. scope_here self.old.around self.old.opened.items ≡ Some mark.scope) }
+        ensures slept { result ≡ Ok None → HasPassed (Some until) (K.reading clock.new) }
+    {
+        self.await_mark_by(rt, clock, Some(until))
+    }
+
+    /// Waits until the mark is there, or until the moment, if one is given; where there is neither a seat
+    /// nor a moment, it doesn't.
+    fn await_mark_by<R: Wait + SystemTime, K: Clock>(
+        &mut self,
+        rt: &R,
+        clock: &mut K,
+        until: Option<u64>,
+    ) -> Result<Option<Mark>, Refusal>
+        ensures rest { (self.new ≡ record self.old { token = self.new.token; around = self.new.around; opened = self.new.opened }) × SeesMore self.old.token self.new.token × KeepsOthers self.old.around self.new.around self.old.opened.items self.new.opened.items }
+        ensures answer { MatchResult result (λ _. Waited K.reads self.old.token clock.old self.new.token clock.new) (Stopped K.reads self.old.token self.new.token clock.old clock.new) }
+        ensures shows { Shows (seat_here self.old.around self.old.opened.items) (seat_here self.new.around self.new.opened.items) (shown_in result) }
+        ensures of { IfSome (shown_in result) (λ mark. scope_here self.old.around self.old.opened.items ≡ Some mark.scope) }
+        ensures slept { result ≡ Ok None → IsSome (seat_here self.old.around self.old.opened.items) ⊎ IsSome until → HasPassed until (K.reading clock.new) }
+    {
+        let realm = self.realm.lent();
+        let token = &mut self.token;
+        match self.opened.pop() {
+            Some(open) => {
+                let OpenScope { scope, mut marker } = open;
+                let shown = marker.wait_by(rt, realm, &mut token.held, clock, until);
+                self.opened.push_reserved(OpenScope { scope, marker });
+                shown
+            }
+            None => wait_around_by(rt, realm, &mut token.held, &mut self.around, clock, until),
+        }
+    }
+}
+
+/// What is waited for where the context has no open scope: the mark of the scope around, or the moment, or
+/// both, whichever there are.
+fn wait_around_by<C: Catalog, N: RealmName, R: Wait + SystemTime, K: Clock>(
+    rt: &R,
+    realm: &Realm<C, N>,
+    token: &mut ActorToken,
+    around: &mut Option<Marker>,
+    clock: &mut K,
+    until: Option<u64>,
+) -> Result<Option<Mark>, Refusal>
+    requires named { token.old.table ≡ N.table }
+    ensures token { SeesMore token.old token.new }
+    ensures answer { MatchResult result (λ _. Waited K.reads token.old clock.old token.new clock.new) (Stopped K.reads token.old token.new clock.old clock.new) }
+    ensures shows { Shows around.old around.new (shown_in result) }
+    ensures of { IfSome (shown_in result) (λ mark. scope_here around.old [] ≡ Some mark.scope) }
+    ensures slept { result ≡ Ok None → IsSome around.old ⊎ IsSome until → HasPassed until (K.reading clock.new) }
+{
+    match around {
+        Some(marker) => marker.wait_by(rt, realm, token, clock, until),
+        None => match until {
+            Some(until) => match realm.sleep_by(rt, token, clock, until) {
+                Ok(()) => Ok(None),
+                Err(refusal) => Err(refusal),
+            },
+            None => Ok(None),
+        },
+    }
+}

@@ -1,0 +1,24 @@
+use Rattle.std.proofs.Common.{Result, refl, sym, subst}
+use Rattle.std.specs.Prelude.{MatchResult}
+use Rattle.scope_rules.specs.declared.types.refusals.Refusal.{Refusal}
+use Rattle.realm_steps.specs.declared.steps.Ask.TheVariants.{Tick}
+use Rattle.realm_steps.specs.declared.steps.RealmStep.TheVariants.{Asked}
+use Rattle.realm_steps.specs.Steps.{history_of}
+use Rattle.realm_core.specs.Cores.{CoreValue}
+use Rattle.scope_checks.specs.Telling.{records}
+use Rattle.realm_lock.specs.Waits.{HasCome, Ticks, TickRefused}
+use Rattle.realm_lock.proofs.Behind.{behind_stepped}
+use Rattle.realm_lock.proofs.Waits.{tick_done}
+use Rattle.realm_lock.proofs.marked.MarkedCore.tick_due.Goals as goal
+
+pub catch_up-requires : goal.catch_up-requires
+catch_up-requires g c =
+    behind_stepped c.self.inside.core c.perform-result.new.self (Asked c.args.token.now.actor (Tick c.args.now)) (records c.perform-result.result) c.self.inside.setters c.limits-legal.ensures.legal refl c.perform-result.ensures.steps.1 c.self.invariant
+
+pub returns-clause-ticked : goal.returns-clause-ticked
+returns-clause-ticked g c =
+    let old = c.args.token.now in
+    let new = c.perform-result.new.share in
+    let due = subst (λ (k : CoreValue). HasCome (history_of k.steps) c.args.now) (sym c.self.view_is) c.requires.due in
+    subst (λ (r : Result (Unit {0}) Refusal). MatchResult r (λ _. Ticks old new c.args.now) (TickRefused old new c.args.now)) (sym c.told_done.ensures)
+    (tick_done c.self.inside.core c.perform-result.new.self old new c.args.now c.perform-result.result due c.perform-result.ensures.steps c.perform-result.ensures.answer)

@@ -1,0 +1,219 @@
+ghost use Rattle.std.specs.Prelude.{◌≡◌, ◌≤◌, ◌⊎◌, ℕ, None, Some, Ok, Err, IfOk, IfErr, MatchOption, MatchResult};
+ghost use Rattle.std.specs.List.{All};
+ghost use Rattle.once_cell.specs.Once.{Agrees};
+ghost use Rattle.cancel_marks.specs.Marked.{said_by};
+ghost use Rattle.scope_rules.specs.declared.types.refusals.Refusal.TheVariants.{NotReady};
+ghost use Rattle.share_ledger.specs.Values.{TicketValue};
+ghost use Rattle.kept_realm.specs.Fits.{Fitting};
+ghost use Rattle.realm_core.specs.Calls.{SeesMore, history_seen};
+ghost use Rattle.realm_close.specs.Waiting.{FoundUnsettled, IsOpenOf};
+ghost use Rattle.realm_close.specs.Closes.{ClosesBare, ClosesWith, IsBegun, StaysOpen};
+ghost use Rattle.realm_lock.specs.Waits.{ClosesAfter, HasPassed, JoinsBy, StaysUnclosed, Stopped, StopsClosing, Waited, WaitsToClose, shown_in};
+
+use crate::realm::Realm;
+use cancel_marks::{Mark, MarkCell, Seat};
+use named_jobs::Clock;
+use realm_close::CloseReport;
+use realm_core::{Joined, RealmName};
+use scope_rules::{Catalog, Refusal, ScopeId, Verdict};
+use share_ledger::{OwnerShare, Ticket};
+use std::rt::Clock as SystemTime;
+use std::sync::Wait;
+
+/// The waits by a clock (Trio, whose run loop wakes at the next deadline): each does what the wait of the
+/// same name does, and passes the realm's time meanwhile, so that deadlines pass while all wait. It sleeps
+/// until it is woken or a deadline has come, whoever's it is; then it ticks to what its clock reads, in a
+/// hold that does nothing else. So it ticks at most once for each deadline, however many wait. A tick that
+/// is refused, as where the load is used up (`TooMany`), is the wait's answer, and what it waited for
+/// hasn't been done. The clock is read without the lock. That a wait wakes in time is not promised.
+impl<C: Catalog, N: RealmName> Realm<C, N> {
+    /// Joins the actor's scope as `join` does.
+    pub fn join_by<R: Wait + SystemTime, K: Clock>(
+        &self,
+        rt: &R,
+        token: &mut OwnerShare,
+        scope: ScopeId,
+        clock: &mut K,
+    ) -> Result<Joined, Refusal>
+        requires named { token.old.table ≡ N.table }
+        ensures token { SeesMore token.old token.new }
+        ensures answer { JoinsBy K.reads token.old token.new clock.old clock.new scope result }
+        ensures fitting { Fitting C.fitting (history_seen token.new) }
+        ensures waited { result ≡ Err NotReady → ⊥ }
+    {
+        for _ in rt.forever() {
+            let now = clock.now();
+            let mut locked = self.room.locked.lock(rt);
+            match locked.join(token, scope) {
+                Err(Refusal::NotReady) => {
+                    if let Err(refusal) = self.pass_time(rt, locked, token, now, None) {
+                        return Err(refusal);
+                    }
+                }
+                Err(refusal) => {
+                    return Err(refusal);
+                }
+                Ok(joined) => {
+                    return Ok(joined);
+                }
+            }
+        }
+        unreachable!()
+    }
+
+    /// Closes the actor's scope as `close_bare` does. Where a tick is refused, the scope is closing, and
+    /// `close_bare` closes it, which takes no load.
+    pub fn close_bare_by<R: Wait + SystemTime, K: Clock>(
+        &self,
+        rt: &R,
+        token: &mut OwnerShare,
+        scope: ScopeId,
+        clock: &mut K,
+    ) -> Result<Verdict, Refusal>
+        requires named { token.old.table ≡ N.table }
+        ensures seen { SeesMore token.old token.new × Fitting C.fitting (history_seen token.new) }
+        ensures closed { IfOk result (λ how. ClosesAfter K.reads token.old clock.old clock.new scope (λ there. ClosesBare there token.new scope (Ok how))) }
+        ensures refused { IfErr result (StaysUnclosed K.reads token.old token.new clock.old clock.new scope) }
+        ensures sure { IsOpenOf (history_seen token.old) token.old.actor scope → IfErr result (StopsClosing K.reads token.old token.new clock.old clock.new scope) }
+    {
+        match self.await_close_by(rt, token, scope, clock) {
+            Ok(()) => match self.close_bare(rt, token, scope) {
+                Ok(verdict) => Ok(verdict),
+                Err(_) => unreachable!(),
+            },
+            Err(refusal) => Err(refusal),
+        }
+    }
+
+    /// The same with a report, as `close` gives it. Each refusal hands the tickets back.
+    pub fn close_by<R: Wait + SystemTime, K: Clock>(
+        &self,
+        rt: &R,
+        token: &mut OwnerShare,
+        scope: ScopeId,
+        tickets: Vec<Ticket>,
+        clock: &mut K,
+    ) -> Result<CloseReport, (Refusal, Vec<Ticket>)>
+        requires named { token.old.table ≡ N.table }
+        requires tickets { All (λ (t : TicketValue). t.table ≡ N.table) tickets.items }
+        ensures seen { SeesMore token.old token.new × Fitting C.fitting (history_seen token.new) }
+        ensures closed { IfOk result (λ report. ClosesAfter K.reads token.old clock.old clock.new scope (λ there. ClosesWith there token.new scope tickets.items report)) }
+        ensures refused { IfErr result (λ back. (StaysUnclosed K.reads token.old token.new clock.old clock.new scope back.0 × (back.1.items ≡ tickets.items)) ⊎ ClosesAfter K.reads token.old clock.old clock.new scope (λ there. StaysOpen there token.new scope tickets.items back.1.items back.0)) }
+    {
+        match self.await_close_by(rt, token, scope, clock) {
+            Ok(()) => self.close(rt, token, scope, tickets),
+            Err(refusal) => Err((refusal, tickets)),
+        }
+    }
+
+    /// Begins to close the actor's scope, if need be, as `begin_close` does, and waits until the close can
+    /// end: until no task waits or runs of the scope, and of what its owner opened later. Then `close` and
+    /// `close_bare` need not wait. Refused as a close is before it begins, and where a tick is.
+    pub fn await_close_by<R: Wait + SystemTime, K: Clock>(
+        &self,
+        rt: &R,
+        token: &mut OwnerShare,
+        scope: ScopeId,
+        clock: &mut K,
+    ) -> Result<(), Refusal>
+        requires named { token.old.table ≡ N.table }
+        ensures seen { SeesMore token.old token.new × Fitting C.fitting (history_seen token.new) }
+        ensures answer { MatchResult result (λ _. WaitsToClose K.reads token.old token.new clock.old clock.new scope) (StaysUnclosed K.reads token.old token.new clock.old clock.new scope) }
+        ensures settled { IfOk result (λ _. IsBegun (history_seen token.new) token.old.actor scope × FoundUnsettled (history_seen token.new) scope None) }
+        ensures sure { IsOpenOf (history_seen token.old) token.old.actor scope → IfErr result (StopsClosing K.reads token.old token.new clock.old clock.new scope) }
+    {
+        match self.begin_closing(rt, token, scope) {
+            Ok(_) => self.await_ends_by(rt, token, scope, clock),
+            Err(refusal) => Err(refusal),
+        }
+    }
+
+    /// Waits until the close that has begun can end.
+    fn await_ends_by<R: Wait + SystemTime, K: Clock>(
+        &self,
+        rt: &R,
+        token: &mut OwnerShare,
+        scope: ScopeId,
+        clock: &mut K,
+    ) -> Result<(), Refusal>
+        requires named { token.old.table ≡ N.table }
+        requires begun { IsBegun (history_seen token.old) token.old.actor scope }
+        ensures seen { SeesMore token.old token.new × Fitting C.fitting (history_seen token.new) }
+        ensures answer { MatchResult result (λ _. Waited K.reads token.old clock.old token.new clock.new) (Stopped K.reads token.old token.new clock.old clock.new) }
+        ensures begun { IsBegun (history_seen token.new) token.old.actor scope }
+        ensures settled { IfOk result (λ _. FoundUnsettled (history_seen token.new) scope None) }
+    {
+        for _ in rt.forever() {
+            let now = clock.now();
+            let mut locked = self.room.locked.lock(rt);
+            if locked.is_settled(token, scope) {
+                return Ok(());
+            }
+            if let Err(refusal) = self.pass_time(rt, locked, token, now, None) {
+                return Err(refusal);
+            }
+        }
+        unreachable!()
+    }
+
+    /// Waits until the cell of a scope of this realm is set, as `wait_marked` does, and gives the mark; or
+    /// until the moment `until`, in milliseconds, and gives none (Trio, `sleep_until`). Where both have
+    /// come it gives the mark; a deadline that has come by `until` is passed first.
+    pub fn wait_marked_by<R: Wait + SystemTime, K: Clock>(
+        &self,
+        rt: &R,
+        token: &mut OwnerShare,
+        cell: &MarkCell,
+        seat: &mut Seat,
+        clock: &mut K,
+        until: Option<u64>,
+    ) -> Result<Option<Mark>, Refusal>
+        requires named { token.old.table ≡ N.table }
+        requires seat { seat.old.cell ≡ cell.now }
+        ensures token { SeesMore token.old token.new }
+        ensures answer { MatchResult result (λ _. Waited K.reads token.old clock.old token.new clock.new) (Stopped K.reads token.old token.new clock.old clock.new) }
+        ensures cell { seat.new.cell ≡ cell.now }
+        ensures mark { MatchOption (shown_in result) ((seat.old.known ≡ None) × (seat.new.known ≡ None)) (λ mark. (mark.seat ≡ seat.new) × (seat.new.known ≡ Some (said_by mark)) × Agrees seat.old.known (said_by mark)) }
+        ensures slept { result ≡ Ok None → HasPassed until (K.reading clock.new) }
+    {
+        for _ in rt.forever() {
+            let now = clock.now();
+            let locked = self.room.locked.lock(rt);
+            match cell.checkpoint(seat) {
+                Some(mark) => return Ok(Some(mark)),
+                None => match self.pass_time(rt, locked, token, now, until) {
+                    Ok(true) => return Ok(None),
+                    Ok(false) => {}
+                    Err(refusal) => return Err(refusal),
+                },
+            }
+        }
+        unreachable!()
+    }
+
+    /// Sleeps until the moment, in milliseconds (Trio, `sleep_until`). A deadline that has come by then is
+    /// passed first.
+    pub fn sleep_by<R: Wait + SystemTime, K: Clock>(
+        &self,
+        rt: &R,
+        token: &mut OwnerShare,
+        clock: &mut K,
+        until: u64,
+    ) -> Result<(), Refusal>
+        requires named { token.old.table ≡ N.table }
+        ensures token { SeesMore token.old token.new }
+        ensures answer { MatchResult result (λ _. Waited K.reads token.old clock.old token.new clock.new) (Stopped K.reads token.old token.new clock.old clock.new) }
+        ensures slept { IfOk result (λ _. HasPassed (Some until) (K.reading clock.new)) }
+    {
+        for _ in rt.forever() {
+            let now = clock.now();
+            let locked = self.room.locked.lock(rt);
+            match self.pass_time(rt, locked, token, now, Some(until)) {
+                Ok(true) => return Ok(()),
+                Ok(false) => {}
+                Err(refusal) => return Err(refusal),
+            }
+        }
+        unreachable!()
+    }
+}

@@ -1,6 +1,0 @@
--- The token stays.
-use Rattle.std.proofs.Common.{◌≡◌}
-use Rattle.runner_tests.proofs.jobs.deeds.look.Given as goal
-
-abbrev pub invariant-loop : goal.invariant-loop
-invariant-loop g l = l.ctx.token ≡ l.fn.ctx.token
