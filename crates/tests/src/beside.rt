@@ -1,9 +1,10 @@
 //! The book and the plain evaluator, which are told the same lines and have to answer every question
-//! alike; the logs of both tell the same, and so do their dumps.
+//! alike; the logs of both tell the same, and so do their dumps. The script of the book's history, told to a
+//! fresh book, gives just that history.
 
 use crate::plain::reply_of;
 use crate::scripts::{CLOSES, JOINS, LIMITED, REFUSALS};
-use crate::{dumps, logs};
+use crate::{dumps, journals, logs};
 use scope_book::BookState;
 use scope_model::Plain;
 use scope_rules::{AnyEnd, Event, Limits, Name, ScopeId};
@@ -133,7 +134,7 @@ impl Both {
         for line in script.split(" / ") {
             self.line(rt, line)?;
         }
-        Ok(())
+        journals::compare(rt, &self.book, script)
     }
 }
 

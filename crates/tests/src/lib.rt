@@ -12,6 +12,8 @@ mod dumps;
 #[cfg(test)]
 mod engine;
 #[cfg(test)]
+mod journals;
+#[cfg(test)]
 mod logs;
 #[cfg(test)]
 mod plain;

@@ -1,0 +1,19 @@
+//! Bounds under one name.
+
+use job_runner::{Answers, JobWork};
+use realm_lock::RealmName;
+use scope_rules::Catalog;
+use std::rt::Clock as SystemTime;
+use std::sync::Wait;
+use thread_crew::Spawns;
+
+/// A spawner of the threads of a realm that is named `N`, onto which jobs of type `J` can be forked. All
+/// spawners of their works are such.
+pub trait Forks<C: Catalog, N: RealmName, J: Answers>: Spawns<N, JobWork<C, N, J>> {}
+
+impl<C: Catalog, N: RealmName, J: Answers, S: Spawns<N, JobWork<C, N, J>>> Forks<C, N, J> for S {}
+
+/// A runtime by which one waits and sleeps, and that a job can have as its own handle: a `HostRuntime` is one.
+pub trait Handle: Wait + SystemTime + Copy {}
+
+impl<R: Wait + SystemTime + Copy> Handle for R {}

@@ -1,0 +1,33 @@
+//! A fork that `?` passes through.
+ghost use Rattle.std.specs.Prelude.{◌≡◌, IfOk};
+ghost use Rattle.realm_core.specs.Calls.{SeesMore};
+ghost use Rattle.job_runner.specs.Forks.{KeepsThread};
+ghost use Rattle.job_slots.specs.Slots.{ForksUnder};
+
+use crate::aliases::Forks;
+use job_runner::{Answers, NamedJob, TaskCtx};
+use realm_lock::RealmName;
+use scope_rules::{AnyEnd, ForkReply, Label, Name, Refusal, ScopeId};
+use std::sync::Wait;
+
+/// Forks the job under the name in the actor's scope, as `TaskCtx::fork_job` does (JEP 505, `fork`).
+///
+/// # Errors
+/// Those of `TaskCtx::fork_job`, by their refusal; the job is let go, uncalled.
+pub fn fork<J: Answers + Drop, S: Forks<AnyEnd, N, J>, N: RealmName, R: Wait>(
+    rt: &R,
+    ctx: &mut TaskCtx<AnyEnd, S, N>,
+    scope: ScopeId,
+    name: Name,
+    job: J,
+) -> Result<ForkReply, Refusal>
+    ensures rest { (ctx.new ≡ record ctx.old { token = ctx.new.token; spawner = ctx.new.spawner; team = ctx.new.team }) × SeesMore ctx.old.token ctx.new.token }
+    ensures answer { ForksUnder ctx.old.token ctx.new.token scope name result }
+    ensures kept { IfOk result (λ reply. KeepsThread scope reply ctx.old.team ctx.new.team) }
+{
+    let label = Label { name, due: None };
+    match ctx.fork_job(rt, scope, NamedJob::new(label, job)) {
+        Ok(reply) => Ok(reply),
+        Err((why, _job)) => Err(why.refusal()),
+    }
+}

@@ -1,0 +1,171 @@
+//! A scope that can't be forgotten.
+ghost use Rattle.std.specs.Prelude.{◌≡◌, ◌⊎◌, Err, IfErr, IfOk, IsOk, MatchResult};
+ghost use Rattle.scope_rules.specs.declared.types.refusals.Refusal.TheVariants.{Memory, NotReady};
+ghost use Rattle.scope_rules.specs.Replies.{next_scope};
+ghost use Rattle.join_rules.specs.Joiners.{policy_of};
+ghost use Rattle.kept_realm.specs.Fits.{Fitting};
+ghost use Rattle.realm_core.specs.Calls.{SeesMore, history_seen};
+ghost use Rattle.realm_core.specs.Views.{Joins};
+ghost use Rattle.realm_close.specs.Closes.{ClosesBare};
+ghost use Rattle.realm_close.specs.Waiting.{IsOpenOf};
+ghost use Rattle.realm_lock.specs.Waits.{JoinsBy};
+ghost use Rattle.thread_crew.specs.Teams.{AreJoined};
+ghost use Rattle.job_runner.specs.Forks.{ForksJob, KeepsThread, why_alone};
+ghost use Rattle.job_runner.specs.Lists.{ListsBelow, ListsOne};
+ghost use Rattle.job_runner.specs.Reports.{ClosesHere, StaysHere};
+ghost use Rattle.job_runner.specs.Rooms.{DoesInRoom};
+
+use crate::aliases::Forks;
+use job_runner::{Answers, Clock, ForkRefusal, NamedJob, TaskCtx};
+use join_rules::Joiner;
+use realm_lock::{CloseReport, Joined, RealmName};
+use realm_steps::RealmStep;
+use scope_rules::{Catalog, Event, ForkReply, Options, Refusal, ScopeId, Verdict};
+use std::marker::Model;
+use std::rt::Clock as SystemTime;
+use std::sync::Wait;
+use thread_crew::Spawner;
+
+/// A scope that was opened and is still to be closed (JEP 505 has the block of a `try` in its place, Trio
+/// that of a nursery). It can't be let go: where it would be, by a forgotten `close` or by a `?` before it,
+/// the program doesn't compile. Pass it to `close` or `report`, in the context in which it was opened:
+/// another refuses it.
+pub struct Opened {
+    scope: ScopeId,
+}
+
+impl Model for Opened {
+    ghost use Rattle.std.specs.Prelude.{ℕ};
+
+    ghost Value = { ℕ };
+
+    ghost view = { λ o. o.scope };
+}
+
+impl Opened {
+    /// Opens a scope for the context's actor, as `TaskCtx::open` does (JEP 505, `open`).
+    ///
+    /// # Errors
+    /// Those of `TaskCtx::open`; the joiner is then let go.
+    pub fn at<C: Catalog, S: Spawner<N>, N: RealmName, R: Wait>(
+        rt: &R,
+        ctx: &mut TaskCtx<C, S, N>,
+        joiner: Joiner,
+        options: Options,
+    ) -> Result<Opened, Refusal>
+        ensures rest { (ctx.new ≡ record ctx.old { token = ctx.new.token; opened = ctx.new.opened }) × SeesMore ctx.old.token ctx.new.token }
+        ensures answer { DoesInRoom ctx.old.token ctx.new.token (RealmStep.Happened (Event.Open ctx.old.token.actor (policy_of joiner) options)) next_scope result }
+        ensures listed { MatchResult result (λ scope. ListsOne scope ctx.old.opened.items ctx.new.opened.items) (λ _. ctx.new.opened.items ≡ ctx.old.opened.items) }
+    {
+        match ctx.open(rt, joiner, options) {
+            Ok(scope) => Ok(Opened { scope }),
+            Err((refusal, _joiner)) => Err(refusal),
+        }
+    }
+
+    /// The scope's number, by which all can ask for it.
+    pub fn number(&self) -> ScopeId
+        ensures { result ≡ self.now }
+    {
+        self.scope
+    }
+
+    /// Forks the job in the scope, as `TaskCtx::fork_job` does (JEP 505, `fork`).
+    ///
+    /// # Errors
+    /// Those of `TaskCtx::fork_job`; the job is then handed back.
+    pub fn fork<C: Catalog, J: Answers + Drop, S: Forks<C, N, J>, N: RealmName, R: Wait>(
+        &self,
+        rt: &R,
+        ctx: &mut TaskCtx<C, S, N>,
+        job: NamedJob<C, J>,
+    ) -> Result<ForkReply, (ForkRefusal, NamedJob<C, J>)>
+        ensures rest { (ctx.new ≡ record ctx.old { token = ctx.new.token; spawner = ctx.new.spawner; team = ctx.new.team }) × SeesMore ctx.old.token ctx.new.token }
+        ensures answer { ForksJob ctx.old.token ctx.new.token self.now job.label (why_alone result) }
+        ensures handed_back { IfErr result (λ e. e.1 ≡ job) }
+        ensures kept { IfOk result (λ reply. KeepsThread self.now reply ctx.old.team ctx.new.team) }
+    {
+        ctx.fork_job(rt, self.scope, job)
+    }
+
+    /// Joins the scope, as `TaskCtx::join` does (JEP 505, `join`). That it returns is not promised.
+    ///
+    /// # Errors
+    /// Those of `TaskCtx::join`.
+    pub fn join<C: Catalog, S: Spawner<N>, N: RealmName, R: Wait>(
+        &self,
+        rt: &R,
+        ctx: &mut TaskCtx<C, S, N>,
+    ) -> Result<Joined, Refusal>
+        ensures answer { (ctx.new ≡ record ctx.old { token = ctx.new.token }) × Joins ctx.old.token ctx.new.token self.now result }
+        ensures fitting { Fitting C.fitting (history_seen ctx.new.token) }
+        ensures waited { result ≡ Err NotReady → ⊥ }
+    {
+        ctx.join(rt, self.scope)
+    }
+
+    /// Joins the scope by the clock, as `TaskCtx::join_by` does: deadlines pass while it waits (Trio).
+    ///
+    /// # Errors
+    /// Those of `TaskCtx::join_by`.
+    pub fn join_by<C: Catalog, S: Spawner<N>, N: RealmName, R: Wait + SystemTime, K: Clock>(
+        &self,
+        rt: &R,
+        ctx: &mut TaskCtx<C, S, N>,
+        clock: &mut K,
+    ) -> Result<Joined, Refusal>
+        ensures rest { (ctx.new ≡ record ctx.old { token = ctx.new.token }) × SeesMore ctx.old.token ctx.new.token }
+        ensures answer { JoinsBy K.reads ctx.old.token ctx.new.token clock.old clock.new self.now result }
+        ensures fitting { Fitting C.fitting (history_seen ctx.new.token) }
+        ensures waited { result ≡ Err NotReady → ⊥ }
+    {
+        ctx.join_by(rt, self.scope, clock)
+    }
+
+    /// Closes the scope, and all that its actor opened later and has not closed, and says how it was
+    /// closed, as `TaskCtx::close_scope_bare` does (JEP 505, `close`). That it returns is not promised.
+    ///
+    /// # Errors
+    /// Those of `TaskCtx::close_scope_bare`: never for a scope that the token shows as its actor's and not
+    /// closed. So it is refused for one that was closed by its number, or by the close of a scope around
+    /// it, and in a context of another actor. The guard is then gone.
+    pub fn close<C: Catalog, S: Spawner<N>, N: RealmName, R: Wait>(
+        self,
+        rt: &R,
+        ctx: &mut TaskCtx<C, S, N>,
+    ) -> Result<Verdict, Refusal>
+        ensures rest { (ctx.new ≡ record ctx.old { token = ctx.new.token; spawner = ctx.new.spawner; opened = ctx.new.opened; team = ctx.new.team }) × SeesMore ctx.old.token ctx.new.token }
+        ensures answer { ClosesBare ctx.old.token ctx.new.token self result }
+        ensures sure { IsOpenOf (history_seen ctx.old.token) ctx.old.token.actor self → IsOk result }
+        ensures left { MatchResult result (λ _. AreJoined self ctx.new.team × ListsBelow self ctx.old.opened.items ctx.new.opened.items) (λ _. (ctx.new.team ≡ ctx.old.team) × (ctx.new.opened ≡ ctx.old.opened)) }
+    {
+        let Opened { scope } = self;
+        ctx.close_scope_bare(rt, scope)
+    }
+
+    /// Closes the scope as `close` does, with a report of it and of what was closed inside it, as
+    /// `TaskCtx::close_scope` gives it (JEP 505, `close`).
+    ///
+    /// # Errors
+    /// Those of `TaskCtx::close_scope`, with the guard handed back: `close` closes without a report where
+    /// memory is refused for one.
+    pub fn report<C: Catalog, S: Spawner<N>, N: RealmName, R: Wait>(
+        self,
+        rt: &R,
+        ctx: &mut TaskCtx<C, S, N>,
+    ) -> Result<CloseReport, (Refusal, Opened)>
+        ensures rest { (ctx.new ≡ record ctx.old { token = ctx.new.token; spawner = ctx.new.spawner; opened = ctx.new.opened; team = ctx.new.team }) × SeesMore ctx.old.token ctx.new.token }
+        ensures answer { MatchResult result (λ report. ClosesHere ctx.old.token ctx.new.token self ctx.old.team report) (λ back. StaysHere ctx.old.token ctx.new.token self ctx.old.team ctx.new.team back.0) }
+        ensures left { MatchResult result (λ _. AreJoined self ctx.new.team × ListsBelow self ctx.old.opened.items ctx.new.opened.items) (λ _. ctx.new.opened ≡ ctx.old.opened) }
+        ensures sure { IsOpenOf (history_seen ctx.old.token) ctx.old.token.actor self → IfErr result (λ back. (back.0 ≡ NotReady) ⊎ (back.0 ≡ Memory)) }
+        ensures handed_back { IfErr result (λ back. back.1 ≡ self) }
+    {
+        match ctx.close_scope(rt, self.scope) {
+            Ok(report) => {
+                let Opened { scope: _ } = self;
+                Ok(report)
+            }
+            Err(refusal) => Err((refusal, self)),
+        }
+    }
+}

@@ -1,0 +1,35 @@
+//! Jobs with a handle of their own.
+
+use job_runner::{Answers, Job, TaskCtx};
+use realm_lock::RealmName;
+use scope_rules::{Catalog, End};
+use std::sync::Wait;
+use thread_crew::Spawner;
+
+/// A job with a handle, which it reads, writes, sleeps and looks at the clock by: the runtime that a job is
+/// handed waits, and does nothing else.
+#[derive(Drop)]
+pub struct By<K, J> {
+    /// The handle, as main's `HostRuntime`.
+    pub io: K,
+    pub job: J,
+}
+
+/// What does its work by a handle of this type.
+pub trait JobBy<K, C: Catalog, S: Spawner<N>, N: RealmName>: Answers {
+    /// Does the job, as `Job::run` does, by the handle.
+    fn run_by<R: Wait>(self, rt: &R, io: &K, ctx: &mut TaskCtx<C, S, N>) -> End
+        ensures { Self.may_end self result };
+}
+
+impl<K, J: Answers> Answers for By<K, J> {
+    ghost may_end = { λ by end. J.may_end by.job end };
+}
+
+impl<K: Drop, C: Catalog, S: Spawner<N>, N: RealmName, J: JobBy<K, C, S, N>> Job<C, S, N>
+    for By<K, J> {
+    fn run<R: Wait>(self, rt: &R, ctx: &mut TaskCtx<C, S, N>) -> End {
+        let By { io, job } = self;
+        job.run_by(rt, &io, ctx)
+    }
+}

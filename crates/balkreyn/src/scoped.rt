@@ -1,0 +1,96 @@
+//! A body that runs in a scope of its own.
+ghost use Rattle.join_rules.specs.Joiners.{policy_of};
+ghost use Rattle.balkreyn.specs.Bodies.{Closes, Opens, RunsWithin};
+
+use job_runner::TaskCtx;
+use join_rules::Joiner;
+use realm_lock::RealmName;
+use scope_rules::{Catalog, Options, Refusal, ScopeId, Verdict};
+use std::sync::Wait;
+use thread_crew::Spawner;
+
+/// Where scopes are opened and closed by an actor's token: a context, of whatever jobs and threads. It
+/// stands between `within` and `TaskCtx`, so that a body is a closure over any context.
+pub trait Scopes {
+    ghost use Rattle.std.specs.Prelude.{ℕ, Result};
+    ghost use Rattle.scope_rules.specs.declared.types.answers.Verdict.{Verdict};
+    ghost use Rattle.scope_rules.specs.declared.types.refusals.Refusal.{Refusal};
+    ghost use Rattle.join_rules.specs.Joiners.{policy_of};
+    ghost use Rattle.share_ledger.specs.Values.{OwnerValue};
+    ghost use Rattle.balkreyn.specs.Bodies.{Closes, Opens};
+
+    /// The actor's token.
+    ghost token: { Self → OwnerValue };
+
+    /// What an open that is answered so leaves of the rest of the context.
+    ghost left_by_open: { Self → Self → Result ℕ Refusal → Type 0 };
+
+    /// What a close of this scope that is answered so leaves of the rest of the context.
+    ghost left_by_close: { Self → Self → ℕ → Result Verdict Refusal → Type 0 };
+
+    /// Opens a scope, as `TaskCtx::open` does; a refused joiner is let go.
+    fn open_scope<R: Wait>(
+        &mut self,
+        rt: &R,
+        joiner: Joiner,
+        options: Options,
+    ) -> Result<ScopeId, Refusal>
+        ensures { Opens Self.token Self.left_by_open (policy_of joiner) options self.old self.new result };
+
+    /// Closes the scope, as `TaskCtx::close_scope_bare` does.
+    fn close_opened<R: Wait>(&mut self, rt: &R, scope: ScopeId) -> Result<Verdict, Refusal>
+        ensures { Closes Self.token Self.left_by_close self.old self.new scope result };
+}
+
+impl<C: Catalog, S: Spawner<N>, N: RealmName> Scopes for TaskCtx<C, S, N> {
+    ghost use Rattle.std.specs.Prelude.{◌≡◌, MatchResult};
+    ghost use Rattle.thread_crew.specs.Teams.{AreJoined};
+    ghost use Rattle.job_runner.specs.Lists.{ListsBelow, ListsOne};
+
+    ghost token = { λ ctx. ctx.token };
+
+    ghost left_by_open = { λ old new result. (new ≡ record old { token = new.token; opened = new.opened }) × MatchResult result (λ scope. ListsOne scope old.opened.items new.opened.items) (λ _. new.opened.items ≡ old.opened.items) };
+
+    ghost left_by_close = { λ old new scope result. (new ≡ record old { token = new.token; spawner = new.spawner; opened = new.opened; team = new.team }) × MatchResult result (λ _. AreJoined scope new.team × ListsBelow scope old.opened.items new.opened.items) (λ _. (new.team ≡ old.team) × (new.opened ≡ old.opened)) };
+
+    fn open_scope<R: Wait>(
+        &mut self,
+        rt: &R,
+        joiner: Joiner,
+        options: Options,
+    ) -> Result<ScopeId, Refusal> {
+        match self.open(rt, joiner, options) {
+            Ok(scope) => Ok(scope),
+            Err((refusal, _joiner)) => Err(refusal),
+        }
+    }
+
+    fn close_opened<R: Wait>(&mut self, rt: &R, scope: ScopeId) -> Result<Verdict, Refusal> {
+        self.close_scope_bare(rt, scope)
+    }
+}
+
+/// Runs the body in a scope that it opens for it, and closes the scope on each way out, whatever the body
+/// answered: a `?` in the body leaves no thread of the scope behind (JEP 505 has the block of a `try` in its
+/// place, Trio that of a nursery). What it did is told with the body's own contract in the midst. That it
+/// returns is not promised.
+///
+/// # Errors
+/// Where the open is refused, its refusal, and the body is not called. Else the refusal of the close, if that
+/// is refused: never where the token shows the scope as its actor's and not closed when the body is done.
+/// Else what the body answered.
+pub fn within<X: Scopes, R: Wait, T: Drop, F: FnOnce(&mut X, ScopeId) -> Result<T, Refusal>>(
+    rt: &R,
+    ctx: &mut X,
+    joiner: Joiner,
+    options: Options,
+    body: F,
+) -> Result<T, Refusal>
+    requires { F.IsAlwaysCallable body }
+    ensures { RunsWithin (Opens X.token X.left_by_open (policy_of joiner) options) (Closes X.token X.left_by_close) F.FnOnce body ctx.old ctx.new result }
+{
+    let scope = ctx.open_scope(rt, joiner, options)?;
+    let found = body(ctx, scope);
+    ctx.close_opened(rt, scope)?;
+    found
+}

@@ -1,0 +1,63 @@
+-- The script of a history: the commands that a fresh realm is told to come to it. Scopes and tasks are counted from the
+-- history's base on, as a fresh realm counts them; main stays 0.
+use Rattle.std.specs.Prelude.{ℕ, zero, suc, ◌-◌, List, [], ◌∷◌, ◌++◌, Option, None, Some, codes}
+use Rattle.std.specs.List.{flat_map}
+use Rattle.std.specs.Fmt.{decimal}
+use Rattle.scope_rules.specs.declared.types.events.Binding.{Binding}
+use Rattle.scope_rules.specs.declared.types.events.Event.{Event}
+use Rattle.scope_rules.specs.declared.types.events.Event.TheVariants as event
+use Rattle.scope_rules.specs.History.{History}
+use Rattle.scope_rules.specs.Names.{text_of}
+use Rattle.scope_rules.specs.Origin.{Origin}
+use Rattle.scope_rules.specs.Texts.{value_text}
+use Rattle.scope_log.specs.LogText.{end_line, joiner_text, move_line, options_text}
+
+-- scope s and task k, as they are counted from the base on; an actor is counted as a task, so that main is 0
+abbrev pub scope_since : Origin → ℕ → ℕ
+scope_since base s = s - base.scopes
+
+abbrev pub task_since : Origin → ℕ → ℕ
+task_since base k = k - base.tasks
+
+-- a command of an actor, by its word: `WORD A`, and `WORD A S`
+abbrev pub by_actor : List ℕ → Origin → ℕ → List ℕ
+by_actor word base actor = word ++ codes " " ++ decimal (task_since base actor)
+
+abbrev pub in_scope : List ℕ → Origin → ℕ → ℕ → List ℕ
+in_scope word base actor scope = by_actor word base actor ++ codes " " ++ decimal (scope_since base scope)
+
+-- `K VALUE`
+abbrev pub pair_text : Binding → List ℕ
+pair_text pair = text_of pair.key ++ codes " " ++ value_text pair.value
+
+-- the command of an event
+unfoldable pub event_line : Origin → Event → List ℕ
+event_line base (event.Open actor policy options) = by_actor (codes "open") base actor ++ codes " " ++ joiner_text policy ++ options_text options
+event_line base (event.Fork actor scope label) = in_scope (codes "fork") base actor scope ++ codes " " ++ text_of label.name
+event_line base (event.Reject task) = by_actor (codes "reject") base task
+event_line base (event.Start task) = by_actor (codes "start") base task
+event_line base (event.Finish task end) = end_line (task_since base task) end
+event_line base (event.Cancel scope) = codes "cancel " ++ decimal (scope_since base scope)
+event_line base (event.Move scope deadline) = move_line (scope_since base scope) deadline
+event_line base (event.Tick now) = codes "tick " ++ decimal now
+event_line base (event.Bind actor pair) = by_actor (codes "bind") base actor ++ codes " " ++ pair_text pair
+event_line base (event.Unbind actor) = by_actor (codes "unbind") base actor
+event_line base (event.Join actor scope) = in_scope (codes "join") base actor scope
+event_line base (event.BeginClose actor scope) = in_scope (codes "close") base actor scope
+event_line base (event.EndClose actor scope) = in_scope (codes "closed") base actor scope
+
+-- what the history begins with: the moment, where it is not 0, and main's bindings, each ended by a line feed
+abbrev pub moment_text : ℕ → List ℕ
+moment_text zero = []
+moment_text (suc n) = codes "tick " ++ decimal (suc n) ++ 10 ∷ []
+
+unfoldable pub binds_text : List Binding → List ℕ
+binds_text pairs = flat_map (λ pair. codes "bind 0 " ++ pair_text pair ++ 10 ∷ []) pairs
+
+-- the commands of the events, each ended by a line feed
+unfoldable pub events_text : Origin → List Event → List ℕ
+events_text base events = flat_map (λ e. event_line base e ++ 10 ∷ []) events
+
+-- the script of the history
+abbrev pub script_text : History → List ℕ
+script_text h = moment_text h.base.moment ++ binds_text h.base.binds ++ events_text h.base h.events

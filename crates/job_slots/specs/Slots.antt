@@ -1,0 +1,64 @@
+-- Results of a caller's own type: what is promised of one, and what a slot gives up.
+use Rattle.std.specs.Prelude.{◌≡◌, ℕ, None, Result, Ok, Err}
+use Rattle.scope_rules.specs.declared.types.answers.ForkReply.{ForkReply}
+use Rattle.scope_rules.specs.declared.types.answers.ForkReply.TheVariants.{Thread, Never}
+use Rattle.scope_rules.specs.declared.types.names.Name.{Name}
+use Rattle.scope_rules.specs.declared.types.refusals.Refusal.{Refusal}
+use Rattle.scope_rules.specs.declared.types.refusals.Refusal.TheVariants.{Unavailable}
+use Rattle.scope_rules.specs.declared.types.values.Value.{Value}
+use Rattle.scope_rules.specs.Ends.{LabelValue}
+use Rattle.scope_rules.specs.Replies.{result_reply}
+use Rattle.share_ledger.specs.Values.{OwnerValue}
+use Rattle.realm_core.specs.Calls.{Reads}
+use Rattle.job_runner.specs.declared.forking.ForkRefusal.{ForkRefusal}
+use Rattle.job_runner.specs.Forks.{ForksJob, refusal_of}
+
+-- a job with a result of its own type, under its name
+pub record NamedValue (J : Type 0) : Type 0 where
+  pub name : Name
+  pub job : J
+
+-- a slot: under which name its job was forked, and what the fork was answered
+pub record SlotValue : Type 0 where
+  pub name : Name
+  pub reply : ForkReply
+
+-- the task that was forked, whether it got a thread or not
+abbrev pub task_of : ForkReply → ℕ
+task_of (Thread task) = task
+task_of (Never task) = task
+
+-- the label that has this name, and asks nothing of the end
+abbrev pub label_of : Name → LabelValue
+label_of name = record { name = name; due = None }
+
+-- such a job's fork is refused, for this
+pub record IsRefusedInto (old new : OwnerValue) (scope : ℕ) (name : Name) (refusal : Refusal) : Type 0 where
+  pub why : ForkRefusal
+  pub forks : ForksJob old new scope (label_of name) (Err why)
+  pub numbered : refusal ≡ refusal_of why
+
+-- what a fork under this name did, whose refused job is let go
+abbrev pub ForksUnder : OwnerValue → OwnerValue → ℕ → Name → Result ForkReply Refusal → Type 0
+ForksUnder old new scope name (Ok reply) = ForksJob old new scope (label_of name) (Ok reply)
+ForksUnder old new scope name (Err refusal) = IsRefusedInto old new scope name refusal
+
+-- what a fork into a slot did: it is the fork of a job with the slot's name, and the slot has what that was answered
+abbrev pub ForksInto : OwnerValue → OwnerValue → ℕ → Name → Result SlotValue Refusal → Type 0
+ForksInto old new scope name (Ok slot) = (slot.name ≡ name) × ForksJob old new scope (label_of name) (Ok slot.reply)
+ForksInto old new scope name (Err refusal) = IsRefusedInto old new scope name refusal
+
+-- what a slot gives up where the task's result was answered so: a value that its job may answer, or nothing, where
+-- it was taken before; where the result was refused, that refusal
+abbrev pub IsGiven : {V : Type 0} → (V → Type 0) → Result Value Refusal → Result V Refusal → Type 0
+IsGiven may (Ok number) (Ok value) = may value
+IsGiven may (Ok number) (Err refusal) = refusal ≡ Unavailable
+IsGiven may (Err refused) (Ok value) = ⊥
+IsGiven may (Err refused) (Err refusal) = refusal ≡ refused
+
+-- the task's result was asked for by the token's actor, and what it was answered by what the token has seen then
+-- decides what is given
+pub record Takes {V : Type 0} (may : V → Type 0) (old new : OwnerValue) (task : ℕ) (result : Result V Refusal) : Type 0 where
+  pub asked : Result Value Refusal
+  pub reads : Reads old new (λ h. asked ≡ result_reply h new.actor task)
+  pub gives : IsGiven may asked result
