@@ -2,6 +2,7 @@
 
 mod asking;
 mod deadlines;
+mod late;
 mod plans;
 mod rows;
 mod serving;

@@ -8,3 +8,4 @@ pub mod Reading
 pub mod Closing
 pub mod Requested
 pub mod Telling
+pub mod Timed

@@ -54,7 +54,7 @@ refused_at old new x refusal same it other = record {
 pub refused_or_memory : (old new : OwnerValue) (x : RealmStep) (refusal : Refusal) → SeesMore old new → Refused old new x refusal ⊎ OutOfMemory old new x refusal → (refusal ≡ Memory → ⊥) → IsRefusedAt old new x
 refused_or_memory old new x refusal same it other = elim it [ inl by ↦ refused_at old new x refusal same by other | inr none ↦ absurd (other none.memory) ]
 
-looked_by : (old new : OwnerValue) (x : RealmStep) (refusal : Refusal) → Refused old new x refusal ⊎ OutOfMemory old new x refusal → HasLooked old new
+pub looked_by : (old new : OwnerValue) (x : RealmStep) (refusal : Refusal) → Refused old new x refusal ⊎ OutOfMemory old new x refusal → HasLooked old new
 looked_by old new x refusal it = elim it [ inl by ↦ by.looks | inr none ↦ none.looks ]
 
 -- what was refused since a later beginning was refused since an earlier one

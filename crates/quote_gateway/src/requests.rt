@@ -105,8 +105,7 @@ fn task_in(reply: ForkReply) -> TaskId
     }
 }
 
-/// Joins the scope, and answers the plan by what its tasks came to. `expired` says whether the clock of the
-/// request has come to its deadline: only then is an answer made of what was there by then.
+/// Joins the scope, and answers the plan by what its tasks came to.
 pub(crate) fn join_and_answer<N: RealmName, S: Spawner<N>, R: Wait>(
     rt: &R,
     alloc: Global,
@@ -114,23 +113,40 @@ pub(crate) fn join_and_answer<N: RealmName, S: Spawner<N>, R: Wait>(
     scope: ScopeId,
     plan: &Plan,
     tasks: &[TaskId],
-    expired: bool,
 ) -> Result<Answer, GatewayFault>
     requires forked { HasForked ctx.old.token scope (labels_of plan.now) tasks.now }
     ensures token { SeesMore ctx.old.token ctx.new.token }
     ensures keeps { KeepsTasks ctx.old.token ctx.new.token }
-    ensures allowed { IfOk result (λ a. Allows plan.now (IsTrue expired) (answer_text a)) }
-    ensures found { MatchResult result (λ a. IsFound (history_seen ctx.new.token) plan.now scope (MakesAnswer plan.now a)) (FindsNone ctx.old.token ctx.new.token plan.now scope (IsTrue expired)) }
+    ensures allowed { IfOk result (λ a. Allows plan.now ⊥ (answer_text a)) }
+    ensures found { MatchResult result (λ a. IsFound (history_seen ctx.new.token) plan.now scope (MakesAnswer plan.now a)) (FindsNone ctx.old.token ctx.new.token plan.now scope ⊥) }
 {
-    let joined = match ctx.join(rt, scope) {
-        Ok(joined) => joined,
-        Err(refusal) => return Err(GatewayFault::of_refusal(refusal)),
-    };
-    let states = match states_of(rt, alloc, ctx, tasks) {
-        Ok(states) => states,
-        Err(_memory) => return Err(GatewayFault::Memory),
-    };
-    answer_by(alloc, plan, states.as_slice(), &joined.outcome, expired)
+    match ctx.join(rt, scope) {
+        Ok(joined) => answer_joined(rt, alloc, ctx, plan, tasks, &joined.outcome, false),
+        Err(refusal) => Err(GatewayFault::of_refusal(refusal)),
+    }
+}
+
+/// Answers the plan by what the tasks of a joined scope came to. `expired` says whether the clock of the
+/// request has come to its deadline: only then is an answer made of what was there by then.
+pub(crate) fn answer_joined<N: RealmName, S: Spawner<N>, R: Wait>(
+    rt: &R,
+    alloc: Global,
+    ctx: &mut TaskCtx<Due, S, N>,
+    plan: &Plan,
+    tasks: &[TaskId],
+    outcome: &Outcome,
+    expired: bool,
+) -> Result<Answer, GatewayFault>
+    requires joined { (s : ℕ) × HasJoined ctx.old.token s tasks.now }
+    ensures token { SeesMore ctx.old.token ctx.new.token }
+    ensures keeps { KeepsTasks ctx.old.token ctx.new.token }
+    ensures allowed { IfOk result (λ a. Allows plan.now (IsTrue expired) (answer_text a)) }
+    ensures rests { MatchResult result (λ a. Answers plan.now.mode plan.now.offers (listing_by (state (history_seen ctx.new.token)) tasks.now) outcome.now a) (MakesNone plan.now (IsTrue expired) (listing_by (state (history_seen ctx.new.token)) tasks.now) outcome.now) }
+{
+    match states_of(rt, alloc, ctx, tasks) {
+        Ok(states) => answer_by(alloc, plan, states.as_slice(), outcome, expired),
+        Err(_memory) => Err(GatewayFault::Memory),
+    }
 }
 
 /// The tasks of a joined scope with their states.

@@ -16,6 +16,7 @@ use quote_plan::{Answer, Plan};
 use realm_lock::{Realm, RealmName, Seed};
 use scope_rules::{Due, Limits};
 use std::alloc::Global;
+use std::rt::Clock as SystemTime;
 use std::sync::Wait;
 use thread_crew::{Spawner, Spawns};
 
@@ -68,7 +69,7 @@ pub fn serve_by<
     J: Answers + Drop,
     S: Spawns<N, JobWork<Due, N, J>> + Drop,
     K: Clock,
-    R: Wait,
+    R: Wait + SystemTime,
 >(
     rt: &R,
     alloc: Global,

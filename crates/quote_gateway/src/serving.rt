@@ -1,6 +1,6 @@
 //! Serving requests over the context of a service.
-ghost use Rattle.std.specs.Prelude.{◌≡◌, ◌↔◌, [], IfErr, IfOk, IsTrue, Err, MatchResult, OnOk};
-ghost use Rattle.realm_core.specs.Calls.{SeesMore, history_seen};
+ghost use Rattle.std.specs.Prelude.{◌≡◌, ◌↔◌, [], IfErr, IfOk, IfSome, IsSome, IsTrue, Err, MatchResult, OnOk};
+ghost use Rattle.realm_core.specs.Calls.{DoesOrMemory, SeesMore, history_seen};
 ghost use Rattle.quote_plan.specs.Allowed.{AllowedText, AllowedTextBy, HasExpired};
 ghost use Rattle.quote_plan.specs.AnswerText.{answer_text};
 ghost use Rattle.quote_plan.specs.Plans.{labels_of};
@@ -10,12 +10,14 @@ ghost use Rattle.quote_gateway.specs.Requests.{Allows, Fails, FindsNone, IsFound
 
 use crate::faults::GatewayFault;
 use crate::labels::are_offers;
-use crate::requests::{close_scope, fork_all, join_and_answer, open_scope};
+use crate::requests::{answer_joined, close_scope, fork_all, join_and_answer, open_scope};
 use job_runner::{Answers, Clock, JobWork, NamedJob, TaskCtx, pulse};
 use quote_plan::{Answer, Plan};
 use realm_lock::RealmName;
-use scope_rules::{Due, Expiry, Options, ScopeId, TaskId};
+use realm_steps::{Ask, RealmStep};
+use scope_rules::{Due, Expiry, Options, Refusal, ScopeId, TaskId};
 use std::alloc::Global;
+use std::rt::Clock as SystemTime;
 use std::sync::Wait;
 use thread_crew::{Spawner, Spawns};
 
@@ -51,19 +53,20 @@ pub fn serve_in<N: RealmName, J: Answers + Drop, S: Spawns<N, JobWork<Due, N, J>
     ask(rt, alloc, ctx, plan, jobs)
 }
 
-/// Serves the request as `serve_in` does, by a deadline, in milliseconds: once all jobs are forked the clock
-/// is read and its moment told, and where it has come to the deadline by then, the answer may be of the prices
-/// that were there by then (`Answer::Partial`).
+/// Serves the request as `serve_in` does, by a deadline, in milliseconds: it waits by the clock until all
+/// jobs have ended or the deadline has come, and jobs that look for their mark end then too. It reads the
+/// clock once more; where that has come to the deadline, the answer may be of the prices that were there by
+/// then (`Answer::Partial`).
 ///
 /// # Errors
-/// As those of `serve_in`. `Cancelled` also where the jobs told a later moment than this clock's, at which the
-/// deadline was there.
+/// As those of `serve_in`. `Rejected` also where a tick was refused, as where the load is used up.
+/// `Cancelled` also where another's clock came to the deadline before this one.
 pub fn serve_in_by<
     N: RealmName,
     J: Answers + Drop,
     S: Spawns<N, JobWork<Due, N, J>>,
     K: Clock,
-    R: Wait,
+    R: Wait + SystemTime,
 >(
     rt: &R,
     alloc: Global,
@@ -125,7 +128,7 @@ fn find<N: RealmName, J: Answers + Drop, S: Spawns<N, JobWork<Due, N, J>>, R: Wa
     ensures found { MatchResult result (λ a. IsFound (history_seen ctx.new.token) plan.now scope (MakesAnswer plan.now a)) (FindsNone ctx.old.token ctx.new.token plan.now scope ⊥) }
 {
     match fork_all(rt, alloc, ctx, scope, jobs) {
-        Ok(tasks) => join_and_answer(rt, alloc, ctx, scope, plan, tasks.as_slice(), false),
+        Ok(tasks) => join_and_answer(rt, alloc, ctx, scope, plan, tasks.as_slice()),
         Err(fault) => Err(fault),
     }
 }
@@ -136,7 +139,7 @@ pub(crate) fn ask_by<
     J: Answers + Drop,
     S: Spawns<N, JobWork<Due, N, J>>,
     K: Clock,
-    R: Wait,
+    R: Wait + SystemTime,
 >(
     rt: &R,
     alloc: Global,
@@ -165,7 +168,13 @@ pub(crate) fn ask_by<
 }
 
 /// What is found in the scope by the deadline, once the jobs are forked there.
-fn find_by<N: RealmName, J: Answers + Drop, S: Spawns<N, JobWork<Due, N, J>>, K: Clock, R: Wait>(
+fn find_by<
+    N: RealmName,
+    J: Answers + Drop,
+    S: Spawns<N, JobWork<Due, N, J>>,
+    K: Clock,
+    R: Wait + SystemTime,
+>(
     rt: &R,
     alloc: Global,
     ctx: &mut TaskCtx<Due, S, N>,
@@ -198,8 +207,8 @@ fn find_by<N: RealmName, J: Answers + Drop, S: Spawns<N, JobWork<Due, N, J>>, K:
     }
 }
 
-/// Tells the moment that the clock reads, and answers by what the scope's tasks came to.
-fn answer_in_time<N: RealmName, S: Spawner<N>, K: Clock, R: Wait>(
+/// Joins the scope by the clock, reads the clock once more, and answers by what the scope's tasks came to.
+fn answer_in_time<N: RealmName, S: Spawner<N>, K: Clock, R: Wait + SystemTime>(
     rt: &R,
     alloc: Global,
     ctx: &mut TaskCtx<Due, S, N>,
@@ -216,11 +225,35 @@ fn answer_in_time<N: RealmName, S: Spawner<N>, K: Clock, R: Wait>(
     ensures found { MatchResult result (λ a. IsFound (history_seen ctx.new.token) plan.now scope (MakesAnswer plan.now a)) (FindsNone ctx.old.token ctx.new.token plan.now scope (HasExpired deadline (K.reading clock.new))) }
     ensures told { OnOk result (IsTold (history_seen ctx.new.token) (K.reading clock.new)) }
 {
-    if let Err(refusal) = pulse(rt, ctx, clock) {
+    let joined = match ctx.join_by(rt, scope, clock) {
+        Ok(joined) => joined,
+        Err(refusal) => return Err(GatewayFault::of_refusal(refusal)),
+    };
+    if let Err(refusal) = tell(rt, ctx, clock) {
         return Err(GatewayFault::of_refusal(refusal));
     }
     let expired = has_expired(clock, deadline);
-    join_and_answer(rt, alloc, ctx, scope, plan, tasks, expired)
+    answer_joined(rt, alloc, ctx, plan, tasks, &joined.outcome, expired)
+}
+
+/// Tells the realm the moment that the clock reads, unless it has come that far by another's clock. Where
+/// the deadline passed by that, the answer may be of what was there, since this clock has come to it too.
+fn tell<N: RealmName, S: Spawner<N>, K: Clock, R: Wait>(
+    rt: &R,
+    ctx: &mut TaskCtx<Due, S, N>,
+    clock: &mut K,
+) -> Result<(), Refusal>
+    ensures token { SeesMore ctx.old.token ctx.new.token }
+    ensures keeps { KeepsTasks ctx.old.token ctx.new.token }
+    ensures told { OnOk result (IsTold (history_seen ctx.new.token) (K.reading clock.new)) }
+    ensures read { IsSome (K.reading clock.new) }
+    ensures refused { IfErr result (λ refusal. IfSome (K.reading clock.new) (λ now. DoesOrMemory ctx.old.token ctx.new.token (RealmStep.Asked ctx.old.token.actor (Ask.Tick now)) (λ _. now) (Err refusal))) }
+{
+    match pulse(rt, ctx, clock) {
+        Ok(_) => Ok(()),
+        Err(Refusal::ClockBack) => Ok(()),
+        Err(refusal) => Err(refusal),
+    }
 }
 
 /// Whether the clock's last reading is at the deadline or past it.

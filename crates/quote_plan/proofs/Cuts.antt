@@ -1,10 +1,14 @@
 -- Where a text is cut first.
-use Rattle.std.proofs.Common.{◌≡◌, ℕ, ◌+◌, ◌<◌, ◌≤◌, Bool, true, false, cond, Some, None, List, [], ◌∷◌, length, take, drop, refl, ◌∙◌, subst, arith, nat_lt}
+use Rattle.std.proofs.Common.{◌≡◌, ℕ, ◌+◌, ◌<◌, ◌≤◌, Bool, true, false, cond, Some, None, List, [], ◌∷◌, ◌++◌, length, get_or, take, drop, refl, ap, ◌∙◌, subst, arith, nat_lt}
 use Rattle.std.specs.List.{position, position_or_len, slice_split}
 use Rattle.std.proofs.lemmas.Bool.{ltb-false}
 use Rattle.std.proofs.lemmas.List.Quantifiers.{position-Some}
 use Rattle.std.proofs.lemmas.List.Sums.{position_or_len_is}
 use Rattle.std.proofs.lemmas.List.Splits.{slice_split_first, slice_split-cons_no}
+use Rattle.std.proofs.lemmas.List.{get_or-take, length-take-le}
+use Rattle.std.proofs.lemmas.List.Sums.{fails_before_first, split_at_first}
+use Rattle.std.proofs.lemmas.Bool.Decides.{nat_tests}
+use Rattle.quote_plan.specs.Cutting.{CutsLine, HasNoFeed, is_feed}
 
 module _ (p : ℕ → Bool) where
   -- the place is within, or the length
@@ -37,3 +41,29 @@ module _ (p : ℕ → Bool) where
       let place : position_or_len p bs ≡ n = position_or_len_is p bs n 0 (omega (arith, found.0)) found.2 (λ _. found.1) in
       let within : position_or_len p bs < length bs = rw place found.0 in
       subst (λ (k : ℕ). slice_split p bs ≡ take k bs ∷ slice_split p (drop (k + 1) bs)) place (slice_split_first p bs 0 within)
+
+-- ---- line feeds
+
+-- where none stands
+pub no_feed : (bs : List ℕ) → position is_feed bs ≡ None → HasNoFeed bs
+no_feed bs none = λ k d within.
+    (let past = none_within is_feed (position_or_len is_feed bs) (length bs) (nat_lt (position_or_len is_feed bs) (length bs)) refl none in
+    fails_before_first is_feed bs k d (omega (arith, past)))
+
+is_ten : (b : ℕ) → is_feed b ≡ true → b ≡ 10
+is_ten b is = grind (arith, nat_tests)
+
+-- the line before the first one, and what comes after it
+pub cut_at : (bs : List ℕ) (n : ℕ) → position is_feed bs ≡ Some n → CutsLine bs (take n bs) (drop (n + 1) bs)
+cut_at bs n is =
+    let found = position-Some is_feed bs n 0 is in
+    let place : position_or_len is_feed bs ≡ n = position_or_len_is is_feed bs n 0 (omega (arith, found.0)) found.2 (λ _. found.1) in
+    let within : position_or_len is_feed bs < length bs = rw place found.0 in
+    let parts = split_at_first is_feed bs 0 within in
+    let cut : bs ≡ take n bs ++ get_or bs n 0 ∷ drop (n + 1) bs = subst (λ k. bs ≡ take k bs ++ get_or bs k 0 ∷ drop (k + 1) bs) place parts in
+    record {
+      whole = cut ∙ ap (λ b. take n bs ++ b ∷ drop (n + 1) bs) (is_ten (get_or bs n 0) found.1);
+      unended = λ k d below.
+          (let before : k < n = omega (arith, below, length-take-le n bs (omega (arith, found.0))) in
+          ap is_feed (get_or-take n bs k d before) ∙ (position-Some is_feed bs n d is).2 k before);
+    }

@@ -31,7 +31,7 @@ unfolding modes_in offers_in
 nothing_read bytes reading modes offers = record { done = []; whole = refl; counted = refl; good = λ k h. absurd (omega arith); modes = sym modes; offers = sym offers }
 
 -- one more line
-more_pieces : (piece : List ℕ) (pieces : List (List ℕ)) → 0 < length pieces → pieces_said (piece ∷ pieces) ≡ line_said piece ∷ pieces_said pieces
+pub more_pieces : (piece : List ℕ) (pieces : List (List ℕ)) → 0 < length pieces → pieces_said (piece ∷ pieces) ≡ line_said piece ∷ pieces_said pieces
 unfolding pieces_said
 more_pieces piece [] some = absurd (omega arith)
 more_pieces piece (next ∷ others) some = refl
@@ -49,11 +49,11 @@ good_at done more k within =
     let here : get_or (done ++ more) k line.BadWord ≡ get_or done k line.BadWord = get_or-append done more line.BadWord k within in
     rw (same, here) refl
 
-still_good : (done more : List PlanLine) (n : ℕ) → n ≤ length done → AreGood done n → AreGood (done ++ more) n
+pub still_good : (done more : List PlanLine) (n : ℕ) → n ≤ length done → AreGood done n → AreGood (done ++ more) n
 still_good done more n within good k below = good_at done more k (omega arith) ∙ good k below
 
 -- whether the line after those that were read is good
-seam : (done more : List PlanLine) (said : PlanLine) → is_good (done ++ said ∷ more) (length done) ≡ may_follow (modes_in done) (offers_in done) said
+pub seam : (done more : List PlanLine) (said : PlanLine) → is_good (done ++ said ∷ more) (length done) ≡ may_follow (modes_in done) (offers_in done) said
 seam done more said =
     let same : take (length done) (done ++ said ∷ more) ≡ done = take-append_seam done (said ∷ more) in
     let here : get_or (done ++ said ∷ more) (length done) line.BadWord ≡ said = get_or-append_seam done said more line.BadWord in
@@ -63,7 +63,7 @@ listed : {A : Type 0} (o : Option A) → cons_option o [] ≡ option_to_list o
 listed None = refl
 listed (Some x) = refl
 
-one_more : {A : Type 0} (in_line : PlanLine → Option A) (done : List PlanLine) (said : PlanLine) (so_far : List A) → filter_map in_line done ≡ so_far → filter_map in_line (done ++ said ∷ []) ≡ so_far ++ option_to_list (in_line said)
+pub one_more : {A : Type 0} (in_line : PlanLine → Option A) (done : List PlanLine) (said : PlanLine) (so_far : List A) → filter_map in_line done ≡ so_far → filter_map in_line (done ++ said ∷ []) ≡ so_far ++ option_to_list (in_line said)
 one_more in_line done said so_far is =
     filter_map-append in_line done (said ∷ []) ∙ (ap (λ l. l ++ cons_option (in_line said) []) is ∙ ap (λ l. so_far ++ l) (listed (in_line said)))
 

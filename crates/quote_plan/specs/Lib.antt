@@ -2,8 +2,10 @@ pub mod Cutting
 pub mod Plans
 pub mod PlanLines
 pub mod PlanReading
+pub mod PlanWhys
 pub mod PlanFaults
 pub mod ReadSoFar
+pub mod Passing
 pub mod AnswerText
 pub mod Allowed
 pub mod Answering

@@ -1,6 +1,7 @@
 -- What a fault in reading a plan says of it.
-use Rattle.std.specs.Prelude.{List}
+use Rattle.std.specs.Prelude.{◌≡◌, ℕ, List}
 use Rattle.quote_plan.specs.PlanReading.{FirstBad, RefusedAt}
+use Rattle.quote_plan.specs.PlanWhys.{why_at}
 use Rattle.quote_plan.specs.declared.lines.PlanLine.{PlanLine}
 use Rattle.quote_plan.specs.declared.reading.PlanFault.{PlanFault}
 use Rattle.quote_plan.specs.declared.reading.PlanFault.TheVariants.{Word, Memory}
@@ -8,5 +9,10 @@ use Rattle.quote_plan.specs.declared.reading.PlanFault.TheVariants.{Word, Memory
 -- a bad word names the first bad line; memory can only be refused for an offer, and no line up to that
 -- one is bad
 abbrev pub FaultIn : List PlanLine → PlanFault → Type 0
-FaultIn lines (Word number) = FirstBad lines number
+FaultIn lines (Word number why) = FirstBad lines number
 FaultIn lines Memory = RefusedAt lines
+
+-- a bad word's cause is that of its line
+abbrev pub CauseIn : List ℕ → PlanFault → Type 0
+CauseIn bytes (Word number why) = why ≡ why_at bytes number
+CauseIn bytes Memory = Unit {0}

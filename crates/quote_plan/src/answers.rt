@@ -4,7 +4,6 @@ ghost use Rattle.std.specs.Prelude.{◌≡◌, Some, IfOk, string_bytes};
 ghost use Rattle.quote_plan.specs.AnswerText.{answer_text, quotes_text};
 
 use scope_rules::{Fault, Name};
-use script_replies::name_text;
 use std::alloc::{AllocError, Global};
 use std::fmt;
 use std::marker::Model;
@@ -80,15 +79,11 @@ impl fmt::Display for Answer {
     #[tactic(auto, unfolding(crate::specs::AnswerText::answer_text))]
     fn fmt<W: fmt::Write>(&self, f: &mut fmt::Formatter<W>) -> fmt::Result {
         match self {
-            Answer::Best(quote) => { write!(f, "best {} {}", name_text(&quote.name), quote.price) }
+            Answer::Best(quote) => write!(f, "best {} {}", quote.name, quote.price),
             Answer::NoPrice => f.write_str("none"),
             Answer::All(quotes) => write!(f, "all{quotes}"),
-            Answer::First(quote) => {
-                write!(f, "first {} {}", name_text(&quote.name), quote.price)
-            }
-            Answer::Failed { name, fault } => {
-                write!(f, "failed {} {}", name_text(name), name_text(&fault.0))
-            }
+            Answer::First(quote) => write!(f, "first {} {}", quote.name, quote.price),
+            Answer::Failed { name, fault } => write!(f, "failed {name} {fault}"),
             Answer::Empty => f.write_str("empty"),
             Answer::Partial(quotes) => write!(f, "partial{quotes}"),
         }
@@ -102,7 +97,7 @@ impl fmt::Display for Quotes {
     #[tactic(auto, unfolding(crate::specs::AnswerText::quotes_text))]
     fn fmt<W: fmt::Write>(&self, f: &mut fmt::Formatter<W>) -> fmt::Result {
         for quote in self.as_slice() {
-            write!(f, " {}={}", name_text(&quote.name), quote.price)?;
+            write!(f, " {}={}", quote.name, quote.price)?;
         }
         Ok(())
     }

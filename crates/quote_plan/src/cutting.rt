@@ -2,12 +2,13 @@
 
 ghost use Rattle.std.specs.Prelude.{◌≡◌, ◌<◌, [], ◌∷◌, position, length, MatchOption, IfSome};
 ghost use Rattle.std.specs.List.{slice_split};
-ghost use Rattle.quote_plan.specs.Cutting.{is_feed};
+ghost use Rattle.quote_plan.specs.Cutting.{CutsLine, HasNoFeed, is_feed};
 
 /// The first line that a line feed ends in the bytes, and what comes after it; `None` where none ends.
 #[tactic(auto, using(crate::proofs::Cuts::uncut))]
 pub(crate) fn first_line(bytes: &[u8]) -> Option<(&[u8], &[u8])>
     ensures pieces { MatchOption result (slice_split is_feed bytes.now ≡ bytes.now ∷ []) (λ cut. slice_split is_feed bytes.now ≡ cut.0.now ∷ slice_split is_feed cut.1.now) }
+    ensures whole { MatchOption result (HasNoFeed bytes.now) (λ cut. CutsLine bytes.now cut.0.now cut.1.now) }
     ensures shorter { IfSome result (λ cut. length cut.1.now < length bytes.now) }
 {
     let end = first_feed(bytes)?;

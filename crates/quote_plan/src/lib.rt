@@ -14,6 +14,9 @@
 //!
 //! A PRICE is a number in decimal with no needless zero in front, at most `PRICE_LIMIT`. A FAULT is a
 //! name other than those of the faults that the runtime itself makes.
+//!
+//! Where the text is no plan, `read_plan` names its first bad line, and says why it is one; so does a `PlanReader`
+//! of a text that comes piece by piece, as soon as that line has ended.
 #![tactic(auto)]
 
 pub mod answering;
@@ -23,10 +26,14 @@ mod cutting;
 mod ends;
 pub mod lines;
 pub mod plans;
+pub mod readers;
 pub mod reading;
+pub mod whys;
 
 pub use answering::{NoAnswer, answer};
 pub use answers::{Answer, Quote, Quotes};
 pub use lines::{OFFER_LIMIT, PRICE_LIMIT};
 pub use plans::{Mode, Offer, Plan};
+pub use readers::PlanReader;
 pub use reading::{PlanFault, read_plan};
+pub use whys::PlanWhy;

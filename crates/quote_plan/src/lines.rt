@@ -112,7 +112,7 @@ fn priced_offer(args: &[u8]) -> Option<PlanLine>
 
 /// The price that the word is.
 #[tactic(auto, unfolding(crate::specs::PlanLines::price_said))]
-fn price(word: &[u8]) -> Option<i64>
+pub(crate) fn price(word: &[u8]) -> Option<i64>
     ensures { result ≡ price_said word.now }
 {
     let number = moment(word)?;
@@ -149,7 +149,7 @@ fn fault(word: &[u8]) -> Option<Fault>
 }
 
 /// Whether the runtime itself makes the fault.
-fn is_made_by_runtime(fault: &Fault) -> bool
+pub(crate) fn is_made_by_runtime(fault: &Fault) -> bool
     ensures { result ≡ is_runtime_text fault.now }
 {
     is_runtime_fault(fault)

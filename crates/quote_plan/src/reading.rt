@@ -1,14 +1,16 @@
 //! How a plan is read.
 
-ghost use Rattle.std.specs.Prelude.{◌≡◌, [], ◌∷◌, ◌++◌, true, false, Ok, IsTrue, IfOk, IsSome, OnErr, OnOk, MatchOption, MatchResult};
+ghost use Rattle.std.specs.Prelude.{◌≡◌, [], ◌∷◌, ◌++◌, true, false, Ok, IsTrue, IfErr, IfOk, IsSome, OnErr, OnOk, MatchOption, MatchResult};
 ghost use Rattle.quote_plan.specs.PlanReading.{is_named, lines_of, offer_in, SayPlan};
-ghost use Rattle.quote_plan.specs.PlanFaults.{FaultIn};
+ghost use Rattle.quote_plan.specs.PlanFaults.{CauseIn, FaultIn};
+ghost use Rattle.quote_plan.specs.PlanWhys.{why_of};
 ghost use Rattle.quote_plan.specs.ReadSoFar.{may_come, with_line};
 ghost use Rattle.quote_plan.specs.declared.lines.PlanLine.TheVariants as said;
 
 use crate::cutting::first_line;
 use crate::lines::{OFFER_LIMIT, PlanLine, plan_line};
 use crate::plans::{Mode, Offer, Plan};
+use crate::whys::{PlanWhy, why_of_bytes, why_of_fields};
 use indexmap::IndexMap;
 use scope_rules::Name;
 use std::alloc::{AllocError, Global};
@@ -17,16 +19,17 @@ use std::marker::Model;
 /// Why a plan was not read.
 #[derive(Clone, Copy, Debug, PartialEq, Eq)]
 pub enum PlanFault {
-    /// This line is the first bad one, counted from 1; where no line says a mode and none is bad, it is
-    /// the line after the last.
-    Word { line: usize },
+    /// This line is the first bad one, counted from 1, for this cause; where no line says a mode and none
+    /// is bad, it is the line after the last.
+    Word { line: usize, why: PlanWhy },
     /// Memory was refused.
     Memory,
 }
 
 /// The plan that the bytes are.
 pub fn read_plan(alloc: Global, bytes: &[u8]) -> Result<Plan, PlanFault>
-    ensures { MatchResult result (λ plan. SayPlan (lines_of bytes.now) plan) (λ fault. FaultIn (lines_of bytes.now) fault) }
+    ensures read { MatchResult result (λ plan. SayPlan (lines_of bytes.now) plan) (λ fault. FaultIn (lines_of bytes.now) fault) }
+    ensures why { IfErr result (CauseIn bytes.now) }
 {
     let mut reading = Reading::new(alloc);
     let mut line = 0;
@@ -35,16 +38,25 @@ pub fn read_plan(alloc: Global, bytes: &[u8]) -> Result<Plan, PlanFault>
         line += 1;
         match reading.take(plan_line(text)) {
             Ok(true) => rest = others,
-            Ok(false) => return Err(PlanFault::Word { line }),
+            Ok(false) => {
+                let why = reading.why(text);
+                return Err(PlanFault::Word { line, why });
+            }
             Err(_) => return Err(PlanFault::Memory),
         }
     }
     if !rest.is_empty() {
-        return Err(PlanFault::Word { line: line + 1 });
+        return Err(PlanFault::Word {
+            line: line + 1,
+            why: PlanWhy::NoLineFeed,
+        });
     }
     match reading.plan() {
         Some(plan) => Ok(plan),
-        None => Err(PlanFault::Word { line: line + 1 }),
+        None => Err(PlanFault::Word {
+            line: line + 1,
+            why: PlanWhy::NoMode,
+        }),
     }
 }
 
@@ -66,7 +78,7 @@ fn put(offers: &mut IndexMap<Name, Offer>, name: Name, offer: Offer) -> Result<(
 
 /// What was read so far of a plan.
 #[derive(Drop)]
-struct Reading {
+pub(crate) struct Reading {
     mode: Option<Mode>,
     offers: IndexMap<Name, Offer>,
 }
@@ -82,7 +94,7 @@ impl Model for Reading {
 
 impl Reading {
     /// Nothing read yet.
-    fn new(alloc: Global) -> Reading
+    pub(crate) fn new(alloc: Global) -> Reading
         ensures modes { result.modes ≡ [] }
         ensures offers { result.offers ≡ [] }
     {
@@ -93,9 +105,10 @@ impl Reading {
     }
 
     /// Whether the line may come next; if so, it is taken. Refused for want of memory alone.
-    fn take(&mut self, line: PlanLine) -> Result<bool, AllocError>
+    pub(crate) fn take(&mut self, line: PlanLine) -> Result<bool, AllocError>
         ensures tested { IfOk result (λ good. good ≡ may_come self.old line) }
         ensures taken { result ≡ Ok true → self.new ≡ with_line self.old line }
+        ensures left { result ≡ Ok false → self.new ≡ self.old }
         ensures refused { OnErr result (IsTrue (may_come self.old line) × IsSome (offer_in line)) }
     {
         match line {
@@ -110,6 +123,7 @@ impl Reading {
     fn take_mode(&mut self, mode: Mode) -> bool
         ensures tested { result ≡ may_come self.old (said.Mode mode) }
         ensures taken { IsTrue result → self.new ≡ with_line self.old (said.Mode mode) }
+        ensures left { result ≡ false → self.new ≡ self.old }
     {
         if self.mode.is_some() {
             return false;
@@ -122,6 +136,7 @@ impl Reading {
     fn take_offer(&mut self, name: Name, offer: Offer) -> Result<bool, AllocError>
         ensures tested { IfOk result (λ good. good ≡ may_come self.old (said.Offer name offer)) }
         ensures taken { result ≡ Ok true → self.new ≡ with_line self.old (said.Offer name offer) }
+        ensures left { result ≡ Ok false → self.new ≡ self.old }
         ensures refused { OnErr result (IsTrue (may_come self.old (said.Offer name offer))) }
     {
         if self.mode.is_none()
@@ -134,8 +149,26 @@ impl Reading {
         Ok(true)
     }
 
+    /// Why a bad line of this text may not come next; it comes without its line feed.
+    #[tactic(auto, unfolding(crate::specs::PlanWhys::why_of))]
+    pub(crate) fn why(&self, text: &[u8]) -> PlanWhy
+        ensures { result ≡ why_of self.now.modes self.now.offers text.now }
+    {
+        if let Some(why) = why_of_bytes(text) {
+            return why;
+        }
+        if self.mode.is_none() {
+            return PlanWhy::ModeWanted;
+        }
+        match why_of_fields(text) {
+            Some(why) => why,
+            None if self.offers.len() >= OFFER_LIMIT => PlanWhy::TooManyOffers,
+            None => PlanWhy::NamedBefore,
+        }
+    }
+
     /// The plan that was read; `None` where no line said a mode.
-    fn plan(self) -> Option<Plan>
+    pub(crate) fn plan(self) -> Option<Plan>
         ensures { MatchOption result (self.modes ≡ []) (λ plan. (self.modes ≡ plan.mode ∷ []) × (self.offers ≡ plan.offers)) }
     {
         let mode = self.mode?;

@@ -8,7 +8,7 @@ use job_runner::{Answers, Job, NamedJob, TaskCtx};
 use join_rules::Joiner;
 use quote_gateway::{Offer, Plan};
 use realm_lock::RealmName;
-use scope_rules::{Due, End, Expiry, Fault, Label, Name, Options, ScopeId, State, TaskId};
+use scope_rules::{Due, End, Fault, Label, Name, Options, ScopeId, State, TaskId};
 use std::alloc::Global;
 use std::sync::atomic::{AtomicU64, Ordering};
 use std::sync::{Arc, Wait};
@@ -72,7 +72,7 @@ impl<S: Spawner<N>, N: RealmName> Job<Due, S, N> for Asked {
                 let _how = ctx.cancel(rt, SCOPE);
             }
             Duty::LeavesOpen => {
-                let _scope = ctx.open(rt, Joiner::AwaitAll, PLAIN);
+                let _scope = ctx.open(rt, Joiner::AwaitAll, Options::PLAIN);
             }
         }
         end_by(duty, offer)
@@ -99,21 +99,12 @@ fn memory() -> Fault
     }
 }
 
-/// No deadline and no shield.
-const PLAIN: Options = Options {
-    deadline: None,
-    expiry: Expiry::Fail,
-    shield: false,
-};
-
 /// Looks at the task until it has ended.
 fn wait_for<S: Spawner<N>, N: RealmName, R: Wait>(
     rt: &R,
     ctx: &mut TaskCtx<Due, S, N>,
     task: TaskId,
-)
-    ensures { ctx.new.token.actor ≡ ctx.old.token.actor }
-{
+) {
     for _ in 0..LOOKS {
         match ctx.state(rt, task) {
             Ok(State::Success(_) | State::Failed(_)) => return,
@@ -140,9 +131,7 @@ fn tick_at<S: Spawner<N>, N: RealmName, R: Wait>(
     ctx: &mut TaskCtx<Due, S, N>,
     from: u64,
     to: u64,
-)
-    ensures { ctx.new.token.actor ≡ ctx.old.token.actor }
-{
+) {
     for _ in 0..LOOKS {
         match ctx.view(rt, SCOPE) {
             Ok(view) if view.moment == from => break,

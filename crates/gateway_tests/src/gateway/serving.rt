@@ -9,6 +9,7 @@ use realm_lock::{RealmName, Seed};
 use scope_rules::Due;
 use std::alloc::Global;
 use std::process::Abort;
+use std::rt::Clock as SystemTime;
 use std::sync::atomic::{AtomicU64, Ordering};
 use std::sync::{Arc, Wait};
 use std::test::Fail;
@@ -64,7 +65,7 @@ pub fn line_of<N, S, R>(
 where
     N: RealmName,
     S: Spawns<N, JobWork<Due, N, Asked>> + Drop,
-    R: Wait,
+    R: Wait + SystemTime,
     requires { seed ≡ N.table }
 {
     let served = match timed {
@@ -93,7 +94,7 @@ pub fn over<N, S, R>(
 where
     N: RealmName,
     S: Spawns<N, JobWork<Due, N, Asked>> + Drop,
-    R: Wait,
+    R: Wait + SystemTime,
     requires { seed ≡ N.table }
 {
     let plan = plan_of(alloc, request.plan)?;
@@ -107,7 +108,7 @@ where
 }
 
 /// Serves the request on one thread: each job ends before the next is forked.
-pub fn over_one_thread<N: RealmName, R: Wait>(
+pub fn over_one_thread<N: RealmName, R: Wait + SystemTime>(
     rt: &R,
     alloc: Global,
     seed: Seed,
@@ -119,7 +120,7 @@ pub fn over_one_thread<N: RealmName, R: Wait>(
 }
 
 /// Serves the request over a crew of which so many threads may rest.
-pub fn over_a_crew<N: RealmName + Send + Sync + 'static, R: CrewRuntime + Abort>(
+pub fn over_a_crew<N: RealmName + Send + Sync + 'static, R: CrewRuntime + Abort + SystemTime>(
     rt: &R,
     alloc: Global,
     seed: Seed,

@@ -10,6 +10,7 @@ use scope_rules::{Due, Limits};
 use std::alloc::Global;
 use std::marker::Brand;
 use std::process::Abort;
+use std::rt::Clock as SystemTime;
 use std::sync::atomic::{AtomicU64, Ordering};
 use std::sync::{Arc, Wait};
 use std::test::Fail;
@@ -53,7 +54,7 @@ const TURNS: [Turn; 5] = [
 ];
 
 /// The answer's line of one request over the context, after which the realm has retired.
-fn line_of<N: RealmName, S: Spawns<N, JobWork<Due, N, Asked>>, R: Wait>(
+fn line_of<N: RealmName, S: Spawns<N, JobWork<Due, N, Asked>>, R: Wait + SystemTime>(
     rt: &R,
     alloc: Global,
     ctx: &mut TaskCtx<Due, S, N>,
@@ -80,7 +81,7 @@ fn line_of<N: RealmName, S: Spawns<N, JobWork<Due, N, Asked>>, R: Wait>(
 }
 
 /// Serves all requests, one after the other, over one context.
-fn all_turns<N: RealmName, S: Spawns<N, JobWork<Due, N, Asked>>, R: Wait + Abort>(
+fn all_turns<N: RealmName, S: Spawns<N, JobWork<Due, N, Asked>>, R: Wait + Abort + SystemTime>(
     rt: &R,
     alloc: Global,
     ctx: &mut TaskCtx<Due, S, N>,
@@ -94,13 +95,11 @@ fn all_turns<N: RealmName, S: Spawns<N, JobWork<Due, N, Asked>>, R: Wait + Abort
 }
 
 /// The same over main's context in a realm, which is left then.
-fn in_a_realm<N: RealmName, S: Spawns<N, JobWork<Due, N, Asked>> + Drop, R: Wait + Abort>(
-    rt: &R,
-    alloc: Global,
-    seed: Seed,
-    spawner: S,
-    calls: &Calls,
-) -> Result<(), Fail>
+fn in_a_realm<
+    N: RealmName,
+    S: Spawns<N, JobWork<Due, N, Asked>> + Drop,
+    R: Wait + Abort + SystemTime,
+>(rt: &R, alloc: Global, seed: Seed, spawner: S, calls: &Calls) -> Result<(), Fail>
     requires { seed ≡ N.table }
 {
     let Ok((realm, token)) = Realm::<Due, N>::new(alloc, seed, Limits::GREATEST) else {
@@ -113,7 +112,7 @@ fn in_a_realm<N: RealmName, S: Spawns<N, JobWork<Due, N, Asked>> + Drop, R: Wait
 }
 
 /// The same over a crew of which so many threads may rest.
-fn over_a_crew<N: RealmName + Send + Sync + 'static, R: CrewRuntime + Abort>(
+fn over_a_crew<N: RealmName + Send + Sync + 'static, R: CrewRuntime + Abort + SystemTime>(
     rt: &R,
     alloc: Global,
     seed: Seed,

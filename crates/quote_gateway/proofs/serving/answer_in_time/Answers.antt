@@ -1,60 +1,91 @@
-use Rattle.std.proofs.Common.{IsTrue, ap}
-use Rattle.realm_core.specs.Calls.{SeesMore, history_seen}
+use Rattle.std.proofs.Common.{IsTrue, Ok, Err, refl}
+use Rattle.scope_rules.specs.Answers.{listing_by}
+use Rattle.scope_rules.specs.Tasks.{state}
+use Rattle.realm_core.specs.Calls.{history_seen}
 use Rattle.quote_plan.specs.Allowed.{HasExpired}
 use Rattle.quote_plan.specs.Plans.{labels_of}
 use Rattle.quote_gateway.specs.Going.{shapes}
-use Rattle.quote_gateway.proofs.Going.{begins_going, tokens_on}
 use Rattle.quote_gateway.specs.Requests.{IsTold}
+use Rattle.quote_gateway.proofs.Going.{begins_going, begins_same, tokens_on}
 use Rattle.quote_gateway.proofs.Asking.{forked_still, here_still}
-use Rattle.quote_gateway.proofs.Telling.{on_ok_so, pulse_told, told_still}
-use Rattle.quote_gateway.proofs.Requested.{found_earlier, turned_none}
-use Rattle.quote_gateway.proofs.Turned.{pulse_keeps, pulse_refused}
+use Rattle.quote_gateway.proofs.Reading.{joined_still, outcome_still}
+use Rattle.quote_gateway.proofs.Requested.{by_join, found_earlier, none_earlier, turned_none}
+use Rattle.quote_gateway.proofs.Telling.{on_ok_so, told_still}
+use Rattle.quote_gateway.proofs.Timed.{joined_by, joined_keeps, joined_none}
+use Rattle.quote_gateway.proofs.Turned.{pulse_refused}
 use Rattle.quote_gateway.proofs.serving.answer_in_time.Goals as goal
 
 pub returns-in-Err-clause-keeps : goal.returns-in-Err-clause-keeps
-returns-in-Err-clause-keeps g c = pulse_keeps c.args.ctx.now.token c.pulse.new.ctx.token (g.K.Clock.reading c.pulse.new.clock) c.pulse.result c.pulse.ensures.read c.pulse.ensures.answer
+returns-in-Err-clause-keeps g c =
+    joined_keeps g.K.Clock.reads c.args.ctx.now.token c.args.clock.now c.requires.forked.here.legal c.join_by.new.self.token c.join_by.new.clock c.args.scope (Err c.in-Err.refusal) c.in-Err.ensures.answer
 
 pub returns-in-Err-clause-found : goal.returns-in-Err-clause-found
 returns-in-Err-clause-found g c =
-    let old = c.args.ctx.now.token in
-    let new = c.pulse.new.ctx.token in
-    let plan = c.args.plan.now in
-    let reading = g.K.Clock.reading c.pulse.new.clock in
-    turned_none old new plan c.args.scope (HasExpired c.args.deadline reading) c.of_refusal.result (pulse_refused old new plan c.args.scope reading c.in-Err.refusal c.of_refusal.result c.pulse.ensures.read c.in-Err.ensures.answer c.of_refusal.ensures.call c.of_refusal.ensures.memory)
+    joined_none g.K.Clock.reads c.args.ctx.now.token c.args.clock.now c.requires.forked.here.legal c.join_by.new.self.token c.join_by.new.clock c.args.plan.now c.args.scope (HasExpired c.args.deadline (g.K.Clock.reading c.join_by.new.clock))
+    c.in-Err.refusal c.of_refusal.result c.in-Err.ensures.answer c.of_refusal.ensures.call c.of_refusal.ensures.memory
 
-pub join_and_answer-requires : goal.join_and_answer-requires
-join_and_answer-requires g c =
+pub returns-in-Err-tell-clause-keeps : goal.returns-in-Err-tell-clause-keeps
+returns-in-Err-tell-clause-keeps g c =
     let old = c.args.ctx.now.token in
-    let mid = c.pulse.new.ctx.token in
-    let keeps = pulse_keeps old mid (g.K.Clock.reading c.pulse.new.clock) c.pulse.result c.pulse.ensures.read c.pulse.ensures.answer in
-    let same : SeesMore old mid = ap (λ x. x.token) c.pulse.ensures.rest in
-    record { forked = forked_still old mid c.args.scope (labels_of c.args.plan.now) c.args.tasks.now same keeps c.requires.forked }
+    let mid = c.join_by.new.self.token in
+    let keeps = joined_keeps g.K.Clock.reads old c.args.clock.now c.requires.forked.here.legal mid c.join_by.new.clock c.args.scope (Ok c.in-Ok.joined) c.in-Ok.ensures.answer in
+    tokens_on old mid c.tell.new.ctx.token shapes c.join_by.ensures.rest.1 keeps c.tell.ensures.keeps
+
+pub returns-in-Err-tell-clause-found : goal.returns-in-Err-tell-clause-found
+returns-in-Err-tell-clause-found g c =
+    let old = c.args.ctx.now.token in
+    let mid = c.join_by.new.self.token in
+    let new = c.tell.new.ctx.token in
+    let plan = c.args.plan.now in
+    let reading = g.K.Clock.reading c.tell.new.clock in
+    let Expired = HasExpired c.args.deadline reading in
+    let why = c.of_refusal-in-Err-tell in
+    let keeps = joined_keeps g.K.Clock.reads old c.args.clock.now c.requires.forked.here.legal mid c.join_by.new.clock c.args.scope (Ok c.in-Ok.joined) c.in-Ok.ensures.answer in
+    none_earlier old mid new plan c.args.scope Expired Expired why.result (begins_going old.limits (shapes old.actor) old.seen mid.seen keeps) (λ past. past)
+    (turned_none mid new plan c.args.scope Expired why.result
+    (pulse_refused mid new plan c.args.scope reading c.in-Err-tell.refusal why.result c.in-Err-tell.ensures.read c.in-Err-tell.ensures.refused why.ensures.call why.ensures.memory))
+
+pub answer_joined-requires : goal.answer_joined-requires
+answer_joined-requires g c =
+    let old = c.args.ctx.now.token in
+    let mid = c.join_by.new.self.token in
+    let joined = joined_by g.K.Clock.reads old mid c.args.clock.now c.join_by.new.clock c.args.scope (labels_of c.args.plan.now) c.args.tasks.now c.in-Ok.joined c.in-Ok.ensures.answer c.requires.forked in
+    record { joined = (c.args.scope, joined_still mid c.tell.new.ctx.token c.args.scope c.args.tasks.now c.tell.ensures.token c.tell.ensures.keeps joined) }
 
 pub returns-clause-keeps : goal.returns-clause-keeps
 returns-clause-keeps g c =
     let old = c.args.ctx.now.token in
-    let mid = c.pulse.new.ctx.token in
-    let keeps = pulse_keeps old mid (g.K.Clock.reading c.pulse.new.clock) c.pulse.result c.pulse.ensures.read c.pulse.ensures.answer in
-    let same : SeesMore old mid = ap (λ x. x.token) c.pulse.ensures.rest in
-    tokens_on old mid c.join_and_answer.new.ctx.token shapes same keeps c.join_and_answer.ensures.keeps
+    let mid = c.join_by.new.self.token in
+    let new = c.answer_joined.new.ctx.token in
+    let keeps = joined_keeps g.K.Clock.reads old c.args.clock.now c.requires.forked.here.legal mid c.join_by.new.clock c.args.scope (Ok c.in-Ok.joined) c.in-Ok.ensures.answer in
+    tokens_on old mid new shapes c.join_by.ensures.rest.1 keeps (tokens_on mid c.tell.new.ctx.token new shapes c.tell.ensures.token c.tell.ensures.keeps c.answer_joined.ensures.keeps)
 
 pub returns-clause-found : goal.returns-clause-found
 returns-clause-found g c =
     let old = c.args.ctx.now.token in
-    let mid = c.pulse.new.ctx.token in
-    let reading = g.K.Clock.reading c.pulse.new.clock in
-    let keeps = pulse_keeps old mid reading c.pulse.result c.pulse.ensures.read c.pulse.ensures.answer in
-    let begins = begins_going old.limits (shapes old.actor) old.seen mid.seen keeps in
-    found_earlier old mid c.join_and_answer.new.ctx.token c.args.plan.now c.args.scope (IsTrue c.has_expired-expired.result) (HasExpired c.args.deadline reading) c.join_and_answer.result begins c.has_expired-expired.ensures.1 c.join_and_answer.ensures.found
+    let mid = c.join_by.new.self.token in
+    let told = c.tell.new.ctx.token in
+    let new = c.answer_joined.new.ctx.token in
+    let plan = c.args.plan.now in
+    let scope = c.args.scope in
+    let tasks = c.args.tasks.now in
+    let came = c.in-Ok.joined.outcome in
+    let keeps = joined_keeps g.K.Clock.reads old c.args.clock.now c.requires.forked.here.legal mid c.join_by.new.clock scope (Ok c.in-Ok.joined) c.in-Ok.ensures.answer in
+    let there = forked_still old mid scope (labels_of plan) tasks c.join_by.ensures.rest.1 keeps c.requires.forked in
+    let then = forked_still mid told scope (labels_of plan) tasks c.tell.ensures.token c.tell.ensures.keeps there in
+    let forked = forked_still told new scope (labels_of plan) tasks c.answer_joined.ensures.token c.answer_joined.ensures.keeps then in
+    let joined = outcome_still mid told scope came c.tell.ensures.keeps there.here c.in-Ok.ensures.answer.joins.1.1.decided in
+    let stays = outcome_still told new scope came c.answer_joined.ensures.keeps then.here joined in
+    found_earlier old old new plan scope (IsTrue c.has_expired-expired.result) (HasExpired c.args.deadline (g.K.Clock.reading c.tell.new.clock)) c.answer_joined.result (begins_same old.seen) c.has_expired-expired.ensures.1
+    (by_join old new plan (IsTrue c.has_expired-expired.result) scope tasks (listing_by (state (history_seen new)) tasks) came c.answer_joined.result forked stays refl c.answer_joined.ensures.rests)
 
 pub returns-clause-told : goal.returns-clause-told
 returns-clause-told g c =
     let old = c.args.ctx.now.token in
-    let mid = c.pulse.new.ctx.token in
-    let new = c.join_and_answer.new.ctx.token in
-    let reading = g.K.Clock.reading c.pulse.new.clock in
-    let keeps = pulse_keeps old mid reading c.pulse.result c.pulse.ensures.read c.pulse.ensures.answer in
-    let same : SeesMore old mid = ap (λ x. x.token) c.pulse.ensures.rest in
-    let here = here_still old mid c.args.scope same keeps c.requires.forked.here in
-    let told = pulse_told old mid reading c.in_default.field-0 c.in_default.ensures.read c.in_default.ensures.answer in
-    on_ok_so (IsTold (history_seen new) reading) c.join_and_answer.result (told_still mid new c.args.scope reading c.join_and_answer.ensures.keeps here told)
+    let mid = c.join_by.new.self.token in
+    let told = c.tell.new.ctx.token in
+    let new = c.answer_joined.new.ctx.token in
+    let reading = g.K.Clock.reading c.tell.new.clock in
+    let keeps = joined_keeps g.K.Clock.reads old c.args.clock.now c.requires.forked.here.legal mid c.join_by.new.clock c.args.scope (Ok c.in-Ok.joined) c.in-Ok.ensures.answer in
+    let here = here_still mid told c.args.scope c.tell.ensures.token c.tell.ensures.keeps (here_still old mid c.args.scope c.join_by.ensures.rest.1 keeps c.requires.forked.here) in
+    on_ok_so (IsTold (history_seen new) reading) c.answer_joined.result (told_still told new c.args.scope reading c.answer_joined.ensures.keeps here c.in_default.ensures.told)

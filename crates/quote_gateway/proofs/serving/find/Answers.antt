@@ -1,4 +1,4 @@
-use Rattle.std.proofs.Common.{IsTrue, List, false, subst}
+use Rattle.std.proofs.Common.{List, subst}
 use Rattle.scope_rules.specs.Ends.{LabelValue}
 use Rattle.quote_gateway.specs.Going.{nests, ForkTurnedDown, IsTurnedDown}
 use Rattle.quote_gateway.proofs.Going.{begins_going, scopes_kept, tokens_on}
@@ -17,7 +17,7 @@ returns-in-Ok-clause-found g c =
     let old = c.args.ctx.now.token in
     let mid = c.fork_all.new.ctx.token in
     let begins = begins_going old.limits (nests old.actor) old.seen mid.seen c.fork_all.ensures.keeps in
-    found_earlier old mid c.join_and_answer.new.ctx.token c.args.plan.now c.args.scope (IsTrue false) ⊥ c.join_and_answer.result begins (λ past. absurd past) c.join_and_answer.ensures.found
+    found_earlier old mid c.join_and_answer.new.ctx.token c.args.plan.now c.args.scope ⊥ ⊥ c.join_and_answer.result begins (λ past. past) c.join_and_answer.ensures.found
 
 pub returns-in-Err-clause-found : goal.returns-in-Err-clause-found
 returns-in-Err-clause-found g c =

@@ -1,0 +1,99 @@
+-- What a join by a clock leaves in a request.
+use Rattle.std.proofs.Common.{◌≡◌, ◌⊎◌, inl, inr, ℕ, ◌≤◌, Bool, true, false, nat_lt, Option, Some, None, Ok, Err, Result, List, refl, sym, ap, ◌∙◌, arith}
+use Rattle.std.specs.Prelude.{IfSome, IsSome}
+use Rattle.std.proofs.lemmas.Bool.{ltb-true}
+use Rattle.scope_rules.specs.declared.types.capacity.Limits.{Limits}
+use Rattle.scope_rules.specs.declared.types.capacity.TheConstants.{STEP_LOAD}
+use Rattle.scope_rules.specs.declared.types.events.Event.TheVariants as event
+use Rattle.scope_rules.specs.declared.types.refusals.Refusal.{Refusal}
+use Rattle.scope_rules.specs.declared.types.refusals.Refusal.TheVariants.{ClockBack, Memory}
+use Rattle.scope_rules.specs.Checks.{checks, then_check}
+use Rattle.scope_rules.specs.Ends.{LabelValue}
+use Rattle.scope_rules.specs.History.{History, moment}
+use Rattle.scope_rules.specs.Load.{over_load}
+use Rattle.scope_rules.specs.Table.{check_of}
+use Rattle.realm_steps.specs.declared.steps.Ask.TheVariants.{Tick}
+use Rattle.realm_steps.specs.declared.steps.RealmStep.TheVariants.{Asked}
+use Rattle.realm_steps.specs.Steps.{IsLegal}
+use Rattle.share_ledger.specs.Values.{OwnerValue}
+use Rattle.realm_core.specs.Calls.{SeesMore, history_seen}
+use Rattle.realm_core.specs.declared.joins.Joined.{Joined}
+use Rattle.realm_lock.specs.Waits.{JoinsBy, JoinsThen, Stopped, Waited, began, looked as has_looked, read, ticked}
+use Rattle.realm_lock.proofs.Waits.{waited_sees}
+use Rattle.quote_plan.specs.Plans.{PlanValue}
+use Rattle.quote_gateway.specs.declared.faults.GatewayFault.{GatewayFault}
+use Rattle.quote_gateway.specs.declared.faults.GatewayFault.TheVariants as fault
+use Rattle.quote_gateway.specs.Going.{shapes, IsBeginning, IsOpenHere, HasForked, HasJoined, KeepsTasks}
+use Rattle.quote_gateway.specs.Requests.{FindsNone, IsOfCall, IsTold}
+use Rattle.quote_gateway.proofs.Going.{added, begins_going, goes_nowhere, looked, same_actor, sees_on, tokens_on}
+use Rattle.quote_gateway.proofs.Asking.{forked_still}
+use Rattle.quote_gateway.proofs.Reading.{joined_here}
+use Rattle.quote_gateway.proofs.Requested.{none_earlier, turned_none}
+use Rattle.quote_gateway.proofs.Turned.{join_keeps, join_refused, looked_by, refused_or_memory, turned_down, Pulsed}
+
+module _ {K : Type 0} (reads : K → K → ℕ → Type 0) (old : OwnerValue) (start : K) (lawful : IsLegal old.limits old.seen) where
+  -- while it waits, its token's actor opens, closes and forks nothing
+  waited_keeps : (there : OwnerValue) (clock : K) → Waited reads old start there clock → KeepsTasks old there
+  waited_keeps there clock began = goes_nowhere old.limits (shapes old.actor) old.seen lawful
+  waited_keeps there clock (has_looked {there = mid} so_far look) =
+      tokens_on old mid there shapes (waited_sees mid clock so_far) (waited_keeps mid clock so_far) (looked mid.limits mid.actor mid.seen there.seen look.1)
+  waited_keeps there clock (read so_far reading) = waited_keeps there _ so_far
+  waited_keeps there clock (ticked {there = mid} {now = now} so_far reading tick) =
+      tokens_on old mid there shapes (waited_sees mid _ so_far) (waited_keeps mid _ so_far) (added mid.limits mid.actor mid.seen there.seen (Asked mid.actor (Tick now)) tick.adds refl)
+
+  then_keeps : (new : OwnerValue) (last : K) (s : ℕ) (result : Result Joined Refusal) → JoinsThen reads old new start last s result → KeepsTasks old new
+  then_keeps new last s result it =
+      tokens_on old it.there new shapes (waited_sees it.there last it.waited) (waited_keeps it.there last it.waited) (join_keeps it.there new s result it.joins)
+
+  stop_keeps : (new : OwnerValue) (last : K) (refusal : Refusal) → Stopped reads old new start last refusal → KeepsTasks old new
+  stop_keeps new last refusal it =
+      tokens_on old it.there new shapes (waited_sees it.there it.clock it.waited) (waited_keeps it.there it.clock it.waited)
+      (looked it.there.limits it.there.actor it.there.seen new.seen (looked_by it.there new (Asked it.there.actor (Tick it.now)) refusal it.refused.refused))
+
+  pub joined_keeps : (new : OwnerValue) (last : K) (s : ℕ) (result : Result Joined Refusal) → JoinsBy reads old new start last s result → KeepsTasks old new
+  joined_keeps new last s (Ok joined) it = then_keeps new last s (Ok joined) it
+  joined_keeps new last s (Err refusal) it = elim it [ inl then ↦ then_keeps new last s (Err refusal) then | inr stop ↦ stop_keeps new last refusal stop ]
+
+  -- where it is refused, nothing is found for that cause
+  pub joined_none : (new : OwnerValue) (last : K) (plan : PlanValue) (s : ℕ) (Expired : Type 0) (refusal : Refusal) (why : GatewayFault) → JoinsBy reads old new start last s (Err refusal) → IsOfCall why → (refusal ≡ Memory → why ≡ fault.Memory) → FindsNone old new plan s Expired why
+  joined_none new last plan s Expired refusal why it call memory = elim it [
+    | inl then ↦
+        let begins = begins_going old.limits (shapes old.actor) old.seen then.there.seen (waited_keeps then.there last then.waited) in
+        none_earlier old then.there new plan s Expired Expired why begins (λ past. past)
+        (turned_none then.there new plan s Expired why (join_refused then.there new plan s refusal why then.joins call memory))
+    | inr stop ↦
+        let begins = begins_going old.limits (shapes old.actor) old.seen stop.there.seen (waited_keeps stop.there stop.clock stop.waited) in
+        let x = Asked stop.there.actor (Tick stop.now) in
+        let tick = stop.refused in
+        none_earlier old stop.there new plan s Expired Expired why begins (λ past. past)
+        (turned_none stop.there new plan s Expired why
+        (turned_down _ refusal why call memory (λ other. inl (record { step = x; of = sym (same_actor stop.there new tick.same); refused = refused_or_memory stop.there new x refusal tick.same tick.refused other }))))
+  ]
+
+-- where it joined, the scope is joined
+pub joined_by : {K : Type 0} (reads : K → K → ℕ → Type 0) (old new : OwnerValue) (start last : K) (s : ℕ) (ls : List LabelValue) (ks : List ℕ) (joined : Joined) → JoinsBy reads old new start last s (Ok joined) → HasForked old s ls ks → HasJoined new s ks
+joined_by reads old new start last s ls ks joined it was =
+    let there = forked_still old it.there s ls ks (waited_sees it.there last it.waited) (waited_keeps reads old start was.here.legal it.there last it.waited) was in
+    joined_here it.there new s ls ks joined it.joins there
+
+-- ---- what is told
+
+-- a tick is refused as back only where the moment has come further
+back : (L : Limits) (h : History) (now : ℕ) → check_of L h (event.Tick now) ≡ Err ClockBack → now ≤ moment h
+unfolding check_of checks then_check
+back L h now is = by (nat_lt now (moment h)) refl (over_load L h STEP_LOAD) refl
+  where
+    by : (b : Bool) → nat_lt now (moment h) ≡ b → (c : Bool) → over_load L h STEP_LOAD ≡ c → now ≤ moment h
+    by true before c over = omega (arith, ltb-true now (moment h) before)
+    by false after true over = let said = rw (after, over) at is in absurd cc
+    by false after false over = let said = rw (after, over) at is in absurd cc
+
+pub back_told : (old new : OwnerValue) (reading : Option ℕ) (refusal : Refusal) → refusal ≡ ClockBack → IsSome reading → Pulsed old new reading (Err refusal) → IsTold (history_seen new) reading
+back_told old new None refusal is there it = absurd cc
+back_told old new (Some now) refusal is there it = elim it.1 [
+  | inl by ↦ back old.limits (history_seen new) now (by.by ∙ ap Err is)
+  | inr none ↦ absurd (apart (sym none.memory ∙ is))
+]
+  where
+    apart : Memory ≡ ClockBack → ⊥
+    apart same = cc

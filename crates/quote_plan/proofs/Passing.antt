@@ -1,0 +1,200 @@
+-- How the reading of a plan goes on that comes piece by piece.
+use Rattle.std.proofs.Common.{◌≡◌, ℕ, ◌+◌, ◌<◌, ◌==◌, true, false, List, [], ◌∷◌, ◌++◌, length, map, refl, sym, ◌∙◌, ap, arith, subst, suc, below_more}
+use Rattle.std.specs.List.{slice_split}
+use Rattle.std.proofs.lemmas.Bool.{eqb-true}
+use Rattle.std.proofs.lemmas.List.{append-nil, append_assoc, length-append, length-map, map-append}
+use Rattle.std.proofs.lemmas.List.Elements.{All-append, All-nil}
+use Rattle.std.proofs.lemmas.List.Splits.{length-slice_split, slice_split_at, slice_split_none}
+use Rattle.quote_plan.specs.Cutting.{CutsLine, HasNoFeed, is_feed}
+use Rattle.quote_plan.specs.Passing.{HasTaken, NamesLine, Passed, PlanSoFar}
+use Rattle.quote_plan.specs.PlanLines.{line_said}
+use Rattle.quote_plan.specs.PlanReading.{AreGood, FirstBad, SayPlan, is_good, lines_of, may_follow, mode_in, modes_in, offer_in, offers_in, pieces_said}
+use Rattle.quote_plan.specs.PlanWhys.{why_at, why_of}
+use Rattle.quote_plan.specs.ReadSoFar.{ReadingValue, may_come, with_line}
+use Rattle.quote_plan.specs.Plans.{PlanValue}
+use Rattle.quote_plan.specs.declared.lines.PlanLine.TheVariants.{BadWord}
+use Rattle.quote_plan.specs.declared.reading.PlanFault.{PlanFault}
+use Rattle.quote_plan.specs.declared.reading.PlanFault.TheVariants as fault
+use Rattle.quote_plan.specs.declared.whys.PlanWhy.TheVariants as why
+use Rattle.quote_plan.proofs.Causes.{HasCut, last_cut, why_here, why_there}
+use Rattle.quote_plan.proofs.Progress.{HasRead, all_said, cut_line, first_bad, more_pieces, next_line, no_line, no_mode, one_more, seam, still_good}
+
+-- ---- what the pieces say
+
+said_by : (pieces others : List (List ℕ)) → 0 < length others → pieces_said (pieces ++ others) ≡ map line_said pieces ++ pieces_said others
+said_by [] others some = refl
+said_by (piece ∷ pieces) others some =
+    more_pieces piece (pieces ++ others) (omega (arith, length-append pieces others)) ∙ ap (λ l. line_said piece ∷ l) (said_by pieces others some)
+
+module _ (front : List ℕ) (number : ℕ) (reading : ReadingValue) (passed : Passed front number reading) where
+  -- whatever comes after them, the lines were read
+  as_read : (rest : List ℕ) → HasRead (front ++ rest) rest (length passed.pieces) reading
+  unfolding lines_of
+  as_read rest = record {
+    done = map line_said passed.pieces;
+    whole = ap pieces_said (passed.split rest) ∙ said_by passed.pieces (slice_split is_feed rest) (omega (arith, length-slice_split is_feed rest));
+    counted = length-map passed.pieces line_said;
+    good = subst (AreGood (map line_said passed.pieces)) (sym (length-map passed.pieces line_said)) passed.good;
+    modes = passed.modes;
+    offers = passed.offers;
+  }
+
+  as_cut : (rest : List ℕ) → HasCut (front ++ rest) rest (length passed.pieces)
+  as_cut rest = record { passed = passed.pieces; whole = passed.split rest; counted = refl }
+
+  -- ---- at a line that has ended
+
+  module _ (text : List ℕ) (plain : HasNoFeed text) where
+    first_piece : (more : List ℕ) → slice_split is_feed (text ++ 10 ∷ more) ≡ text ∷ slice_split is_feed more
+    first_piece more = slice_split_at is_feed text 10 more plain refl
+
+    -- it may not come next
+    names_rest : (more : List ℕ) → may_come reading (line_said text) ≡ false → FirstBad (lines_of (front ++ (text ++ 10 ∷ more))) number × (why_of reading.modes reading.offers text ≡ why_at (front ++ (text ++ 10 ∷ more)) number)
+    names_rest more bad =
+        let rest = text ++ 10 ∷ more in (
+          subst (FirstBad (lines_of (front ++ rest))) (sym passed.counted)
+              (first_bad (front ++ rest) rest (length passed.pieces) reading (as_read rest) (line_said text) (lines_of more) (next_line rest text more (first_piece more)) bad),
+          why_here (front ++ rest) rest (length passed.pieces) reading (as_read rest) (as_cut rest) text more (first_piece more) ∙ ap (why_at (front ++ rest)) (sym passed.counted),
+        )
+
+    pub names_line : (more : List ℕ) → may_come reading (line_said text) ≡ false → FirstBad (lines_of (front ++ text ++ 10 ∷ more)) number × (why_of reading.modes reading.offers text ≡ why_at (front ++ text ++ 10 ∷ more) number)
+    names_line more bad =
+        subst (λ b. FirstBad (lines_of b) number × (why_of reading.modes reading.offers text ≡ why_at b number)) (sym (append_assoc front text (10 ∷ more))) (names_rest more bad)
+
+    -- it comes next
+    pub passes : (after : ReadingValue) (next : ℕ) → may_come reading (line_said text) ≡ true → after ≡ with_line reading (line_said text) → next ≡ number + 1 → Passed (front ++ text ++ 10 ∷ []) next after
+    unfolding modes_in offers_in
+    passes after next good is counted =
+        let said = line_said text in
+        let done = map line_said passed.pieces in
+        let all : map line_said (passed.pieces ++ text ∷ []) ≡ done ++ said ∷ [] = map-append line_said passed.pieces (text ∷ []) in
+        let one : length (passed.pieces ++ text ∷ []) ≡ length passed.pieces + 1 = omega (arith, length-append passed.pieces (text ∷ [])) in
+        let comes : may_follow (modes_in done) (offers_in done) said ≡ may_come reading said = rw (passed.modes, passed.offers) refl in
+        let here : is_good (done ++ said ∷ []) (length passed.pieces) ≡ true = subst (λ n. is_good (done ++ said ∷ []) n ≡ true) (length-map passed.pieces line_said) (seam done [] said ∙ (comes ∙ good)) in
+        record {
+          pieces = passed.pieces ++ text ∷ [];
+          split = λ more. ap (slice_split is_feed) (append_assoc (front ++ text) (10 ∷ []) more ∙ append_assoc front text (10 ∷ more))
+              ∙ (passed.split (text ++ 10 ∷ more) ∙ (ap (λ p. passed.pieces ++ p) (first_piece more) ∙ sym (append_assoc passed.pieces (text ∷ []) (slice_split is_feed more))));
+          counted = omega (arith, counted, passed.counted, one);
+          good = rw (all, one) (below_more _ _ (still_good done (said ∷ []) (length passed.pieces) (omega (arith, length-map passed.pieces line_said)) passed.good) here);
+          modes = ap modes_in all ∙ (one_more mode_in done said reading.modes passed.modes ∙ sym (ap (λ (r : ReadingValue). r.modes) is));
+          offers = ap offers_in all ∙ (one_more offer_in done said reading.offers passed.offers ∙ sym (ap (λ (r : ReadingValue). r.offers) is));
+        }
+
+  -- ---- at the end
+
+  pub said_all : (plan : PlanValue) → reading.modes ≡ plan.mode ∷ [] → reading.offers ≡ plan.offers → SayPlan (lines_of (front ++ [])) plan
+  said_all plan mode offers = all_said (front ++ []) [] (length passed.pieces) reading (as_read []) (no_line [] refl refl) plan mode offers
+
+  pub said_no_mode : reading.modes ≡ [] → FirstBad (lines_of (front ++ [])) number × (why.NoMode ≡ why_at (front ++ []) number)
+  said_no_mode none = (
+    subst (FirstBad (lines_of (front ++ []))) (sym passed.counted) (no_mode (front ++ []) [] (length passed.pieces) reading (as_read []) (no_line [] refl refl) none),
+    why_there (front ++ []) [] (length passed.pieces) reading (as_read []) (as_cut []) refl ∙ ap (why_at (front ++ [])) (sym passed.counted),
+  )
+
+  -- a line is begun
+  pub said_cut : (begun : List ℕ) → HasNoFeed begun → (length begun == 0) ≡ false → FirstBad (lines_of (front ++ begun)) number × (why.NoLineFeed ≡ why_at (front ++ begun) number)
+  said_cut begun plain some =
+      let alone = slice_split_none is_feed begun plain in (
+        subst (FirstBad (lines_of (front ++ begun))) (sym passed.counted) (first_bad (front ++ begun) begun (length passed.pieces) reading (as_read begun) BadWord [] (cut_line begun alone some) refl),
+        sym (last_cut begun some) ∙ (why_there (front ++ begun) begun (length passed.pieces) reading (as_read begun) (as_cut begun) alone ∙ ap (why_at (front ++ begun)) (sym passed.counted)),
+      )
+
+-- ---- with the begun line
+
+nothing_passed : (reading : ReadingValue) → reading.modes ≡ [] → reading.offers ≡ [] → Passed [] 1 reading
+unfolding modes_in offers_in
+nothing_passed reading modes offers = record {
+  pieces = [];
+  split = λ more. refl;
+  counted = refl;
+  good = λ k h. absurd (omega arith);
+  modes = sym modes;
+  offers = sym offers;
+}
+
+pub nothing_taken : (plan : PlanSoFar) → plan.reading.modes ≡ [] → plan.reading.offers ≡ [] → plan.number ≡ 1 → plan.begun ≡ [] → HasTaken plan []
+nothing_taken plan modes offers first none = record {
+  front = [];
+  whole = sym none;
+  passed = subst (λ n. Passed [] n plan.reading) (sym first) (nothing_passed plan.reading modes offers);
+  unended = subst HasNoFeed (sym none) (All-nil (λ b. is_feed b ≡ false));
+}
+
+module _ (before : PlanSoFar) (bytes : List ℕ) (taken : HasTaken before bytes) where
+  -- the line that ends with the text
+  ends_with : (text line more : List ℕ) → line ≡ before.begun ++ text → taken.front ++ line ++ more ≡ bytes ++ text ++ more
+  ends_with text line more is = ap (λ b. b ++ more) (ap (λ l. taken.front ++ l) is ∙ (sym (append_assoc taken.front before.begun text) ∙ ap (λ b. b ++ text) (sym taken.whole)))
+
+  -- which is plain, as its parts are
+  pub line_is_plain : (text line : List ℕ) → line ≡ before.begun ++ text → HasNoFeed text → HasNoFeed line
+  line_is_plain text line is plain = subst HasNoFeed (sym is) (All-append (λ b. is_feed b ≡ false) before.begun text taken.unended plain)
+
+  pub line_ends : (after : PlanSoFar) (text line : List ℕ) → line ≡ before.begun ++ text → Passed (taken.front ++ line ++ 10 ∷ []) after.number after.reading → after.begun ≡ [] → HasTaken after (bytes ++ text ++ 10 ∷ [])
+  line_ends after text line is passed none = record {
+    front = bytes ++ text ++ 10 ∷ [];
+    whole = sym (ap (λ b. (bytes ++ text ++ 10 ∷ []) ++ b) none ∙ append-nil (bytes ++ text ++ 10 ∷ []));
+    passed = subst (λ f. Passed f after.number after.reading) (ends_with text line (10 ∷ []) is) passed;
+    unended = subst HasNoFeed (sym none) (All-nil (λ b. is_feed b ≡ false));
+  }
+
+  pub line_is_bad : (text more line : List ℕ) → line ≡ before.begun ++ text → (fault : PlanFault) → NamesLine (taken.front ++ line ++ 10 ∷ more) fault → NamesLine (bytes ++ text ++ 10 ∷ more) fault
+  line_is_bad text more line is fault names = subst (λ b. NamesLine b fault) (ends_with text line (10 ∷ more) is) names
+
+  pub line_goes_on : (after : PlanSoFar) (text : List ℕ) → HasNoFeed text → after.number ≡ before.number → after.reading ≡ before.reading → after.begun ≡ before.begun ++ text → HasTaken after (bytes ++ text)
+  line_goes_on after text plain number reading begun = record {
+    front = taken.front;
+    whole = ap (λ b. b ++ text) taken.whole ∙ (append_assoc taken.front before.begun text ∙ ap (λ r. taken.front ++ r) (sym begun));
+    passed = subst (λ n. Passed taken.front n after.reading) (sym number) (subst (Passed taken.front before.number) (sym reading) taken.passed);
+    unended = subst HasNoFeed (sym begun) (All-append (λ b. is_feed b ≡ false) before.begun text taken.unended plain);
+  }
+
+  -- ---- at the end
+
+  pub ends_well : (plan : PlanValue) → before.begun ≡ [] → before.reading.modes ≡ plan.mode ∷ [] → before.reading.offers ≡ plan.offers → SayPlan (lines_of bytes) plan
+  ends_well plan none mode offers =
+      subst (λ b. SayPlan (lines_of b) plan) (sym (taken.whole ∙ ap (λ b. taken.front ++ b) none)) (said_all taken.front before.number before.reading taken.passed plan mode offers)
+
+  pub ends_without_mode : before.begun ≡ [] → before.reading.modes ≡ [] → NamesLine bytes (fault.Word before.number why.NoMode)
+  ends_without_mode none modes =
+      subst (λ b. NamesLine b (fault.Word before.number why.NoMode)) (sym (taken.whole ∙ ap (λ b. taken.front ++ b) none)) (said_no_mode taken.front before.number before.reading taken.passed modes)
+
+  pub ends_cut : (length before.begun == 0) ≡ false → NamesLine bytes (fault.Word before.number why.NoLineFeed)
+  ends_cut some =
+      subst (λ b. NamesLine b (fault.Word before.number why.NoLineFeed)) (sym taken.whole) (said_cut taken.front before.number before.reading taken.passed before.begun taken.unended some)
+
+-- ---- a piece
+
+-- the bytes of the piece before the rest were taken
+pub record SoFar (before now : PlanSoFar) (piece rest : List ℕ) : Type 0 where
+  pub done : List ℕ
+  pub whole : piece ≡ done ++ rest
+  pub taken : (bytes : List ℕ) → HasTaken before bytes → HasTaken now (bytes ++ done)
+
+pub none_so_far : (before : PlanSoFar) (piece : List ℕ) → SoFar before before piece piece
+none_so_far before piece = record { done = []; whole = refl; taken = λ bytes t. subst (HasTaken before) (sym (append-nil bytes)) t }
+
+module _ (before now : PlanSoFar) (piece rest text others : List ℕ) (so_far : SoFar before now piece rest) (cut : CutsLine rest text others) where
+  pub line_more : (next : PlanSoFar) → ((bytes : List ℕ) → HasTaken now bytes → HasTaken next (bytes ++ text ++ 10 ∷ [])) → SoFar before next piece others
+  line_more next takes = record {
+    done = so_far.done ++ (text ++ 10 ∷ []);
+    whole = so_far.whole ∙ (ap (λ r. so_far.done ++ r) (cut.whole ∙ sym (append_assoc text (10 ∷ []) others)) ∙ sym (append_assoc so_far.done (text ++ 10 ∷ []) others));
+    taken = λ bytes t. subst (HasTaken next) (append_assoc (bytes ++ so_far.done) text (10 ∷ []) ∙ append_assoc bytes so_far.done (text ++ 10 ∷ [])) (takes (bytes ++ so_far.done) (so_far.taken bytes t));
+  }
+
+  pub bad_more : (bytes more : List ℕ) (fault : PlanFault) → NamesLine ((bytes ++ so_far.done) ++ text ++ 10 ∷ (others ++ more)) fault → NamesLine (bytes ++ piece ++ more) fault
+  bad_more bytes more fault names =
+      let tail : text ++ 10 ∷ (others ++ more) ≡ rest ++ more = sym (append_assoc text (10 ∷ others) more) ∙ ap (λ r. r ++ more) (sym cut.whole) in
+      let whole : (bytes ++ so_far.done) ++ text ++ 10 ∷ (others ++ more) ≡ bytes ++ piece ++ more =
+      append_assoc (bytes ++ so_far.done) text (10 ∷ (others ++ more)) ∙ (ap (λ r. (bytes ++ so_far.done) ++ r) tail
+      ∙ (sym (append_assoc (bytes ++ so_far.done) rest more) ∙ ap (λ b. b ++ more) (append_assoc bytes so_far.done rest ∙ ap (λ p. bytes ++ p) (sym so_far.whole)))) in
+      subst (λ b. NamesLine b fault) whole names
+
+pub rest_begun : (before now after : PlanSoFar) (piece rest : List ℕ) → SoFar before now piece rest → HasNoFeed rest → after.number ≡ now.number → after.reading ≡ now.reading → after.begun ≡ now.begun ++ rest
+    → (bytes : List ℕ) → HasTaken before bytes → HasTaken after (bytes ++ piece)
+rest_begun before now after piece rest so_far plain number reading begun bytes t =
+    subst (HasTaken after) (append_assoc bytes so_far.done rest ∙ ap (λ p. bytes ++ p) (sym so_far.whole)) (line_goes_on now (bytes ++ so_far.done) (so_far.taken bytes t) after rest plain number reading begun)
+
+pub no_bytes : (bytes : List ℕ) → (length bytes == 0) ≡ true → bytes ≡ []
+no_bytes [] none = refl
+no_bytes (b ∷ bytes) none = absurd (omega (arith, eqb-true (suc (length bytes)) 0 none))

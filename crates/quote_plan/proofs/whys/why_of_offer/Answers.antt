@@ -1,0 +1,22 @@
+use Rattle.std.proofs.Common.{◌≡◌, Some, ◌∙◌, ap, rules}
+use Rattle.std.specs.Prelude.{is_none}
+use Rattle.script_lines.specs.Fields.{fields}
+use Rattle.quote_plan.specs.PlanWhys.{why_of_offer}
+use Rattle.quote_plan.specs.declared.whys.PlanWhy.TheVariants.{NoForm, BadName}
+use Rattle.quote_plan.proofs.GoodForms.{offer_tells}
+use Rattle.quote_plan.proofs.whys.why_of_offer.Goals as goal
+
+pub returns-in_default-clause-good : goal.returns-in_default-clause-good
+unfolding why_of_offer
+returns-in_default-clause-good c =
+    let why : Some NoForm ≡ why_of_offer (fields c.args.args.now) = search rules in ap is_none why ∙ offer_tells (fields c.args.args.now)
+
+pub returns-then-is_none-clause-good : goal.returns-then-is_none-clause-good
+unfolding why_of_offer
+returns-then-is_none-clause-good c =
+    let why : Some BadName ≡ why_of_offer (fields c.args.args.now) = search rules in ap is_none why ∙ offer_tells (fields c.args.args.now)
+
+pub returns-clause-good : goal.returns-clause-good
+unfolding why_of_offer
+returns-clause-good c =
+    let why : c.why_of_end.result ≡ why_of_offer (fields c.args.args.now) = search rules in ap is_none why ∙ offer_tells (fields c.args.args.now)
