@@ -1,25 +1,26 @@
 -- Words that say a command meet no fault.
-use Rattle.std.proofs.Common.{◌≡◌, ◌∙◌, ◌&&◌, ◌||◌, ℕ, Bool, cond, true, false, refl, sym, ap, subst, List, [], ◌∷◌, ◌++◌, Option, Some, None, is_some, codes}
+use Rattle.std.proofs.Common.{◌≡◌, ◌∙◌, ◌==◌, ◌&&◌, ◌||◌, ◌≤◌, ℕ, Bool, cond, not, true, false, true≢false, refl, sym, ap, subst, arith, List, [], ◌∷◌, ◌++◌, Option, Some, None, is_some, codes, leb-true}
 use Rattle.std.specs.Prelude.{option_and_then, option_map, unwrap_or}
 use Rattle.std.specs.Option.{option_map_or}
-use Rattle.std.specs.List.{list_all}
+use Rattle.std.specs.List.{AllByRecursion, list_all}
 use Rattle.std.specs.Str.{bytes_eq}
+use Rattle.std.proofs.lemmas.Bool.{ne_eqb}
 use Rattle.std.proofs.lemmas.Slice.Eq.{bytes_eq-Decides}
 use Rattle.clap.proofs.WalkLemmas.{both}
 use Rattle.clap.specs.Faults.{built_fault, check_fault, default_fault, defaults_fault, entered_fault, fault_of, given_default_fault, settle_fault, walk_fault}
 use Rattle.clap.specs.Simple.{entered}
 use Rattle.clap.specs.Walk.{Row, Rule, Text, Walk, finished, has_row, is_empty, nothing_held, settled, walk, walk_from, walked, with_default}
 use Rattle.command_line.specs.Application.{scopectl}
-use Rattle.command_line.specs.CommandLine.{Given, Said, command_said, command_word, given_to, is_bare, job_named, numbers_given, options_said, said_with, text_given}
-use Rattle.command_line.specs.Settings.{Numbers, greatest_of, is_plain, name_of, setting_number, plain_number}
+use Rattle.command_line.specs.CommandLine.{Given, Said, command_said, command_word, given_to, is_among, job_named, limit_names, said_by, said_with, text_given, time_names}
+use Rattle.command_line.specs.Settings.{NameAndMillis, Numbers, deadline_by, delay_by, delay_said, greatest_of, if_given, is_digit, is_plain, name_of, numbers_by, plain_number, setting_number}
 use Rattle.command_line.specs.declared.lines.Job.{Job}
 use Rattle.command_line.specs.declared.lines.Job.TheVariants.{Replay, Dump, Quote}
 use Rattle.command_line.specs.declared.settings.Setting.{Setting}
-use Rattle.command_line.specs.declared.settings.Setting.TheVariants.{Scopes, Tasks, Load}
-use Rattle.command_line.proofs.Bare.{bare_clear, bare_end, quote_has_none}
-use Rattle.command_line.proofs.BuiltReplay.{built_app, built_quote, built_replay, built_top, command_names, options_fault, quote_rules, replay_rules, top_rules, words_fault}
-use Rattle.command_line.proofs.Passing.{AllPlain, or_else-both, passes}
-use Rattle.command_line.proofs.TopLevel.{entered_is, fault_is, replay_has_none, stopped_at, stops}
+use Rattle.command_line.specs.declared.settings.Setting.TheVariants.{Scopes, Tasks, Load, Deadline, After}
+use Rattle.command_line.proofs.Built.{built_app, built_command, built_top, command_names, has_option, job_has_none, job_rules, top_rules, words_fault}
+use Rattle.command_line.proofs.Delays.{delay_is_no_flag}
+use Rattle.command_line.proofs.Passing.{NoFlags, is_no_flag, or_else-both, passes}
+use Rattle.command_line.proofs.TopLevel.{entered_is, fault_is, stopped_at, stops}
 
 -- ---- defaults
 
@@ -41,13 +42,11 @@ top_has_none = refl
 
 -- ---- the checks at the end
 
-replay_checks : (rows : List Row) → check_fault built_replay rows false ≡ []
-unfolding replay_rules
-replay_checks rows = refl
-
-quote_checks : (rows : List Row) → check_fault built_quote rows false ≡ []
-unfolding quote_rules
-quote_checks rows = refl
+job_checks : (job : Job) (rows : List Row) → check_fault (built_command job) rows false ≡ []
+unfolding job_rules
+job_checks Replay rows = refl
+job_checks Dump rows = refl
+job_checks Quote rows = refl
 
 top_checks : (rows : List Row) → check_fault built_top rows true ≡ []
 unfolding top_rules
@@ -81,81 +80,124 @@ built_clear job rest e =
     or_else-both _ _ (top_walk job rest)
     (or_else-both _ _ entered_clear (or_else-both _ _ settle_clear (or_else-both _ _ (defaults_clear top_rules (settled top_rules w.held).rows top_has_none) checks)))
 
-given_clear : (rest : List Text) (final : Given) → options_said [] rest ≡ Some final → AllPlain final → options_fault rest ≡ []
-given_clear rest final said plain =
-    let passed = passes rest [] final [] None (refl, refl) said plain in
-    let end = (walk replay_rules [] nothing_held rest).held in
+given_clear : (job : Job) (rest : List Text) (final : Given) → given_to job rest ≡ Some final → NoFlags job final → words_fault job rest ≡ []
+given_clear job rest final said flagless =
+    let passed = passes job rest [] final [] None (refl, refl) said flagless in
+    let end = (walk (job_rules job) [] nothing_held rest).held in
     or_else-both _ _ passed.0 (or_else-both _ _ passed.1
-    (or_else-both _ _ (defaults_clear replay_rules (settled replay_rules end).rows replay_has_none) (replay_checks (finished replay_rules end))))
+    (or_else-both _ _ (defaults_clear (job_rules job) (settled (job_rules job) end).rows (job_has_none job)) (job_checks job (finished (job_rules job) end))))
 
--- ---- the numbers
+-- ---- a text of an option that says something is no flag
 
-said_plain : (greatest n : ℕ) (text : Text) → plain_number greatest text ≡ Some n → is_plain text ≡ true
+plain_is_no_flag : (text : Text) → is_plain text ≡ true → is_no_flag text ≡ true
+plain_is_no_flag [] plain = absurd (true≢false (sym plain))
+plain_is_no_flag (first ∷ rest) plain =
+    let digits = (both (not (first == 48)) (list_all is_digit (first ∷ rest)) plain).1 in
+    let range = (both (is_digit first) (list_all is_digit rest) digits).0 in
+    let low : 48 ≤ first = leb-true _ _ (both _ _ range).0 in
+    ap not (ne_eqb first 45 (λ is. omega arith))
+
+number_is_no_flag : (greatest n : ℕ) (text : Text) → plain_number greatest text ≡ Some n → is_no_flag text ≡ true
 unfolding plain_number
-said_plain greatest n text e = go (is_plain text) refl e
+number_is_no_flag greatest n text e = go (is_plain text) refl e
   where
     go : (b : Bool) → is_plain text ≡ b
         → cond (b && (Rattle.std.specs.Prelude.nat_le 1 (Rattle.std.specs.Str.Parse.digits_value 10 text) && Rattle.std.specs.Prelude.nat_le (Rattle.std.specs.Str.Parse.digits_value 10 text) greatest))
-        (Some (Rattle.std.specs.Str.Parse.digits_value 10 text)) None ≡ Some n → b ≡ true
-    go true is e = refl
+        (Some (Rattle.std.specs.Str.Parse.digits_value 10 text)) None ≡ Some n → is_no_flag text ≡ true
+    go true is e = plain_is_no_flag text is
     go false is e = absurd (cc)
 
-number_plain : (s : Setting) (o : Option Text) (n : ℕ) (text : Text) → setting_number s o ≡ Some n → o ≡ Some text → is_plain text ≡ true
-number_plain s o n text e is = said_plain (greatest_of s) n text (ap (setting_number s) (sym is) ∙ e)
+-- where the option was given, its text is no flag
+abbrev Flagless : Option Text → Type 0
+Flagless given = (text : Text) → given ≡ Some text → is_no_flag text ≡ true
 
-data HasNumber (o : Option ℕ) : Type 0 where
-  number : (n : ℕ) → o ≡ Some n → HasNumber o
+data HasSome (X : Type 0) (o : Option X) : Type 0 where
+  some : (x : X) → o ≡ Some x → HasSome X o
 
-module _ (given : Setting → Option Text) (numbers : Numbers) where
-  load_has : (scopes tasks : ℕ) (c : Option ℕ) → option_map (λ load. record { scopes = scopes; tasks = tasks; load = load }) c ≡ Some numbers → HasNumber c
-  load_has scopes tasks (Some n) e = number n refl
+limit_flagless : (s : Setting) (given : Option Text) → HasSome ℕ (setting_number s given) → Flagless given
+limit_flagless s given (some n e) text is = number_is_no_flag (greatest_of s) n text (ap (setting_number s) (sym is) ∙ e)
+
+-- an option that may be left out, and whose texts that say something are no flags
+given_flagless : (X : Type 0) (said : Text → Option X) → ((text : Text) (x : X) → said text ≡ Some x → is_no_flag text ≡ true)
+    → (given : Option Text) → HasSome (Option X) (if_given said given) → Flagless given
+given_flagless X said each given (some o e) text is = go (said text) refl (ap (if_given said) (sym is) ∙ e)
+  where
+    go : (s : Option X) → said text ≡ s → option_map (λ x. Some x) s ≡ Some o → is_no_flag text ≡ true
+    go (Some x) says e = each text x says
+    go None says e = absurd (cc)
+
+-- ---- what is said has all its parts
+
+module _ (numbers : Numbers) where
+  load_has : (scopes tasks : ℕ) (c : Option ℕ) → option_map (λ load. record { scopes = scopes; tasks = tasks; load = load }) c ≡ Some numbers → HasSome ℕ c
+  load_has scopes tasks (Some n) e = some n refl
   load_has scopes tasks None e = absurd (cc)
 
-  all_have : (a b c : Option ℕ) → option_and_then (λ scopes. option_and_then (λ tasks. option_map (λ load. record { scopes = scopes; tasks = tasks; load = load }) c) b) a ≡ Some numbers
-      → HasNumber a × HasNumber b × HasNumber c
+  limits_have : (a b c : Option ℕ) → option_and_then (λ scopes. option_and_then (λ tasks. option_map (λ load. record { scopes = scopes; tasks = tasks; load = load }) c) b) a ≡ Some numbers
+      → HasSome ℕ a × HasSome ℕ b × HasSome ℕ c
+  limits_have None b c e = absurd (cc)
+  limits_have (Some n) None c e = absurd (cc)
+  limits_have (Some n) (Some m) c e = (some n refl, some m refl, load_has n m c e)
+
+module _ (job : Job) (said : Said) where
+  after_has : (numbers : Numbers) (deadline : Option ℕ) (c : Option (Option NameAndMillis)) → option_map (λ after. said_with job numbers deadline after) c ≡ Some said
+      → HasSome (Option NameAndMillis) c
+  after_has numbers deadline (Some after) e = some after refl
+  after_has numbers deadline None e = absurd (cc)
+
+  all_have : (a : Option Numbers) (b : Option (Option ℕ)) (c : Option (Option NameAndMillis))
+      → option_and_then (λ numbers. option_and_then (λ deadline. option_map (λ after. said_with job numbers deadline after) c) b) a ≡ Some said
+      → HasSome Numbers a × HasSome (Option ℕ) b × HasSome (Option NameAndMillis) c
   all_have None b c e = absurd (cc)
   all_have (Some n) None c e = absurd (cc)
-  all_have (Some n) (Some m) c e = (number n refl, number m refl, load_has n m c e)
+  all_have (Some n) (Some d) c e = (some n refl, some d refl, after_has n d c e)
 
-plain_by : (s : Setting) (o : Option Text) → HasNumber (setting_number s o) → (text : Text) → o ≡ Some text → is_plain text ≡ true
-plain_by s o (number n e) text is = number_plain s o n text e is
+-- ---- the options of a job have no flags for texts
 
-all_plain : (final : Given) (numbers : Numbers) → numbers_given final ≡ Some numbers → AllPlain final
-unfolding AllPlain
-all_plain final numbers e s text is = go s text is
+-- what holds of each of some names holds of a name among them
+of_each : (P : Text → Type 0) (names : List Text) → AllByRecursion P names → (name : Text) → is_among names name ≡ true → P name
+of_each P [] all name own = absurd (true≢false (sym own))
+of_each P (known ∷ names) all name own = go (of_each P names all.1 name) (bytes_eq known name) refl own
   where
-    have : HasNumber (setting_number Scopes (text_given final (name_of Scopes))) × HasNumber (setting_number Tasks (text_given final (name_of Tasks))) × HasNumber (setting_number Load (text_given final (name_of Load)))
-    have = all_have (λ s. text_given final (name_of s)) numbers _ _ _ e
+    go : (is_among names name ≡ true → P name) → (b : Bool) → bytes_eq known name ≡ b → (b || is_among names name) ≡ true → P name
+    go later true same own = subst P ((bytes_eq-Decides known name).0 same) all.0
+    go later false other own = later own
 
-    go : (s : Setting) (text : Text) → text_given final (name_of s) ≡ Some text → is_plain text ≡ true
-    go Scopes text is = plain_by Scopes _ have.0 text is
-    go Tasks text is = plain_by Tasks _ have.1 text is
-    go Load text is = plain_by Load _ have.2 text is
+module _ (given : Text → Option Text) where
+  limits_flagless : HasSome Numbers (numbers_by (λ s. given (name_of s))) → (name : Text) → is_among limit_names name ≡ true → Flagless (given name)
+  limits_flagless (some numbers e) =
+      let have = limits_have numbers _ _ _ e in
+      of_each (λ name. Flagless (given name)) limit_names
+      (limit_flagless Scopes _ have.0, (limit_flagless Tasks _ have.1, (limit_flagless Load _ have.2, tt)))
+
+  times_flagless : HasSome (Option ℕ) (deadline_by (given (name_of Deadline))) → HasSome (Option NameAndMillis) (delay_by (given (name_of After)))
+      → (name : Text) → is_among time_names name ≡ true → Flagless (given name)
+  times_flagless deadline after =
+      of_each (λ name. Flagless (given name)) time_names (
+        given_flagless ℕ (plain_number (greatest_of Deadline)) (λ text n says. number_is_no_flag (greatest_of Deadline) n text says) _ deadline,
+        (given_flagless NameAndMillis delay_said delay_is_no_flag _ after, tt),
+      )
+
+no_flags : (job : Job) (final : Given) (said : Said) → said_by job (text_given final) ≡ Some said → NoFlags job final
+unfolding NoFlags
+no_flags job final said e name text own is = go job own
+  where
+    have : HasSome Numbers (numbers_by (λ s. text_given final (name_of s))) × HasSome (Option ℕ) (deadline_by (text_given final (name_of Deadline))) × HasSome (Option NameAndMillis) (delay_by (text_given final (name_of After)))
+    have = all_have job said _ _ _ e
+
+    go : (job : Job) → has_option job name ≡ true → is_no_flag text ≡ true
+    go Replay own = limits_flagless (text_given final) have.0 name own text is
+    go Dump own = limits_flagless (text_given final) have.0 name own text is
+    go Quote own = times_flagless (text_given final) have.1 have.2 name own text is
 
 -- ---- words that say a command
 
-options_clear : (rest : List Text) (numbers : Numbers) (o : Option Given) → options_said [] rest ≡ o → option_and_then numbers_given o ≡ Some numbers → options_fault rest ≡ []
-options_clear rest numbers None is e = absurd (cc)
-options_clear rest numbers (Some final) is e = given_clear rest final is (all_plain final numbers e)
-
-bare_words_clear : (rest : List Text) → is_bare rest ≡ true → words_fault Quote rest ≡ []
-bare_words_clear rest bare =
-    let h = (walk quote_rules [] nothing_held rest).held in
-    let settle_clear : settle_fault quote_rules false h ≡ [] = ap (λ (h : Rattle.clap.specs.Walk.Held). settle_fault quote_rules false h) (bare_end rest bare) in
-    or_else-both _ _ (bare_clear rest bare) (or_else-both _ _ settle_clear
-    (or_else-both _ _ (defaults_clear quote_rules (settled quote_rules h).rows quote_has_none) (quote_checks (finished quote_rules h))))
-
-none_clear : (rest : List Text) (numbers : Numbers) → option_and_then numbers_given (given_to Quote rest) ≡ Some numbers → words_fault Quote rest ≡ []
-none_clear rest numbers e = go (is_bare rest) refl e
+words_clear : (job : Job) (rest : List Text) (said : Said) → option_and_then (λ given. said_by job (text_given given)) (given_to job rest) ≡ Some said → words_fault job rest ≡ []
+words_clear job rest said e = go (given_to job rest) refl e
   where
-    go : (b : Bool) → is_bare rest ≡ b → option_and_then numbers_given (cond b (Some []) None) ≡ Some numbers → words_fault Quote rest ≡ []
-    go true is e = bare_words_clear rest is
-    go false is e = absurd (cc)
-
-words_clear : (job : Job) (rest : List Text) (numbers : Numbers) → option_and_then numbers_given (given_to job rest) ≡ Some numbers → words_fault job rest ≡ []
-words_clear Replay rest numbers e = options_clear rest numbers (options_said [] rest) refl e
-words_clear Dump rest numbers e = options_clear rest numbers (options_said [] rest) refl e
-words_clear Quote rest numbers e = none_clear rest numbers e
+    go : (o : Option Given) → given_to job rest ≡ o → option_and_then (λ given. said_by job (text_given given)) o ≡ Some said → words_fault job rest ≡ []
+    go None is e = absurd (cc)
+    go (Some final) is e = given_clear job rest final is (no_flags job final said e)
 
 -- the job that a word names has that word
 named_word : (word : Text) (job : Job) → job_named word ≡ Some job → command_word job ≡ word
@@ -169,20 +211,15 @@ named_word word job e = go (bytes_eq (codes "replay") word) refl (bytes_eq (code
     go false replays false dumps true quotes e = ap (λ o. command_word (unwrap_or o Replay)) (sym e) ∙ (bytes_eq-Decides (codes "quote") word).0 quotes
     go false replays false dumps false quotes e = absurd (cc)
 
-has_numbers : (job : Job) (o : Option Numbers) (said : Said) → option_map (said_with job) o ≡ Some said → (numbers : Numbers) × (o ≡ Some numbers)
-has_numbers job None said e = absurd (cc)
-has_numbers job (Some numbers) said e = (numbers, refl)
-
 pub said_clear : (words : List Text) (said : Said) → command_said words ≡ Some said → fault_of scopectl words ≡ []
 unfolding command_said
 said_clear [] said e = absurd (cc)
 said_clear (program ∷ []) said e = absurd (cc)
 said_clear (program ∷ word ∷ rest) said e = go (job_named word) refl e
   where
-    go : (o : Option Job) → job_named word ≡ o → option_and_then (λ job. option_map (said_with job) (option_and_then numbers_given (given_to job rest))) o ≡ Some said
+    go : (o : Option Job) → job_named word ≡ o → option_and_then (λ job. option_and_then (λ given. said_by job (text_given given)) (given_to job rest)) o ≡ Some said
         → fault_of scopectl (program ∷ word ∷ rest) ≡ []
     go None is e = absurd (cc)
     go (Some job) is e =
-        let got = has_numbers job (option_and_then numbers_given (given_to job rest)) said e in
         fault_is (program ∷ word ∷ rest)
-        ∙ subst (λ w. built_fault built_app nothing_held (w ∷ rest) ≡ []) (named_word word job is) (built_clear job rest (words_clear job rest got.0 got.1))
+        ∙ subst (λ w. built_fault built_app nothing_held (w ∷ rest) ≡ []) (named_word word job is) (built_clear job rest (words_clear job rest said e))

@@ -1,12 +1,15 @@
 mod Answering
-mod Bare
-mod BuiltReplay
+mod Built
 mod Clearing
+mod Delays
+mod HelpWords
+mod Hinting
 mod Levels
 mod Numbers
 mod Parsed
 mod Passing
 mod Requests
 mod Saying
+mod StrictWords
 mod TopLevel
 mod Walking

@@ -1,18 +1,20 @@
 -- What a parse that went well says.
-use Rattle.std.proofs.Common.{◌≡◌, ◌∙◌, ap, subst, true, List, [], Some, is_some}
+use Rattle.std.proofs.Common.{◌≡◌, ◌∙◌, ℕ, refl, ap, ap₂, sym, true, List, [], Option, Some, None, is_some}
 use Rattle.std.specs.Prelude.{option_map, unwrap_or}
 use Rattle.clap.proofs.WalkLemmas.{both}
 use Rattle.clap.specs.Faults.{fault_of, is_simple_and_free}
 use Rattle.clap.specs.Simple.{App, is_simple, subcommand_of, subcommand_rows_of}
-use Rattle.clap.specs.Matches.{found_of, subcommand_name_of}
+use Rattle.clap.specs.Matches.{first_value, found_of, subcommand_name_of}
 use Rattle.clap.specs.Walk.{Row, Text, rows_of}
 use Rattle.clap.specs.declared.parser.matches.ArgMatches.{ArgMatches}
 use Rattle.command_line.specs.Application.{scopectl}
-use Rattle.command_line.specs.CommandLine.{command_said, command_word, job_named, said_with}
-use Rattle.command_line.specs.Settings.{name_of, numbers_by}
+use Rattle.command_line.specs.CommandLine.{command_said, command_word, job_named, said_by, said_with}
+use Rattle.command_line.specs.Settings.{NameAndMillis, Numbers, deadline_by, delay_by, name_of, numbers_by}
+use Rattle.command_line.specs.declared.lines.Job.{Job}
+use Rattle.command_line.specs.declared.settings.Setting.TheVariants.{Deadline, After}
 use Rattle.command_line.proofs.Answering.{name_in_rows}
-use Rattle.command_line.proofs.BuiltReplay.{is_simple_app}
-use Rattle.command_line.proofs.TopLevel.{IsRead, named_is, numbers_said, read}
+use Rattle.command_line.proofs.Built.{is_simple_app}
+use Rattle.command_line.proofs.TopLevel.{IsRead, named_is, read, texts_said}
 use Rattle.command_line.proofs.Walking.{rows_given}
 
 -- the words meet no fault, and the parse found the job and the options that they say
@@ -24,14 +26,15 @@ pub record Parsed (words : List Text) (matches : ArgMatches) : Type 0 where
 pub simple : (app : App) → app ≡ scopectl → is_simple_and_free app ≡ true
 simple app is = ap is_simple_and_free is ∙ is_simple_app
 
-pub parsed : (words : List Text) (app : App) (matches : ArgMatches) → app ≡ scopectl → (is_simple_and_free app ≡ true → fault_of app words ≡ [])
-    → (is_simple app ≡ true → subcommand_rows_of matches ≡ subcommand_of app words) → Parsed words matches
-parsed words app matches is clear found =
-    let no_fault : fault_of scopectl words ≡ [] = subst (λ (a : App). fault_of a words ≡ []) is (clear (simple app is)) in
+-- the words that were given to the parse are these
+pub parsed : (given words : List Text) → given ≡ words → (app : App) (matches : ArgMatches) → app ≡ scopectl → (is_simple_and_free app ≡ true → fault_of app given ≡ [])
+    → (is_simple app ≡ true → subcommand_rows_of matches ≡ subcommand_of app given) → Parsed words matches
+parsed given words same app matches is clear found =
+    let no_fault : fault_of scopectl words ≡ [] = sym (ap₂ fault_of is same) ∙ clear (simple app is) in
     record {
       clear = no_fault;
       got = read words no_fault;
-      found = found (both _ _ (simple app is)).0 ∙ (ap (λ (a : App). subcommand_of a words) is ∙ (read words no_fault).rows);
+      found = found (both _ _ (simple app is)).0 ∙ (ap₂ subcommand_of is same ∙ (read words no_fault).rows);
     }
 
 module _ (words : List Text) (matches : ArgMatches) (p : Parsed words matches) where
@@ -48,6 +51,23 @@ module _ (words : List Text) (matches : ArgMatches) (p : Parsed words matches) w
 
   -- what its options say
   pub said_is : (options : ArgMatches) → Some (rows_of (found_of options)) ≡ option_map (λ (r : Text × List Row). r.1) (subcommand_rows_of matches)
-      → option_map (said_with p.got.job) (numbers_by (λ s. Rattle.clap.specs.Matches.first_value (found_of options) (name_of s))) ≡ command_said words
+      → said_by p.got.job (λ name. first_value (found_of options) name) ≡ command_said words
   said_is options rows =
-      numbers_said words (found_of options) p.got (ap (λ o. unwrap_or o []) (rows ∙ ap (option_map (λ (r : Text × List Row). r.1)) p.found))
+      texts_said words (found_of options) p.got (ap (λ o. unwrap_or o []) (rows ∙ ap (option_map (λ (r : Text × List Row). r.1)) p.found))
+
+-- ---- what is said of a job by its parts
+
+module _ (job : Job) (given : Text → Option Text) where
+  pub no_numbers : numbers_by (λ s. given (name_of s)) ≡ None → said_by job given ≡ None
+  no_numbers none = rw none refl
+
+  module _ (numbers : Numbers) (limits : numbers_by (λ s. given (name_of s)) ≡ Some numbers) where
+    pub no_deadline : deadline_by (given (name_of Deadline)) ≡ None → said_by job given ≡ None
+    no_deadline none = rw (limits, none) refl
+
+    module _ (deadline : Option ℕ) (time : deadline_by (given (name_of Deadline)) ≡ Some deadline) where
+      pub no_delay : delay_by (given (name_of After)) ≡ None → said_by job given ≡ None
+      no_delay none = rw (limits, time, none) refl
+
+      pub all_said : (after : Option NameAndMillis) → delay_by (given (name_of After)) ≡ Some after → said_by job given ≡ Some (said_with job numbers deadline after)
+      all_said after delay = rw (limits, time, delay) refl

@@ -20,7 +20,7 @@ use Rattle.clap.specs.declared.error.kind.ErrorKind.{ErrorKind}
 use Rattle.clap.specs.declared.error.kind.ErrorKind.TheVariants as kind
 use Rattle.command_line.specs.Application.{scopectl}
 use Rattle.command_line.specs.declared.lines.Job.TheVariants.{Replay, Dump, Quote}
-use Rattle.command_line.proofs.BuiltReplay.{built_app, built_command, built_top}
+use Rattle.command_line.proofs.Built.{built_app, built_command, built_top}
 use Rattle.command_line.proofs.TopLevel.{fault_is}
 
 abbrev pub is_request : ErrorKind → Bool

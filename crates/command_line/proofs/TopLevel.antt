@@ -13,13 +13,10 @@ use Rattle.clap.specs.Faults.{built_fault, check_fault, defaults_fault, entered_
 use Rattle.clap.specs.Simple.{App, argument_words, entered, names_of, subcommand_of}
 use Rattle.clap.specs.Walk.{Held, Row, Rule, Text, Walk, arg_by_long, default_rows, finished, first_of, has_row, idle, is_empty, nothing_held, reading_by, rows_of, settled, stop_after, subcommand_met, walk, walk_from, walked, with_default}
 use Rattle.command_line.specs.Application.{scopectl}
-use Rattle.command_line.specs.CommandLine.{Given, command_said, command_word, given_to, job_named, numbers_given, said_with, text_given}
-use Rattle.command_line.specs.Settings.{name_of, numbers_by}
+use Rattle.command_line.specs.CommandLine.{Given, command_said, command_word, given_to, job_named, said_by, text_given}
 use Rattle.command_line.specs.declared.lines.Job.{Job}
 use Rattle.command_line.specs.declared.lines.Job.TheVariants.{Replay, Dump, Quote}
-use Rattle.command_line.specs.declared.settings.Setting.{Setting}
-use Rattle.command_line.proofs.BuiltReplay.{asks_help, asks_version, built_app, built_help, built_top, built_version, command_names, is_built, options_fault, quote_rules, replay_rules, same_level, top_level, top_rules, words_fault}
-use Rattle.command_line.proofs.Bare.{bare_end, clear_is_bare, quote_has_none}
+use Rattle.command_line.proofs.Built.{asks_help, asks_version, built_app, built_help, built_top, built_version, command_names, is_built, job_has_none, job_rules, top_level, top_rules, words_fault}
 use Rattle.command_line.proofs.Levels.{at, dashes, dashes_end, holding, long_clear, no_value, nothing_past_dashes, or_else-nil, past_dashes}
 use Rattle.command_line.proofs.Saying.{reads}
 use Rattle.command_line.proofs.Walking.{row_given, rows_given}
@@ -117,8 +114,8 @@ module _ (word : Text) (rest : List Text) (own : subcommand_met command_names id
 -- ---- the words after a job's word
 
 pub entered_is : (job : Job) (rest : List Text) → entered_fault built_app (Some (command_word job, rest)) ≡ words_fault job rest
-entered_is Replay rest = same_level (command_word Replay) rest
-entered_is Dump rest = same_level (command_word Dump) rest
+entered_is Replay rest = refl
+entered_is Dump rest = refl
 entered_is Quote rest = refl
 
 words_clear : (job : Job) (rest : List Text) → built_fault built_app nothing_held (command_word job ∷ rest) ≡ [] → words_fault job rest ≡ []
@@ -127,7 +124,7 @@ words_clear job rest e =
     let below : entered_fault built_app (walk top_rules command_names nothing_held (command_word job ∷ rest)).stopped ≡ [] = (or_else-nil _ _ all.1).0 in
     sym (entered_is job rest) ∙ subst (λ (w : Walk). entered_fault built_app w.stopped ≡ []) (stops job rest) below
 
-same_either : {A : Type 0} (b : Bool) (x : A) → cond b x x ≡ x
+pub same_either : {A : Type 0} (b : Bool) (x : A) → cond b x x ≡ x
 same_either true x = refl
 same_either false x = refl
 
@@ -146,16 +143,12 @@ no_defaults (a ∷ rules) rows e =
     let parts = both (is_empty a.defaults) (list_all (λ a. is_empty a.defaults) rules) e in
     ap (λ r. fold with_default r rules) (no_default a rows parts.0) ∙ no_defaults rules rows parts.1
 
-pub replay_has_none : list_all (λ a. is_empty a.defaults) replay_rules ≡ true
-unfolding replay_rules
-replay_has_none = refl
-
 -- the job, and what it was given, where the words meet no fault
 pub record IsRead (words : List Text) : Type 0 where
   pub job : Job
   pub given : Given
   pub rows : subcommand_of scopectl words ≡ Some (command_word job, rows_given given)
-  pub said : command_said words ≡ option_map (said_with job) (numbers_given given)
+  pub said : command_said words ≡ said_by job (text_given given)
 
 pub named_is : (job : Job) → job_named (command_word job) ≡ Some job
 unfolding job_named
@@ -165,40 +158,27 @@ named_is Quote = refl
 
 -- the rows that a job's command leaves
 abbrev rows_left : Job → List Text → List Row
-rows_left Replay rest = finished replay_rules (walk replay_rules [] nothing_held rest).held
-rows_left Dump rest = finished replay_rules (walk replay_rules [] nothing_held rest).held
-rows_left Quote rest = finished quote_rules (walk quote_rules [] nothing_held rest).held
+rows_left job rest = finished (job_rules job) (walk (job_rules job) [] nothing_held rest).held
 
 rows_entered : (job : Job) (rest : List Text) → entered built_app (Some (command_word job, rest)) ≡ Some (command_word job, rows_left job rest)
 rows_entered Replay rest = refl
 rows_entered Dump rest = refl
 rows_entered Quote rest = refl
 
-said_at : (program : Text) (job : Job) (rest : List Text) → command_said (program ∷ command_word job ∷ rest) ≡ option_map (said_with job) (option_and_then numbers_given (given_to job rest))
+said_at : (program : Text) (job : Job) (rest : List Text) → command_said (program ∷ command_word job ∷ rest) ≡ option_and_then (λ given. said_by job (text_given given)) (given_to job rest)
 unfolding command_said
-said_at program job rest = ap (option_and_then (λ j. option_map (said_with j) (option_and_then numbers_given (given_to j rest)))) (named_is job)
+said_at program job rest = ap (option_and_then (λ j. option_and_then (λ given. said_by j (text_given given)) (given_to j rest))) (named_is job)
 
 -- what the words after a job's word give, where they meet no fault, and the rows of it
 abbrev IsGiven : Job → List Text → Type 0
 IsGiven job rest = (given : Given) × (given_to job rest ≡ Some given) × (rows_left job rest ≡ rows_given given)
 
-options_given : (rest : List Text) → options_fault rest ≡ [] → IsGiven Replay rest
-options_given rest e =
+given_is : (job : Job) (rest : List Text) → words_fault job rest ≡ [] → IsGiven job rest
+given_is job rest e =
     let parts = or_else-nil _ _ e in
     let settles = or_else-nil _ _ parts.1 in
-    let read = reads rest (Some []) [] None (λ _. ([], refl, refl)) parts.0 settles.0 in
-    (read.0, read.1, no_defaults replay_rules _ replay_has_none ∙ read.2)
-
-none_given : (rest : List Text) → words_fault Quote rest ≡ [] → IsGiven Quote rest
-none_given rest e =
-    let bare = clear_is_bare rest (or_else-nil _ _ e).0 in
-    let none : given_to Quote rest ≡ Some [] = ap (λ (b : Bool). cond b (Some []) None) bare in
-    ([], none, no_defaults quote_rules _ quote_has_none ∙ ap (λ (h : Held). (settled quote_rules h).rows) (bare_end rest bare))
-
-given_is : (job : Job) (rest : List Text) → words_fault job rest ≡ [] → IsGiven job rest
-given_is Replay rest e = options_given rest e
-given_is Dump rest e = options_given rest e
-given_is Quote rest e = none_given rest e
+    let read = reads job rest (Some []) [] None (λ _. ([], refl, refl)) parts.0 settles.0 in
+    (read.0, read.1, no_defaults (job_rules job) _ (job_has_none job) ∙ read.2)
 
 read_command : (program : Text) (job : Job) (rest : List Text) → words_fault job rest ≡ [] → IsRead (program ∷ command_word job ∷ rest)
 read_command program job rest e =
@@ -208,7 +188,7 @@ read_command program job rest e =
       given = got.0;
       rows = subcommand_is (program ∷ command_word job ∷ rest) ∙ ap (λ (w : Walk). entered built_app w.stopped) (stops job rest)
           ∙ rows_entered job rest ∙ ap (λ r. Some (command_word job, r)) got.2;
-      said = said_at program job rest ∙ ap (λ o. option_map (said_with job) (option_and_then numbers_given o)) got.1;
+      said = said_at program job rest ∙ ap (option_and_then (λ given. said_by job (text_given given))) got.1;
     }
 
 read_after : (program word : Text) (rest : List Text) → built_fault built_app nothing_held (word ∷ rest) ≡ [] → IsRead (program ∷ word ∷ rest)
@@ -239,9 +219,9 @@ text_in_rows given name = ap (option_and_then (λ (r : Row). slice_get r.values 
     go (Some p) = refl
 
 module _ (words : List Text) (found : Found) (got : IsRead words) (same : rows_of found ≡ rows_given got.given) where
-  text_is : (s : Setting) → first_value found (name_of s) ≡ text_given got.given (name_of s)
-  text_is s = first_value-rows found (name_of s) ∙ ap (first_of (name_of s)) same ∙ text_in_rows got.given (name_of s)
+  text_is : (name : Text) → first_value found name ≡ text_given got.given name
+  text_is name = first_value-rows found name ∙ ap (first_of name) same ∙ text_in_rows got.given name
 
-  -- the numbers of the rows are those that the words say
-  pub numbers_said : option_map (said_with got.job) (numbers_by (λ s. first_value found (name_of s))) ≡ command_said words
-  numbers_said = ap (λ given. option_map (said_with got.job) (numbers_by given)) (λ i s. text_is s i) ∙ sym got.said
+  -- what the texts of the rows say is what the words say
+  pub texts_said : said_by got.job (λ name. first_value found name) ≡ command_said words
+  texts_said = ap (said_by got.job) (λ i name. text_is name i) ∙ sym got.said

@@ -4,6 +4,7 @@ use Rattle.clap.specs.Faults.{fault_of}
 use Rattle.clap.specs.declared.error.kind.ErrorKind.{ErrorKind}
 use Rattle.clap.specs.declared.error.kind.ErrorKind.TheVariants as kind
 use Rattle.command_line.specs.Application.{scopectl}
+use Rattle.command_line.specs.HelpWord.{turned}
 use Rattle.command_line.specs.declared.faults.LineFault.{LineFault}
 use Rattle.command_line.specs.declared.faults.LineFault.TheVariants.{Help, Version, Usage, Memory}
 
@@ -15,13 +16,13 @@ TellsKind k (Usage text) =
     (k ≢ kind.DisplayHelp) × (k ≢ kind.DisplayVersion) × (k ≢ kind.OutOfMemory)
 TellsKind k Memory = ⊤
 
--- the parse of the words answers help, and can answer nothing else
+-- the parse of the words, as they are read, answers help, and can answer nothing else
 abbrev pub AsksHelp : List (List ℕ) → Type 0
-AsksHelp words = fault_of scopectl words ≡ kind.DisplayHelp ∷ []
+AsksHelp words = fault_of scopectl (turned words) ≡ kind.DisplayHelp ∷ []
 
--- the parse of the words answers the version, and can answer nothing else
+-- the parse of the words, as they are read, answers the version, and can answer nothing else
 abbrev pub AsksVersion : List (List ℕ) → Type 0
-AsksVersion words = fault_of scopectl words ≡ kind.DisplayVersion ∷ []
+AsksVersion words = fault_of scopectl (turned words) ≡ kind.DisplayVersion ∷ []
 
 -- the words ask for neither
 abbrev pub IsNoRequest : List (List ℕ) → Type 0

@@ -1,5 +1,8 @@
 pub mod Application
 pub mod CommandLine
 pub mod Faults
+pub mod StrictWord
+pub mod HelpWord
+pub mod Hints
 pub mod Settings
 pub mod Texts

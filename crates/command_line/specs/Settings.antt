@@ -1,25 +1,33 @@
--- The options of a job, and the numbers that they say.
+-- The options of a job, and what they say.
 use Rattle.std.specs.Prelude.{ℕ, Bool, List, [], ◌∷◌, Option, Some, None, ◌&&◌, ◌==◌, not, false, nat_le, codes, if◌then◌else◌}
 use Rattle.std.specs.Prelude.{option_map, option_and_then}
-use Rattle.std.specs.List.{list_all}
+use Rattle.std.specs.List.{after_first, before_first, list_all}
 use Rattle.std.specs.Option.{option_map_or}
 use Rattle.std.specs.Str.Parse.{digits_value}
+use Rattle.scope_rules.specs.NameText.{is_name}
+use Rattle.scope_rules.specs.Names.{text_of}
 use Rattle.scope_rules.specs.declared.types.capacity.Limits.{Limits}
 use Rattle.scope_rules.specs.declared.types.capacity.TheConstants.{SCOPE_LIMIT, TASK_LIMIT, LOAD_LIMIT}
+use Rattle.command_line.specs.declared.settings.Delay.{Delay}
 use Rattle.command_line.specs.declared.settings.Setting.{Setting}
-use Rattle.command_line.specs.declared.settings.Setting.TheVariants.{Scopes, Tasks, Load}
+use Rattle.command_line.specs.declared.settings.Setting.TheVariants.{Scopes, Tasks, Load, Deadline, After}
+use Rattle.command_line.specs.declared.settings.TheConstants.{DAY_MILLIS}
 
 -- an option's name, without its hyphens
 abbrev pub name_of : Setting → List ℕ
 name_of Scopes = codes "scopes"
 name_of Tasks = codes "tasks"
 name_of Load = codes "load"
+name_of Deadline = codes "deadline"
+name_of After = codes "after"
 
--- the greatest number that an option can say, which also stands where it is not given
+-- the greatest number that an option can say
 abbrev pub greatest_of : Setting → ℕ
 greatest_of Scopes = SCOPE_LIMIT
 greatest_of Tasks = TASK_LIMIT
 greatest_of Load = LOAD_LIMIT
+greatest_of Deadline = DAY_MILLIS
+greatest_of After = DAY_MILLIS
 
 abbrev pub is_digit : ℕ → Bool
 is_digit byte = nat_le 48 byte && nat_le byte 57
@@ -35,12 +43,14 @@ plain_number greatest text =
     let number = digits_value 10 text in
     if is_plain text && (nat_le 1 number && nat_le number greatest) then Some number else None
 
--- the number of an option that was given with a text, or was not given
+-- ---- the limits of a realm
+
+-- the limit whose option was given with a text; where it was not given, the greatest
 abbrev pub setting_number : Setting → Option (List ℕ) → Option ℕ
 setting_number setting given =
     option_map_or (plain_number (greatest_of setting)) given (Some (greatest_of setting))
 
--- the numbers of all the options
+-- the numbers of all limits
 pub record Numbers : Type 0 where
   pub scopes : ℕ
   pub tasks : ℕ
@@ -49,10 +59,47 @@ pub record Numbers : Type 0 where
 abbrev pub numbers_of : Limits → Numbers
 numbers_of limits = record { scopes = limits.scopes; tasks = limits.tasks; load = limits.load }
 
--- the numbers of options that were given with these texts
+-- the numbers of limits whose options were given with these texts
 abbrev pub numbers_by : (Setting → Option (List ℕ)) → Option Numbers
 numbers_by given = option_and_then (λ scopes. option_and_then (λ tasks. option_map (λ load. record {
   scopes = scopes;
   tasks = tasks;
   load = load;
 }) (setting_number Load (given Load))) (setting_number Tasks (given Tasks))) (setting_number Scopes (given Scopes))
+
+-- ---- the times of a quote
+
+-- what an option says that may be left out: nothing where it was not given, else what its text says
+abbrev pub if_given : {X : Type 0} → (List ℕ → Option X) → Option (List ℕ) → Option (Option X)
+if_given said None = Some None
+if_given said (Some text) = option_map (λ x. Some x) (said text)
+
+-- the deadline whose option was given with a text, or was not given
+abbrev pub deadline_by : Option (List ℕ) → Option (Option ℕ)
+deadline_by = if_given (plain_number (greatest_of Deadline))
+
+-- the text of a name, and a number of milliseconds
+pub record NameAndMillis : Type 0 where
+  pub name : List ℕ
+  pub millis : ℕ
+
+abbrev pub delay_of : Delay → NameAndMillis
+delay_of delay = record { name = text_of delay.name; millis = delay.millis }
+
+-- the byte `=`
+abbrev pub is_equals : ℕ → Bool
+is_equals byte = byte == 61
+
+-- what a text NAME=MS says, if it says that: a name before its first `=`, and after it a number from 1 to
+-- the greatest (where there is no `=` nothing stands after it, which is no number)
+unfoldable pub delay_said : List ℕ → Option NameAndMillis
+delay_said text =
+    let name = before_first is_equals text in
+    if is_name name then option_map (λ millis. record {
+      name = name;
+      millis = millis;
+    }) (plain_number (greatest_of After) (after_first is_equals text)) else None
+
+-- the delay whose option was given with a text, or was not given
+abbrev pub delay_by : Option (List ℕ) → Option (Option NameAndMillis)
+delay_by = if_given delay_said

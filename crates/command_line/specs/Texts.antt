@@ -4,6 +4,7 @@ use Rattle.std.specs.Option.{option_map_or}
 use Rattle.std.specs.Str.{bytes_eq}
 use Rattle.command_line.specs.declared.help.TheConstants.{HELP, REPLAY_HELP, DUMP_HELP, QUOTE_HELP}
 use Rattle.command_line.specs.Faults.{AsksHelp, AsksVersion}
+use Rattle.command_line.specs.HelpWord.{turned}
 
 -- the help at a first word after the program's name: that of a job at its word
 abbrev pub help_at : List ℕ → List ℕ
@@ -11,9 +12,13 @@ help_at command = if bytes_eq command (codes "replay") then REPLAY_HELP.now
     else (if bytes_eq command (codes "dump") then DUMP_HELP.now
     else (if bytes_eq command (codes "quote") then QUOTE_HELP.now else HELP.now))
 
+-- the help of the command whose word stands at the place; of the program, if no word does
+abbrev pub help_in : List (List ℕ) → (place : ℕ) → List ℕ
+help_in words place = option_map_or help_at (slice_get words place) HELP.now
+
 -- the help that the words ask for
 abbrev pub help_of : List (List ℕ) → List ℕ
-help_of words = option_map_or help_at (slice_get words 1) HELP.now
+help_of words = help_in (turned words) 1
 
 abbrev pub version_line : List ℕ
 version_line = codes "scopectl 0.1.0" ++ 10 ∷ []

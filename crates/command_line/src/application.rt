@@ -4,6 +4,8 @@ ghost use Rattle.std.specs.Prelude.{◌≡◌, IfOk, false};
 ghost use Rattle.clap.specs.Words.{app_of, rule_of, with_subcommand};
 ghost use Rattle.clap.specs.declared.builder.command.Command.TheViews.{out-Command as fields_of};
 ghost use Rattle.command_line.specs.Application.{command_of, option_rule, scopectl, with_options};
+ghost use Rattle.command_line.specs.CommandLine.{limit_names, time_names};
+ghost use Rattle.command_line.specs.Settings.{name_of};
 
 use crate::help;
 use crate::lines::Job;
@@ -35,7 +37,7 @@ fn with_job<'a>(alloc: Global, program: Command<'a>, job: Job) -> Result<Command
     program.subcommand(command)
 }
 
-// The command of the job, with its options, of which `quote` has none.
+// The command of the job, with its options.
 fn command<'a>(alloc: Global, job: Job) -> Result<Command<'a>, AllocError>
     ensures app { IfOk result (λ command. app_of command ≡ command_of job) }
     ensures local { IfOk result (λ command. (fields_of command).has_globals ≡ false) }
@@ -43,28 +45,36 @@ fn command<'a>(alloc: Global, job: Job) -> Result<Command<'a>, AllocError>
     let word: &'a str = job.word();
     let bare = Command::new(alloc, word);
     match job {
-        Job::Replay | Job::Dump => with_options(alloc, bare),
-        Job::Quote => Ok(bare),
+        Job::Replay | Job::Dump => with_limits(alloc, bare),
+        Job::Quote => with_times(alloc, bare),
     }
 }
 
-// The command with the options of a job that runs a script.
-fn with_options<'a>(alloc: Global, bare: Command<'a>) -> Result<Command<'a>, AllocError>
-    ensures app { IfOk result (λ command. app_of command ≡ with_options (app_of bare.entry)) }
+// The command with the options that set the limits of a realm.
+fn with_limits<'a>(alloc: Global, bare: Command<'a>) -> Result<Command<'a>, AllocError>
+    ensures app { IfOk result (λ command. app_of command ≡ with_options (app_of bare.entry) limit_names) }
     ensures local { IfOk result (λ command. (fields_of command).has_globals ≡ (fields_of bare.entry).has_globals) }
 {
-    let scopes: &'a str = Setting::Scopes.name();
-    let tasks: &'a str = Setting::Tasks.name();
-    let load: &'a str = Setting::Load.name();
-    bare.arg(option(alloc, scopes))?
-        .arg(option(alloc, tasks))?
-        .arg(option(alloc, load))
+    bare.arg(option(alloc, Setting::Scopes))?
+        .arg(option(alloc, Setting::Tasks))?
+        .arg(option(alloc, Setting::Load))
 }
 
-// The option `--NAME N`.
-fn option<'a>(alloc: Global, name: &'a str) -> Arg<'a>
-    ensures rule { rule_of result ≡ option_rule name.now }
+// The command with the options that say the times of a quote.
+fn with_times<'a>(alloc: Global, bare: Command<'a>) -> Result<Command<'a>, AllocError>
+    ensures app { IfOk result (λ command. app_of command ≡ with_options (app_of bare.entry) time_names) }
+    ensures local { IfOk result (λ command. (fields_of command).has_globals ≡ (fields_of bare.entry).has_globals) }
+{
+    bare.arg(option(alloc, Setting::Deadline))?
+        .arg(option(alloc, Setting::After))
+}
+
+// The option `--NAME VALUE`.
+fn option<'a>(alloc: Global, setting: Setting) -> Arg<'a>
+    ensures rule { rule_of result ≡ option_rule (name_of setting) }
     ensures local { result.global ≡ false }
 {
-    Arg::new(alloc, name).long(name).value_name("N")
+    let name: &'a str = setting.name();
+    let value: &'a str = setting.value_name();
+    Arg::new(alloc, name).long(name).value_name(value)
 }

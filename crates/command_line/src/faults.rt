@@ -22,19 +22,27 @@ pub enum LineFault {
 }
 
 impl LineFault {
-    /// The fault of a parse that failed.
-    pub(crate) fn of_parse(alloc: Global, error: &Error) -> LineFault
+    /// The fault of a parse that failed. The hint stands behind the error that is said.
+    pub(crate) fn of_parse(alloc: Global, error: &Error, hint: Option<&str>) -> LineFault
         ensures { TellsKind (kind_of error.now) result }
     {
         match error.kind() {
             ErrorKind::OutOfMemory => LineFault::Memory,
             ErrorKind::DisplayHelp => LineFault::Help,
             ErrorKind::DisplayVersion => LineFault::Version,
-            _ => match format!(in alloc; "{error}") {
+            _ => match usage_text(alloc, error, hint) {
                 Ok(text) => LineFault::Usage(text),
                 Err(_) => LineFault::Memory,
             },
         }
+    }
+}
+
+// What is said of an error, and the hint in a line of its own.
+fn usage_text(alloc: Global, error: &Error, hint: Option<&str>) -> Result<String, AllocError> {
+    match hint {
+        Some(hint) => format!(in alloc; "{error}{hint}\n"),
+        None => format!(in alloc; "{error}"),
     }
 }
 

@@ -1,6 +1,8 @@
 //! The texts of the help and the version.
 ghost use Rattle.std.specs.Prelude.{◌≡◌, map};
-ghost use Rattle.command_line.specs.Texts.{help_at, help_of};
+ghost use Rattle.command_line.specs.Texts.{help_at, help_in, help_of};
+
+use crate::help_word::has_help_word;
 
 /// The version, as `clap` is told it.
 pub const VERSION: &str = "0.1.0";
@@ -17,6 +19,7 @@ Commands:
   replay  Reads a script of commands from standard input, and writes the replies
   dump    Reads a script of commands from standard input, and writes what it leaves as JSON
   quote   Reads a plan of offers from standard input, asks them on threads, and writes the answer
+  help    Print this message or the help of a command
 
 Options:
   -h, --help     Print help
@@ -26,6 +29,7 @@ Exit status:
   0  the script was read to its end, also where commands were refused; or the plan has its answer
   1  standard error has one line that names the fault, as scopectl: read
   2  the command line is not understood
+  3  with --strict, the script was read to its end, and lines were refused
 
 Try 'scopectl replay --help', or that of another command, for an example.
 ";
@@ -41,6 +45,7 @@ Options:
       --scopes <N>  How many scopes may be opened, from 1 to 4096 [default: 4096]
       --tasks <N>   How many tasks may be forked, from 1 to 65536 [default: 65536]
       --load <N>    How much load the realm takes, from 1 to 1048576 units [default: 1048576]
+      --strict      End with status 3 where lines were refused
   -h, --help        Print help
 ",
             $example,
@@ -49,6 +54,9 @@ Exit status:
   0  the script was read to its end, also where commands were refused
   1  standard error has one line: scopectl: read, scopectl: write or scopectl: memory
   2  the command line is not understood
+  3  with --strict, the script was read to its end, and lines were refused
+
+Where lines were refused, standard error says how many, and how many of them are no commands.
 "
         )
     };
@@ -104,7 +112,9 @@ each offer in a task of its own, on threads, in one scope, and writes the answer
 Usage: scopectl quote [OPTIONS]
 
 Options:
-  -h, --help  Print help
+      --deadline <MS>    Answers by what is there after so many milliseconds: partial NAME=PRICE ..
+      --after <NAME=MS>  The job of the offer NAME takes so many milliseconds (to try a deadline)
+  -h, --help             Print help
 
 A plan says one of these modes, and then up to 64 offers, whose names differ. A line that is empty
 or begins with # says nothing. A price is a number up to 999999999999.
@@ -122,10 +132,12 @@ Example: the plan on the left has the answer on the right.
   offer a 1200
   offer b 899
 
+Example: with --deadline 50 --after b=600 the same plan has the answer partial a=1200.
+
 Exit status:
   0  the plan was served, and its answer written
   1  standard error has one line: scopectl: plan line N: bad-word where line N is the first that may
-     not stand there, and else scopectl: read, write, memory, rejected, cancelled or lost
+     not stand there, and else scopectl: read, write, memory, time, rejected, cancelled or lost
   2  the command line is not understood
 ";
 
@@ -133,7 +145,18 @@ Exit status:
 pub fn help_of(words: &[&str]) -> &'static str
     ensures { result.now ≡ help_of (map (λ word. word.now) words.now) }
 {
-    match words.get(1) {
+    if has_help_word(words) {
+        help_in(words, 2)
+    } else {
+        help_in(words, 1)
+    }
+}
+
+// The help of the command whose word stands at the place; of the program, if no word does.
+fn help_in(words: &[&str], place: usize) -> &'static str
+    ensures { result.now ≡ help_in (map (λ word. word.now) words.now) place }
+{
+    match words.get(place) {
         Some(command) => help_at(command),
         None => HELP,
     }

@@ -4,20 +4,28 @@
 //! ```text
 //! scopectl replay [--scopes N] [--tasks N] [--load N]
 //! scopectl dump [--scopes N] [--tasks N] [--load N]
-//! scopectl quote
+//! scopectl quote [--deadline MS] [--after NAME=MS]
+//! scopectl help [COMMAND]
 //! ```
 //!
-//! An N is a number in decimal with no needless zero in front, from 1 to its limit. Each option stands once
-//! at most, as `--scopes N` or `--scopes=N`, and `--` may stand last. Help, of the program and of each
-//! command, and the version are texts of this crate: `clap` only says that the words ask for them.
+//! An N is a number in decimal with no needless zero in front, from 1 to its limit; an MS is such a number of
+//! milliseconds, up to a day's. The text NAME=MS is split at its first `=`, and NAME is a name as an offer of
+//! a plan has one. Each option stands once at most, as `--scopes N` or `--scopes=N`, and `--` may stand last.
+//! Help, of the program and of each command, and the version are texts of this crate: `clap` only says that
+//! the words ask for them. `help COMMAND` asks for what `COMMAND --help` asks for. Behind what `clap` says of
+//! words that it does not understand may stand a hint.
 #![tactic(auto)]
 
 mod application;
 mod faults;
 mod help;
+mod help_word;
+mod hints;
 mod lines;
 mod settings;
+mod strict_word;
 
 pub use faults::LineFault;
 pub use help::{VERSION_LINE, help_of};
 pub use lines::{CommandLine, Job, line};
+pub use settings::Delay;

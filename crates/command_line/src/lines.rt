@@ -2,8 +2,14 @@
 ghost use Rattle.std.specs.Prelude.{◌≡◌, ◌⊎◌, IfOk, IfErr, map};
 ghost use Rattle.command_line.specs.CommandLine.{Says, SaysNone, command_word, job_named};
 ghost use Rattle.command_line.specs.Faults.{Answers};
+ghost use Rattle.command_line.specs.HelpWord.{turned};
+ghost use Rattle.command_line.specs.StrictWord.{is_strict};
 
 use crate::faults::LineFault;
+use crate::help_word::{has_help_word, turned};
+use crate::hints::hint_for;
+use crate::settings::Delay;
+use crate::strict_word::without_strict;
 use crate::{application, settings};
 use scope_rules::Limits;
 use std::alloc::Global;
@@ -14,6 +20,13 @@ pub struct CommandLine {
     pub job: Job,
     /// The limits of the realm that the job runs in: the greatest where it is a plan's.
     pub limits: Limits,
+    /// After how many milliseconds a plan is answered by what is there, if it is; else, and of a script,
+    /// none.
+    pub deadline: Option<u32>,
+    /// Which job of a plan is to take time, if one is; of a script none.
+    pub after: Option<Delay>,
+    /// Whether the status is to tell that lines of the script were refused; of a plan it is not.
+    pub strict: bool,
 }
 
 /// The kinds of work.
@@ -56,8 +69,8 @@ impl Job {
     }
 }
 
-/// The command that the words say, of which the first is the program's name. An option that is not
-/// given is the greatest value that it can have.
+/// The command that the words say, of which the first is the program's name. A limit whose option is not
+/// given is the greatest that it can be.
 ///
 /// # Errors
 /// `Help` and `Version` where the words ask for them, `Usage` where the words are not understood,
@@ -68,10 +81,34 @@ pub fn line<'a>(alloc: Global, words: &'a [&'a str]) -> Result<CommandLine, Line
         ⊎ SaysNone (map (λ word. word.now) words.entry.now)) }
     ensures answers { IfErr result (Answers (map (λ word. word.now) words.entry.now)) }
 {
+    if has_help_word(words) {
+        let read = turned(alloc, words)?;
+        return command(alloc, words, &read, false);
+    }
+    match without_strict(alloc, words)? {
+        Some(read) => command(alloc, words, &read, true),
+        None => command(alloc, words, words, false),
+    }
+}
+
+// The command that the words say, which are read as `read`, strict or not.
+fn command<'a>(
+    alloc: Global,
+    words: &'a [&'a str],
+    read: &'a [&'a str],
+    strict: bool,
+) -> Result<CommandLine, LineFault>
+    requires read { map (λ word. word.now) read.now ≡ turned (map (λ word. word.now) words.now) }
+    requires strict { strict ≡ is_strict (map (λ word. word.now) words.now) }
+    ensures said { IfOk result (Says (map (λ word. word.now) words.entry.now)) }
+    ensures refused { IfErr result (λ fault. (fault ≡ LineFault.Memory)
+        ⊎ SaysNone (map (λ word. word.now) words.entry.now)) }
+    ensures answers { IfErr result (Answers (map (λ word. word.now) words.entry.now)) }
+{
     let application = application::application(alloc)?;
-    let matches = match application.try_get_matches_from(words) {
+    let matches = match application.try_get_matches_from(read) {
         Ok(matches) => matches,
-        Err(error) => return Err(LineFault::of_parse(alloc, &error)),
+        Err(error) => return Err(LineFault::of_parse(alloc, &error, hint_for(read))),
     };
     let Some((word, options)) = matches.subcommand() else {
         unreachable!()
@@ -80,5 +117,13 @@ pub fn line<'a>(alloc: Global, words: &'a [&'a str]) -> Result<CommandLine, Line
         unreachable!()
     };
     let limits = settings::limits(alloc, options)?;
-    Ok(CommandLine { job, limits })
+    let deadline = settings::deadline(alloc, options)?;
+    let after = settings::after(alloc, options)?;
+    Ok(CommandLine {
+        job,
+        limits,
+        deadline,
+        after,
+        strict,
+    })
 }

@@ -1,22 +1,32 @@
-//! The options of a job, each a number.
-ghost use Rattle.std.specs.Prelude.{◌≡◌, ◌≤◌, ◌⊎◌, IfOk, IfErr, IfSome, Some, None};
+//! The options of a job, and what they say.
+ghost use Rattle.std.specs.Prelude.{◌≡◌, ◌≤◌, ◌⊎◌, IfOk, IfErr, IfSome, Some, None, option_map};
 ghost use Rattle.std.specs.List.{list_all};
 ghost use Rattle.clap.specs.Words.{first_value, found_of};
 ghost use Rattle.command_line.specs.Faults.{IsUsageOrMemory};
-ghost use Rattle.command_line.specs.Settings.{greatest_of, is_digit, is_plain, name_of, setting_number, numbers_by, numbers_of, plain_number};
+ghost use Rattle.command_line.specs.Settings.{greatest_of, is_digit, is_plain, name_of, setting_number, numbers_by, numbers_of, plain_number, deadline_by, delay_by, delay_of, delay_said};
 
 use crate::faults::LineFault;
 use clap::ArgMatches;
-use scope_rules::Limits;
 use scope_rules::types::capacity::{LOAD_LIMIT, SCOPE_LIMIT, TASK_LIMIT};
+use scope_rules::{Limits, Name};
 use std::alloc::Global;
 
-/// An option that sets one limit of the realm.
+/// How many milliseconds a day has.
+pub const DAY_MILLIS: u32 = 86_400_000;
+
+/// An option of a job.
 #[derive(Clone, Copy)]
 pub enum Setting {
+    /// How many scopes may be opened.
     Scopes,
+    /// How many tasks may be forked.
     Tasks,
+    /// How much load the realm takes.
     Load,
+    /// After how many milliseconds a plan is answered by what is there.
+    Deadline,
+    /// Of which offer the job is to take time, and how many milliseconds.
+    After,
 }
 
 impl Setting {
@@ -27,7 +37,7 @@ impl Setting {
         self.name_and_greatest().0
     }
 
-    /// The greatest number that the option can say, which also stands where it is not given.
+    /// The greatest number that the option can say.
     pub fn greatest(self) -> u32
         ensures { result ≡ greatest_of self }
     {
@@ -43,11 +53,41 @@ impl Setting {
             Setting::Scopes => ("scopes", SCOPE_LIMIT),
             Setting::Tasks => ("tasks", TASK_LIMIT),
             Setting::Load => ("load", LOAD_LIMIT),
+            Setting::Deadline => ("deadline", DAY_MILLIS),
+            Setting::After => ("after", DAY_MILLIS),
+        }
+    }
+
+    /// How help and errors write what the option says.
+    pub fn value_name(self) -> &'static str {
+        match self {
+            Setting::Scopes | Setting::Tasks | Setting::Load => "N",
+            Setting::Deadline => "MS",
+            Setting::After => "NAME=MS",
+        }
+    }
+
+    /// How errors say what is wanted before the numbers from 1 to the greatest.
+    fn wanted(self) -> &'static str {
+        match self {
+            Setting::Scopes | Setting::Tasks | Setting::Load | Setting::Deadline => {
+                "a decimal number"
+            }
+            Setting::After => "the name of an offer, '=' and a decimal number",
         }
     }
 }
 
-/// The limits that the options of a job say.
+/// A job of a plan's offer that is to take time.
+#[derive(Clone, Copy)]
+pub struct Delay {
+    /// The offer's name.
+    pub name: Name,
+    /// How many milliseconds the job takes.
+    pub millis: u32,
+}
+
+/// The limits that the options of a job say, each the greatest where its option is not given.
 ///
 /// # Errors
 /// `Usage` where a number is none or too great, `Memory` where memory was refused.
@@ -86,6 +126,56 @@ fn number(alloc: Global, matches: &ArgMatches<'_>, setting: Setting) -> Result<u
     }
 }
 
+/// The deadline that the options of a job say, if they say one.
+///
+/// # Errors
+/// `Usage` where the number is none or too great, `Memory` where memory was refused.
+pub fn deadline(alloc: Global, matches: &ArgMatches<'_>) -> Result<Option<u32>, LineFault>
+    ensures said { IfOk result (λ deadline.
+        deadline_by (first_value (found_of matches.now) (name_of Setting.Deadline)) ≡ Some deadline) }
+    ensures refused { IfErr result (λ fault. (fault ≡ LineFault.Memory)
+        ⊎ (deadline_by (first_value (found_of matches.now) (name_of Setting.Deadline)) ≡ None)) }
+    ensures told { IfErr result IsUsageOrMemory }
+{
+    let Some(text) = matches.get_str(Setting::Deadline.name()) else {
+        return Ok(None);
+    };
+    match plain_number(text, Setting::Deadline.greatest()) {
+        Some(millis) => Ok(Some(millis)),
+        None => Err(refused_value(alloc, Setting::Deadline, text)),
+    }
+}
+
+/// The delay that the options of a job say, if they say one.
+///
+/// # Errors
+/// `Usage` where the text says no name and number, `Memory` where memory was refused.
+pub fn after(alloc: Global, matches: &ArgMatches<'_>) -> Result<Option<Delay>, LineFault>
+    ensures said { IfOk result (λ delay.
+        delay_by (first_value (found_of matches.now) (name_of Setting.After)) ≡ Some (option_map delay_of delay)) }
+    ensures refused { IfErr result (λ fault. (fault ≡ LineFault.Memory)
+        ⊎ (delay_by (first_value (found_of matches.now) (name_of Setting.After)) ≡ None)) }
+    ensures told { IfErr result IsUsageOrMemory }
+{
+    let Some(text) = matches.get_str(Setting::After.name()) else {
+        return Ok(None);
+    };
+    match delay_said(text) {
+        Some(delay) => Ok(Some(delay)),
+        None => Err(refused_value(alloc, Setting::After, text)),
+    }
+}
+
+// The delay that a text NAME=MS says: the name before its first `=`, and the number after it.
+fn delay_said(text: &str) -> Option<Delay>
+    ensures { option_map delay_of result ≡ delay_said text.now }
+{
+    let (name, millis) = text.split_once('=')?;
+    let name = Name::new(name.as_bytes())?;
+    let millis = plain_number(millis, DAY_MILLIS)?;
+    Some(Delay { name, millis })
+}
+
 // The number from 1 to `greatest` that the text writes plainly: in decimal, with no sign and no
 // leading zero.
 fn plain_number(text: &str, greatest: u32) -> Option<u32>
@@ -119,14 +209,16 @@ fn is_decimal(bytes: &[u8]) -> bool
     bytes.iter().all(|byte| b'0' <= *byte && *byte <= b'9')
 }
 
-// What to say of a value that is no number of the option's.
+// What to say of a value that the option can not say.
 fn refused_value(alloc: Global, setting: Setting, text: &str) -> LineFault
     ensures { IsUsageOrMemory result }
 {
     let name = setting.name();
+    let value = setting.value_name();
+    let wanted = setting.wanted();
     let greatest = setting.greatest();
     let message = format!(in alloc;
-        "error: invalid value '{text}' for '--{name} <N>': a decimal number from 1 to {greatest} is wanted\n\nFor more information, try '--help'.\n"
+        "error: invalid value '{text}' for '--{name} <{value}>': {wanted} from 1 to {greatest} is wanted\n\nFor more information, try '--help'.\n"
     );
     match message {
         Ok(message) => LineFault::Usage(message),

@@ -7,10 +7,11 @@ use Rattle.scope_rules.specs.Replies.{Realm}
 use Rattle.scope_script.specs.declared.session.run.Mode.{Mode}
 use Rattle.scope_script.specs.Streams.{AppendsPart}
 use Rattle.scope_script.specs.Sessions.{shown, replies_of}
-use Rattle.scope_script.specs.ByBytes.{Session, the_beginning, after_bytes, bytes_reply, end_reply}
-use Rattle.scope_script.specs.Running.{RunsToEnd, RunsPartly}
+use Rattle.scope_script.specs.ByBytes.{Session, the_beginning, after_bytes, bytes_reply, end_reply, end_tally}
+use Rattle.scope_script.specs.Running.{RunsToEnd, RunsTallied, RunsPartly}
+use Rattle.scope_script.specs.declared.session.tally.Tally.{Tally}
 use Rattle.scope_script.proofs.Scripts.{shown_append, after_append, told_more, after_none, reply_none}
-use Rattle.scope_script.proofs.Kept.{script_replies, script_leaves}
+use Rattle.scope_script.proofs.Kept.{script_replies, script_leaves, script_tallies}
 
 -- the run is under way: it answered all that it read so far
 pub record UnderWay (unread unread_now written written_now : Option (List ℕ)) (mode : Mode) (L : Limits) (now : Session) : Type 0 where
@@ -78,6 +79,14 @@ ends_run a b x y z mode L s realm run end written is =
       replied = subst (Appends x z) whole (Appends-trans x y z told (shown mode (end_reply s)) run.replied written);
       left = is ∙ (ap (λ (u : Session). u.realm) run.session ∙ script_leaves L run.script);
     }
+
+-- and so many lines were refused
+pub ends_tallied : (a b x y z : Option (List ℕ)) (mode : Mode) (L : Limits) (s : Session) (realm : Realm) (tally : Tally) → UnderWay a b x y mode L s → IsAtEnd b → Appends y z (shown mode (end_reply s)) → realm ≡ s.realm → tally ≡ end_tally s → RunsTallied a b x z mode L realm tally
+unfolding ends_run
+ends_tallied a b x y z mode L s realm tally run end written is counted = record {
+  ends = ends_run a b x y z mode L s realm run end written is;
+  counted = counted ∙ (ap end_tally run.session ∙ script_tallies L run.script);
+}
 
 -- it stops where a read fails
 pub stops_reading : (a b c x y : Option (List ℕ)) (mode : Mode) (L : Limits) (s : Session) → UnderWay a b x y mode L s → Keeps b c → RunsPartly a c x y mode L

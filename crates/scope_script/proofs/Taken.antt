@@ -6,15 +6,20 @@ use Rattle.scope_script.specs.declared.session.run.Mode.{Mode}
 use Rattle.scope_script.specs.Cutting.{has_feed, CutsLine}
 use Rattle.scope_script.specs.KeptLines.{grown, grown_by, said}
 use Rattle.scope_script.specs.Sessions.{line_reply, realm_after_line, shown}
+use Rattle.scope_script.specs.Tallies.{tally_after_line}
 use Rattle.scope_script.specs.ByBytes.{Session, after_byte, byte_reply, after_bytes, bytes_reply}
 use Rattle.scope_script.specs.Streams.{AppendsPart}
 use Rattle.scope_script.proofs.Scripts.{after_append, reply_append, told_more, after_none, shown_nothing, reply_none}
 
 -- a session whose line has gone on by the bytes
 gone_on : Session → List ℕ → Session
-gone_on s bytes = record { realm = s.realm; begun = grown_by s.begun bytes }
+gone_on s bytes = record { realm = s.realm; tally = s.tally; begun = grown_by s.begun bytes }
 
-byte_begun : (s : Session) (b : ℕ) → (b == 10) ≡ false → after_byte s b ≡ record { realm = s.realm; begun = grown s.begun b }
+-- a session in which this line has ended
+ended_with : Session → Line → Session
+ended_with s line = record { realm = realm_after_line s.realm line; tally = tally_after_line s.tally s.realm line; begun = Some [] }
+
+byte_begun : (s : Session) (b : ℕ) → (b == 10) ≡ false → after_byte s b ≡ record { realm = s.realm; tally = s.tally; begun = grown s.begun b }
 unfolding after_byte
 byte_begun s b is = rw is refl
 
@@ -28,7 +33,7 @@ unfolding after_bytes grown_by gone_on
 begun_by s [] none = refl
 begun_by s (b ∷ bytes) none =
     let parts = or_parts (b == 10) (has_feed bytes) none in
-    ap (λ (u : Session). after_bytes u bytes) (byte_begun s b parts.0) ∙ begun_by (record { realm = s.realm; begun = grown s.begun b }) bytes parts.1
+    ap (λ (u : Session). after_bytes u bytes) (byte_begun s b parts.0) ∙ begun_by (record { realm = s.realm; tally = s.tally; begun = grown s.begun b }) bytes parts.1
 
 -- and are answered nothing
 silent_by : (s : Session) (bytes : List ℕ) → has_feed bytes ≡ false → bytes_reply s bytes ≡ []
@@ -38,8 +43,8 @@ silent_by s (b ∷ bytes) none =
     let parts = or_parts (b == 10) (has_feed bytes) none in
     ap (λ r. r ++ bytes_reply (after_byte s b) bytes) (byte_silent s b parts.0) ∙ silent_by (after_byte s b) bytes parts.1
 
-feed_after : (s : Session) → after_bytes s (10 ∷ []) ≡ record { realm = realm_after_line s.realm (said s.begun); begun = Some [] }
-unfolding after_bytes after_byte
+feed_after : (s : Session) → after_bytes s (10 ∷ []) ≡ ended_with s (said s.begun)
+unfolding after_bytes after_byte ended_with
 feed_after s = refl
 
 feed_reply : (s : Session) → bytes_reply s (10 ∷ []) ≡ line_reply s.realm (said s.begun)
@@ -47,8 +52,8 @@ unfolding bytes_reply byte_reply
 feed_reply s = append-nil (line_reply s.realm (said s.begun))
 
 -- what a line leaves that a line feed ends
-line_after : (s : Session) (line : List ℕ) → has_feed line ≡ false → after_bytes s (line ++ 10 ∷ []) ≡ record { realm = realm_after_line s.realm (said (grown_by s.begun line)); begun = Some [] }
-unfolding gone_on
+line_after : (s : Session) (line : List ℕ) → has_feed line ≡ false → after_bytes s (line ++ 10 ∷ []) ≡ ended_with s (said (grown_by s.begun line))
+unfolding gone_on ended_with
 line_after s line none = after_append s line (10 ∷ []) ∙ (ap (λ (u : Session). after_bytes u (10 ∷ [])) (begun_by s line none) ∙ feed_after (gone_on s line))
 
 -- and what it is answered
@@ -82,31 +87,33 @@ replies_more mode start now done more old mid new is so then_new =
     ∙ (append_assoc old told (shown mode (bytes_reply now more))
     ∙ ap (λ r. old ++ r) (ap (λ (u : Session). told ++ shown mode (bytes_reply u more)) is ∙ told_more mode start done more)))
 
-same_session : (s t : Session) → s.realm ≡ t.realm → s.begun ≡ t.begun → s ≡ t
-same_session s t realm begun = λ i. record { realm = realm i; begun = begun i }
+same_session : (s t : Session) → s.realm ≡ t.realm → s.tally ≡ t.tally → s.begun ≡ t.begun → s ≡ t
+same_session s t realm tally begun = λ i. record { realm = realm i; tally = tally i; begun = begun i }
 
 -- a line more
-pub takes_line : (mode : Mode) (start now next : Session) (bytes rest line others old mid new : List ℕ) (says : Line) → Taken mode start now bytes rest old mid → CutsLine rest line others → says ≡ said (grown_by now.begun line) → next.realm ≡ realm_after_line now.realm says → next.begun ≡ Some [] → new ≡ mid ++ shown mode (line_reply now.realm says) → Taken mode start next bytes others old new
-takes_line mode start now next bytes rest line others old mid new says taken cut is realm begun told =
+pub takes_line : (mode : Mode) (start now next : Session) (bytes rest line others old mid new : List ℕ) (says : Line) → Taken mode start now bytes rest old mid → CutsLine rest line others → says ≡ said (grown_by now.begun line) → next.realm ≡ realm_after_line now.realm says → next.tally ≡ tally_after_line now.tally now.realm says → next.begun ≡ Some [] → new ≡ mid ++ shown mode (line_reply now.realm says) → Taken mode start next bytes others old new
+unfolding ended_with
+takes_line mode start now next bytes rest line others old mid new says taken cut is realm tally begun told =
     let more = line ++ 10 ∷ [] in
     let cut_so : rest ≡ more ++ others = cut.whole ∙ sym (append_assoc line (10 ∷ []) others) in
     let realm_so : next.realm ≡ realm_after_line now.realm (said (grown_by now.begun line)) = realm ∙ ap (realm_after_line now.realm) is in
+    let tally_so : next.tally ≡ tally_after_line now.tally now.realm (said (grown_by now.begun line)) = tally ∙ ap (tally_after_line now.tally now.realm) is in
     let told_so : new ≡ mid ++ shown mode (bytes_reply now more) =
     told ∙ ap (λ r. mid ++ shown mode r) (ap (line_reply now.realm) is ∙ sym (reply_after now line cut.unended)) in
     record {
       done = taken.done ++ more;
       whole = taken.whole ∙ (ap (λ r. taken.done ++ r) cut_so ∙ sym (append_assoc taken.done more others));
       session =
-          same_session next (record { realm = realm_after_line now.realm (said (grown_by now.begun line)); begun = Some [] }) realm_so begun
+          same_session next (ended_with now (said (grown_by now.begun line))) realm_so tally_so begun
           ∙ (sym (line_after now line cut.unended) ∙ (ap (λ (u : Session). after_bytes u more) taken.session ∙ sym (after_append start taken.done more)));
       replied = replies_more mode start now taken.done more old mid new taken.session taken.replied told_so;
     }
 
 -- the rest ends no line
-pub leaves_rest : (mode : Mode) (start now next : Session) (bytes rest old new : List ℕ) → Taken mode start now bytes rest old new → has_feed rest ≡ false → next.realm ≡ now.realm → next.begun ≡ grown_by now.begun rest → next ≡ after_bytes start bytes
+pub leaves_rest : (mode : Mode) (start now next : Session) (bytes rest old new : List ℕ) → Taken mode start now bytes rest old new → has_feed rest ≡ false → next.realm ≡ now.realm → next.tally ≡ now.tally → next.begun ≡ grown_by now.begun rest → next ≡ after_bytes start bytes
 unfolding gone_on
-leaves_rest mode start now next bytes rest old new taken none realm begun =
-    same_session next (gone_on now rest) realm begun
+leaves_rest mode start now next bytes rest old new taken none realm tally begun =
+    same_session next (gone_on now rest) realm tally begun
     ∙ (sym (begun_by now rest none) ∙ (ap (λ (u : Session). after_bytes u rest) taken.session
     ∙ (sym (after_append start taken.done rest) ∙ ap (after_bytes start) (sym taken.whole))))
 

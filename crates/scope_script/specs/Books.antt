@@ -4,4 +4,4 @@ use Rattle.scope_script.specs.declared.session.script.Script.{Script}
 use Rattle.scope_script.specs.ByBytes.{Session}
 
 abbrev pub session_of : {g : _} {f : _} {m : _} → Script g f m → Session
-session_of script = record { realm = realm_of script.book; begun = script.begun }
+session_of script = record { realm = realm_of script.book; tally = script.tally; begun = script.begun }

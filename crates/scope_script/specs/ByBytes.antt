@@ -5,15 +5,22 @@ use Rattle.scope_rules.specs.Origin.{the_start}
 use Rattle.scope_rules.specs.Replies.{Realm, starting}
 use Rattle.scope_script.specs.KeptLines.{KeptLine, grown, said, is_blank}
 use Rattle.scope_script.specs.Sessions.{bad_word_line, line_reply, realm_after_line}
+use Rattle.scope_script.specs.Tallies.{no_refusals, tally_after_line, with_bad_word}
+use Rattle.scope_script.specs.declared.session.tally.Tally.{Tally}
 
--- a script under way: the realm, and the line that is begun
+-- a script under way: the realm, how many lines were refused, and the line that is begun
 pub record Session : Type 0 where
   pub realm : Realm
+  pub tally : Tally
   pub begun : KeptLine
 
 -- the script goes on by a byte
 unfoldable pub after_byte : Session → ℕ → Session
-after_byte s b = if b == 10 then record { realm = realm_after_line s.realm (said s.begun); begun = Some [] } else record { realm = s.realm; begun = grown s.begun b }
+after_byte s b = if b == 10 then record {
+  realm = realm_after_line s.realm (said s.begun);
+  tally = tally_after_line s.tally s.realm (said s.begun);
+  begun = Some [];
+} else record { realm = s.realm; tally = s.tally; begun = grown s.begun b }
 
 -- what is answered at the byte
 unfoldable pub byte_reply : Session → ℕ → List ℕ
@@ -33,6 +40,10 @@ bytes_reply s (b ∷ bytes) = byte_reply s b ++ bytes_reply (after_byte s b) byt
 abbrev pub end_reply : Session → List ℕ
 end_reply s = if is_blank s.begun then [] else bad_word_line
 
+-- how many lines were refused, when the script has ended
+abbrev pub end_tally : Session → Tally
+end_tally s = if is_blank s.begun then s.tally else with_bad_word s.tally
+
 -- a script that begins
 abbrev pub the_beginning : Limits → Session
-the_beginning L = record { realm = starting L the_start; begun = Some [] }
+the_beginning L = record { realm = starting L the_start; tally = no_refusals; begun = Some [] }

@@ -9,12 +9,12 @@ pub use Rattle.script_lines.specs.Forms
 pub use Rattle.script_lines.specs.Lines
 pub use Rattle.script_lines.specs.NumberLaws
 pub use Rattle.script_lines.specs.Spelling
-pub use Rattle.script_replies.specs.OutcomeText
 pub use Rattle.script_replies.specs.ReplyText
 pub use Rattle.script_replies.specs.Printable
 pub mod Replying
 pub mod Cutting
 pub mod Sessions
+pub mod Tallies
 pub mod KeptLines
 pub mod ByBytes
 pub mod Books

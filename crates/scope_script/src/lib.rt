@@ -12,5 +12,6 @@ pub use script_lines as reading;
 pub use script_lines::{Command, LINE_LIMIT, Line, Question, read_line};
 pub use script_replies as replies;
 pub use script_replies::{Reply, append_line};
-pub use session::run::{Mode, ScriptFault, run};
+pub use session::run::{Mode, Ran, ScriptFault, run, run_tallied};
+pub use session::tally::Tally;
 pub use streams::watched::{StreamFailed, Watched};

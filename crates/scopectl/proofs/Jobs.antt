@@ -1,5 +1,5 @@
 -- What was read and written makes what a job did.
-use Rattle.std.proofs.Common.{◌≡◌, inl, inr, ℕ, Bool, true, refl, sym, subst, List, [], Option}
+use Rattle.std.proofs.Common.{◌≡◌, ◌≢◌, ◌≤◌, ◌∙◌, ap, arith, inl, inr, ℕ, Bool, true, refl, sym, subst, List, [], Option}
 use Rattle.std.proofs.KnownBytes.{Appends-nil, Appends-trans}
 use Rattle.std.specs.Io.KnownBytes.{Appends}
 use Rattle.scope_rules.specs.declared.types.capacity.Limits.{Limits}
@@ -11,13 +11,19 @@ use Rattle.scope_script.specs.declared.session.run.ScriptFault.TheVariants as en
 use Rattle.script_jobs.specs.Jobs.{Dumped, ReadSome, Replayed}
 use Rattle.command_line.specs.CommandLine.{Says}
 use Rattle.scopectl.specs.Naming.{CameFrom, NamesFault}
-use Rattle.scopectl.specs.Program.{AnswersPlan, DidAsSaid, DidJob, DidPart, DidPartly, FailedAtEnd, Made, Makes, WroteLate}
+use Rattle.scopectl.specs.Program.{AnswersPlan, DidAsSaid, DidJob, DidPart, DidPartly, DidWhole, FailedAtEnd, Made, Makes, WroteLate}
+use Rattle.scopectl.specs.Saying.{Noted, status_of}
 use Rattle.scopectl.specs.Texts.{fault_of_run}
+use Rattle.scope_script.specs.declared.session.tally.Tally.{Tally}
 use Rattle.command_line.specs.declared.lines.CommandLine.{CommandLine}
 use Rattle.command_line.specs.declared.lines.Job.{Job}
 use Rattle.command_line.specs.declared.lines.Job.TheVariants.{Dump, Quote, Replay}
 use Rattle.scopectl.specs.declared.fault.ProgramFault.{ProgramFault}
 use Rattle.scopectl.specs.declared.fault.ProgramFault.TheVariants as program
+
+-- a status that is 0 or 1 is 0 if it is not 1
+pub well_ended : (status : ℕ) → status ≤ 1 → status ≢ 1 → status ≡ 0
+well_ended status small well = omega arith
 
 -- ---- faults
 
@@ -34,11 +40,12 @@ pub came_weaker : (fault : ProgramFault) (ByReader ByWriter Writer : Type 0) (Of
 came_weaker program.Read ByReader ByWriter Writer OfPlan Plan writes weaker came = came
 came_weaker program.Write ByReader ByWriter Writer OfPlan Plan writes weaker came = writes came
 came_weaker program.Memory ByReader ByWriter Writer OfPlan Plan writes weaker came = tt
-came_weaker (program.PlanLine line) ByReader ByWriter Writer OfPlan Plan writes weaker came = weaker (program.PlanLine line) came
+came_weaker (program.PlanLine line why) ByReader ByWriter Writer OfPlan Plan writes weaker came = weaker (program.PlanLine line why) came
 came_weaker program.Strange ByReader ByWriter Writer OfPlan Plan writes weaker came = weaker program.Strange came
 came_weaker program.Rejected ByReader ByWriter Writer OfPlan Plan writes weaker came = weaker program.Rejected came
 came_weaker program.Cancelled ByReader ByWriter Writer OfPlan Plan writes weaker came = weaker program.Cancelled came
 came_weaker program.Lost ByReader ByWriter Writer OfPlan Plan writes weaker came = weaker program.Lost came
+came_weaker program.Time ByReader ByWriter Writer OfPlan Plan writes weaker came = tt
 
 pub names_weaker : (said said_new : Option (List ℕ)) (failed : Bool) (ByReader ByWriter : Type 0) (OfPlan Plan : ProgramFault → Type 0) → ((f : ProgramFault) → OfPlan f → Plan f)
     → NamesFault said said_new failed ByReader ByWriter OfPlan → NamesFault said said_new failed ByReader ByWriter Plan
@@ -50,15 +57,12 @@ names_weaker said said_new failed ByReader ByWriter OfPlan Plan weaker names = r
 
 -- ---- a script's jobs
 
-module _ (limits : Limits) (unread unread_new written written_new : Option (List ℕ)) where
-  pub did_replay : Replayed unread unread_new written written_new limits → DidJob Replay limits unread unread_new written written_new
-  did_replay it = record { bytes = it.script; read = it.read; all = it.all; text = _; makes = refl; wrote = it.wrote }
-
-  pub replayed_part : (failed : Bool) → RunsPartly unread unread_new written written_new Replies limits → DidPart Replay limits unread unread_new written written_new failed
+module _ (limits : Limits) (deadline : Option ℕ) (unread unread_new written written_new : Option (List ℕ)) where
+  pub replayed_part : (failed : Bool) → RunsPartly unread unread_new written written_new Replies limits → DidPart Replay limits deadline unread unread_new written written_new failed
   replayed_part failed run = record { bytes = run.script; read = run.read; wrote = run.replied }
 
-pub made : (limits : Limits) (unread unread_new : Option (List ℕ)) (text : List ℕ) → Dumped unread unread_new limits text → Made (Makes Dump limits) unread unread_new text
-made limits unread unread_new text dumped = record {
+pub made : (limits : Limits) (deadline : Option ℕ) (unread unread_new : Option (List ℕ)) (text : List ℕ) (tally : Tally) → Dumped unread unread_new limits text tally → Made (Makes Dump limits deadline) unread unread_new text
+made limits deadline unread unread_new text tally dumped = record {
   bytes = dumped.script;
   whole = record { read = dumped.read; all = dumped.all };
   makes = dumped.is;
@@ -66,8 +70,8 @@ made limits unread unread_new text dumped = record {
 
 -- ---- a text that is made of all that is read, and then written
 
-module _ (job : Job) (limits : Limits) (unread unread_new written mid written_new : Option (List ℕ)) (text : List ℕ) (made : Made (Makes job limits) unread unread_new text) (unwritten : Appends written mid []) where
-  pub told : Appends mid written_new text → DidJob job limits unread unread_new written written_new
+module _ (job : Job) (limits : Limits) (deadline : Option ℕ) (unread unread_new written mid written_new : Option (List ℕ)) (text : List ℕ) (made : Made (Makes job limits deadline) unread unread_new text) (unwritten : Appends written mid []) where
+  told : Appends mid written_new text → DidJob job limits deadline unread unread_new written written_new
   told wrote = record {
     bytes = made.bytes;
     read = made.whole.read;
@@ -77,7 +81,7 @@ module _ (job : Job) (limits : Limits) (unread unread_new written mid written_ne
     wrote = Appends-trans written mid written_new [] text unwritten wrote;
   }
 
-  failed_at_end : (failed : Bool) → AppendsPart mid written_new text → failed ≡ true → FailedAtEnd job limits made.bytes unread_new written written_new failed
+  failed_at_end : (failed : Bool) → AppendsPart mid written_new text → failed ≡ true → FailedAtEnd job limits deadline made.bytes unread_new written written_new failed
   failed_at_end failed wrote fails = record {
     all = made.whole.all;
     text = text;
@@ -91,46 +95,68 @@ module _ (job : Job) (limits : Limits) (unread unread_new written mid written_ne
     writer = fails;
   }
 
-  pub late : (failed : Bool) → AppendsPart mid written_new text → failed ≡ true → WroteLate job limits made.bytes unread_new written written_new failed
+  pub late : (failed : Bool) → AppendsPart mid written_new text → failed ≡ true → WroteLate job limits deadline made.bytes unread_new written written_new failed
   late failed wrote fails = inr (failed_at_end failed wrote fails)
 
-module _ (limits : Limits) (unread unread_new written mid written_new : Option (List ℕ)) (failed : Bool) where
-  pub dump_told_part : (text : List ℕ) → Made (Makes Dump limits) unread unread_new text → Appends written mid [] → AppendsPart mid written_new text → failed ≡ true
-      → DidPart Dump limits unread unread_new written written_new failed
+module _ (limits : Limits) (deadline : Option ℕ) (unread unread_new written mid written_new : Option (List ℕ)) (failed : Bool) where
+  pub dump_told_part : (text : List ℕ) → Made (Makes Dump limits deadline) unread unread_new text → Appends written mid [] → AppendsPart mid written_new text → failed ≡ true
+      → DidPart Dump limits deadline unread unread_new written written_new failed
   dump_told_part text made unwritten wrote fails =
-      record { bytes = made.bytes; read = made.whole.read; wrote = late Dump limits unread unread_new written mid written_new text made unwritten failed wrote fails }
+      record { bytes = made.bytes; read = made.whole.read; wrote = late Dump limits deadline unread unread_new written mid written_new text made unwritten failed wrote fails }
 
-pub dump_stopped : (limits : Limits) (unread unread_new written written_new : Option (List ℕ)) (failed : Bool) → ReadSome unread unread_new → Appends written written_new []
-    → DidPart Dump limits unread unread_new written written_new failed
-dump_stopped limits unread unread_new written written_new failed some unwritten =
+pub dump_stopped : (limits : Limits) (deadline : Option ℕ) (unread unread_new written written_new : Option (List ℕ)) (failed : Bool) → ReadSome unread unread_new → Appends written written_new []
+    → DidPart Dump limits deadline unread unread_new written written_new failed
+dump_stopped limits deadline unread unread_new written written_new failed some unwritten =
     record { bytes = some.bytes; read = some.read; wrote = inl unwritten }
 
-module _ (limits : Limits) (unread unread_new written written_new : Option (List ℕ)) where
-  pub quote_told : (text : List ℕ) → Made AnswersPlan unread unread_new text → Appends written written_new text → DidJob Quote limits unread unread_new written written_new
-  quote_told text made wrote = told Quote limits unread unread_new written written written_new text made (Appends-nil written) wrote
+module _ (limits : Limits) (deadline : Option ℕ) (unread unread_new written written_new : Option (List ℕ)) where
+  pub quote_told : (text : List ℕ) → Made (AnswersPlan deadline) unread unread_new text → Appends written written_new text → DidJob Quote limits deadline unread unread_new written written_new
+  quote_told text made wrote = told Quote limits deadline unread unread_new written written written_new text made (Appends-nil written) wrote
 
-  pub quote_told_part : (failed : Bool) (text : List ℕ) → Made AnswersPlan unread unread_new text → AppendsPart written written_new text → failed ≡ true
-      → DidPart Quote limits unread unread_new written written_new failed
+  pub quote_told_part : (failed : Bool) (text : List ℕ) → Made (AnswersPlan deadline) unread unread_new text → AppendsPart written written_new text → failed ≡ true
+      → DidPart Quote limits deadline unread unread_new written written_new failed
   quote_told_part failed text made wrote fails =
-      record { bytes = made.bytes; read = made.whole.read; wrote = late Quote limits unread unread_new written written written_new text made (Appends-nil written) failed wrote fails }
+      record { bytes = made.bytes; read = made.whole.read; wrote = late Quote limits deadline unread unread_new written written written_new text made (Appends-nil written) failed wrote fails }
 
-pub quote_stopped : (limits : Limits) (unread unread_new written : Option (List ℕ)) (failed : Bool) → ReadSome unread unread_new → DidPart Quote limits unread unread_new written written failed
-quote_stopped limits unread unread_new written failed some =
+pub quote_stopped : (limits : Limits) (deadline : Option ℕ) (unread unread_new written : Option (List ℕ)) (failed : Bool) → ReadSome unread unread_new → DidPart Quote limits deadline unread unread_new written written failed
+quote_stopped limits deadline unread unread_new written failed some =
     record { bytes = some.bytes; read = some.read; wrote = inl (Appends-nil written) }
+
+-- ---- a job that was done, with what was said of the lines that were refused
+
+module _ (limits : Limits) (deadline : Option ℕ) (strict : Bool) (Kept : Type 0) (unread unread_new written written_new said said_new : Option (List ℕ)) (failed : Bool) (result : ℕ) where
+  module _ (tally : Tally) (noted : Noted tally Kept said said_new failed) (status : result ≡ status_of strict tally) where
+    pub replay_whole : Replayed unread unread_new written written_new limits tally → DidWhole Replay limits deadline strict Kept unread unread_new written written_new said said_new failed result
+    replay_whole it = record {
+      did = record { bytes = it.script; read = it.read; all = it.all; text = _; makes = refl; wrote = it.wrote };
+      noted = subst (λ (t : Tally). Noted t Kept said said_new failed) it.counted noted;
+      status = status ∙ ap (status_of strict) it.counted;
+    }
+
+    pub dump_whole : (mid : Option (List ℕ)) (text : List ℕ) → Dumped unread unread_new limits text tally → Appends written mid [] → Appends mid written_new text → DidWhole Dump limits deadline strict Kept unread unread_new written written_new said said_new failed result
+    dump_whole mid text it unwritten wrote = record {
+      did = record { bytes = it.script; read = it.read; all = it.all; text = text; makes = it.is; wrote = Appends-trans written mid written_new [] text unwritten wrote };
+      noted = subst (λ (t : Tally). Noted t Kept said said_new failed) it.counted noted;
+      status = status ∙ ap (status_of strict) it.counted;
+    }
+
+  pub quote_whole : DidJob Quote limits deadline unread unread_new written written_new → Kept → result ≡ 0 → DidWhole Quote limits deadline strict Kept unread unread_new written written_new said said_new failed result
+  quote_whole done kept none = record { did = done; noted = kept; status = none }
 
 -- ---- what the words say was done, or a part of it
 
-module _ (words : List (List ℕ)) (command : CommandLine) (job : Job) (said : Says words command) (is : command.job ≡ job) (unread unread_new written written_new : Option (List ℕ)) where
-  pub did : DidJob job command.limits unread unread_new written written_new → DidAsSaid words unread unread_new written written_new
-  did done = record {
+module _ (words : List (List ℕ)) (command : CommandLine) (job : Job) (says : Says words command) (is : command.job ≡ job) (unread unread_new written written_new : Option (List ℕ)) where
+  pub did : (Kept : Type 0) (said said_new : Option (List ℕ)) (failed : Bool) (result : ℕ) → DidWhole job command.limits command.deadline command.strict Kept unread unread_new written written_new said said_new failed result
+      → DidAsSaid words Kept unread unread_new written written_new said said_new failed result
+  did Kept said said_new failed result done = record {
     command = command;
-    said = said;
-    did = subst (λ (j : Job). DidJob j command.limits unread unread_new written written_new) (sym is) done;
+    says = says;
+    did = subst (λ (j : Job). DidWhole j command.limits command.deadline command.strict Kept unread unread_new written written_new said said_new failed result) (sym is) done;
   }
 
-  pub did_part : (failed : Bool) → DidPart job command.limits unread unread_new written written_new failed → DidPartly words unread unread_new written written_new failed
+  pub did_part : (failed : Bool) → DidPart job command.limits command.deadline unread unread_new written written_new failed → DidPartly words unread unread_new written written_new failed
   did_part failed done = record {
     command = command;
-    said = said;
-    did = subst (λ (j : Job). DidPart j command.limits unread unread_new written written_new failed) (sym is) done;
+    said = says;
+    did = subst (λ (j : Job). DidPart j command.limits command.deadline unread unread_new written written_new failed) (sym is) done;
   }

@@ -1,2 +1,3 @@
 mod Jobs
 pub mod Acted
+mod Quoted

@@ -1,4 +1,5 @@
 pub mod Texts
+pub mod Saying
 pub mod Program
 pub mod Naming
 pub mod Acting

@@ -1,15 +1,15 @@
 -- What a fault that is named on standard error says of the streams and of the plan.
-use Rattle.std.specs.Prelude.{◌≡◌, ◌⊎◌, ⊤, ℕ, Bool, true, Option, List}
-use Rattle.std.specs.Io.KnownBytes.{Appends}
+use Rattle.std.specs.Prelude.{◌≡◌, ◌⊎◌, ◌++◌, ⊤, ℕ, Bool, true, Option, None, Some, List}
 use Rattle.atomic_table.specs.Seated.{TableId}
 use Rattle.share_ledger.specs.Values.{OwnerValue}
-use Rattle.scope_script.specs.Streams.{AppendsPart}
-use Rattle.quote_plan.specs.PlanFaults.{FaultIn}
-use Rattle.quote_plan.specs.PlanReading.{SayPlan, lines_of}
+use Rattle.quote_plan.specs.Passing.{NamesLine}
 use Rattle.quote_plan.specs.Plans.{PlanValue}
-use Rattle.quote_plan.specs.declared.lines.PlanLine.{PlanLine}
 use Rattle.quote_plan.specs.declared.reading.PlanFault.TheVariants as plan_fault
-use Rattle.quote_gateway.specs.Requests.{Fails, unused, without_deadline}
+use Rattle.quote_plan.specs.declared.whys.PlanWhy.{PlanWhy}
+use Rattle.std.specs.Io.KnownBytes.{Consumes, IsAtEnd}
+use Rattle.quote_plan.specs.Allowed.{HasExpired}
+use Rattle.quote_gateway.specs.Requests.{Fails, moving_on, unused, without_deadline}
+use Rattle.scope_rules.specs.declared.types.events.Options.{Options}
 use Rattle.quote_gateway.specs.declared.faults.GatewayFault.{GatewayFault}
 use Rattle.quote_gateway.specs.declared.faults.GatewayFault.TheVariants as service
 use Rattle.command_line.specs.declared.lines.CommandLine.{CommandLine}
@@ -17,55 +17,78 @@ use Rattle.command_line.specs.declared.lines.Job.TheVariants.{Quote}
 use Rattle.scopectl.specs.declared.fault.ProgramFault.{ProgramFault}
 use Rattle.scopectl.specs.declared.fault.ProgramFault.TheVariants as program
 use Rattle.command_line.specs.CommandLine.{Says}
-use Rattle.scopectl.specs.Program.{ReadAll}
+use Rattle.scopectl.specs.Program.{ReadPlan}
+use Rattle.scopectl.specs.Saying.{IsSaid}
 use Rattle.scopectl.specs.Texts.{line_of}
-
--- the stream took the whole text, or failed and took a beginning of it
-abbrev pub IsSaid : (text : List ℕ) (said said_new : Option (List ℕ)) (failed : Bool) → Type 0
-IsSaid text said said_new failed =
-    Appends said said_new text ⊎ (AppendsPart said said_new text × (failed ≡ true))
 
 -- ---- a plan's faults
 
--- the lines say a plan that has no answer, for this cause, by what main's token of the realm of this name has seen
-pub record HasNoAnswer (name : TableId) (lines : List PlanLine) (why : GatewayFault) : Type 0 where
-  pub plan : PlanValue
-  pub say_plan : SayPlan lines plan
+-- the options of a plan's scope, by the deadline if there is one
+abbrev pub options_in : Option ℕ → Options
+options_in None = without_deadline
+options_in (Some deadline) = moving_on deadline
+
+-- the clock has come to the deadline by its last reading
+abbrev pub ExpiredIn : Option ℕ → Option ℕ → Type 0
+ExpiredIn None reading = ⊥
+ExpiredIn (Some deadline) reading = HasExpired deadline reading
+
+-- the plan has no answer, for this cause, by what main's token of the realm of this name has seen
+pub record HasNoAnswer (name : TableId) (deadline : Option ℕ) (plan : PlanValue) (why : GatewayFault) : Type 0 where
   pub token : OwnerValue
   pub named : token.table ≡ name
   pub main : token.actor ≡ 0
-  pub fails : Fails (unused token) token plan without_deadline ⊥ why
+  pub reading : Option ℕ
+  pub fails : Fails (unused token) token plan (options_in deadline) (ExpiredIn deadline reading) why
 
--- a bad word stands in the first bad line; the service fails at a plan that was read, and its jobs are
--- never strange
-abbrev pub IsInPlan : TableId → List PlanLine → ProgramFault → Type 0
-IsInPlan name lines (program.PlanLine line) = FaultIn lines (plan_fault.Word line)
-IsInPlan name lines program.Rejected = HasNoAnswer name lines service.Rejected
-IsInPlan name lines program.Cancelled = HasNoAnswer name lines service.Cancelled
-IsInPlan name lines program.Lost = HasNoAnswer name lines service.Lost
-IsInPlan name lines program.Memory = ⊤
-IsInPlan name lines _ = ⊥
+-- the service fails at the plan, whose jobs are never strange
+abbrev pub IsFaultAt : TableId → Option ℕ → PlanValue → ProgramFault → Type 0
+IsFaultAt name deadline plan program.Rejected = HasNoAnswer name deadline plan service.Rejected
+IsFaultAt name deadline plan program.Cancelled = HasNoAnswer name deadline plan service.Cancelled
+IsFaultAt name deadline plan program.Lost = HasNoAnswer name deadline plan service.Lost
+IsFaultAt name deadline plan program.Memory = ⊤
+IsFaultAt name deadline plan program.Time = ⊤
+IsFaultAt name deadline plan _ = ⊥
 
--- all bytes were read, and the fault is in the plan that they are
-pub record IsOfPlan (name : TableId) (unread unread_new : Option (List ℕ)) (fault : ProgramFault) : Type 0 where
+-- the first bad line of what was read is this one, for this cause: of all bytes, or whatever comes after those that were
+-- read
+pub record HasBadLine (unread unread_new : Option (List ℕ)) (line : ℕ) (why : PlanWhy) : Type 0 where
   pub bytes : List ℕ
-  pub whole : ReadAll unread unread_new bytes
-  pub is_in : IsInPlan name (lines_of bytes) fault
+  pub read : Consumes unread unread_new bytes
+  pub bad : (IsAtEnd unread_new × NamesLine bytes (plan_fault.Word line why)) ⊎ ((more : List ℕ) → NamesLine (bytes ++ more) (plan_fault.Word line why))
 
--- the words say a quote
-pub record SaysQuote (words : List (List ℕ)) : Type 0 where
+-- the fault is a bad line
+abbrev pub IsBadLine : (unread unread_new : Option (List ℕ)) → ProgramFault → Type 0
+IsBadLine unread unread_new (program.PlanLine line why) = HasBadLine unread unread_new line why
+IsBadLine unread unread_new other = ⊥
+
+-- all bytes were read, they are a plan, and the service fails at it
+pub record IsUnanswered (name : TableId) (deadline : Option ℕ) (unread unread_new : Option (List ℕ)) (fault : ProgramFault) : Type 0 where
+  pub plan : PlanValue
+  pub read : ReadPlan unread unread_new plan
+  pub fails : IsFaultAt name deadline plan fault
+
+-- the plan that is read has the bad line, or else the service fails at it
+abbrev pub IsOfPlan : (name : TableId) (deadline : Option ℕ) (unread unread_new : Option (List ℕ)) → ProgramFault → Type 0
+IsOfPlan name deadline unread unread_new (program.PlanLine line why) = HasBadLine unread unread_new line why
+IsOfPlan name deadline unread unread_new other = IsUnanswered name deadline unread unread_new other
+
+-- the words say a quote, of whose deadline this holds
+pub record SaysQuote (words : List (List ℕ)) (Holds : Option ℕ → Type 0) : Type 0 where
   pub command : CommandLine
   pub said : Says words command
   pub job : command.job ≡ Quote
+  pub holds : Holds command.deadline
 
 -- ---- all faults
 
 -- `read` comes only where the reader ended the run, `write` only where the writer did, and what is not
--- of the streams or the memory only of a plan
+-- of the streams, the memory or the time only of a plan
 abbrev pub CameFrom : ProgramFault → (ByReader ByWriter : Type 0) → (OfPlan : ProgramFault → Type 0) → Type 0
 CameFrom program.Read ByReader ByWriter OfPlan = ByReader
 CameFrom program.Write ByReader ByWriter OfPlan = ByWriter
 CameFrom program.Memory ByReader ByWriter OfPlan = ⊤
+CameFrom program.Time ByReader ByWriter OfPlan = ⊤
 CameFrom other ByReader ByWriter OfPlan = OfPlan other
 
 -- one line was said, which names a fault that came

@@ -5,10 +5,11 @@ use Rattle.scope_script.specs.declared.session.run.ScriptFault.{ScriptFault}
 use Rattle.scope_script.specs.declared.session.run.ScriptFault.TheVariants as script
 use Rattle.quote_plan.specs.declared.reading.PlanFault.{PlanFault}
 use Rattle.quote_plan.specs.declared.reading.PlanFault.TheVariants as plan
+use Rattle.quote_plan.specs.PlanWhys.{words_of}
 use Rattle.quote_gateway.specs.declared.faults.GatewayFault.{GatewayFault}
 use Rattle.quote_gateway.specs.declared.faults.GatewayFault.TheVariants as service
 use Rattle.scopectl.specs.declared.fault.ProgramFault.{ProgramFault}
-use Rattle.scopectl.specs.declared.fault.ProgramFault.TheVariants.{Read, Write, Memory, PlanLine, Strange, Rejected, Cancelled, Lost}
+use Rattle.scopectl.specs.declared.fault.ProgramFault.TheVariants.{Read, Write, Memory, PlanLine, Strange, Rejected, Cancelled, Lost, Time}
 
 abbrev pub fault_of_run : ScriptFault → ProgramFault
 fault_of_run script.Read = Read
@@ -16,7 +17,7 @@ fault_of_run script.Write = Write
 fault_of_run script.Memory = Memory
 
 abbrev pub fault_of_plan : PlanFault → ProgramFault
-fault_of_plan (plan.Word line) = PlanLine line
+fault_of_plan (plan.Word line why) = PlanLine line why
 fault_of_plan plan.Memory = Memory
 
 abbrev pub fault_of_service : GatewayFault → ProgramFault
@@ -30,17 +31,23 @@ abbrev pub word_of : ProgramFault → List ℕ
 word_of Read = codes "read"
 word_of Write = codes "write"
 word_of Memory = codes "memory"
-word_of (PlanLine line) = codes "bad-word"
+word_of (PlanLine line why) = codes "bad-word"
 word_of Strange = codes "strange"
 word_of Rejected = codes "rejected"
 word_of Cancelled = codes "cancelled"
 word_of Lost = codes "lost"
+word_of Time = codes "time"
 
 -- where the fault is: in which line of the plan, if in one
 abbrev pub place_of : ProgramFault → List ℕ
-place_of (PlanLine line) = codes "plan line " ++ decimal line ++ codes ": "
+place_of (PlanLine line why) = codes "plan line " ++ decimal line ++ codes ": "
 place_of _ = []
+
+-- why a line of the plan is a bad one
+abbrev pub cause_of : ProgramFault → List ℕ
+cause_of (PlanLine line why) = codes ": " ++ words_of why
+cause_of _ = []
 
 -- the line that names a fault
 abbrev pub line_of : ProgramFault → List ℕ
-line_of fault = codes "scopectl: " ++ place_of fault ++ word_of fault ++ 10 ∷ []
+line_of fault = codes "scopectl: " ++ place_of fault ++ word_of fault ++ cause_of fault ++ 10 ∷ []

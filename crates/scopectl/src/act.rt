@@ -1,23 +1,25 @@
 //! All that the program does.
-ghost use Rattle.std.specs.Prelude.{◌≡◌, ◌≢◌, ◌≤◌, ◌⊎◌, false, true, map};
+ghost use Rattle.std.specs.Prelude.{◌≡◌, ◌≢◌, ◌≤◌, ◌⊎◌, ℕ, Option, false, true, map, string_bytes};
 ghost use Rattle.std.specs.Io.KnownBytes.{Appends};
 ghost use Rattle.scope_rules.specs.declared.types.capacity.Limits.{Limits};
 ghost use Rattle.scope_script.specs.Streams.{AppendsPart};
-ghost use Rattle.scopectl.specs.Naming.{IsOfPlan, IsSaid, NamesFault, SaysQuote};
-ghost use Rattle.scopectl.specs.Program.{DidAsSaid, DidJob, DidPart, DidPartly, GaveText, GaveTextPartly, IsNotUnderstood};
+ghost use Rattle.scopectl.specs.Naming.{IsOfPlan, NamesFault, SaysQuote};
+ghost use Rattle.scopectl.specs.Program.{DidAsSaid, DidJob, DidPart, DidPartly, DidWhole, GaveText, GaveTextPartly, IsNotUnderstood};
+ghost use Rattle.scopectl.specs.Saying.{IsSaid, Noted, status_of, tally_line};
 ghost use Rattle.scopectl.specs.Texts.{line_of};
 
-use crate::fault::ProgramFault;
+use crate::fault::{ProgramFault, tally_line};
 use crate::quoting::quoted;
-use command_line::{Job, LineFault, VERSION_LINE, help_of, line};
+use command_line::{Delay, Job, LineFault, VERSION_LINE, help_of, line};
 use job_runner::JobWork;
-use quote_gateway::OfferJob;
+use quote_gateway::LateJob;
 use realm_lock::{RealmName, Seed};
 use scope_rules::{Due, Limits};
-use scope_script::Watched;
-use script_jobs::{dumped, replayed};
+use scope_script::{Tally, Watched};
+use script_jobs::{Tree, dumped, replayed};
 use std::alloc::Global;
 use std::io::{ErrorKind, Read, Write};
+use std::rt::Clock as SystemTime;
 use std::sync::Wait;
 use thread_crew::Spawns;
 
@@ -30,22 +32,27 @@ pub const FAULT: u8 = 1;
 /// The status of a line that is not understood.
 pub const NOT_UNDERSTOOD: u8 = 2;
 
+/// The status of a strict line that was carried out, where lines of the script were refused.
+pub const LINES_REFUSED: u8 = 3;
+
 /// Does what the words say, of which the first is the program's name, and answers the exit status.
 /// What is read comes from `reader`, what is written goes to `writer`, and what is said of faults to
 /// `errors`, whose own failing is passed over. The threads of a plan's jobs are the spawner's, and the seed
 /// is that of the realm that they run in; else neither is used.
 ///
-/// With status 0 the words asked for help or the version, and exactly that text was written and nothing
+/// With status 0 or 3 the words asked for help or the version, and exactly that text was written and nothing
 /// read; or they said a replay, all bytes were read, and exactly the reply text of them was written, in
 /// a realm of the limits that stand in the words; or they said a dump, all bytes were read, and exactly
 /// the dump text of the realm that they leave was written, and a line feed; or they said a quote, all bytes
-/// were read, which are a plan, and exactly a line that it allows was written, and a line feed. Nothing was
-/// said on `errors`.
+/// were read, which are a plan, and exactly a line that it allows was written, and a line feed; by a deadline
+/// the line may say some of the prices. Where lines of a script were refused, one line on `errors` says how
+/// many, and how many of them are no commands; else nothing was said there. The status is 3 where lines were
+/// refused and the words are strict, and else 0.
 ///
 /// With status 1 one line on `errors` names the fault: `read` or `write` only where that stream failed,
 /// or the reader was given up after 2^64 - 1 reads; a line of the plan, `rejected`, `cancelled` or `lost`
 /// only of a quote whose bytes were all read, and the first of these only of the plan's first bad line;
-/// `strange` never.
+/// `strange` never; `memory` and `time` where the system refused them.
 /// Nothing was read or written, or the writer failed at the text that was asked for, or what was written
 /// is a beginning of the replies to what was read. Of a dump or a quote nothing was written, but where all
 /// bytes were read and the writer failed.
@@ -56,8 +63,8 @@ pub const NOT_UNDERSTOOD: u8 = 2;
 pub fn act<
     'a,
     N: RealmName,
-    S: Spawns<N, JobWork<Due, N, OfferJob>> + Drop,
-    T: Wait,
+    S: Spawns<N, JobWork<Due, N, LateJob<T>>> + Drop,
+    T: Wait + SystemTime + Copy,
     R: Read + Drop,
     W: Write + Drop,
     E: Write + Drop,
@@ -74,26 +81,42 @@ pub fn act<
     requires named { seed ≡ N.table }
     requires reader { reader.old.failed ≡ false }
     requires writer { writer.old.failed ≡ false }
-    ensures status { result ≤ 2 }
-    ensures done { result ≡ 0 → ((reader.new ≡ reader.old)
+    ensures status { result ≤ 3 }
+    ensures done { result ≢ 1 → result ≢ 2 → ((result ≡ 0) × (reader.new ≡ reader.old) × (errors.new ≡ errors.old)
         × GaveText (map (λ word. word.now) words.now) (W.contents writer.old.inner) (W.contents writer.new.inner))
-        ⊎ DidAsSaid (map (λ word. word.now) words.now) (R.remaining reader.old.inner) (R.remaining reader.new.inner) (W.contents writer.old.inner) (W.contents writer.new.inner) }
-    ensures silent { result ≡ 0 → errors.new ≡ errors.old }
+        ⊎ DidAsSaid (map (λ word. word.now) words.now) (errors.new ≡ errors.old) (R.remaining reader.old.inner) (R.remaining reader.new.inner) (W.contents writer.old.inner) (W.contents writer.new.inner) (E.contents errors.old.inner) (E.contents errors.new.inner) errors.new.failed result }
     ensures fault { result ≡ 1 → ((reader.new ≡ reader.old) × (writer.new ≡ writer.old))
         ⊎ (((reader.new ≡ reader.old)
         × GaveTextPartly (map (λ word. word.now) words.now) (W.contents writer.old.inner) (W.contents writer.new.inner) writer.new.failed)
         ⊎ DidPartly (map (λ word. word.now) words.now) (R.remaining reader.old.inner) (R.remaining reader.new.inner) (W.contents writer.old.inner) (W.contents writer.new.inner) writer.new.failed) }
     ensures named { result ≡ 1 → NamesFault (E.contents errors.old.inner) (E.contents errors.new.inner) errors.new.failed ((reader.new.failed ≡ true) ⊎ (reader.new.reads ≡ u64.MAX)) (writer.new.failed ≡ true)
-        (λ fault. SaysQuote (map (λ word. word.now) words.now) × IsOfPlan N.table (R.remaining reader.old.inner) (R.remaining reader.new.inner) fault) }
+        (λ fault. SaysQuote (map (λ word. word.now) words.now) (λ deadline. IsOfPlan N.table deadline (R.remaining reader.old.inner) (R.remaining reader.new.inner) fault)) }
     ensures not_understood { result ≡ 2 → IsNotUnderstood (map (λ word. word.now) words.now)
         × (reader.new ≡ reader.old) × (writer.new ≡ writer.old) }
 {
     match line(alloc, words) {
         Ok(command) => match command.job {
-            Job::Replay => replay(alloc, command.limits, reader, writer, errors),
-            Job::Dump => dump(alloc, command.limits, reader, writer, errors),
+            Job::Replay => replay(
+                alloc,
+                command.limits,
+                command.strict,
+                reader,
+                writer,
+                errors,
+            ),
+            Job::Dump => dump(
+                alloc,
+                command.limits,
+                command.strict,
+                reader,
+                writer,
+                errors,
+            ),
             Job::Quote => {
-                quote::<N, S, T, R, W, E>(rt, alloc, seed, spawner, reader, writer, errors)
+                let (deadline, after) = (command.deadline, command.after);
+                quote::<N, S, T, R, W, E>(
+                    rt, alloc, seed, spawner, deadline, after, reader, writer, errors,
+                )
             }
         },
         Err(LineFault::Help) => tell(help_of(words), writer, errors),
@@ -124,20 +147,20 @@ pub fn refuse_words<E: Write + Drop>(kind: ErrorKind, errors: &mut Watched<E>) -
 fn replay<R: Read + Drop, W: Write + Drop, E: Write + Drop>(
     alloc: Global,
     limits: Limits,
+    strict: bool,
     reader: &mut Watched<R>,
     writer: &mut Watched<W>,
     errors: &mut Watched<E>,
 ) -> u8
     requires reader { reader.old.failed ≡ false }
     requires writer { writer.old.failed ≡ false }
-    ensures status { result ≤ 1 }
-    ensures done { result ≡ 0 → DidJob Job.Replay limits (R.remaining reader.old.inner) (R.remaining reader.new.inner) (W.contents writer.old.inner) (W.contents writer.new.inner) }
-    ensures silent { result ≡ 0 → errors.new ≡ errors.old }
-    ensures fault { result ≡ 1 → DidPart Job.Replay limits (R.remaining reader.old.inner) (R.remaining reader.new.inner) (W.contents writer.old.inner) (W.contents writer.new.inner) writer.new.failed }
+    ensures status { (result ≤ 3) × (result ≢ 2) }
+    ensures done { (deadline : Option ℕ) → result ≢ 1 → DidWhole Job.Replay limits deadline strict (errors.new ≡ errors.old) (R.remaining reader.old.inner) (R.remaining reader.new.inner) (W.contents writer.old.inner) (W.contents writer.new.inner) (E.contents errors.old.inner) (E.contents errors.new.inner) errors.new.failed result }
+    ensures fault { (deadline : Option ℕ) → result ≡ 1 → DidPart Job.Replay limits deadline (R.remaining reader.old.inner) (R.remaining reader.new.inner) (W.contents writer.old.inner) (W.contents writer.new.inner) writer.new.failed }
     ensures named { result ≡ 1 → NamesFault (E.contents errors.old.inner) (E.contents errors.new.inner) errors.new.failed ((reader.new.failed ≡ true) ⊎ (reader.new.reads ≡ u64.MAX)) (writer.new.failed ≡ true) (λ _. ⊥) }
 {
     let fault = match replayed(alloc, limits, reader, writer) {
-        Ok(()) => return DONE,
+        Ok(tally) => return note(strict, tally, errors),
         Err(fault) => fault,
     };
     fail(ProgramFault::of_run(fault), errors)
@@ -147,29 +170,51 @@ fn replay<R: Read + Drop, W: Write + Drop, E: Write + Drop>(
 fn dump<R: Read + Drop, W: Write + Drop, E: Write + Drop>(
     alloc: Global,
     limits: Limits,
+    strict: bool,
     reader: &mut Watched<R>,
     writer: &mut Watched<W>,
     errors: &mut Watched<E>,
 ) -> u8
     requires reader { reader.old.failed ≡ false }
     requires writer { writer.old.failed ≡ false }
-    ensures status { result ≤ 1 }
-    ensures done { result ≡ 0 → DidJob Job.Dump limits (R.remaining reader.old.inner) (R.remaining reader.new.inner) (W.contents writer.old.inner) (W.contents writer.new.inner) }
-    ensures silent { result ≡ 0 → errors.new ≡ errors.old }
-    ensures fault { result ≡ 1 → DidPart Job.Dump limits (R.remaining reader.old.inner) (R.remaining reader.new.inner) (W.contents writer.old.inner) (W.contents writer.new.inner) writer.new.failed }
+    ensures status { (result ≤ 3) × (result ≢ 2) }
+    ensures done { (deadline : Option ℕ) → result ≢ 1 → DidWhole Job.Dump limits deadline strict (errors.new ≡ errors.old) (R.remaining reader.old.inner) (R.remaining reader.new.inner) (W.contents writer.old.inner) (W.contents writer.new.inner) (E.contents errors.old.inner) (E.contents errors.new.inner) errors.new.failed result }
+    ensures fault { (deadline : Option ℕ) → result ≡ 1 → DidPart Job.Dump limits deadline (R.remaining reader.old.inner) (R.remaining reader.new.inner) (W.contents writer.old.inner) (W.contents writer.new.inner) writer.new.failed }
     ensures named { result ≡ 1 → NamesFault (E.contents errors.old.inner) (E.contents errors.new.inner) errors.new.failed ((reader.new.failed ≡ true) ⊎ (reader.new.reads ≡ u64.MAX)) (writer.new.failed ≡ true) (λ _. ⊥) }
 {
     match dumped(alloc, limits, reader, writer) {
-        Ok(text) => tell(&text, writer, errors),
+        Ok(tree) => show(strict, &tree, writer, errors),
         Err(reason) => fail(ProgramFault::of_run(reason), errors),
     }
 }
 
-/// Serves the plan that is read.
+/// Writes the tree, and says how many lines were refused.
+fn show<W: Write + Drop, E: Write + Drop>(
+    strict: bool,
+    tree: &Tree,
+    writer: &mut Watched<W>,
+    errors: &mut Watched<E>,
+) -> u8
+    ensures status { (result ≤ 3) × (result ≢ 2) }
+    ensures done { result ≢ 1 → Appends (W.contents writer.old.inner) (W.contents writer.new.inner) (string_bytes tree.now.text) }
+    ensures noted { result ≢ 1 → Noted tree.now.tally (errors.new ≡ errors.old) (E.contents errors.old.inner) (E.contents errors.new.inner) errors.new.failed }
+    ensures told { result ≢ 1 → result ≡ status_of strict tree.now.tally }
+    ensures fault { result ≡ 1 → AppendsPart (W.contents writer.old.inner) (W.contents writer.new.inner) (string_bytes tree.now.text) }
+    ensures failed { result ≡ 1 → writer.new.failed ≡ true }
+    ensures named { result ≡ 1 → IsSaid (line_of ProgramFault.Write) (E.contents errors.old.inner) (E.contents errors.new.inner) errors.new.failed }
+{
+    if tell(&tree.text, writer, errors) == FAULT {
+        return FAULT;
+    }
+    note(strict, tree.tally, errors)
+}
+
+/// Serves the plan that is read, by the deadline if there is one, in milliseconds from now. The job of the
+/// offer that is named takes so long.
 fn quote<
     N: RealmName,
-    S: Spawns<N, JobWork<Due, N, OfferJob>> + Drop,
-    T: Wait,
+    S: Spawns<N, JobWork<Due, N, LateJob<T>>> + Drop,
+    T: Wait + SystemTime + Copy,
     R: Read + Drop,
     W: Write + Drop,
     E: Write + Drop,
@@ -178,21 +223,44 @@ fn quote<
     alloc: Global,
     seed: Seed,
     spawner: S,
+    deadline: Option<u32>,
+    after: Option<Delay>,
     reader: &mut Watched<R>,
     writer: &mut Watched<W>,
     errors: &mut Watched<E>,
 ) -> u8
     requires named { seed ≡ N.table }
     ensures status { result ≤ 1 }
-    ensures done { (limits : Limits) → result ≡ 0 → DidJob Job.Quote limits (R.remaining reader.old.inner) (R.remaining reader.new.inner) (W.contents writer.old.inner) (W.contents writer.new.inner) }
+    ensures done { (limits : Limits) → result ≡ 0 → DidJob Job.Quote limits deadline (R.remaining reader.old.inner) (R.remaining reader.new.inner) (W.contents writer.old.inner) (W.contents writer.new.inner) }
     ensures silent { result ≡ 0 → errors.new ≡ errors.old }
-    ensures fault { (limits : Limits) → result ≡ 1 → DidPart Job.Quote limits (R.remaining reader.old.inner) (R.remaining reader.new.inner) (W.contents writer.old.inner) (W.contents writer.new.inner) writer.new.failed }
-    ensures named { result ≡ 1 → NamesFault (E.contents errors.old.inner) (E.contents errors.new.inner) errors.new.failed ((reader.new.failed ≡ true) ⊎ (reader.new.reads ≡ u64.MAX)) (writer.new.failed ≡ true) (IsOfPlan N.table (R.remaining reader.old.inner) (R.remaining reader.new.inner)) }
+    ensures fault { (limits : Limits) → result ≡ 1 → DidPart Job.Quote limits deadline (R.remaining reader.old.inner) (R.remaining reader.new.inner) (W.contents writer.old.inner) (W.contents writer.new.inner) writer.new.failed }
+    ensures named { result ≡ 1 → NamesFault (E.contents errors.old.inner) (E.contents errors.new.inner) errors.new.failed ((reader.new.failed ≡ true) ⊎ (reader.new.reads ≡ u64.MAX)) (writer.new.failed ≡ true) (IsOfPlan N.table deadline (R.remaining reader.old.inner) (R.remaining reader.new.inner)) }
 {
-    match quoted::<N, S, T, R>(rt, alloc, seed, spawner, reader) {
+    match quoted::<N, S, T, R>(rt, alloc, seed, spawner, deadline, after, reader) {
         Ok(answer) => tell(&answer, writer, errors),
         Err(reason) => fail(reason, errors),
     }
+}
+
+/// Says how many lines of a script were refused, if some were, and answers the status of a script that was read to
+/// its end.
+fn note<E: Write + Drop>(strict: bool, tally: Tally, errors: &mut Watched<E>) -> u8
+    ensures status { result ≡ status_of strict tally }
+    ensures well { (result ≤ 3) × (result ≢ 1) × (result ≢ 2) }
+    ensures noted { Noted tally (errors.new ≡ errors.old) (E.contents errors.old.inner) (E.contents errors.new.inner) errors.new.failed }
+{
+    if tally.refused == 0 {
+        return DONE;
+    }
+    say_tally(tally, errors);
+    if strict { LINES_REFUSED } else { DONE }
+}
+
+/// Says how many lines of a script were refused.
+fn say_tally<E: Write + Drop>(tally: Tally, errors: &mut Watched<E>)
+    ensures { IsSaid (tally_line tally) (E.contents errors.old.inner) (E.contents errors.new.inner) errors.new.failed }
+{
+    say(tally_line(tally).as_str(), errors);
 }
 
 /// Writes the text that was asked for.

@@ -1,11 +1,12 @@
-//! Why the program ends with status 1.
+//! What the program says on standard error: why it ends with status 1, and how many lines were refused.
 ghost use Rattle.std.specs.Prelude.{◌≡◌, ◌≤◌, length};
+ghost use Rattle.scopectl.specs.Saying.{tally_line};
 ghost use Rattle.scopectl.specs.Texts.{fault_of_plan, fault_of_run, fault_of_service, line_of, word_of};
 
 use arrayvec::ArrayString;
 use itoa::Buffer;
-use quote_gateway::{GatewayFault, PlanFault};
-use scope_script::ScriptFault;
+use quote_gateway::{GatewayFault, PlanFault, PlanWhy};
+use scope_script::{ScriptFault, Tally};
 
 /// Why the program ends with status 1.
 #[derive(Clone, Copy)]
@@ -16,9 +17,9 @@ pub enum ProgramFault {
     Write,
     /// Memory was refused.
     Memory,
-    /// This line of the plan is the first bad one, counted from 1; where no line says a mode and none is
-    /// bad, it is the line after the last.
-    PlanLine { line: usize },
+    /// This line of the plan is the first bad one, counted from 1, for this cause; where no line says a mode
+    /// and none is bad, it is the line after the last.
+    PlanLine { line: usize, why: PlanWhy },
     /// The jobs weren't those of the plan.
     Strange,
     /// A thread was refused, or a call for another cause than memory.
@@ -27,10 +28,12 @@ pub enum ProgramFault {
     Cancelled,
     /// The answer would rest on an end that is not the offer's.
     Lost,
+    /// The system gives no time.
+    Time,
 }
 
-/// How many bytes the line that names a fault may have. The longest takes 51.
-pub const LINE_ROOM: usize = 80;
+/// How many bytes the line that names a fault may have: a line of a plan has its number and its cause.
+pub const LINE_ROOM: usize = 144;
 
 impl ProgramFault {
     /// The program's fault for a fault of the run.
@@ -49,7 +52,7 @@ impl ProgramFault {
         ensures { result ≡ fault_of_plan fault }
     {
         match fault {
-            PlanFault::Word { line } => ProgramFault::PlanLine { line },
+            PlanFault::Word { line, why } => ProgramFault::PlanLine { line, why },
             PlanFault::Memory => ProgramFault::Memory,
         }
     }
@@ -74,12 +77,20 @@ impl ProgramFault {
         let mut digits = Buffer::new();
         let mut line = ArrayString::new();
         line.push_str("scopectl: ");
-        if let ProgramFault::PlanLine { line: number } = self {
+        if let ProgramFault::PlanLine {
+            line: number,
+            why: _,
+        } = self
+        {
             line.push_str("plan line ");
             line.push_str(digits.format(number));
             line.push_str(": ");
         }
         line.push_str(self.word());
+        if let ProgramFault::PlanLine { line: _, why } = self {
+            line.push_str(": ");
+            line.push_str(why.words());
+        }
         line.push_str("\n");
         line
     }
@@ -93,11 +104,27 @@ impl ProgramFault {
             ProgramFault::Read => "read",
             ProgramFault::Write => "write",
             ProgramFault::Memory => "memory",
-            ProgramFault::PlanLine { line: _ } => "bad-word",
+            ProgramFault::PlanLine { .. } => "bad-word",
             ProgramFault::Strange => "strange",
             ProgramFault::Rejected => "rejected",
             ProgramFault::Cancelled => "cancelled",
             ProgramFault::Lost => "lost",
+            ProgramFault::Time => "time",
         }
     }
+}
+
+/// The one line on standard error that says how many lines of a script were refused, with its end. It takes no
+/// memory.
+pub fn tally_line(tally: Tally) -> ArrayString<LINE_ROOM>
+    ensures { result.bytes ≡ tally_line tally }
+{
+    let mut digits = Buffer::new();
+    let mut line = ArrayString::new();
+    line.push_str("scopectl: lines refused: ");
+    line.push_str(digits.format(tally.refused));
+    line.push_str(", of which no commands: ");
+    line.push_str(digits.format(tally.bad_words));
+    line.push_str("\n");
+    line
 }

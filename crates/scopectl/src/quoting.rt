@@ -1,19 +1,25 @@
 //! The answer to the plan that is read. Nothing is written here.
-ghost use Rattle.std.specs.Prelude.{◌≡◌, ◌⊎◌, ◌++◌, [], ◌∷◌, true, IfOk, IfErr, OnErr, string_bytes};
+ghost use Rattle.std.specs.Prelude.{◌≡◌, ◌⊎◌, ◌++◌, [], ◌∷◌, true, None, Some, IfOk, IfErr, OnErr, string_bytes};
 ghost use Rattle.quote_plan.specs.AnswerText.{answer_text};
-ghost use Rattle.quote_plan.specs.PlanReading.{lines_of};
-ghost use Rattle.scopectl.specs.Program.{AnswersPlan, Made, ReadAll};
+ghost use Rattle.quote_plan.specs.Allowed.{AllowedText};
+ghost use Rattle.quote_plan.specs.Plans.{labels_of};
+ghost use Rattle.quote_gateway.specs.Offers.{labels_in};
+ghost use Rattle.scopectl.specs.Program.{AllowedIn, AnswersPlan, Made, ReadPlan, SaysAllowed};
 ghost use Rattle.script_jobs.specs.Jobs.{ReadSome};
-ghost use Rattle.scopectl.specs.Naming.{CameFrom, IsInPlan, IsOfPlan};
+ghost use Rattle.scopectl.specs.Naming.{CameFrom, IsBadLine, IsFaultAt, IsOfPlan};
 
 use crate::fault::ProgramFault;
-use job_runner::JobWork;
-use quote_gateway::{Answer, OfferJob, Served, jobs_of, read_plan, serve};
+use command_line::Delay;
+use job_runner::{JobWork, NamedJob, SystemClock};
+use quote_gateway::{
+    Answer, Late, LateJob, Plan, PlanReader, Served, late_jobs_of, serve, serve_by,
+};
 use realm_lock::{RealmName, Seed};
 use scope_rules::Due;
 use scope_script::Watched;
 use std::alloc::{AllocError, Global};
 use std::io::Read;
+use std::rt::Clock as SystemTime;
 use std::sync::Wait;
 use thread_crew::Spawns;
 
@@ -23,85 +29,208 @@ const PIECE: usize = 4096;
 /// The answer's line of the plan that is read, and a line feed.
 ///
 /// # Errors
-/// `Read` where the reader failed or was given up; else, once all was read, `PlanLine` where the plan has a
-/// bad line, and what the service answers. `Memory` where memory was refused.
+/// `Read` where the reader failed or was given up; else `PlanLine` as soon as the first bad line has ended, or once
+/// all was read, and then what the service answers. `Memory` where memory was refused, `Time` where the system gives
+/// no time and a deadline or a late job is asked for.
 pub fn quoted<
     N: RealmName,
-    S: Spawns<N, JobWork<Due, N, OfferJob>> + Drop,
-    T: Wait,
+    S: Spawns<N, JobWork<Due, N, LateJob<T>>> + Drop,
+    T: Wait + SystemTime + Copy,
     R: Read + Drop,
 >(
     rt: &T,
     alloc: Global,
     seed: Seed,
     spawner: S,
+    deadline: Option<u32>,
+    after: Option<Delay>,
     reader: &mut Watched<R>,
 ) -> Result<String, ProgramFault>
     requires named { seed ≡ N.table }
-    ensures ok { IfOk result (λ text. Made AnswersPlan (R.remaining reader.old.inner) (R.remaining reader.new.inner) (string_bytes text)) }
+    ensures ok { IfOk result (λ text. Made (AnswersPlan deadline) (R.remaining reader.old.inner) (R.remaining reader.new.inner) (string_bytes text)) }
     ensures part { OnErr result (ReadSome (R.remaining reader.old.inner) (R.remaining reader.new.inner)) }
-    ensures came { IfErr result (λ fault. CameFrom fault ((reader.new.failed ≡ true) ⊎ (reader.new.reads ≡ u64.MAX)) ⊥ (IsOfPlan N.table (R.remaining reader.old.inner) (R.remaining reader.new.inner))) }
+    ensures came { IfErr result (λ fault. CameFrom fault ((reader.new.failed ≡ true) ⊎ (reader.new.reads ≡ u64.MAX)) ⊥ (IsOfPlan N.table deadline (R.remaining reader.old.inner) (R.remaining reader.new.inner))) }
 {
-    match read_all(alloc, reader) {
-        Ok(bytes) => answered::<N, S, T>(rt, alloc, seed, spawner, bytes.as_slice()),
+    match read_from(alloc, reader) {
+        Ok(plan) => answered::<N, S, T>(rt, alloc, seed, spawner, deadline, after, &plan),
         Err(fault) => Err(fault),
     }
 }
 
-/// All bytes of the reader.
-fn read_all<R: Read + Drop>(alloc: Global, reader: &mut Watched<R>) -> Result<Vec<u8>, ProgramFault>
-    ensures all { IfOk result (λ bytes. ReadAll (R.remaining reader.old.inner) (R.remaining reader.new.inner) bytes.items) }
+/// The plan that is read, up to its end or its first bad line.
+fn read_from<R: Read + Drop>(alloc: Global, reader: &mut Watched<R>) -> Result<Plan, ProgramFault>
+    ensures plan { IfOk result (ReadPlan (R.remaining reader.old.inner) (R.remaining reader.new.inner)) }
     ensures part { OnErr result (ReadSome (R.remaining reader.old.inner) (R.remaining reader.new.inner)) }
-    ensures came { IfErr result (λ fault. CameFrom fault ((reader.new.failed ≡ true) ⊎ (reader.new.reads ≡ u64.MAX)) ⊥ (λ _. ⊥)) }
+    ensures came { IfErr result (λ fault. CameFrom fault ((reader.new.failed ≡ true) ⊎ (reader.new.reads ≡ u64.MAX)) ⊥ (IsBadLine (R.remaining reader.old.inner) (R.remaining reader.new.inner))) }
 {
-    let mut bytes = Vec::new(alloc);
+    let mut plan = PlanReader::new(alloc);
     let mut piece = [0; PIECE];
     'reading: while !reader.has_given_up() {
         let Ok(count) = reader.read_piece(&mut piece) else {
             return Err(ProgramFault::Read);
         };
         if count == 0 {
-            return Ok(bytes);
+            return match plan.finish() {
+                Ok(plan) => Ok(plan),
+                Err(fault) => Err(ProgramFault::of_plan(fault)),
+            };
         }
-        if bytes.extend_from_slice(&piece[..count]).is_err() {
-            return Err(ProgramFault::Memory);
+        match plan.take(&piece[..count]) {
+            Ok(()) => {}
+            Err(fault) => return Err(ProgramFault::of_plan(fault)),
         }
     }
     Err(ProgramFault::Read)
 }
 
-/// The answer's line of the plan that the bytes are, and a line feed.
-fn answered<N: RealmName, S: Spawns<N, JobWork<Due, N, OfferJob>> + Drop, T: Wait>(
+/// The answer's line of the plan, and a line feed.
+fn answered<
+    N: RealmName,
+    S: Spawns<N, JobWork<Due, N, LateJob<T>>> + Drop,
+    T: Wait + SystemTime + Copy,
+>(
     rt: &T,
     alloc: Global,
     seed: Seed,
     spawner: S,
-    bytes: &[u8],
+    deadline: Option<u32>,
+    after: Option<Delay>,
+    plan: &Plan,
 ) -> Result<String, ProgramFault>
     requires named { seed ≡ N.table }
-    ensures ok { IfOk result (λ text. AnswersPlan bytes.now (string_bytes text)) }
-    ensures fault { IfErr result (IsInPlan N.table (lines_of bytes.now)) }
+    ensures ok { IfOk result (λ text. SaysAllowed deadline plan.now (string_bytes text)) }
+    ensures fault { IfErr result (IsFaultAt N.table deadline plan.now) }
 {
-    let plan = match read_plan(alloc, bytes) {
-        Ok(plan) => plan,
-        Err(fault) => return Err(ProgramFault::of_plan(fault)),
+    let answer = match answer_to::<N, S, T>(rt, alloc, seed, spawner, deadline, after, plan) {
+        Ok(answer) => answer,
+        Err(fault) => return Err(fault),
     };
-    let Ok(jobs) = jobs_of(alloc, &plan) else {
+    match answer_line(alloc, &answer) {
+        Ok(line) => Ok(line),
+        Err(_) => Err(ProgramFault::Memory),
+    }
+}
+
+/// The answer to the plan, by the deadline if there is one.
+fn answer_to<
+    N: RealmName,
+    S: Spawns<N, JobWork<Due, N, LateJob<T>>> + Drop,
+    T: Wait + SystemTime + Copy,
+>(
+    rt: &T,
+    alloc: Global,
+    seed: Seed,
+    spawner: S,
+    deadline: Option<u32>,
+    after: Option<Delay>,
+    plan: &Plan,
+) -> Result<Answer, ProgramFault>
+    requires named { seed ≡ N.table }
+    ensures ok { IfOk result (λ a. AllowedIn deadline plan.now (answer_text a)) }
+    ensures fault { IfErr result (IsFaultAt N.table deadline plan.now) }
+{
+    let clock = SystemClock::starting_at(*rt, 0);
+    let late = match late_by(after, clock) {
+        Ok(late) => late,
+        Err(fault) => return Err(fault),
+    };
+    let Ok(jobs) = late_jobs_of(alloc, plan, late) else {
         return Err(ProgramFault::Memory);
     };
-    let served = match serve::<N, OfferJob, S, T>(rt, alloc, seed, &plan, jobs, spawner) {
+    match deadline {
+        None => asked::<N, S, T>(rt, alloc, seed, spawner, plan, jobs),
+        Some(deadline) => match clock {
+            Some(clock) => {
+                asked_by::<N, S, T>(rt, alloc, seed, spawner, plan, jobs, deadline, clock)
+            }
+            None => Err(ProgramFault::Time),
+        },
+    }
+}
+
+/// Which job is late, by the clock. `Time` where one is and there is no clock.
+fn late_by<T: Copy>(
+    after: Option<Delay>,
+    clock: Option<SystemClock<T>>,
+) -> Result<Option<Late<T>>, ProgramFault>
+    ensures { IfErr result (λ fault. fault ≡ ProgramFault.Time) }
+{
+    match after {
+        None => Ok(None),
+        Some(delay) => match clock {
+            Some(clock) => Ok(Some(Late {
+                name: delay.name,
+                until: u64::from(delay.millis),
+                clock,
+            })),
+            None => Err(ProgramFault::Time),
+        },
+    }
+}
+
+/// The answer to the plan of which these are the jobs.
+fn asked<
+    N: RealmName,
+    S: Spawns<N, JobWork<Due, N, LateJob<T>>> + Drop,
+    T: Wait + SystemTime + Copy,
+>(
+    rt: &T,
+    alloc: Global,
+    seed: Seed,
+    spawner: S,
+    plan: &Plan,
+    jobs: Vec<NamedJob<Due, LateJob<T>>>,
+) -> Result<Answer, ProgramFault>
+    requires named { seed ≡ N.table }
+    requires labelled { labels_in jobs.items ≡ labels_of plan.now }
+    ensures ok { IfOk result (λ a. AllowedText plan.now (answer_text a)) }
+    ensures fault { IfErr result (IsFaultAt N.table None plan.now) }
+{
+    let served = match serve::<N, LateJob<T>, S, T>(rt, alloc, seed, plan, jobs, spawner) {
         Ok(served) => served,
         Err(fault) => return Err(ProgramFault::of_service(fault)),
     };
     let Served { found, ctx } = served;
     let (_token, _spawner) = ctx.leave(rt);
-    let answer = match found {
-        Ok(answer) => answer,
+    match found {
+        Ok(answer) => Ok(answer),
+        Err(fault) => Err(ProgramFault::of_service(fault)),
+    }
+}
+
+/// The same by a deadline, in milliseconds of the clock.
+fn asked_by<
+    N: RealmName,
+    S: Spawns<N, JobWork<Due, N, LateJob<T>>> + Drop,
+    T: Wait + SystemTime + Copy,
+>(
+    rt: &T,
+    alloc: Global,
+    seed: Seed,
+    spawner: S,
+    plan: &Plan,
+    jobs: Vec<NamedJob<Due, LateJob<T>>>,
+    deadline: u32,
+    clock: SystemClock<T>,
+) -> Result<Answer, ProgramFault>
+    requires named { seed ≡ N.table }
+    requires labelled { labels_in jobs.items ≡ labels_of plan.now }
+    ensures ok { IfOk result (λ a. AllowedIn (Some deadline) plan.now (answer_text a)) }
+    ensures fault { IfErr result (IsFaultAt N.table (Some deadline) plan.now) }
+{
+    let mut clock = clock;
+    let by = u64::from(deadline);
+    let served = match serve_by::<N, LateJob<T>, S, SystemClock<T>, T>(
+        rt, alloc, seed, plan, jobs, spawner, by, &mut clock,
+    ) {
+        Ok(served) => served,
         Err(fault) => return Err(ProgramFault::of_service(fault)),
     };
-    match answer_line(alloc, &answer) {
-        Ok(line) => Ok(line),
-        Err(_) => Err(ProgramFault::Memory),
+    let Served { found, ctx } = served;
+    let (_token, _spawner) = ctx.leave(rt);
+    match found {
+        Ok(answer) => Ok(answer),
+        Err(fault) => Err(ProgramFault::of_service(fault)),
     }
 }
 

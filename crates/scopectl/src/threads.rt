@@ -8,13 +8,14 @@ ghost use Rattle.scopectl.specs.Naming.{IsOfPlan};
 use crate::act::{act, refuse_words};
 use command_line::Job;
 use job_runner::JobWork;
-use quote_gateway::OfferJob;
+use quote_gateway::LateJob;
 use realm_lock::{RealmName, Seed};
 use scope_rules::Due;
 use scope_script::Watched;
 use std::alloc::{AllocError, Global};
 use std::io::{ErrorKind, Read, Write};
 use std::marker::Brand;
+use std::rt::Clock as SystemTime;
 use std::sync::Wait;
 use thread_crew::{Crew, CrewRuntime, Nobody, OsThreads};
 
@@ -23,7 +24,7 @@ const KEPT: usize = 4;
 
 /// Does what the words say, and answers the exit status: `act` over threads where the words say a quote,
 /// and over none else. Of words that memory is refused for, it says so and does nothing.
-pub fn act_on<T: CrewRuntime, R: Read + Drop, W: Write + Drop, E: Write + Drop>(
+pub fn act_on<T: CrewRuntime + SystemTime, R: Read + Drop, W: Write + Drop, E: Write + Drop>(
     rt: &T,
     alloc: Global,
     owned: &[String],
@@ -33,7 +34,7 @@ pub fn act_on<T: CrewRuntime, R: Read + Drop, W: Write + Drop, E: Write + Drop>(
 ) -> u8
     requires reader { reader.old.failed ≡ false }
     requires writer { writer.old.failed ≡ false }
-    ensures acts { Acts (map string_bytes owned.now) (reader.new ≡ reader.old) (writer.new ≡ writer.old) (errors.new ≡ errors.old) ((reader.new.failed ≡ true) ⊎ (reader.new.reads ≡ u64.MAX)) (R.remaining reader.old.inner) (R.remaining reader.new.inner) (W.contents writer.old.inner) (W.contents writer.new.inner) (E.contents errors.old.inner) (E.contents errors.new.inner) writer.new.failed errors.new.failed (λ fault. (name : TableId) × IsOfPlan name (R.remaining reader.old.inner) (R.remaining reader.new.inner) fault) result }
+    ensures acts { Acts (map string_bytes owned.now) (reader.new ≡ reader.old) (writer.new ≡ writer.old) (errors.new ≡ errors.old) ((reader.new.failed ≡ true) ⊎ (reader.new.reads ≡ u64.MAX)) (R.remaining reader.old.inner) (R.remaining reader.new.inner) (W.contents writer.old.inner) (W.contents writer.new.inner) (E.contents errors.old.inner) (E.contents errors.new.inner) writer.new.failed errors.new.failed (λ deadline fault. (name : TableId) × IsOfPlan name deadline (R.remaining reader.old.inner) (R.remaining reader.new.inner) fault) result }
 {
     let Ok(words) = borrowed(alloc, owned) else {
         return refuse_words(ErrorKind::OutOfMemory, errors);
@@ -68,29 +69,10 @@ fn needs_threads(words: &[&str]) -> bool {
 }
 
 /// Does what the words say over no threads: each job's thread is refused.
-fn act_alone<'a, N: RealmName, T: Wait, R: Read + Drop, W: Write + Drop, E: Write + Drop>(
-    rt: &T,
-    alloc: Global,
-    seed: Seed,
-    words: &'a [&'a str],
-    reader: &mut Watched<R>,
-    writer: &mut Watched<W>,
-    errors: &mut Watched<E>,
-) -> u8
-    requires named { seed ≡ N.table }
-    requires reader { reader.old.failed ≡ false }
-    requires writer { writer.old.failed ≡ false }
-    ensures acts { Acts (map (λ word. word.now) words.now) (reader.new ≡ reader.old) (writer.new ≡ writer.old) (errors.new ≡ errors.old) ((reader.new.failed ≡ true) ⊎ (reader.new.reads ≡ u64.MAX)) (R.remaining reader.old.inner) (R.remaining reader.new.inner) (W.contents writer.old.inner) (W.contents writer.new.inner) (E.contents errors.old.inner) (E.contents errors.new.inner) writer.new.failed errors.new.failed (IsOfPlan N.table (R.remaining reader.old.inner) (R.remaining reader.new.inner)) result }
-{
-    act::<N, Nobody, T, R, W, E>(rt, alloc, seed, Nobody, words, reader, writer, errors)
-}
-
-/// Does what the words say with a crew of threads, which is closed then. Where the crew's own thread is
-/// refused, so is each job's.
-fn act_with_crew<
+fn act_alone<
     'a,
-    N: RealmName + Send + Sync + 'static,
-    T: CrewRuntime,
+    N: RealmName,
+    T: Wait + SystemTime + Copy,
     R: Read + Drop,
     W: Write + Drop,
     E: Write + Drop,
@@ -106,9 +88,35 @@ fn act_with_crew<
     requires named { seed ≡ N.table }
     requires reader { reader.old.failed ≡ false }
     requires writer { writer.old.failed ≡ false }
-    ensures acts { Acts (map (λ word. word.now) words.now) (reader.new ≡ reader.old) (writer.new ≡ writer.old) (errors.new ≡ errors.old) ((reader.new.failed ≡ true) ⊎ (reader.new.reads ≡ u64.MAX)) (R.remaining reader.old.inner) (R.remaining reader.new.inner) (W.contents writer.old.inner) (W.contents writer.new.inner) (E.contents errors.old.inner) (E.contents errors.new.inner) writer.new.failed errors.new.failed (IsOfPlan N.table (R.remaining reader.old.inner) (R.remaining reader.new.inner)) result }
+    ensures acts { Acts (map (λ word. word.now) words.now) (reader.new ≡ reader.old) (writer.new ≡ writer.old) (errors.new ≡ errors.old) ((reader.new.failed ≡ true) ⊎ (reader.new.reads ≡ u64.MAX)) (R.remaining reader.old.inner) (R.remaining reader.new.inner) (W.contents writer.old.inner) (W.contents writer.new.inner) (E.contents errors.old.inner) (E.contents errors.new.inner) writer.new.failed errors.new.failed (λ deadline. IsOfPlan N.table deadline (R.remaining reader.old.inner) (R.remaining reader.new.inner)) result }
 {
-    let Ok(crew) = Crew::<N, JobWork<Due, N, OfferJob>>::open(rt, alloc, KEPT) else {
+    act::<N, Nobody, T, R, W, E>(rt, alloc, seed, Nobody, words, reader, writer, errors)
+}
+
+/// Does what the words say with a crew of threads, which is closed then. Where the crew's own thread is
+/// refused, so is each job's.
+fn act_with_crew<
+    'a,
+    N: RealmName + Send + Sync + 'static,
+    T: CrewRuntime + SystemTime,
+    R: Read + Drop,
+    W: Write + Drop,
+    E: Write + Drop,
+>(
+    rt: &T,
+    alloc: Global,
+    seed: Seed,
+    words: &'a [&'a str],
+    reader: &mut Watched<R>,
+    writer: &mut Watched<W>,
+    errors: &mut Watched<E>,
+) -> u8
+    requires named { seed ≡ N.table }
+    requires reader { reader.old.failed ≡ false }
+    requires writer { writer.old.failed ≡ false }
+    ensures acts { Acts (map (λ word. word.now) words.now) (reader.new ≡ reader.old) (writer.new ≡ writer.old) (errors.new ≡ errors.old) ((reader.new.failed ≡ true) ⊎ (reader.new.reads ≡ u64.MAX)) (R.remaining reader.old.inner) (R.remaining reader.new.inner) (W.contents writer.old.inner) (W.contents writer.new.inner) (E.contents errors.old.inner) (E.contents errors.new.inner) writer.new.failed errors.new.failed (λ deadline. IsOfPlan N.table deadline (R.remaining reader.old.inner) (R.remaining reader.new.inner)) result }
+{
+    let Ok(crew) = Crew::<N, JobWork<Due, N, LateJob<T>>>::open(rt, alloc, KEPT) else {
         return act_alone::<N, T, R, W, E>(rt, alloc, seed, words, reader, writer, errors);
     };
     let status = act_over::<N, T, R, W, E>(rt, alloc, seed, &crew, words, reader, writer, errors);
@@ -121,7 +129,7 @@ fn act_with_crew<
 fn act_over<
     'a,
     N: RealmName + Send + Sync + 'static,
-    T: CrewRuntime,
+    T: CrewRuntime + SystemTime,
     R: Read + Drop,
     W: Write + Drop,
     E: Write + Drop,
@@ -129,7 +137,7 @@ fn act_over<
     rt: &T,
     alloc: Global,
     seed: Seed,
-    crew: &Crew<N, JobWork<Due, N, OfferJob>>,
+    crew: &Crew<N, JobWork<Due, N, LateJob<T>>>,
     words: &'a [&'a str],
     reader: &mut Watched<R>,
     writer: &mut Watched<W>,
@@ -138,10 +146,10 @@ fn act_over<
     requires named { seed ≡ N.table }
     requires reader { reader.old.failed ≡ false }
     requires writer { writer.old.failed ≡ false }
-    ensures acts { Acts (map (λ word. word.now) words.now) (reader.new ≡ reader.old) (writer.new ≡ writer.old) (errors.new ≡ errors.old) ((reader.new.failed ≡ true) ⊎ (reader.new.reads ≡ u64.MAX)) (R.remaining reader.old.inner) (R.remaining reader.new.inner) (W.contents writer.old.inner) (W.contents writer.new.inner) (E.contents errors.old.inner) (E.contents errors.new.inner) writer.new.failed errors.new.failed (IsOfPlan N.table (R.remaining reader.old.inner) (R.remaining reader.new.inner)) result }
+    ensures acts { Acts (map (λ word. word.now) words.now) (reader.new ≡ reader.old) (writer.new ≡ writer.old) (errors.new ≡ errors.old) ((reader.new.failed ≡ true) ⊎ (reader.new.reads ≡ u64.MAX)) (R.remaining reader.old.inner) (R.remaining reader.new.inner) (W.contents writer.old.inner) (W.contents writer.new.inner) (E.contents errors.old.inner) (E.contents errors.new.inner) writer.new.failed errors.new.failed (λ deadline. IsOfPlan N.table deadline (R.remaining reader.old.inner) (R.remaining reader.new.inner)) result }
 {
     match crew.threads() {
-        Ok(threads) => act::<N, OsThreads<N, JobWork<Due, N, OfferJob>>, T, R, W, E>(
+        Ok(threads) => act::<N, OsThreads<N, JobWork<Due, N, LateJob<T>>>, T, R, W, E>(
             rt, alloc, seed, threads, words, reader, writer, errors,
         ),
         Err(_) => act_alone::<N, T, R, W, E>(rt, alloc, seed, words, reader, writer, errors),

@@ -3,7 +3,8 @@ use Rattle.std.proofs.Common.{◌≡◌, ◌∙◌, ℕ, ap, refl, subst, List, 
 use Rattle.std.specs.Io.KnownBytes.{Appends}
 use Rattle.scope_rules.specs.Replies.{Realm}
 use Rattle.scope_rules.specs.declared.types.capacity.Limits.{Limits}
-use Rattle.scope_script.specs.Running.{RunsPartly, RunsToEnd}
+use Rattle.scope_script.specs.Running.{RunsPartly, RunsTallied}
+use Rattle.scope_script.specs.declared.session.tally.Tally.{Tally}
 use Rattle.scope_script.specs.declared.session.run.Mode.TheVariants.{Quiet, Replies}
 use Rattle.tree_dump.specs.Tree.{dump_text}
 use Rattle.script_jobs.specs.Jobs.{Dumped, ReadSome, Replayed}
@@ -13,22 +14,29 @@ no_part [] rest e = refl
 no_part (b ∷ part) rest e = absurd cc
 
 module _ (limits : Limits) (unread unread_new written written_new : Option (List ℕ)) where
-  pub replayed : (realm : Realm) → RunsToEnd unread unread_new written written_new Replies limits realm → Replayed unread unread_new written written_new limits
-  replayed realm run = record { script = run.script; read = run.read; all = run.all; wrote = run.replied }
+  pub replayed : (realm : Realm) (tally : Tally) → RunsTallied unread unread_new written written_new Replies limits realm tally → Replayed unread unread_new written written_new limits tally
+  replayed realm tally run = record {
+    script = run.ends.script;
+    read = run.ends.read;
+    all = run.ends.all;
+    wrote = run.ends.replied;
+    counted = run.counted;
+  }
 
   -- ---- a run that writes nothing
 
-  pub dumped : (realm : Realm) (text : List ℕ) → RunsToEnd unread unread_new written written_new Quiet limits realm → text ≡ dump_text realm.history ++ 10 ∷ []
-      → Dumped unread unread_new limits text
-  dumped realm text run is = record {
-    script = run.script;
-    read = run.read;
-    all = run.all;
-    is = is ∙ ap (λ (r : Realm). dump_text r.history ++ 10 ∷ []) run.left;
+  pub dumped : (realm : Realm) (tally : Tally) (text : List ℕ) (counted : Tally) → RunsTallied unread unread_new written written_new Quiet limits realm tally → (text ≡ dump_text realm.history ++ 10 ∷ []) × (counted ≡ tally)
+      → Dumped unread unread_new limits text counted
+  dumped realm tally text counted run is = record {
+    script = run.ends.script;
+    read = run.ends.read;
+    all = run.ends.all;
+    is = is.0 ∙ ap (λ (r : Realm). dump_text r.history ++ 10 ∷ []) run.ends.left;
+    counted = is.1 ∙ run.counted;
   }
 
-  pub read_all : (realm : Realm) → RunsToEnd unread unread_new written written_new Quiet limits realm → ReadSome unread unread_new
-  read_all realm run = record { bytes = run.script; read = run.read }
+  pub read_all : (realm : Realm) (tally : Tally) → RunsTallied unread unread_new written written_new Quiet limits realm tally → ReadSome unread unread_new
+  read_all realm tally run = record { bytes = run.ends.script; read = run.ends.read }
 
   pub read_part : RunsPartly unread unread_new written written_new Quiet limits → ReadSome unread unread_new
   read_part run = record { bytes = run.script; read = run.read }

@@ -5,5 +5,5 @@
 mod dumping;
 mod replaying;
 
-pub use dumping::dumped;
+pub use dumping::{Tree, dumped};
 pub use replaying::replayed;

@@ -1,14 +1,15 @@
 //! The replies to a script.
-ghost use Rattle.std.specs.Prelude.{◌≡◌, ◌⊎◌, false, true, OnOk, OnErr, IsErrOf};
+ghost use Rattle.std.specs.Prelude.{◌≡◌, ◌⊎◌, false, true, IfOk, OnErr, IsErrOf};
 ghost use Rattle.scope_script.specs.Running.{RunsPartly};
 ghost use Rattle.script_jobs.specs.Jobs.{Replayed};
 
 use scope_rules::Limits;
-use scope_script::{Mode, ScriptFault, Watched, run};
+use scope_script::{Mode, ScriptFault, Tally, Watched, run_tallied};
 use std::alloc::Global;
 use std::io::{Read, Write};
 
-/// Writes the replies to the script that is read, in a realm of these limits.
+/// Writes the replies to the script that is read, in a realm of these limits, and answers how many lines were
+/// refused.
 ///
 /// # Errors
 /// `Read` where the reader failed or was given up, `Write` where the writer failed, `Memory` where memory
@@ -18,16 +19,16 @@ pub fn replayed<R: Read + Drop, W: Write + Drop>(
     limits: Limits,
     reader: &mut Watched<R>,
     writer: &mut Watched<W>,
-) -> Result<(), ScriptFault>
+) -> Result<Tally, ScriptFault>
     requires reader { reader.old.failed ≡ false }
     requires writer { writer.old.failed ≡ false }
-    ensures ok { OnOk result (Replayed (R.remaining reader.old.inner) (R.remaining reader.new.inner) (W.contents writer.old.inner) (W.contents writer.new.inner) limits) }
+    ensures ok { IfOk result (Replayed (R.remaining reader.old.inner) (R.remaining reader.new.inner) (W.contents writer.old.inner) (W.contents writer.new.inner) limits) }
     ensures fault { OnErr result (RunsPartly (R.remaining reader.old.inner) (R.remaining reader.new.inner) (W.contents writer.old.inner) (W.contents writer.new.inner) Mode.Replies limits) }
     ensures read { IsErrOf result ScriptFault.Read → (reader.new.failed ≡ true) ⊎ (reader.new.reads ≡ u64.MAX) }
     ensures write { IsErrOf result ScriptFault.Write → writer.new.failed ≡ true }
 {
-    let fault = match run(alloc, reader, writer, limits, Mode::Replies) {
-        Ok(_) => return Ok(()),
+    let fault = match run_tallied(alloc, reader, writer, limits, Mode::Replies) {
+        Ok(ran) => return Ok(ran.tally),
         Err(fault) => fault,
     };
     Err(fault)

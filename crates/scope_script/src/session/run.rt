@@ -4,11 +4,12 @@ ghost use Rattle.std.specs.Io.KnownBytes.{Appends};
 ghost use Rattle.scope_book.specs.Books.{realm_of};
 ghost use Rattle.scope_script.specs.Books.{session_of};
 ghost use Rattle.scope_script.specs.Sessions.{shown};
-ghost use Rattle.scope_script.specs.ByBytes.{after_bytes, bytes_reply, end_reply, the_beginning};
+ghost use Rattle.scope_script.specs.ByBytes.{after_bytes, bytes_reply, end_reply, end_tally, the_beginning};
 ghost use Rattle.scope_script.specs.Streams.{AppendsPart};
-ghost use Rattle.scope_script.specs.Running.{RunsToEnd, RunsPartly};
+ghost use Rattle.scope_script.specs.Running.{RunsToEnd, RunsTallied, RunsPartly};
 
 use crate::session::script::Script;
+use crate::session::tally::Tally;
 use crate::streams::watched::Watched;
 use scope_book::BookState;
 use scope_rules::{AnyEnd, Limits};
@@ -38,6 +39,15 @@ pub enum ScriptFault {
     Memory,
 }
 
+/// What a script left.
+#[derive(Drop)]
+pub struct Ran {
+    /// The book of its run.
+    pub book: BookState<AnyEnd>,
+    /// How many of its lines were refused.
+    pub tally: Tally,
+}
+
 /// Runs a script on a fresh realm of these limits: performs the command of each line, and writes the
 /// line of each reply, or nothing in `Quiet`. Where it answers Ok, all bytes were read and exactly the
 /// reply text of them was written, and the book is that of their run. After a fault, what was written
@@ -62,13 +72,36 @@ pub fn run<R: Read + Drop, W: Write + Drop>(
     ensures write { IsErrOf result ScriptFault.Write → writer.new.failed ≡ true }
     ensures write_failed { writer.new.failed ≡ true → IsErrOf result ScriptFault.Write }
 {
+    match run_tallied(alloc, reader, writer, limits, mode) {
+        Ok(ran) => Ok(ran.book),
+        Err(fault) => Err(fault),
+    }
+}
+
+/// What `run` does, with how many lines were refused.
+pub fn run_tallied<R: Read + Drop, W: Write + Drop>(
+    alloc: Global,
+    reader: &mut Watched<R>,
+    writer: &mut Watched<W>,
+    limits: Limits,
+    mode: Mode,
+) -> Result<Ran, ScriptFault>
+    requires reader { reader.old.failed ≡ false }
+    requires writer { writer.old.failed ≡ false }
+    ensures ok { IfOk result (λ ran. RunsTallied (R.remaining reader.old.inner) (R.remaining reader.new.inner) (W.contents writer.old.inner) (W.contents writer.new.inner) mode limits (realm_of ran.book) ran.tally) }
+    ensures fault { OnErr result (RunsPartly (R.remaining reader.old.inner) (R.remaining reader.new.inner) (W.contents writer.old.inner) (W.contents writer.new.inner) mode limits) }
+    ensures read { IsErrOf result ScriptFault.Read → (reader.new.failed ≡ true) ⊎ (reader.new.reads ≡ u64.MAX) }
+    ensures read_failed { reader.new.failed ≡ true → IsErrOf result ScriptFault.Read }
+    ensures write { IsErrOf result ScriptFault.Write → writer.new.failed ≡ true }
+    ensures write_failed { writer.new.failed ≡ true → IsErrOf result ScriptFault.Write }
+{
     let mut script = Script::new(alloc, limits);
     let Ok(mut replies) = Vec::with_capacity(alloc, PIECE) else {
         return Err(ScriptFault::Memory);
     };
     let mut piece = [0; PIECE];
     match read_pieces(&mut script, reader, writer, mode, &mut piece, &mut replies) {
-        Ok(()) => Ok(script.into_book()),
+        Ok(()) => Ok(script.into_ran()),
         Err(fault) => Err(fault),
     }
 }
@@ -87,7 +120,7 @@ fn read_pieces<R: Read + Drop, W: Write + Drop>(
     requires empty { replies.old.items ≡ [] }
     requires reader { reader.old.failed ≡ false }
     requires writer { writer.old.failed ≡ false }
-    ensures ok { (L : Limits) → session_of script.old ≡ the_beginning L → OnOk result (RunsToEnd (R.remaining reader.old.inner) (R.remaining reader.new.inner) (W.contents writer.old.inner) (W.contents writer.new.inner) mode L (session_of script.new).realm) }
+    ensures ok { (L : Limits) → session_of script.old ≡ the_beginning L → OnOk result (RunsTallied (R.remaining reader.old.inner) (R.remaining reader.new.inner) (W.contents writer.old.inner) (W.contents writer.new.inner) mode L (session_of script.new).realm (session_of script.new).tally) }
     ensures fault { (L : Limits) → session_of script.old ≡ the_beginning L → OnErr result (RunsPartly (R.remaining reader.old.inner) (R.remaining reader.new.inner) (W.contents writer.old.inner) (W.contents writer.new.inner) mode L) }
     ensures read { IsErrOf result ScriptFault.Read → (reader.new.failed ≡ true) ⊎ (reader.new.reads ≡ u64.MAX) }
     ensures read_failed { reader.new.failed ≡ true → IsErrOf result ScriptFault.Read }
@@ -143,15 +176,17 @@ fn step<W: Write + Drop>(
 
 /// Ends the script, and writes what its end is answered.
 fn finish<W: Write + Drop>(
-    script: &Script,
+    script: &mut Script,
     writer: &mut Watched<W>,
     mode: Mode,
     replies: &mut Vec<u8>,
 ) -> Result<(), ScriptFault>
     requires empty { replies.old.items ≡ [] }
     requires writer { writer.old.failed ≡ false }
-    ensures ok { OnOk result (Appends (W.contents writer.old.inner) (W.contents writer.new.inner) (shown mode (end_reply (session_of script.now)))) }
-    ensures err { OnErr result (AppendsPart (W.contents writer.old.inner) (W.contents writer.new.inner) (shown mode (end_reply (session_of script.now)))) }
+    ensures realm { (session_of script.new).realm ≡ (session_of script.old).realm }
+    ensures tally { (session_of script.new).tally ≡ end_tally (session_of script.old) }
+    ensures ok { OnOk result (Appends (W.contents writer.old.inner) (W.contents writer.new.inner) (shown mode (end_reply (session_of script.old)))) }
+    ensures err { OnErr result (AppendsPart (W.contents writer.old.inner) (W.contents writer.new.inner) (shown mode (end_reply (session_of script.old)))) }
     ensures write { IsErrOf result ScriptFault.Write → writer.new.failed ≡ true }
     ensures write_failed { writer.new.failed ≡ true → IsErrOf result ScriptFault.Write }
     ensures read { IsErrOf result ScriptFault.Read → ⊥ }

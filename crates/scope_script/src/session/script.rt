@@ -2,24 +2,28 @@ ghost use Rattle.std.specs.Prelude.{◌≡◌, ◌++◌, ◌∷◌, [], OnOk, On
 ghost use Rattle.scope_book.specs.Books.{realm_of};
 ghost use Rattle.script_replies.specs.ReplyText.{reply_text};
 ghost use Rattle.scope_script.specs.Sessions.{line_reply, realm_after_line, shown};
-ghost use Rattle.scope_script.specs.ByBytes.{after_bytes, bytes_reply, end_reply, the_beginning};
+ghost use Rattle.scope_script.specs.ByBytes.{after_bytes, bytes_reply, end_reply, end_tally, the_beginning};
+ghost use Rattle.scope_script.specs.Tallies.{tally_after_line};
 ghost use Rattle.scope_script.specs.Books.{session_of};
 ghost use Rattle.scope_script.specs.Streams.{AppendsPart};
 
 use crate::performing::commands::perform;
 use crate::session::begun::BegunLine;
 use crate::session::cutting::first_line;
-use crate::session::run::Mode;
+use crate::session::run::{Mode, Ran};
+use crate::session::tally::Tally;
 use scope_book::BookState;
 use scope_rules::{AnyEnd, Limits, Refusal};
 use script_lines::Line;
 use script_replies::{Reply, append_line};
 use std::alloc::{AllocError, Global};
 
-/// A script under way: the book that its commands are performed on, and the line that is begun.
+/// A script under way: the book that its commands are performed on, how many of its lines were refused, and
+/// the line that is begun.
 #[derive(Drop)]
 pub(crate) struct Script {
     book: BookState<AnyEnd>,
+    tally: Tally,
     begun: BegunLine,
 }
 
@@ -30,6 +34,7 @@ impl Script {
     {
         Script {
             book: BookState::over(alloc, limits, Vec::new(alloc)),
+            tally: Tally::NONE,
             begun: BegunLine::new(),
         }
     }
@@ -59,38 +64,50 @@ impl Script {
     }
 
     /// Answers a line. Where memory is refused, `replies` stays as it is.
-    #[tactic(auto, unfolding(crate::specs::Sessions::line_reply, crate::specs::Sessions::realm_after_line))]
+    #[tactic(auto, unfolding(crate::specs::Sessions::line_reply, crate::specs::Sessions::realm_after_line, crate::specs::Tallies::tally_after_line))]
     fn answer(&mut self, mode: Mode, line: Line, replies: &mut Vec<u8>) -> Result<(), AllocError>
         ensures realm { OnOk result (realm_of self.new.book ≡ realm_after_line (realm_of self.old.book) line) }
+        ensures tally { OnOk result (self.new.tally ≡ tally_after_line self.old.tally (realm_of self.old.book) line) }
         ensures begun { self.new.begun ≡ self.old.begun }
         ensures ok { OnOk result (replies.new.items ≡ replies.old.items ++ shown mode (line_reply (realm_of self.old.book) line)) }
         ensures err { OnErr result (replies.new.items ≡ replies.old.items) }
     {
         match line {
             Line::Silent => Ok(()),
-            Line::BadWord => tell(mode, &Reply::Refused(Refusal::BadWord), replies),
+            Line::BadWord => {
+                self.tally = self.tally.with_bad_word();
+                tell(mode, &Reply::Refused(Refusal::BadWord), replies)
+            }
             Line::Command(command) => {
                 let reply = perform(&mut self.book, command)?;
+                self.tally = self.tally.with_reply(&reply);
                 tell(mode, &reply, replies)
             }
         }
     }
 
-    /// The book, at the end of the script.
-    pub(crate) fn into_book(self) -> BookState<AnyEnd>
-        ensures { realm_of result ≡ (session_of self).realm }
+    /// What the script left, at its end.
+    pub(crate) fn into_ran(self) -> Ran
+        ensures book { realm_of result.book ≡ (session_of self).realm }
+        ensures tally { result.tally ≡ (session_of self).tally }
     {
-        self.book
+        Ran {
+            book: self.book,
+            tally: self.tally,
+        }
     }
 
     /// Answers the end of the script: a line that is begun then is a bad word.
-    pub(crate) fn end(&self, mode: Mode, replies: &mut Vec<u8>) -> Result<(), AllocError>
-        ensures ok { OnOk result (replies.new.items ≡ replies.old.items ++ shown mode (end_reply (session_of self.now))) }
+    pub(crate) fn end(&mut self, mode: Mode, replies: &mut Vec<u8>) -> Result<(), AllocError>
+        ensures realm { realm_of self.new.book ≡ realm_of self.old.book }
+        ensures tally { self.new.tally ≡ end_tally (session_of self.old) }
+        ensures ok { OnOk result (replies.new.items ≡ replies.old.items ++ shown mode (end_reply (session_of self.old))) }
         ensures err { OnErr result (replies.new.items ≡ replies.old.items) }
     {
         if self.begun.is_empty() {
             return Ok(());
         }
+        self.tally = self.tally.with_bad_word();
         tell(mode, &Reply::Refused(Refusal::BadWord), replies)
     }
 }

@@ -1,58 +1,18 @@
-use Rattle.std.proofs.Common.{◌≡◌, ◌∙◌, inl, inr, ap, sym, true≢false, map, Some, is_some}
-use Rattle.std.specs.Prelude.{option_map, unwrap_or}
-use Rattle.clap.proofs.TakesLemmas.{passed_up}
-use Rattle.clap.specs.Faults.{fault_of}
-use Rattle.clap.specs.Words.{App, app_of}
-use Rattle.command_line.specs.Application.{scopectl}
-use Rattle.command_line.specs.CommandLine.{said_with}
-use Rattle.command_line.specs.Settings.{numbers_of}
-use Rattle.command_line.proofs.Answering.{answers_of, refused_of, taken_answers}
-use Rattle.command_line.proofs.Parsed.{is_met, job_is, parsed, said_is, simple}
+use Rattle.std.proofs.Common.{◌≡◌, ◌∙◌, ap, map, refl, sym, false, true≢false, Option, Some, None}
+use Rattle.std.specs.Prelude.{is_some}
+use Rattle.command_line.specs.StrictWord.{strict_place}
+use Rattle.command_line.proofs.HelpWords.{help-not_strict, turned-plain}
 use Rattle.command_line.proofs.lines.line.Goals as goal
 
-pub unreachable-requires : goal.unreachable-requires
-unreachable-requires c =
-    let words = map (λ word. word.now) c.args.words.now in
-    let p = parsed words (app_of c.in_ok-application.application) c.in-Ok.matches c.in_ok-application.ensures c.in-Ok.ensures.kinds (λ s. (c.in-Ok.ensures.matches s).1) in
-    true≢false (sym (is_met words c.in-Ok.matches p) ∙ sym (ap is_some c.in_default.ensures.name))
+none_is : {A : Type 0} (o : Option A) → is_some o ≡ false → o ≡ None
+none_is None is = refl
+none_is (Some x) is = absurd (true≢false is)
 
-pub unreachable-requires-in_default-named : goal.unreachable-requires-in_default-named
-unreachable-requires-in_default-named c =
-    let words = map (λ word. word.now) c.args.words.now in
-    let p = parsed words (app_of c.in_ok-application.application) c.in-Ok.matches c.in_ok-application.ensures c.in-Ok.ensures.kinds (λ s. (c.in-Ok.ensures.matches s).1) in
-    true≢false (sym (ap is_some (c.in_default-named.ensures ∙ job_is words c.in-Ok.matches p c.in-Some.word.now c.in-Some.ensures.name)))
+pub command-requires-clause-strict : goal.command-requires-clause-strict
+command-requires-clause-strict c =
+    sym (ap is_some (help-not_strict (map (λ word. word.now) c.args.words.now) (sym c.has_help_word.ensures ∙ c.if-has_help_word.true)))
 
-pub returns-in-Err-clause-refused : goal.returns-in-Err-clause-refused
-returns-in-Err-clause-refused c =
-    let app_is : app_of c.in_ok-application.application ≡ scopectl = c.in_ok-application.ensures in
-    refused_of (map (λ word. word.now) c.args.words.now) c.of_parse.result _ _ c.of_parse.ensures (c.in-Err.ensures.kinds (simple _ app_is))
-    (ap (λ (a : App). fault_of a (map (λ word. word.now) c.args.words.now)) app_is)
-
-pub returns-in-Err-clause-answers : goal.returns-in-Err-clause-answers
-returns-in-Err-clause-answers c =
-    let app_is : app_of c.in_ok-application.application ≡ scopectl = c.in_ok-application.ensures in
-    answers_of (map (λ word. word.now) c.args.words.now) c.of_parse.result _ _ c.of_parse.ensures (c.in-Err.ensures.kinds (simple _ app_is))
-    (ap (λ (a : App). fault_of a (map (λ word. word.now) c.args.words.now)) app_is)
-
-pub returns-in_err-limits-clause-refused : goal.returns-in_err-limits-clause-refused
-returns-in_err-limits-clause-refused c =
-    let words = map (λ word. word.now) c.args.words.now in
-    let p = parsed words (app_of c.in_ok-application.application) c.in-Ok.matches c.in_ok-application.ensures c.in-Ok.ensures.kinds (λ s. (c.in-Ok.ensures.matches s).1) in
-    let said = said_is words c.in-Ok.matches p c.in-Some.options.now c.in-Some.ensures.rows in
-    passed_up c.from_residual-in_err-limits.result _ _ c.from_residual-in_err-limits.ensures.1
-    (elim c.in_err-limits.ensures.refused [ inl memory ↦ inl memory | inr none ↦ inr (sym said ∙ ap (option_map (said_with p.got.job)) none) ])
-
-pub returns-in_err-limits-clause-answers : goal.returns-in_err-limits-clause-answers
-returns-in_err-limits-clause-answers c =
-    let words = map (λ word. word.now) c.args.words.now in
-    let p = parsed words (app_of c.in_ok-application.application) c.in-Ok.matches c.in_ok-application.ensures c.in-Ok.ensures.kinds (λ s. (c.in-Ok.ensures.matches s).1) in
-    passed_up c.from_residual-in_err-limits.result _ _ c.from_residual-in_err-limits.ensures.1
-    (taken_answers words _ c.in_err-limits.ensures.told p.clear)
-
-pub returns-clause-said : goal.returns-clause-said
-returns-clause-said c =
-    let words = map (λ word. word.now) c.args.words.now in
-    let p = parsed words (app_of c.in_ok-application.application) c.in-Ok.matches c.in_ok-application.ensures c.in-Ok.ensures.kinds (λ s. (c.in-Ok.ensures.matches s).1) in
-    let said = said_is words c.in-Ok.matches p c.in-Some.options.now c.in-Some.ensures.rows in
-    let same = ap (λ o. unwrap_or o c.in-Some-named.job) (c.in-Some-named.ensures ∙ job_is words c.in-Ok.matches p c.in-Some.word.now c.in-Some.ensures.name) in
-    sym said ∙ ap (option_map (said_with p.got.job)) c.in_ok-limits.ensures.said ∙ ap (λ j. Some (said_with j (numbers_of c.in_ok-limits.limits))) (sym same)
+pub command-requires-in-None-clause-read : goal.command-requires-in-None-clause-read
+command-requires-in-None-clause-read c =
+    let none = none_is (strict_place (map (λ word. word.now) c.args.words.now)) (sym c.in_ok-read-2.ensures.found ∙ ap is_some c.in-None.is) in
+    sym (turned-plain (map (λ word. word.now) c.args.words.now) (sym c.has_help_word.ensures ∙ c.if-has_help_word.false) none)

@@ -1,20 +1,20 @@
-use Rattle.std.proofs.Common.{inl, inr, refl, subst}
+use Rattle.std.proofs.Common.{◌≡◌, ◌≢◌, ◌≤◌, arith, inl, inr, refl, subst, ℕ}
 use Rattle.command_line.specs.Faults.{Answers}
 use Rattle.scopectl.specs.declared.fault.ProgramFault.TheVariants.{Write}
-use Rattle.scopectl.proofs.Jobs.{did, did_part, names_weaker}
+use Rattle.scopectl.proofs.Jobs.{did, did_part, names_weaker, quote_whole, well_ended}
 use Rattle.scopectl.proofs.act.act.Goals as goal
 
 pub returns-in-Replay-clause-done : goal.returns-in-Replay-clause-done
-returns-in-Replay-clause-done g c = λ e. inr (did _ c.in-Ok.command _ c.in-Ok.ensures.said c.in-Replay.is _ _ _ _ (c.replay.ensures.done e))
+returns-in-Replay-clause-done g c = λ e f. inr (did _ c.in-Ok.command _ c.in-Ok.ensures.said c.in-Replay.is _ _ _ _ _ _ _ _ _ (c.replay.ensures.done _ e))
 
 pub returns-in-Replay-clause-fault : goal.returns-in-Replay-clause-fault
-returns-in-Replay-clause-fault g c = λ e. inr (inr (did_part _ c.in-Ok.command _ c.in-Ok.ensures.said c.in-Replay.is _ _ _ _ _ (c.replay.ensures.fault e)))
+returns-in-Replay-clause-fault g c = λ e. inr (inr (did_part _ c.in-Ok.command _ c.in-Ok.ensures.said c.in-Replay.is _ _ _ _ _ (c.replay.ensures.fault _ e)))
 
 pub returns-in-Dump-clause-done : goal.returns-in-Dump-clause-done
-returns-in-Dump-clause-done g c = λ e. inr (did _ c.in-Ok.command _ c.in-Ok.ensures.said c.in-Dump.is _ _ _ _ (c.dump.ensures.done e))
+returns-in-Dump-clause-done g c = λ e f. inr (did _ c.in-Ok.command _ c.in-Ok.ensures.said c.in-Dump.is _ _ _ _ _ _ _ _ _ (c.dump.ensures.done _ e))
 
 pub returns-in-Dump-clause-fault : goal.returns-in-Dump-clause-fault
-returns-in-Dump-clause-fault g c = λ e. inr (inr (did_part _ c.in-Ok.command _ c.in-Ok.ensures.said c.in-Dump.is _ _ _ _ _ (c.dump.ensures.fault e)))
+returns-in-Dump-clause-fault g c = λ e. inr (inr (did_part _ c.in-Ok.command _ c.in-Ok.ensures.said c.in-Dump.is _ _ _ _ _ (c.dump.ensures.fault _ e)))
 
 pub returns-in-Replay-clause-named : goal.returns-in-Replay-clause-named
 returns-in-Replay-clause-named g c = λ e. names_weaker _ _ _ _ _ _ _ (λ f none. absurd none) (c.replay.ensures.named e)
@@ -23,24 +23,27 @@ pub returns-in-Dump-clause-named : goal.returns-in-Dump-clause-named
 returns-in-Dump-clause-named g c = λ e. names_weaker _ _ _ _ _ _ _ (λ f none. absurd none) (c.dump.ensures.named e)
 
 pub returns-in-Ok-clause-done : goal.returns-in-Ok-clause-done
-returns-in-Ok-clause-done g c = λ e. inr (did _ c.in-Ok.command _ c.in-Ok.ensures.said c.in-Quote.is _ _ _ _ (c.quote.ensures.done _ e))
+returns-in-Ok-clause-done g c =
+    λ e f. (let none = well_ended _ c.quote.ensures.status e in inr (did _ c.in-Ok.command _ c.in-Ok.ensures.said c.in-Quote.is _ _ _ _ _ _ _ _ _ (quote_whole _ _ _ _ _ _ _ _ _ _ _ _ (c.quote.ensures.done _ none) (c.quote.ensures.silent none) none)))
 
 pub returns-in-Ok-clause-fault : goal.returns-in-Ok-clause-fault
 returns-in-Ok-clause-fault g c = λ e. inr (inr (did_part _ c.in-Ok.command _ c.in-Ok.ensures.said c.in-Quote.is _ _ _ _ _ (c.quote.ensures.fault _ e)))
 
 pub returns-in-Ok-clause-named : goal.returns-in-Ok-clause-named
 returns-in-Ok-clause-named g c =
-    λ e. names_weaker _ _ _ _ _ _ _ (λ f it. (record { command = c.in-Ok.command; said = c.in-Ok.ensures.said; job = c.in-Quote.is }, it)) (c.quote.ensures.named e)
+    λ e. names_weaker _ _ _ _ _ _ _ (λ f it. record { command = c.in-Ok.command; said = c.in-Ok.ensures.said; job = c.in-Quote.is; holds = it }) (c.quote.ensures.named e)
 
 pub returns-in-Err-Help-clause-done : goal.returns-in-Err-Help-clause-done
-returns-in-Err-Help-clause-done g c = λ e. inl (
+returns-in-Err-Help-clause-done g c = λ e f. (let none = well_ended _ c.tell.ensures.status e in inl (
+  none,
   refl,
+  c.tell.ensures.silent none,
   record {
     text = _;
     asked = inl (subst (Answers _) c.in-Err-Help.field-0-is c.in-Err-Help.ensures.answers, c.help_of.ensures);
-    wrote = c.tell.ensures.done e;
+    wrote = c.tell.ensures.done none;
   },
-)
+))
 
 pub returns-in-Err-Help-clause-fault : goal.returns-in-Err-Help-clause-fault
 returns-in-Err-Help-clause-fault g c = λ e. inr (inl (

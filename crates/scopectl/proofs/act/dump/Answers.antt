@@ -1,26 +1,24 @@
 use Rattle.std.proofs.Common.{◌≡◌, ◌∙◌, ◌⊎◌, true, sym, ap, subst, Err}
-use Rattle.std.specs.Io.KnownBytes.{Appends}
-use Rattle.scope_script.specs.Streams.{AppendsPart}
 use Rattle.scopectl.specs.Naming.{CameFrom}
 use Rattle.scopectl.specs.declared.fault.ProgramFault.{ProgramFault}
 use Rattle.scopectl.specs.declared.fault.ProgramFault.TheVariants.{Write}
-use Rattle.scopectl.proofs.Jobs.{came_of, dump_stopped, dump_told_part, made, told}
+use Rattle.scopectl.proofs.Jobs.{came_of, dump_stopped, dump_told_part, dump_whole, made}
 use Rattle.scopectl.proofs.act.dump.Goals as goal
 
 pub returns-in-Ok-clause-done : goal.returns-in-Ok-clause-done
 returns-in-Ok-clause-done g c =
-    λ e. told _ _ _ _ _ _ _ _ (made _ _ _ _ c.in-Ok.ensures.ok) c.dumped.ensures.unwritten (subst (Appends _ _) c.deref.ensures (c.tell.ensures.done e))
+    λ deadline e. dump_whole _ deadline _ _ _ _ _ _ _ _ _ _ _ (c.show.ensures.noted e) (c.show.ensures.told e) _ _ c.in-Ok.ensures.ok c.dumped.ensures.unwritten (c.show.ensures.done e)
 
 pub returns-in-Ok-clause-fault : goal.returns-in-Ok-clause-fault
 returns-in-Ok-clause-fault g c =
-    λ e. dump_told_part _ _ _ _ _ _ _ _ (made _ _ _ _ c.in-Ok.ensures.ok) c.dumped.ensures.unwritten (subst (AppendsPart _ _) c.deref.ensures (c.tell.ensures.fault e)) (c.tell.ensures.failed e)
+    λ deadline e. dump_told_part _ deadline _ _ _ _ _ _ _ (made _ deadline _ _ _ _ c.in-Ok.ensures.ok) c.dumped.ensures.unwritten (c.show.ensures.fault e) (c.show.ensures.failed e)
 
 pub returns-in-Err-clause-fault : goal.returns-in-Err-clause-fault
-returns-in-Err-clause-fault g c = λ e. dump_stopped _ _ _ _ _ _ c.in-Err.ensures.part c.dumped.ensures.unwritten
+returns-in-Err-clause-fault g c = λ deadline e. dump_stopped _ deadline _ _ _ _ _ c.in-Err.ensures.part c.dumped.ensures.unwritten
 
 pub returns-in-Ok-clause-named : goal.returns-in-Ok-clause-named
 returns-in-Ok-clause-named g c =
-    λ e. record { fault = Write; came = c.tell.ensures.failed e; line = c.tell.ensures.named e }
+    λ e. record { fault = Write; came = c.show.ensures.failed e; line = c.show.ensures.named e }
 
 pub returns-in-Err-clause-named : goal.returns-in-Err-clause-named
 returns-in-Err-clause-named g c = λ e. record {

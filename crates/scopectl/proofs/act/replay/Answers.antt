@@ -1,14 +1,14 @@
 use Rattle.std.proofs.Common.{◌≡◌, ◌∙◌, ◌⊎◌, true, sym, ap, subst, Err}
 use Rattle.scopectl.specs.Naming.{CameFrom}
 use Rattle.scopectl.specs.declared.fault.ProgramFault.{ProgramFault}
-use Rattle.scopectl.proofs.Jobs.{came_of, did_replay, replayed_part}
+use Rattle.scopectl.proofs.Jobs.{came_of, replay_whole, replayed_part}
 use Rattle.scopectl.proofs.act.replay.Goals as goal
 
 pub returns-in-Ok-clause-done : goal.returns-in-Ok-clause-done
-returns-in-Ok-clause-done g c = λ e. did_replay _ _ _ _ _ c.in-Ok.ensures.ok
+returns-in-Ok-clause-done g c = λ deadline e. replay_whole _ deadline _ _ _ _ _ _ _ _ _ _ _ c.note.ensures.noted c.note.ensures.status c.in-Ok.ensures.ok
 
 pub returns-clause-fault : goal.returns-clause-fault
-returns-clause-fault g c = λ e. replayed_part _ _ _ _ _ _ c.in-Err.ensures.fault
+returns-clause-fault g c = λ deadline e. replayed_part _ deadline _ _ _ _ _ c.in-Err.ensures.fault
 
 pub returns-clause-named : goal.returns-clause-named
 returns-clause-named g c = λ e. record {

@@ -10,8 +10,8 @@ returns-in_default-new g c = record { acts = acts_refused _ _ _ _ _ _ _ _ _ _ _ 
 
 pub returns-then-needs_threads : goal.returns-then-needs_threads
 returns-then-needs_threads g c =
-    record { acts = acts_as _ _ _ _ _ _ _ _ _ _ _ _ _ _ _ _ _ (ap (map (λ word. word.now)) c.deref-then-needs_threads.ensures.value ∙ c.in-Ok.ensures) (λ f it. (_, it)) c.act_with_crew.ensures.acts }
+    record { acts = acts_as _ _ _ _ _ _ _ _ _ _ _ _ _ _ _ _ _ (ap (map (λ word. word.now)) c.deref-then-needs_threads.ensures.value ∙ c.in-Ok.ensures) (λ d f it. (_, it)) c.act_with_crew.ensures.acts }
 
 pub returns : goal.returns
 returns g c =
-    record { acts = acts_as _ _ _ _ _ _ _ _ _ _ _ _ _ _ _ _ _ (ap (map (λ word. word.now)) c.deref-else-needs_threads.ensures.value ∙ c.in-Ok.ensures) (λ f it. (_, it)) c.act_alone.ensures.acts }
+    record { acts = acts_as _ _ _ _ _ _ _ _ _ _ _ _ _ _ _ _ _ (ap (map (λ word. word.now)) c.deref-else-needs_threads.ensures.value ∙ c.in-Ok.ensures) (λ d f it. (_, it)) c.act_alone.ensures.acts }

@@ -5,7 +5,9 @@ use Rattle.script_jobs.proofs.dumping.dumped.Goals as goal
 
 pub returns-in-Ok-clause-ok : goal.returns-in-Ok-clause-ok
 returns-in-Ok-clause-ok g c =
-    IfOk-weaker c.dump_of_book.result _ _ (λ text is. dumped _ _ _ _ _ (realm_of c.in-Ok.book) _ c.in-Ok.ensures.ok is) c.dump_of_book.ensures.ok
+    IfOk-weaker c.tree_of_run.result _ _
+    (λ tree is. dumped _ _ _ _ _ (realm_of c.in-Ok.ran.book) _ _ tree.tally c.in-Ok.ensures.ok is)
+    c.tree_of_run.ensures.ok
 
 pub returns-in-Err-clause-part : goal.returns-in-Err-clause-part
 returns-in-Err-clause-part g c = read_part _ _ _ _ _ c.in-Err.ensures.fault

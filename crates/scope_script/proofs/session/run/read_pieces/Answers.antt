@@ -1,7 +1,7 @@
 use Rattle.std.proofs.Common.{rules, refl}
 use Rattle.std.proofs.KnownBytes.{Keeps-refl}
 use Rattle.scope_script.specs.Books.{session_of}
-use Rattle.scope_script.proofs.Progress.{begins_run, goes_on, ends_run, stops_reading, stops_ending, stops_within, reads_none}
+use Rattle.scope_script.proofs.Progress.{begins_run, goes_on, ends_tallied, stops_reading, stops_ending, stops_within, reads_none}
 use Rattle.scope_script.proofs.session.run.read_pieces.Goals as goal
 
 pub reading-init : goal.reading-init
@@ -19,11 +19,12 @@ returns-in_default-clause-fault g c =
 
 pub returns-in-Ok-finish-clause-ok : goal.returns-in-Ok-finish-clause-ok
 returns-in-Ok-finish-clause-ok g c =
-    λ L is. ends_run _ _ _ _ _ c.args.mode L (session_of c.reading.script) _
+    λ L is. ends_tallied _ _ _ _ _ c.args.mode L (session_of c.reading.script) _ _
     (reads_none _ _ _ _ _ c.args.mode L _ _ c.in-Ok.count c.if-count-eq0.true (c.reading.invariant.run L is) c.in-Ok.ensures.bytes)
     (c.in-Ok.ensures.end c.if-count-eq0.true)
     c.in-Ok-finish.ensures.ok
-    refl
+    c.finish.ensures.realm
+    c.finish.ensures.tally
 
 pub returns-in-Err-clause-fault : goal.returns-in-Err-clause-fault
 returns-in-Err-clause-fault g c =

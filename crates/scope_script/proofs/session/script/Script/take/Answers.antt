@@ -9,7 +9,7 @@ loop-line-init g c = takes_none c.args.mode (session_of c.args.self.now) c.args.
 pub loop-line-preserved : goal.loop-line-preserved
 loop-line-preserved g c =
     takes_line c.args.mode _ (session_of c.loop-line.self) (session_of c.answer.new.self) _ c.loop-line.rest.now c.in-Some.line.now c.in-Some.others.now _ c.loop-line.replies.items _ c.end_with-said.result
-    c.loop-line.invariant c.in-Some.ensures c.end_with-said.ensures.said c.in-Ok.ensures.realm (c.in-Ok.ensures.begun ∙ c.end_with-said.ensures.next) c.in-Ok.ensures.ok
+    c.loop-line.invariant c.in-Some.ensures c.end_with-said.ensures.said c.in-Ok.ensures.realm c.in-Ok.ensures.tally (c.in-Ok.ensures.begun ∙ c.end_with-said.ensures.next) c.in-Ok.ensures.ok
 
 pub returns-in-Err-clause-err : goal.returns-in-Err-clause-err
 returns-in-Err-clause-err g c =
@@ -17,7 +17,7 @@ returns-in-Err-clause-err g c =
 
 pub returns-clause-script : goal.returns-clause-script
 returns-clause-script g c =
-    leaves_rest c.args.mode _ (session_of c.loop-line.self) _ _ c.loop-line.rest.now _ _ c.loop-line.invariant c.in_default.ensures refl c.extend.ensures
+    leaves_rest c.args.mode _ (session_of c.loop-line.self) _ _ c.loop-line.rest.now _ _ c.loop-line.invariant c.in_default.ensures refl refl c.extend.ensures
 
 pub returns-clause-ok : goal.returns-clause-ok
 returns-clause-ok g c =

@@ -1,0 +1,20 @@
+use Rattle.std.proofs.lemmas.Result.{IfErr-weaker, IfOk-weaker}
+use Rattle.scopectl.proofs.Quoted.{of_line, of_plan, on_err}
+use Rattle.scopectl.proofs.quoting.quoted.Goals as goal
+
+pub returns-in-Ok-clause-ok : goal.returns-in-Ok-clause-ok
+returns-in-Ok-clause-ok g c =
+    let read = c.in-Ok.ensures.plan in
+    IfOk-weaker c.answered.result _ _ (λ text says. record { bytes = read.bytes; whole = read.whole; makes = record { plan = c.in-Ok.plan; say_plan = read.say_plan; says = says } }) c.answered.ensures.ok
+
+pub returns-in-Ok-clause-part : goal.returns-in-Ok-clause-part
+returns-in-Ok-clause-part g c =
+    let read = c.in-Ok.ensures.plan in
+    on_err c.answered.result (record { bytes = read.bytes; read = read.whole.read })
+
+pub returns-in-Ok-clause-came : goal.returns-in-Ok-clause-came
+returns-in-Ok-clause-came g c =
+    IfErr-weaker c.answered.result _ _ (λ fault it. of_plan g.N.RealmName.table _ c.in-Ok.plan _ _ fault _ c.in-Ok.ensures.plan it) c.answered.ensures.fault
+
+pub returns-in-Err-clause-came : goal.returns-in-Err-clause-came
+returns-in-Err-clause-came g c = of_line g.N.RealmName.table _ _ _ c.in-Err.fault _ c.in-Err.ensures.came

@@ -1,8 +1,0 @@
-use Rattle.std.proofs.KnownBytes.{Consumes-trans}
-use Rattle.scopectl.proofs.quoting.read_all.Goals as goal
-
-pub returns-then-is_err-clause-part : goal.returns-then-is_err-clause-part
-returns-then-is_err-clause-part g c = record {
-  bytes = _;
-  read = Consumes-trans _ _ _ _ _ c.reading.invariant.read c.in-Ok.ensures.bytes;
-}

@@ -1,0 +1,14 @@
+-- What was read so far was taken.
+use Rattle.std.proofs.Common.{ℕ, ◌-◌, ◌<◌, List, length}
+use Rattle.std.specs.Io.KnownBytes.{Consumes}
+use Rattle.quote_plan.specs.Passing.{HasTaken}
+use Rattle.scopectl.proofs.quoting.read_from.Given as goal
+
+abbrev pub decreases-reading : goal.decreases-reading
+decreases-reading g l = 18446744073709551615 - l.reader.reads
+
+abbrev pub invariant-reading : goal.invariant-reading
+invariant-reading g l = record {
+  so_far : (bytes : List ℕ) × Consumes (g.R.Read.remaining l.fn.reader.inner) (g.R.Read.remaining l.reader.inner) bytes × HasTaken l.plan bytes;
+  room : 0 < length l.piece;
+}
