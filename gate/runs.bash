@@ -43,13 +43,13 @@ take_time() {
     }' "$room/times")
 }
 
-# test_growth PROGRAM: the scenarios of the built growth, where a C compiler is at hand, as the toolchain's own linking
-# wants one.
+# test_growth PROGRAM [TESTS]: the scenarios of the built growth, with the built tests of part_tests, where a C compiler
+# is at hand, as the toolchain's own linking wants one.
 test_growth() {
     if ! command -v cc >/dev/null; then
         echo "test: no C compiler is at hand, so no call of the library is refused memory" >&2
     else
-        crates/growth/test-program "$1" || complain "a call that is refused memory is not as it should be"
+        crates/growth/test-program "$@" || complain "a call that is refused memory is not as it should be"
     fi
 }
 
