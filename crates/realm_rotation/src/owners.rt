@@ -19,7 +19,7 @@ pub(crate) struct Owner<'a, J, Q: Drop, T> {
 }
 
 impl<'a, J, Q: Drop, T> Owner<'a, J, Q, T> {
-    /// The owner of this side.
+    /// The owner of this side, which begins so many requests in a turn, and at least one.
     pub(crate) fn new(
         side: Side,
         requests: u32,
@@ -28,7 +28,7 @@ impl<'a, J, Q: Drop, T> Owner<'a, J, Q, T> {
     ) -> Owner<'a, J, Q, T> {
         Owner {
             side,
-            requests,
+            requests: requests.max(1),
             baton,
             turned,
             jobs: PhantomData,

@@ -14,7 +14,7 @@ use std::thread;
 /// How a service goes on without going idle.
 #[derive(Clone, Copy)]
 pub struct Turns {
-    /// How many requests a realm begins before it is the other's turn: at least 1, for with 0 none is ever begun.
+    /// How many requests a realm begins before it is the other's turn; 0 counts as 1.
     /// Where each opens a scope and forks two jobs, a realm has room for some 4,000 between two retirements.
     pub requests: u32,
     /// How many threads of each crew may rest.

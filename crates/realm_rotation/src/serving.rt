@@ -117,7 +117,7 @@ impl<K: Wait + Drop> Turned for Counted<K> {
     }
 }
 
-/// Serves the queue, sixteen requests a turn.
+/// Serves the queue, so many requests a turn.
 fn served<
     A: RealmName + Send + Sync + 'static,
     B: RealmName + Send + Sync + 'static,
@@ -126,39 +126,54 @@ fn served<
     rt: &R,
     alloc: Global,
     seeds: (Seed, Seed),
+    requests: u32,
     queue: Queue,
     counted: &Counted<R>,
 ) -> Result<Queue, Refusal>
     requires first { seeds.0 ≡ A.table }
     requires second { seeds.1 ≡ B.table }
 {
-    let turns = Turns {
-        requests: 16,
-        keep: 8,
-    };
+    let turns = Turns { requests, keep: 8 };
     rotate::<A, B, Work<R>, _, _, R>(rt, alloc, seeds, turns, queue, counted)
 }
 
-#[test]
-fn requests_go_over_two_realms_in_turn(rt: HostRuntime) -> Result<(), Fail> {
-    let name = Name::new(b"request").ok_or("a name")?;
+/// What is left of so many requests, so many a turn, and what was counted.
+fn played<R: CrewRuntime + SystemTime + AllocGlobal>(
+    rt: &R,
+    left: u32,
+    requests: u32,
+) -> Option<(Queue, Count)> {
     let queue = Queue {
-        name,
-        left: 2_000,
+        name: Name::new(b"request")?,
+        left,
         refused: 0,
     };
     let counted = Counted {
-        rt,
+        rt: *rt,
         count: Mutex::new(Count {
             turns: 0,
             ended: 0,
             sum: 0,
         }),
     };
-    let seeds = (Seed::new(rt.alloc())?, Seed::new(rt.alloc())?);
-    let left = served::<Brand, Brand, _>(&rt, rt.alloc(), seeds, queue, &counted)?;
-    let count = *counted.count.lock(&rt);
-    assert!(rt; left.left == 0 && left.refused == 0);
+    let seeds = (Seed::new(rt.alloc()).ok()?, Seed::new(rt.alloc()).ok()?);
+    let queue = served::<Brand, Brand, _>(rt, rt.alloc(), seeds, requests, queue, &counted).ok()?;
+    let count = *counted.count.lock(rt);
+    Some((queue, count))
+}
+
+#[test]
+fn requests_go_over_two_realms_in_turn(rt: HostRuntime) -> Result<(), Fail> {
+    let (queue, count) = played(&rt, 2_000, 16).ok_or("a realm")?;
+    assert!(rt; queue.left == 0 && queue.refused == 0);
     assert!(rt; count.ended == 2_000 && count.sum == 84_000 && count.turns >= 125);
+    Ok(())
+}
+
+#[test]
+fn a_turn_begins_one_request_at_least(rt: HostRuntime) -> Result<(), Fail> {
+    let (queue, count) = played(&rt, 20, 0).ok_or("a realm")?;
+    assert!(rt; queue.left == 0 && queue.refused == 0);
+    assert!(rt; count.ended == 20 && count.sum == 840 && count.turns >= 20);
     Ok(())
 }

@@ -1,5 +1,5 @@
 -- The names are those of the two seeds' tables.
-use Rattle.realm_rotation.proofs.serving.requests_go_over_two_realms_in_turn.Given as goal
+use Rattle.realm_rotation.proofs.serving.played.Given as goal
 
 abbrev pub ghosts-served-A-RealmName : goal.ghosts-served-A-RealmName
 ghosts-served-A-RealmName g a = record { table = a.seeds.0 }
