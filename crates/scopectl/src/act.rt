@@ -50,9 +50,9 @@ pub const LINES_REFUSED: u8 = 3;
 /// refused and the words are strict, and else 0.
 ///
 /// With status 1 one line on `errors` names the fault: `read` or `write` only where that stream failed,
-/// or the reader was given up after 2^64 - 1 reads; a line of the plan, `rejected`, `cancelled` or `lost`
-/// only of a quote whose bytes were all read, and the first of these only of the plan's first bad line;
-/// `strange` never; `memory` and `time` where the system refused them.
+/// or the reader was given up after 2^64 - 1 reads; a line of the plan only where it is the first bad one of all
+/// bytes, or of those that were read and whatever comes after them; `rejected`, `cancelled` or `lost` only of a
+/// quote whose bytes were all read; `strange` never; `memory` and `time` where the system refused them.
 /// Nothing was read or written, or the writer failed at the text that was asked for, or what was written
 /// is a beginning of the replies to what was read. Of a dump or a quote nothing was written, but where all
 /// bytes were read and the writer failed.
