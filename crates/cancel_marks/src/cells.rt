@@ -8,14 +8,23 @@ use once_cell::race::OnceBox;
 use scope_rules::ScopeId;
 use std::alloc::{AllocError, Global};
 use std::marker::Model;
-use std::sync::Arc;
+use std::rt::Clock as SystemTime;
+use std::sync::{Arc, Condvar, MutexGuard, Wait};
+use std::time::Duration;
+
+/// What all holders of a cell share: the cell itself, and what those sleep on who wait for its scope.
+#[derive(Drop)]
+pub(crate) struct Shared {
+    pub(crate) once: OnceBox<Cancellation>,
+    pub(crate) woken: Condvar,
+}
 
 /// The cell of a scope: empty until the scope becomes cancelled, and set once. Any thread may look at
-/// it, and none waits.
+/// it without a wait, and sleep at it until it is woken there.
 #[derive(Drop)]
 pub struct MarkCell {
     pub(crate) scope: ScopeId,
-    pub(crate) once: Arc<OnceBox<Cancellation>, Global>,
+    pub(crate) shared: Arc<Shared, Global>,
 }
 
 impl Model for MarkCell {
@@ -25,7 +34,7 @@ impl Model for MarkCell {
 
     ghost Value = { CellValue };
 
-    ghost view = { λ c. record { name = cell_name (arc_value c.once); scope = c.scope } };
+    ghost view = { λ c. record { name = cell_name (arc_value c.shared).once; scope = c.scope } };
 }
 
 impl MarkCell {
@@ -43,10 +52,10 @@ impl MarkCell {
     pub fn share(&self) -> Result<MarkCell, AllocError>
         ensures { IfOk result (λ cell. cell ≡ self.now) }
     {
-        let once = Arc::try_clone(&self.once)?;
+        let shared = Arc::try_clone(&self.shared)?;
         Ok(MarkCell {
             scope: self.scope,
-            once,
+            shared,
         })
     }
 
@@ -57,7 +66,7 @@ impl MarkCell {
     {
         Seat {
             scope: self.scope,
-            note: self.once.note(),
+            note: self.shared.once.note(),
         }
     }
 
@@ -69,12 +78,35 @@ impl MarkCell {
         ensures cell { seat.new.cell ≡ self.now }
         ensures mark { MatchOption result ((seat.old.known ≡ None) × (seat.new.known ≡ None)) (λ mark. (mark.seat ≡ seat.new) × (mark.scope ≡ self.now.scope) × (seat.new.known ≡ Some (said_by mark)) × Agrees seat.old.known (said_by mark)) }
     {
-        let told = *self.once.get_as(&mut seat.note)?;
+        let told = *self.shared.once.get_as(&mut seat.note)?;
         Some(Mark {
             scope: self.scope,
             cause: told.cause,
             number: told.number,
             seat: seat.again(),
         })
+    }
+
+    /// Sleeps until it is woken here, or for no reason. The lock of the guard is given up meanwhile and
+    /// taken again, so a call under that lock that wakes is not missed. What lies under the lock may be
+    /// other then, and the sleeper looks anew. That it returns is not promised.
+    pub fn sleep<'a, R: Wait, T>(&self, rt: &R, held: MutexGuard<'a, T>) -> MutexGuard<'a, T> {
+        self.shared.woken.wait(rt, held)
+    }
+
+    /// The same, for so long at most.
+    pub fn doze<'a, R: Wait + SystemTime, T>(
+        &self,
+        rt: &R,
+        held: MutexGuard<'a, T>,
+        most: Duration,
+    ) -> MutexGuard<'a, T> {
+        let (held, _) = self.shared.woken.wait_timeout(rt, held, most);
+        held
+    }
+
+    /// Wakes all who sleep here.
+    pub fn wake(&self) {
+        self.shared.woken.notify_all();
     }
 }

@@ -3,19 +3,19 @@ ghost use Rattle.std.specs.Option.{option_or};
 ghost use Rattle.once_cell.specs.Once.{Agrees};
 
 use crate::cancellation::Cancellation;
-use crate::cells::MarkCell;
+use crate::cells::{MarkCell, Shared};
 use crate::marks::Seat;
 use once_cell::race::OnceBox;
 use scope_rules::{Cause, CauseKind, ScopeId};
 use std::alloc::{AllocError, Global};
 use std::marker::Model;
-use std::sync::Arc;
+use std::sync::{Arc, Condvar};
 
 /// What the cell of a scope wants of memory, before the scope has a number.
 #[derive(Drop)]
 pub struct CellRoom {
-    once: Arc<OnceBox<Cancellation>, Global>,
-    share: Arc<OnceBox<Cancellation>, Global>,
+    one: Arc<Shared, Global>,
+    other: Arc<Shared, Global>,
     blank: Box<Cancellation>,
 }
 
@@ -26,18 +26,22 @@ impl Model for CellRoom {
 
     ghost Value = { ℕ };
 
-    ghost view = { λ r. cell_name (arc_value r.once) };
+    ghost view = { λ r. cell_name (arc_value r.one).once };
 
-    ghost invariant = { λ r. cell_name (arc_value r.share) ≡ cell_name (arc_value r.once) };
+    ghost invariant = { λ r. cell_name (arc_value r.other).once ≡ cell_name (arc_value r.one).once };
 }
 
 impl CellRoom {
     /// Room for a new cell. It is refused for memory alone.
     pub fn new(alloc: Global) -> Result<CellRoom, AllocError> {
         let blank = Box::new(alloc, CellRoom::BLANK)?;
-        let once = Arc::new(alloc, OnceBox::new(alloc))?;
-        let share = Arc::try_clone(&once)?;
-        Ok(CellRoom { once, share, blank })
+        let shared = Shared {
+            once: OnceBox::new(alloc),
+            woken: Condvar::new(),
+        };
+        let one = Arc::new(alloc, shared)?;
+        let other = Arc::try_clone(&one)?;
+        Ok(CellRoom { one, other, blank })
     }
 
     // What the box holds until the cell is set with it. Nobody sees it.
@@ -55,8 +59,8 @@ impl CellRoom {
         ensures setter { (result.0.cell.scope ≡ scope) × (result.0.used ≡ None) × (result.0.known ≡ None) }
         ensures cell { result.1 ≡ result.0.cell }
     {
-        let CellRoom { once, share, blank } = self;
-        let cell = MarkCell { scope, once };
+        let CellRoom { one, other, blank } = self;
+        let cell = MarkCell { scope, shared: one };
         let seat = cell.seat();
         let setter = MarkSetter {
             cell,
@@ -64,7 +68,11 @@ impl CellRoom {
             blank: Some(blank),
             used: None,
         };
-        (setter, MarkCell { scope, once: share })
+        let cell = MarkCell {
+            scope,
+            shared: other,
+        };
+        (setter, cell)
     }
 }
 
@@ -100,9 +108,14 @@ impl MarkSetter {
         self.cell.share()
     }
 
-    /// Sets the cell to say that its scope became cancelled, and answers whether it was empty, as it
-    /// is at the first call. A later call changes nothing: what the cell holds, it holds for good.
-    /// It takes no memory.
+    /// Wakes all who sleep at the cell.
+    pub fn wake(&self) {
+        self.cell.wake();
+    }
+
+    /// Sets the cell to say that its scope became cancelled, wakes all who sleep at it, and answers
+    /// whether it was empty, as it is at the first call. A later call changes nothing: what the cell
+    /// holds, it holds for good. It takes no memory.
     pub fn set(&mut self, cause: Cause, number: usize) -> bool
         ensures used { self.new ≡ record self.old { used = option_or self.old.used (Some (record { cause = cause; number = number })); known = self.new.known } }
         ensures first { IsTrue result → (self.old.known ≡ None) × (self.new.known ≡ self.new.used) }
@@ -113,7 +126,9 @@ impl MarkSetter {
                 let told = Cancellation { cause, number };
                 *blank = told;
                 self.used = Some(told);
-                self.cell.once.set_as(blank, &mut self.seat.note).is_ok()
+                let first = self.cell.shared.once.set_as(blank, &mut self.seat.note);
+                self.cell.wake();
+                first.is_ok()
             }
             None => false,
         }

@@ -154,7 +154,7 @@ fn serve_later<N: RealmName, R: Wait>(rt: &R, realm: &Realm<AnyEnd, N>, ticket: 
     finish(rt, realm, ticket, token, Ok(Value::Num(1))).is_some()
 }
 
-/// A close that has begun waits for the scope's task, and ends when that has ended.
+/// A close that has begun waits for the task of a scope inside, and ends when that has ended.
 pub fn an_end_wakes_a_close<N: RealmName + Send + Sync, R: Threads + Wait + Abort + Sync>(
     rt: &R,
     realm: &Realm<AnyEnd, N>,
@@ -163,7 +163,8 @@ pub fn an_end_wakes_a_close<N: RealmName + Send + Sync, R: Threads + Wait + Abor
     requires { main.old.table ≡ N.table }
 {
     let scope = open(rt, realm, main, Options::PLAIN)?;
-    let ticket = fork(rt, realm, main, scope)?;
+    let inner = open(rt, realm, main, Options::PLAIN)?;
+    let ticket = fork(rt, realm, main, inner)?;
     let (is_served, closed) = thread::join(
         rt,
         move ||

@@ -8,18 +8,19 @@ ghost use Rattle.realm_core.specs.Calls.{SeesMore, history_seen};
 ghost use Rattle.realm_close.specs.Waiting.{IsOpenOf};
 ghost use Rattle.realm_close.specs.Closes.{IsBegun, Begins, EndsLater, ClosesBare, EndsReported, HoldsBack, ClosesWith, StaysOpen};
 
+use crate::marked::MarkedCore;
 use crate::realm::Realm;
 use realm_close::CloseReport;
 use realm_core::RealmName;
 use scope_rules::{Cancelling, Catalog, Refusal, ScopeId, Verdict};
 use share_ledger::{OwnerShare, Ticket};
-use std::sync::Wait;
+use std::sync::{MutexGuard, Wait};
 
 impl<C: Catalog, N: RealmName> Realm<C, N> {
     /// Closes the actor's scope, and all that the actor opened later and has not closed, the latest first
-    /// (JEP 505, `close`), and says how the scope was closed. It begins the close if need be, in a hold of
-    /// its own, and waits until no task of these waits or runs; the ends stand in one hold. It takes no
-    /// memory. Refused where the actor is no running task or main, and for a scope that is unknown
+    /// (JEP 505, `close`), and says how the scope was closed. It begins the close if need be, and waits until
+    /// no task of these waits or runs; the ends stand in one hold, that of the beginning where it need not
+    /// wait. It takes no memory. Refused where the actor is no running task or main, and for a scope that is unknown
     /// (`NoScope`, `Retired`), another's (`NotOwner`) or closed (`Closed`): so never for a scope that the
     /// token shows as its actor's and not closed. That it returns is not promised.
     pub fn close_bare<R: Wait>(
@@ -33,8 +34,9 @@ impl<C: Catalog, N: RealmName> Realm<C, N> {
         ensures answer { ClosesBare token.old token.new scope result }
         ensures sure { IsOpenOf (history_seen token.old) token.old.actor scope → IsOk result }
     {
-        match self.begin_closing(rt, token, scope) {
-            Ok(_) => Ok(self.end_closing(rt, token, scope)),
+        let mut locked = self.room.locked.lock(rt);
+        match locked.begin(token, scope) {
+            Ok(_) => Ok(self.end_held(rt, locked, token, scope)),
             Err(refusal) => Err(refusal),
         }
     }
@@ -81,9 +83,7 @@ impl<C: Catalog, N: RealmName> Realm<C, N> {
         ensures sure { IsOpenOf (history_seen token.old) token.old.actor scope → IsOk result }
     {
         let mut locked = self.room.locked.lock(rt);
-        let answer = locked.begin(token, scope);
-        self.room.changed.notify_all();
-        answer
+        locked.begin(token, scope)
     }
 
     /// Waits until the close that has begun can end, and ends it.
@@ -94,14 +94,32 @@ impl<C: Catalog, N: RealmName> Realm<C, N> {
         ensures ends { (nested : List ℕ) × EndsLater token.old token.new scope nested }
         ensures verdict { result ≡ verdict (history_seen token.new) scope }
     {
-        let mut locked = self.room.locked.lock(rt);
+        let locked = self.room.locked.lock(rt);
+        self.end_held(rt, locked, token, scope)
+    }
+
+    /// The same, where the lock is held.
+    fn end_held<'a, R: Wait>(
+        &'a self,
+        rt: &R,
+        locked: MutexGuard<'a, MarkedCore<C, N>>,
+        token: &mut OwnerShare,
+        scope: ScopeId,
+    ) -> Verdict
+        requires named { token.old.table ≡ N.table }
+        requires begun { IsBegun (history_seen token.old) token.old.actor scope }
+        ensures seen { SeesMore token.old token.new × Fitting C.fitting (history_seen token.new) }
+        ensures ends { (nested : List ℕ) × EndsLater token.old token.new scope nested }
+        ensures verdict { result ≡ verdict (history_seen token.new) scope }
+    {
+        let mut locked = locked;
         for _ in rt.forever() {
             match locked.end_if_settled(token, scope) {
-                Some(verdict) => {
-                    self.room.changed.notify_all();
-                    return verdict;
+                Some(verdict) => return verdict,
+                None => {
+                    let waits_for = locked.unsettled(scope);
+                    locked = self.sleep_at(rt, locked, waits_for);
                 }
-                None => locked = self.room.changed.wait(rt, locked),
             }
         }
         unreachable!()
@@ -126,11 +144,11 @@ impl<C: Catalog, N: RealmName> Realm<C, N> {
         let mut locked = self.room.locked.lock(rt);
         for _ in rt.forever() {
             match locked.report_if_settled(token, scope, tickets) {
-                Some(answer) => {
-                    self.room.changed.notify_all();
-                    return answer;
+                Some(answer) => return answer,
+                None => {
+                    let waits_for = locked.unsettled(scope);
+                    locked = self.sleep_at(rt, locked, waits_for);
                 }
-                None => locked = self.room.changed.wait(rt, locked),
             }
         }
         unreachable!()

@@ -82,9 +82,7 @@ impl<C: Catalog, N: RealmName> Realm<C, N> {
         ensures answer { Records token.old token.new (Event.BeginClose token.old.actor scope) result }
     {
         let mut locked = self.room.locked.lock(rt);
-        let answer = locked.begin_close(token, scope);
-        self.room.changed.notify_all();
-        answer
+        locked.begin_close(token, scope)
     }
 
     /// Cancels the scope and all that it reaches, with any actor's token (Trio, `cancel`). A scope that
@@ -100,9 +98,7 @@ impl<C: Catalog, N: RealmName> Realm<C, N> {
         ensures answer { RecordsOrMemory token.old token.new (Event.Cancel scope) result }
     {
         let mut locked = self.room.locked.lock(rt);
-        let told = locked.perform(token, &Event::Cancel { scope });
-        self.room.changed.notify_all();
-        told_noted(told)
+        told_noted(locked.perform(token, &Event::Cancel { scope }))
     }
 
     /// Sets the deadline of the scope anew, in milliseconds, or takes it away, with any actor's token
@@ -120,8 +116,9 @@ impl<C: Catalog, N: RealmName> Realm<C, N> {
         ensures answer { DoesOrMemory token.old token.new (RealmStep.Asked token.old.actor (Ask.Move scope deadline)) (λ _. tt) result }
     {
         let mut locked = self.room.locked.lock(rt);
+        let before = locked.next_deadline();
         let told = locked.perform(token, &Event::Move { scope, deadline });
-        self.room.changed.notify_all();
+        self.wake_if_nearer(&locked, before);
         told_done(told)
     }
 
@@ -132,9 +129,7 @@ impl<C: Catalog, N: RealmName> Realm<C, N> {
         ensures answer { DoesOrMemory token.old token.new (RealmStep.Asked token.old.actor (Ask.Tick now)) (λ _. tt) result }
     {
         let mut locked = self.room.locked.lock(rt);
-        let told = locked.perform(token, &Event::Tick { now });
-        self.room.changed.notify_all();
-        told_done(told)
+        told_done(locked.perform(token, &Event::Tick { now }))
     }
 
     /// Takes the events out and leaves a base, once main's outermost scope is closed; what is left goes

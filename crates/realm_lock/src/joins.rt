@@ -30,7 +30,7 @@ impl<C: Catalog, N: RealmName> Realm<C, N> {
         let mut locked = self.room.locked.lock(rt);
         for _ in rt.forever() {
             match locked.join(token, scope) {
-                Err(Refusal::NotReady) => locked = self.room.changed.wait(rt, locked),
+                Err(Refusal::NotReady) => locked = self.sleep_at(rt, locked, scope),
                 Err(refusal) => {
                     return Err(refusal);
                 }

@@ -4,6 +4,7 @@
 
 mod closing;
 mod commands;
+mod dozers;
 mod joins;
 pub mod laws;
 mod looks;
@@ -13,6 +14,7 @@ mod opening;
 mod queries;
 mod realm;
 mod setters;
+mod sleeps;
 mod task_calls;
 mod timed;
 mod turns;

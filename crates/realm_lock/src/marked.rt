@@ -22,6 +22,7 @@ ghost use Rattle.realm_lock.specs.Cells.{GivesCell};
 ghost use Rattle.realm_lock.specs.Openings.{scope_alone, refusal_of};
 ghost use Rattle.realm_lock.specs.Waits.{HasCome, Ticks, TickRefused};
 
+use crate::dozers::Dozers;
 use crate::setters::Setters;
 use cancel_marks::MarkCell;
 use join_rules::Joiner;
@@ -31,13 +32,15 @@ use realm_steps::RealmStep;
 use scope_checks::checks::scope_check;
 use scope_checks::{Readings, Told, table};
 use scope_rules::{
-    Base, Cancelling, Catalog, End, Event, Label, Limits, Options, Refusal, ScopeId, Verdict,
+    Base, Cancelling, Catalog, End, Event, Label, Limits, Options, Refusal, ScopeId, TaskId,
+    Verdict,
 };
 use share_ledger::{OwnerShare, Seed, Ticket};
 use std::alloc::Global;
 use std::marker::Model;
 
-/// What lies under a realm's lock: the core, and the setters of its scopes' cells. Between calls there is
+/// What lies under a realm's lock: the core, the setters of its scopes' cells, and who sleeps by a clock.
+/// Between calls there is
 /// one setter for each scope since the last retirement, and just those of the cancelled scopes were used,
 /// each for the cause of its scope, with the place at which that became cancelled.
 #[derive(Drop)]
@@ -45,6 +48,7 @@ pub(crate) struct MarkedCore<C: Catalog, N: RealmName> {
     alloc: Global,
     core: RealmCore<C, N>,
     setters: Setters,
+    dozers: Dozers,
 }
 
 impl<C: Catalog, N: RealmName> Model for MarkedCore<C, N> {
@@ -72,6 +76,7 @@ impl<C: Catalog, N: RealmName> MarkedCore<C, N> {
             alloc,
             core,
             setters,
+            dozers: Dozers::new(alloc),
         };
         (marked, token)
     }
@@ -222,6 +227,7 @@ impl<C: Catalog, N: RealmName> MarkedCore<C, N> {
         let _legal = self.core.limits();
         self.core.reject(ticket);
         self.setters.catch_up(&mut self.core);
+        self.wake_if_settled(ticket.scope());
     }
 
     /// The same, and lets the token see it.
@@ -237,6 +243,7 @@ impl<C: Catalog, N: RealmName> MarkedCore<C, N> {
         self.core.reject(ticket);
         self.core.look(token);
         self.setters.catch_up(&mut self.core);
+        self.wake_if_settled(ticket.scope());
     }
 
     /// Starts the ticket's task, and gives its token.
@@ -270,7 +277,49 @@ impl<C: Catalog, N: RealmName> MarkedCore<C, N> {
         let _legal = self.core.limits();
         let result = self.core.finish(ticket, token, end);
         self.setters.catch_up(&mut self.core);
+        self.wake_if_settled(ticket.scope());
         result
+    }
+}
+
+/// Who sleeps, and whom an event wakes. A mark wakes when it is set.
+impl<C: Catalog, N: RealmName> MarkedCore<C, N> {
+    /// Wakes who waits for the scope, if no task of it waits or runs any longer.
+    fn wake_if_settled(&self, scope: ScopeId) {
+        let realm = self.core.realm();
+        if realm.settled(scope) {
+            self.setters.wake(realm, scope);
+        }
+    }
+
+    /// A scope of which a task waits or runs, of those that the close of the scope covers; the scope
+    /// itself where there is none.
+    pub(crate) fn unsettled(&self, scope: ScopeId) -> ScopeId {
+        unsettled(self.core.realm(), scope).unwrap_or(scope)
+    }
+
+    /// The deadline that comes next, in milliseconds, if one does.
+    pub(crate) fn next_deadline(&self) -> Option<u64> {
+        self.core.realm().next_deadline()
+    }
+
+    /// Notes that a call sleeps at the cell that waits by a clock.
+    pub(crate) fn note_dozer(&mut self, cell: &MarkCell) -> Option<usize>
+        ensures { self.new ≡ self.old }
+    {
+        self.dozers.enter(cell)
+    }
+
+    /// Forgets the call at the place, which has woken.
+    pub(crate) fn forget_dozer(&mut self, place: usize)
+        ensures { self.new ≡ self.old }
+    {
+        self.dozers.leave(place);
+    }
+
+    /// Wakes who sleeps by a clock.
+    pub(crate) fn wake_dozers(&self) {
+        self.dozers.wake();
     }
 }
 

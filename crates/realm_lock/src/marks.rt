@@ -10,8 +10,8 @@ use std::sync::Wait;
 
 impl<C: Catalog, N: RealmName> Realm<C, N> {
     /// Waits until the cell of a scope of this realm is set, and gives the mark: the same that a seat was
-    /// given before. It sleeps on what each call wakes that may cancel a scope, and looks under the lock,
-    /// so no cancel comes between its look and its sleep. That it returns is not promised: where the scope
+    /// given before. It sleeps at the cell, and looks under the lock under which the cell is set, so no
+    /// cancel comes between its look and its sleep. That it returns is not promised: where the scope
     /// is never cancelled it doesn't.
     pub fn wait_marked<R: Wait>(&self, rt: &R, cell: &MarkCell, seat: &mut Seat) -> Mark
         requires { seat.old.cell ≡ cell.now }
@@ -22,7 +22,7 @@ impl<C: Catalog, N: RealmName> Realm<C, N> {
         for _ in rt.forever() {
             match cell.checkpoint(seat) {
                 Some(mark) => return mark,
-                None => locked = self.room.changed.wait(rt, locked),
+                None => locked = cell.sleep(rt, locked),
             }
         }
         unreachable!()

@@ -74,10 +74,9 @@ impl<C: Catalog, N: RealmName> Realm<C, N> {
         ensures cell { MatchResult result (λ opened. opened.1.scope ≡ opened.0) (λ back. back.1 ≡ joiner) }
     {
         let mut locked = self.room.locked.lock(rt);
+        let before = locked.next_deadline();
         let opened = locked.open(token, joiner, options);
-        if options.deadline.is_some() {
-            self.room.changed.notify_all();
-        }
+        self.wake_if_nearer(&locked, before);
         opened
     }
 

@@ -11,13 +11,13 @@ use share_ledger::{OwnerShare, Seed};
 use std::alloc::Global;
 use std::sync::{Arc, Condvar, Mutex};
 
-/// The lock of a realm, and what those sleep on who wait for a join or a close. It is generic in what lies
+/// The lock of a realm, and what those sleep on who wait for a moment alone. It is generic in what lies
 /// under the lock, so that the check shows of any that may go to another thread that this may too; a realm's
 /// own is named where it has methods.
 #[derive(Drop)]
 pub(crate) struct Room<K: Drop> {
     pub(crate) locked: Mutex<K>,
-    pub(crate) changed: Condvar,
+    pub(crate) nearer: Condvar,
 }
 
 /// A realm for threads to share: each has a share of it. Whenever its lock is free, its book is the
@@ -44,7 +44,7 @@ impl<C: Catalog, N: RealmName> Realm<C, N> {
         let (locked, token) = MarkedCore::new(alloc, seed, limits);
         let room = Room {
             locked: Mutex::new(locked),
-            changed: Condvar::new(),
+            nearer: Condvar::new(),
         };
         match Arc::new(alloc, room) {
             Ok(room) => Ok((Realm { room }, token)),

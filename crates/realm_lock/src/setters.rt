@@ -89,6 +89,16 @@ impl Setters {
         self.setters[place].set(cause, number);
     }
 
+    /// Wakes who sleeps at the cell of the scope.
+    pub(crate) fn wake(&self, realm: &KeptRealm, scope: ScopeId) {
+        let before = u64::from(realm.retired_scopes()) + 1;
+        if let Some(place) = u64::from(scope).checked_sub(before) {
+            if let Some(setter) = self.setters.get(place as usize) {
+                setter.wake();
+            }
+        }
+    }
+
     /// The cell of the scope at the place, for one holder more.
     pub(crate) fn cell_at(&self, place: usize) -> Result<MarkCell, AllocError>
         requires { place < length self.now.setters }

@@ -25,7 +25,6 @@ impl<C: Catalog, N: RealmName> Realm<C, N> {
     {
         let mut locked = self.room.locked.lock(rt);
         locked.reject(&mut ticket);
-        self.room.changed.notify_all();
         ticket
     }
 
@@ -39,7 +38,6 @@ impl<C: Catalog, N: RealmName> Realm<C, N> {
     {
         let mut locked = self.room.locked.lock(rt);
         locked.reject_with(token, &mut ticket);
-        self.room.changed.notify_all();
         ticket
     }
 
@@ -73,10 +71,7 @@ impl<C: Catalog, N: RealmName> Realm<C, N> {
     {
         let mut locked = self.room.locked.lock(rt);
         match locked.finish(&mut ticket, token, end) {
-            Ok(()) => {
-                self.room.changed.notify_all();
-                Ok(ticket)
-            }
+            Ok(()) => Ok(ticket),
             Err((refusal, token)) => Err((refusal, ticket, token)),
         }
     }

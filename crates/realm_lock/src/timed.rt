@@ -11,6 +11,7 @@ ghost use Rattle.realm_close.specs.Closes.{ClosesBare, ClosesWith, IsBegun, Stay
 ghost use Rattle.realm_lock.specs.Waits.{ClosesAfter, HasPassed, JoinsBy, StaysUnclosed, Stopped, StopsClosing, Waited, WaitsToClose, shown_in};
 
 use crate::realm::Realm;
+use crate::sleeps::Bed;
 use cancel_marks::{Mark, MarkCell, Seat};
 use named_jobs::Clock;
 use realm_close::CloseReport;
@@ -46,7 +47,8 @@ impl<C: Catalog, N: RealmName> Realm<C, N> {
             let mut locked = self.room.locked.lock(rt);
             match locked.join(token, scope) {
                 Err(Refusal::NotReady) => {
-                    if let Err(refusal) = self.pass_time(rt, locked, token, now, None) {
+                    let bed = Bed::Cell(locked.cell(scope).ok());
+                    if let Err(refusal) = self.pass_time(rt, locked, token, now, None, bed) {
                         return Err(refusal);
                     }
                 }
@@ -149,7 +151,8 @@ impl<C: Catalog, N: RealmName> Realm<C, N> {
             if locked.is_settled(token, scope) {
                 return Ok(());
             }
-            if let Err(refusal) = self.pass_time(rt, locked, token, now, None) {
+            let bed = Bed::Cell(locked.cell(locked.unsettled(scope)).ok());
+            if let Err(refusal) = self.pass_time(rt, locked, token, now, None, bed) {
                 return Err(refusal);
             }
         }
@@ -181,11 +184,14 @@ impl<C: Catalog, N: RealmName> Realm<C, N> {
             let locked = self.room.locked.lock(rt);
             match cell.checkpoint(seat) {
                 Some(mark) => return Ok(Some(mark)),
-                None => match self.pass_time(rt, locked, token, now, until) {
-                    Ok(true) => return Ok(None),
-                    Ok(false) => {}
-                    Err(refusal) => return Err(refusal),
-                },
+                None => {
+                    let bed = Bed::Cell(cell.share().ok());
+                    match self.pass_time(rt, locked, token, now, until, bed) {
+                        Ok(true) => return Ok(None),
+                        Ok(false) => {}
+                        Err(refusal) => return Err(refusal),
+                    }
+                }
             }
         }
         unreachable!()
@@ -208,7 +214,7 @@ impl<C: Catalog, N: RealmName> Realm<C, N> {
         for _ in rt.forever() {
             let now = clock.now();
             let locked = self.room.locked.lock(rt);
-            match self.pass_time(rt, locked, token, now, Some(until)) {
+            match self.pass_time(rt, locked, token, now, Some(until), Bed::Moment) {
                 Ok(true) => return Ok(()),
                 Ok(false) => {}
                 Err(refusal) => return Err(refusal),

@@ -5,18 +5,18 @@ ghost use Rattle.realm_lock.specs.Waits.{Ticks, TickRefused};
 
 use crate::marked::MarkedCore;
 use crate::realm::Realm;
+use crate::sleeps::Bed;
 use realm_core::RealmName;
 use scope_rules::{Catalog, Refusal};
 use share_ledger::OwnerShare;
 use std::rt::Clock as SystemTime;
 use std::sync::{MutexGuard, Wait};
-use std::time::Duration;
 
 /// A turn of a wait by a clock, which has found nothing to end the wait.
 impl<C: Catalog, N: RealmName> Realm<C, N> {
-    /// Passes the time, where the clock has read `now`. If a deadline has come by then it ticks, and wakes
-    /// who waits. Else it sleeps until it is woken, the next deadline comes, or `until`; where `until` has
-    /// come it answers so at once.
+    /// Passes the time, where the clock has read `now`. If a deadline has come by then it ticks. Else it
+    /// sleeps in the bed until it is woken, the next deadline comes, or `until`; where `until` has come it
+    /// answers so at once.
     pub(crate) fn pass_time<R: Wait + SystemTime>(
         &self,
         rt: &R,
@@ -24,6 +24,7 @@ impl<C: Catalog, N: RealmName> Realm<C, N> {
         token: &mut OwnerShare,
         now: u64,
         until: Option<u64>,
+        bed: Bed,
     ) -> Result<bool, Refusal>
         requires named { token.old.table ≡ N.table }
         ensures passed { IfOk result (λ _. Looked token.old token.new ⊎ Ticks token.old token.new now) }
@@ -37,30 +38,12 @@ impl<C: Catalog, N: RealmName> Realm<C, N> {
             Err(refusal) => return Err(refusal),
         };
         match (left, until) {
-            (Some(0), _) => self.room.changed.notify_all(),
+            (Some(0), _) => {}
             (_, Some(until)) if until <= now => return Ok(true),
-            (_, Some(until)) => self.doze(rt, locked, sooner(left, until - now)),
-            (left, None) => self.doze(rt, locked, left),
+            (_, Some(until)) => self.doze(rt, locked, sooner(left, until - now), bed),
+            (left, None) => self.doze(rt, locked, left, bed),
         }
         Ok(false)
-    }
-
-    /// Sleeps until it is woken, or for so many milliseconds.
-    fn doze<R: Wait + SystemTime>(
-        &self,
-        rt: &R,
-        locked: MutexGuard<'_, MarkedCore<C, N>>,
-        millis: Option<u64>,
-    ) {
-        match millis {
-            Some(millis) => {
-                let time = Duration::from_millis(millis);
-                let _woken = self.room.changed.wait_timeout(rt, locked, time);
-            }
-            None => {
-                let _woken = self.room.changed.wait(rt, locked);
-            }
-        }
     }
 }
 

@@ -1,5 +1,5 @@
 use Rattle.realm_lock.proofs.Waiting.{IsClosing}
-use Rattle.realm_lock.proofs.realm.Realm.end_closing.Given as goal
+use Rattle.realm_lock.proofs.realm.Realm.end_held.Given as goal
 
 abbrev pub invariant-loop : goal.invariant-loop
 invariant-loop g l =
