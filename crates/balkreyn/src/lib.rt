@@ -38,4 +38,4 @@ pub use scoped::{Scopes, within};
 pub use services::{Promises, Service, realm_clock, serve_on_crew};
 pub use std::marker::Brand;
 pub use std::sync::Wait;
-pub use thread_crew::{Crew, CrewRuntime, OsThreads, Spawner, Spawns};
+pub use thread_crew::{Crew, CrewRuntime, OsThreads, Recalls, Spawner, Spawns};

@@ -2,6 +2,7 @@
 
 mod boards;
 mod naming;
+mod recalls;
 mod rounds;
 mod rows;
 mod threads;

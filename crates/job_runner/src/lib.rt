@@ -11,6 +11,7 @@ mod contexts;
 mod ending;
 mod forking;
 mod held;
+mod helping;
 mod jobs;
 mod markers;
 mod opening;

@@ -3,7 +3,7 @@ ghost use Rattle.thread_crew.specs.Returns.{Returns};
 
 use crate::offices::Office;
 use crate::orders::{Finished, Order, WayBack};
-use crate::spawning::{Ready, Spawner, Spawns};
+use crate::spawning::{Ready, Recalls, Spawner, Spawns};
 use crate::trays::Tray;
 use scope_rules::{Label, ScopeId, TaskId};
 use share_ledger::{RealmName, Ticket};
@@ -11,7 +11,7 @@ use std::alloc::Global;
 use std::snapshot::Snapshot;
 use std::sync::{Arc, Wait};
 
-/// The threads of a crew, as a spawner of its works. A work never waits behind another: a thread that
+/// The threads of a crew, as a spawner of its works. A work never waits for another to end: a thread that
 /// rests takes it, or one that is made for it.
 #[derive(Drop)]
 pub struct OsThreads<N: RealmName, W: Ready> {
@@ -105,12 +105,25 @@ impl<N: RealmName, W: Ready + Drop> Spawns<N, W> for OsThreads<N, W> {
         let Some((way_back, way)) = two_ends(self.alloc) else {
             return Err((ticket, work));
         };
-        let Some(tray) = self.office.find(rt) else {
-            return Err((ticket, work));
-        };
         let handle = CrewHandle::new(&ticket, way_back);
-        tray.put(rt, Order::new(work, ticket, way));
-        Ok(handle)
+        match self.office.give(rt, Order::new(work, ticket, way)) {
+            Ok(()) => Ok(handle),
+            Err(order) => Err(order.into_parts()),
+        }
+    }
+}
+
+impl<N: RealmName, W: Ready + Drop> Recalls<N, W> for OsThreads<N, W> {
+    fn share(&self) -> Option<OsThreads<N, W>> {
+        let office = Arc::try_clone(&self.office).ok()?;
+        Some(OsThreads {
+            alloc: self.alloc,
+            office,
+        })
+    }
+
+    fn recall<R: Wait>(&self, rt: &R, scope: ScopeId) -> Option<Order<N, W>> {
+        self.office.recall(rt, scope)
     }
 }
 

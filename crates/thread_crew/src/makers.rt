@@ -2,7 +2,7 @@ use crate::crews::OsThreads;
 use crate::offices::Office;
 use crate::orders::Order;
 use crate::spawning::{Ready, Work};
-use crate::staff::SharedTray;
+use crate::staff::{Next, SharedTray};
 use crate::trays::Tray;
 use share_ledger::RealmName;
 use slab::Slab;
@@ -88,9 +88,10 @@ where
     Ok(tray)
 }
 
-/// What a thread of a crew does: it runs the work of each order that it finds at its tray, and puts the
-/// ticket into the order's way back. It comes to rest before that, so that who waits for the ticket
-/// finds it at rest.
+/// What a thread of a crew does: it sleeps at its tray until it is woken, finds an order there or in the
+/// queue, runs its work, and puts the ticket into the order's way back; and so on with the orders that are
+/// left. It takes the next, or comes to rest, before it puts the ticket there, so that who waits for the
+/// ticket finds it at rest.
 fn serve<N, W, R>(
     rt: &R,
     office: &Office<Order<N, W>>,
@@ -103,16 +104,30 @@ where
     W: Ready + Work<N, OsThreads<N, W>> + Drop,
     R: Wait,
 {
+    let mut order = find(rt, office, tray);
     for _ in rt.forever() {
-        let Some(order) = tray.wait(rt) else {
-            return;
+        let next = match order {
+            Some(order) => {
+                let (finished, way_back, lent) = order.run(rt, threads);
+                threads = lent;
+                let next = office.next(rt, tray, number);
+                way_back.put(rt, finished);
+                next
+            }
+            None => office.next(rt, tray, number),
         };
-        let (finished, way_back, lent) = order.run(rt, threads);
-        threads = lent;
-        let rests = office.rest(rt, tray, number);
-        way_back.put(rt, finished);
-        if !rests {
-            return;
-        }
+        order = match next {
+            Next::Run(order) => Some(order),
+            Next::Rest => find(rt, office, tray),
+            Next::End => return,
+        };
+    }
+}
+
+/// Sleeps at the tray until it is woken, and finds an order: there, or in the queue.
+fn find<O: Drop, R: Wait>(rt: &R, office: &Office<O>, tray: &Tray<O>) -> Option<O> {
+    match tray.wait(rt) {
+        Some(order) => Some(order),
+        None => office.come(rt),
     }
 }

@@ -1,4 +1,8 @@
-use crate::staff::{Found, SharedTray, Staff, Wish};
+ghost use Rattle.std.specs.Prelude.{◌≡◌, IfErr};
+
+use crate::orders::OfScope;
+use crate::staff::{Answer, Lack, Next, SharedTray, Staff, Wish};
+use scope_rules::ScopeId;
 use std::alloc::{AllocError, Global};
 use std::sync::{Arc, Condvar, Mutex, Wait};
 use std::thread::Parker;
@@ -22,21 +26,46 @@ impl<O: Drop> Office<O> {
         }
     }
 
-    /// The tray of a thread that waits for an order: of one that rests, or of one that is made now.
-    /// None where the crew is closed or no thread could be made.
-    pub(crate) fn find<R: Wait>(&self, rt: &R) -> Option<SharedTray<O>> {
-        let found = self.staff.lock(rt).find();
-        match found {
-            Found::Resting(tray) => Some(tray),
-            Found::Closed => None,
-            Found::Asked => {
+    /// Gives the order to a thread of the crew: to one that rests, or to one that is made now. It is handed
+    /// back where the crew is closed, and where memory or a thread is refused.
+    pub(crate) fn give<R: Wait>(&self, rt: &R, order: O) -> Result<(), O>
+        ensures { IfErr result (λ back. back ≡ order) }
+    {
+        let taken = self.staff.lock(rt).take_or_ask(order);
+        match taken {
+            Ok(called) => {
+                ring(called);
+                Ok(())
+            }
+            Err((Lack::Crew, order)) => Err(order),
+            Err((Lack::Thread, order)) => {
                 self.maker.unpark();
-                self.wait_for_answer(rt)
+                match self.wait_for_answer(rt) {
+                    Answer::Made(tray) => {
+                        tray.put(rt, order);
+                        Ok(())
+                    }
+                    Answer::Unmade => self.give_once_more(rt, order),
+                }
             }
         }
     }
 
-    fn wait_for_answer<R: Wait>(&self, rt: &R) -> Option<SharedTray<O>> {
+    /// Gives the order for which no thread could be made, to one that came to rest meanwhile.
+    fn give_once_more<R: Wait>(&self, rt: &R, order: O) -> Result<(), O>
+        ensures { IfErr result (λ back. back ≡ order) }
+    {
+        let taken = self.staff.lock(rt).take(order);
+        match taken {
+            Ok(called) => {
+                ring(called);
+                Ok(())
+            }
+            Err((_, order)) => Err(order),
+        }
+    }
+
+    fn wait_for_answer<R: Wait>(&self, rt: &R) -> Answer<O> {
         let mut staff = self.staff.lock(rt);
         for _ in rt.forever() {
             match staff.answer() {
@@ -47,12 +76,18 @@ impl<O: Drop> Office<O> {
         unreachable!()
     }
 
-    /// A thread has done its work. Answers whether it comes to rest at its tray; else it is to end.
-    pub(crate) fn rest<R: Wait>(&self, rt: &R, tray: &SharedTray<O>, number: usize) -> bool {
-        match Arc::try_clone(tray) {
-            Ok(tray) => self.staff.lock(rt).rest(Some(tray), number),
-            Err(_) => self.staff.lock(rt).rest(None, number),
-        }
+    /// A thread that was woken comes: the order that it is to run, if one is left. Who is to be woken for
+    /// the others is woken before it is run.
+    pub(crate) fn come<R: Wait>(&self, rt: &R) -> Option<O> {
+        let (order, called) = self.staff.lock(rt).come();
+        ring(called);
+        order
+    }
+
+    /// What a thread does next that has done its work: an order that is left, or it comes to rest at its
+    /// tray, or it is to end.
+    pub(crate) fn next<R: Wait>(&self, rt: &R, tray: &SharedTray<O>, number: usize) -> Next<O> {
+        self.staff.lock(rt).next(Arc::try_clone(tray).ok(), number)
     }
 
     /// Waits until a fork wants a thread, and answers true; or until the crew is closed, and answers
@@ -90,5 +125,19 @@ impl<O: Drop> Office<O> {
     pub(crate) fn close<R: Wait>(&self, rt: &R) {
         self.staff.lock(rt).close();
         self.maker.unpark();
+    }
+}
+
+impl<O: Drop + OfScope> Office<O> {
+    /// Takes the last order of the scope that no thread has taken, if there is one.
+    pub(crate) fn recall<R: Wait>(&self, rt: &R, scope: ScopeId) -> Option<O> {
+        self.staff.lock(rt).recall(scope)
+    }
+}
+
+/// Wakes the thread of the tray, if one is to be woken.
+fn ring<O: Drop>(called: Option<SharedTray<O>>) {
+    if let Some(tray) = called {
+        tray.ring();
     }
 }

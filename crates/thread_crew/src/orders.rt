@@ -4,6 +4,7 @@ ghost use Rattle.thread_crew.specs.Returns.{Returns};
 
 use crate::spawning::{Ready, Work};
 use crate::trays::Tray;
+use scope_rules::ScopeId;
 use share_ledger::{OfRealm, RealmName, Ticket};
 use std::alloc::Global;
 use std::sync::{Arc, Wait};
@@ -31,10 +32,16 @@ impl<N: RealmName> Finished<N> {
 /// The tray by which a ticket comes back.
 pub(crate) type WayBack<N> = Arc<Tray<Finished<N>>, Global>;
 
+/// What lies in the queue of a crew: which scope its task is of.
+pub(crate) trait OfScope {
+    /// The scope.
+    fn scope(&self) -> ScopeId;
+}
+
 /// What a thread of a crew is given: a work, its ticket, and where the ticket is put once the work has
-/// ended.
+/// ended. Who has it runs it, or the join of its handle waits for ever.
 #[derive(Drop)]
-pub(crate) struct Order<N: RealmName, W: Ready> {
+pub struct Order<N: RealmName, W: Ready> {
     work: W,
     ticket: Ticket,
     way_back: WayBack<N>,
@@ -45,12 +52,25 @@ impl<N: RealmName, W: Ready> Order<N, W> {
     /// The order for a work that may be given the ticket.
     pub(crate) fn new(work: W, ticket: Ticket, way_back: WayBack<N>) -> Order<N, W>
         requires { W.ready_for work ticket }
+        ensures { (result.work ≡ work) × (result.ticket ≡ ticket) }
     {
         Order {
             work,
             ticket,
             way_back,
         }
+    }
+
+    /// The ticket and the work of an order that nobody took.
+    pub(crate) fn into_parts(self) -> (Ticket, W)
+        ensures { (result.0 ≡ self.ticket) × (result.1 ≡ self.work) }
+    {
+        let Order {
+            work,
+            ticket,
+            way_back: _,
+        } = self;
+        (ticket, work)
     }
 
     /// Runs the work, which is lent the spawner, and gives the ticket, the way back, and the spawner.
@@ -65,5 +85,22 @@ impl<N: RealmName, W: Ready> Order<N, W> {
         } = self;
         let (ticket, spawner) = work.run(rt, spawner, ticket);
         (Finished::new(ticket), way_back, spawner)
+    }
+
+    /// Runs the work in the caller's own thread, by the spawner that it is lent, and puts the ticket where the
+    /// join of its handle finds it. Gives the spawner back.
+    pub fn run_here<S, R: Wait>(self, rt: &R, spawner: S) -> S
+    where
+        W: Work<N, S>,
+    {
+        let (finished, way_back, spawner) = self.run(rt, spawner);
+        way_back.put(rt, finished);
+        spawner
+    }
+}
+
+impl<N: RealmName, W: Ready> OfScope for Order<N, W> {
+    fn scope(&self) -> ScopeId {
+        self.ticket.scope()
     }
 }

@@ -1,6 +1,8 @@
 ghost use Rattle.std.specs.Prelude.{◌≡◌, MatchResult};
 ghost use Rattle.thread_crew.specs.Returns.{Returns};
 
+use crate::orders::Order;
+use scope_rules::ScopeId;
 use share_ledger::{RealmName, Ticket};
 use std::sync::Wait;
 
@@ -52,4 +54,16 @@ pub trait Spawns<N: RealmName, W: Ready>: Spawner<N> {
     ) -> Result<Self::Handle, (Ticket, W)>
         requires { W.ready_for work ticket }
         ensures { MatchResult result (λ handle. Self.first_of handle ≡ ticket) (λ refused. (refused.0 ≡ ticket) × (refused.1 ≡ work)) };
+}
+
+/// A spawner that gives back works which no thread has taken yet, so that who has forked them can run them
+/// where it would only wait for them.
+pub trait Recalls<N: RealmName, W: Ready>: Spawns<N, W> + Drop {
+    /// A share of the spawner, by which a work that was given back forks its own. None where std's count of
+    /// holders is full.
+    fn share(&self) -> Option<Self>;
+
+    /// A work of a task of the scope that no thread has taken, if there is one, the one that was forked last.
+    /// No thread takes it from then on.
+    fn recall<R: Wait>(&self, rt: &R, scope: ScopeId) -> Option<Order<N, W>>;
 }

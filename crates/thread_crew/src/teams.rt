@@ -72,7 +72,9 @@ impl<N: RealmName, S: Spawner<N>> Team<N, S> {
     pub fn join_from<R: Wait>(&mut self, rt: &R, spawner: &mut S, scope: ScopeId)
         ensures { Joins scope self.old self.new }
     {
-        while let Some(place) = last_from(self.running.as_slice(), scope) {
+        let mut below = self.running.len();
+        while let Some(place) = last_from(self.running.as_slice(), scope, below) {
+            below = place;
             let Thread { scope: _, handle } = self.running.swap_remove(place);
             let ticket = OfRealm::new(spawner.join(rt, handle));
             self.returned.push_reserved(ticket);
@@ -97,7 +99,9 @@ impl<N: RealmName, S: Spawner<N>> Team<N, S> {
     {
         let mut tickets = Vec::new(alloc);
         tickets.reserve(self.returned.len()).ok()?;
-        while let Some(place) = last_returned(self.returned.as_slice(), scope) {
+        let mut below = self.returned.len();
+        while let Some(place) = last_returned(self.returned.as_slice(), scope, below) {
+            below = place;
             tickets.push_reserved(self.returned.swap_remove(place).into_held());
         }
         Some(tickets)
@@ -117,11 +121,19 @@ impl<N: RealmName, S: Spawner<N>> Team<N, S> {
     }
 }
 
-/// The place of the last thread of the scope, or of one that was opened later.
-fn last_from<N: RealmName, S: Spawner<N>>(running: &[Thread<N, S>], scope: ScopeId) -> Option<usize>
-    ensures { MatchOption result (All (λ (of : ℕ). of < scope) (map (λ t. t.scope) running.now)) (λ place. place < length running.now) }
+/// The place of the last thread of the scope, or of one that was opened later, where from `below` on there
+/// is none.
+fn last_from<N: RealmName, S: Spawner<N>>(
+    running: &[Thread<N, S>],
+    scope: ScopeId,
+    below: usize,
+) -> Option<usize>
+    requires within { below ≤ length running.now }
+    requires none { (k : ℕ) (d : _) → below ≤ k → k < length running.now → (slice_index_or running.now k d).scope < scope }
+    ensures found { MatchOption result (All (λ (of : ℕ). of < scope) (map (λ t. t.scope) running.now)) (λ place. place < below) }
+    ensures last { IfSome result (λ place. (k : ℕ) (d : _) → place < k → k < length running.now → (slice_index_or running.now k d).scope < scope) }
 {
-    for place in (0..running.len()).rev() {
+    for place in (0..below).rev() {
         if running[place].scope >= scope {
             return Some(place);
         }
@@ -129,11 +141,19 @@ fn last_from<N: RealmName, S: Spawner<N>>(running: &[Thread<N, S>], scope: Scope
     None
 }
 
-/// The place of the last ticket of the scope, or of one that was opened later.
-fn last_returned<N: RealmName>(returned: &[OfRealm<N, Ticket>], scope: ScopeId) -> Option<usize>
-    ensures { MatchOption result (All (λ (t : TicketValue). t.scope < scope) returned.now) (λ place. (place < length returned.now) × ((d : TicketValue) → scope ≤ (slice_index_or returned.now place d).scope)) }
+/// The place of the last ticket of the scope, or of one that was opened later, where from `below` on there
+/// is none.
+fn last_returned<N: RealmName>(
+    returned: &[OfRealm<N, Ticket>],
+    scope: ScopeId,
+    below: usize,
+) -> Option<usize>
+    requires within { below ≤ length returned.now }
+    requires none { (k : ℕ) (d : TicketValue) → below ≤ k → k < length returned.now → (slice_index_or returned.now k d).scope < scope }
+    ensures found { MatchOption result (All (λ (t : TicketValue). t.scope < scope) returned.now) (λ place. (place < below) × ((d : TicketValue) → scope ≤ (slice_index_or returned.now place d).scope)) }
+    ensures last { IfSome result (λ place. (k : ℕ) (d : TicketValue) → place < k → k < length returned.now → (slice_index_or returned.now k d).scope < scope) }
 {
-    for place in (0..returned.len()).rev() {
+    for place in (0..below).rev() {
         let ticket = &returned[place];
         if ticket.held.scope() >= scope {
             return Some(place);

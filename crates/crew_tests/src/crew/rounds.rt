@@ -84,4 +84,24 @@ impl Played {
         }
         Ok(())
     }
+
+    /// Forks so many works in one go that each wait at the place for all others, and joins them.
+    pub fn gather<N: RealmName, S: Spawns<N, CrewWork<N>>, R: Wait>(
+        &mut self,
+        rt: &R,
+        spawner: &mut S,
+        board: &Shared<N>,
+        place: u32,
+        count: u32,
+    ) -> Result<(), AllocError> {
+        let mut handles = Vec::new(self.alloc);
+        for _ in 0..count {
+            handles.push(self.fork(rt, spawner, board, Kind::Gathers(u64::from(count)), place)?)?;
+        }
+        for handle in handles {
+            let found = join(rt, spawner, handle);
+            self.is_right = self.is_right && found == Some(1);
+        }
+        Ok(())
+    }
 }

@@ -193,6 +193,56 @@ fn a_refused_growth_refuses_one_work(rt: HostRuntime) -> Result<(), Fail> {
     Ok(())
 }
 
+/// Works that wait for one another, so many at once, three times, on a crew of which so many threads may
+/// rest.
+fn gathered<N, R>(
+    rt: &R,
+    alloc: Global,
+    seed: Seed,
+    count: u32,
+    keep: usize,
+) -> Result<Played, AllocError>
+where
+    N: RealmName + Send + Sync + 'static,
+    R: CrewRuntime,
+    requires { seed ≡ N.table }
+{
+    let board: Shared<N> = shared(alloc, seed)?;
+    let crew = Crew::open(rt, alloc, keep)?;
+    let played = gather(rt, alloc, &crew, &board, count);
+    crew.close(rt);
+    played
+}
+
+/// The same on the crew, which is closed afterwards.
+fn gather<N: RealmName, R: Wait>(
+    rt: &R,
+    alloc: Global,
+    crew: &Crew<N, CrewWork<N>>,
+    board: &Shared<N>,
+    count: u32,
+) -> Result<Played, AllocError> {
+    let mut threads = crew.threads()?;
+    let mut played = Played::new(alloc);
+    for place in 0..3 {
+        played.gather(rt, &mut threads, board, place, count)?;
+    }
+    Ok(played)
+}
+
+/// However many works wait for one another, all end: none waits in the queue for another to end.
+#[test]
+fn works_that_wait_for_all_others_end(rt: HostRuntime) -> Result<(), Fail> {
+    for count in [2, 8, 64, 500] {
+        for keep in [0, 5, 1_000] {
+            let seed = Seed::new(rt.alloc())?;
+            let played = gathered::<Brand, _>(&rt, rt.alloc(), seed, count, keep)?;
+            assert!(rt; played.is_right_but_for(0), "{count} with {keep}");
+        }
+    }
+    Ok(())
+}
+
 /// Works that look for one another, of which the second alone finds the first; a tree, of which two levels
 /// are run; and a work that nobody runs.
 fn in_one_thread<N, R>(rt: &R, alloc: Global, seed: Seed) -> Result<Played, AllocError>

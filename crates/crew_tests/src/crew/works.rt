@@ -22,6 +22,8 @@ pub enum Kind {
     Plain(i64),
     /// It looks for a run at this place, so often at most, and ends with 1 if there was one, else with 0.
     Meets(u32, u32),
+    /// It waits until so many works were run at its own place, with itself, and ends with 1 once they were.
+    Gathers(u64),
     /// It forks two of its kind, one less deep, and joins them, unless it is 0 deep. It ends with the
     /// number of works that it and they were.
     Tree(u32),
@@ -59,6 +61,7 @@ impl<N: RealmName, S: Spawns<N, CrewWork<N>>> Work<N, S> for CrewWork<N> {
         let end = match kind {
             Kind::Plain(number) => number,
             Kind::Meets(other, looks) => i64::from(is_seen(&board, other, looks)),
+            Kind::Gathers(count) => i64::from(is_gathered(&board, place, count)),
             Kind::Tree(depth) => grow(rt, &mut spawner, &board, depth),
             Kind::UntilRefused => fork_until_refused(rt, &mut spawner, &board),
         };
@@ -132,8 +135,18 @@ pub fn join<N: RealmName, S: Spawns<N, CrewWork<N>>, R: Wait>(
 
 /// Whether a run at the place is seen, in so many looks at most.
 pub fn is_seen<L>(board: &Board<L>, place: u32, looks: u32) -> bool {
+    are_seen(board, place, 1, looks)
+}
+
+/// Whether so many runs at the place are seen, in so many looks as there are at most.
+fn is_gathered<L>(board: &Board<L>, place: u32, count: u64) -> bool {
+    are_seen(board, place, count, u32::MAX)
+}
+
+/// Whether so many runs at the place are seen, in so many looks at most.
+fn are_seen<L>(board: &Board<L>, place: u32, count: u64, looks: u32) -> bool {
     for _ in 0..looks {
-        if board.runs(place) > 0 {
+        if board.runs(place) >= count {
             return true;
         }
         thread::yield_now();

@@ -1,5 +1,5 @@
--- Each turn makes a ticket of a thread.
-use Rattle.std.proofs.Common.{◌≡◌, ◌+◌, ◌≤◌, ◌++◌, List, length, vec_len}
+-- Each turn makes a ticket of a thread; those from `below` on are of scopes that were opened earlier.
+use Rattle.std.proofs.Common.{◌≡◌, ℕ, ◌+◌, ◌<◌, ◌≤◌, ◌++◌, List, length, slice_index_or, vec_len}
 use Rattle.std.specs.Prelude.{vec_capacity}
 use Rattle.share_ledger.specs.Values.{TicketValue}
 use Rattle.thread_crew.proofs.teams.Team.join_from.Given as goal
@@ -10,6 +10,8 @@ invariant-loop-place g l =
     × (given : List TicketValue)
     × (l.self-inside.returned.items ≡ l.initial.self-inside.returned.items ++ given)
     × (vec_len l.self-inside.running + length given ≡ vec_len l.initial.self-inside.running)
+    × (l.below ≤ vec_len l.self-inside.running)
+    × ((k : ℕ) (d : _) → l.below ≤ k → k < vec_len l.self-inside.running → (slice_index_or l.self-inside.running.items k d).scope < l.scope)
 
 abbrev pub decreases-loop-place : goal.decreases-loop-place
 decreases-loop-place g l = vec_len l.self-inside.running

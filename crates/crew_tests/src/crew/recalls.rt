@@ -1,0 +1,88 @@
+//! Works that their owner takes back and runs itself.
+ghost use Rattle.std.specs.Prelude.{◌≡◌};
+
+use super::works::Kind::Plain;
+use super::works::{CrewWork, Shared, fork, join, shared};
+use scope_rules::ScopeId;
+use share_ledger::{RealmName, Seed};
+use std::alloc::{AllocError, Global};
+use std::marker::Brand;
+use std::sync::Wait;
+use std::test::Fail;
+use thread_crew::{Crew, CrewRuntime, OsThreads, Recalls};
+
+/// The scope of all tasks of a ledger.
+const SCOPE: ScopeId = 1;
+
+/// How many works are forked.
+const FORKS: u32 = 1_000;
+
+/// The place of these works.
+const PLACE: u32 = 0;
+
+/// How many works the owner ran itself, and whether each ended as it was to.
+type Found = (u32, bool);
+
+/// Runs a work of the scope here that no thread has taken, if there is one. How many were run.
+fn run_here<N: RealmName, R: Wait>(
+    rt: &R,
+    threads: &OsThreads<N, CrewWork<N>>,
+    scope: ScopeId,
+) -> u32 {
+    let Some(share) = threads.share() else {
+        return 0;
+    };
+    match threads.recall(rt, scope) {
+        Some(order) => {
+            let _share = order.run_here(rt, share);
+            1
+        }
+        None => 0,
+    }
+}
+
+/// Forks the works, and after each takes one back; none of another scope is given back. Then it joins all.
+fn owner_helps<N: RealmName, R: Wait>(
+    rt: &R,
+    alloc: Global,
+    crew: &Crew<N, CrewWork<N>>,
+    board: &Shared<N>,
+) -> Result<Found, AllocError> {
+    let mut threads = crew.threads()?;
+    let mut handles = Vec::new(alloc);
+    let mut helped = 0u32;
+    let mut is_right = true;
+    for _ in 0..FORKS {
+        let Some((0, handle)) = fork(rt, &mut threads, board, Plain(7), PLACE) else {
+            return Ok((helped, false));
+        };
+        handles.push(handle)?;
+        is_right = is_right && run_here(rt, &threads, SCOPE + 1) == 0;
+        helped = helped.saturating_add(run_here(rt, &threads, SCOPE));
+    }
+    for handle in handles {
+        is_right = is_right && join(rt, &mut threads, handle) == Some(7);
+    }
+    Ok((helped, is_right && board.runs(PLACE) == u64::from(FORKS)))
+}
+
+fn on_a_crew<N, R>(rt: &R, alloc: Global, seed: Seed) -> Result<Found, AllocError>
+where
+    N: RealmName + Send + Sync + 'static,
+    R: CrewRuntime,
+    requires { seed ≡ N.table }
+{
+    let board: Shared<N> = shared(alloc, seed)?;
+    let crew = Crew::open(rt, alloc, 4)?;
+    let found = owner_helps(rt, alloc, &crew, &board);
+    crew.close(rt);
+    found
+}
+
+/// Each work is run once, by a thread or by its owner, who runs some: a thread that was called comes later.
+#[test]
+fn an_owner_runs_works_that_no_thread_has_taken(rt: HostRuntime) -> Result<(), Fail> {
+    let (helped, is_right) = on_a_crew::<Brand, _>(&rt, rt.alloc(), Seed::new(rt.alloc())?)?;
+    assert!(rt; is_right && helped > 0, "{helped}");
+    Ok(())
+}
