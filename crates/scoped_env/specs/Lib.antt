@@ -1,2 +1,3 @@
 pub mod LastBound
 pub mod Layers
+pub mod Pairs

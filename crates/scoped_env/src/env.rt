@@ -2,31 +2,42 @@ ghost use Rattle.std.specs.Prelude.{◌≡◌, ◌↔◌, ◌++◌, ◌∷◌, [
 ghost use Rattle.scope_rules.specs.Bindings.{bound_to};
 ghost use Rattle.scoped_env.specs.LastBound.{HasNone, IsLastBound};
 
+use crate::own::OwnPairs;
 use crate::shared::SharedPairs;
 use scope_rules::{Binding, Name, Refusal, Value};
 use std::alloc::{AllocError, Global};
 use std::marker::Model;
+use std::mem;
 
 /// The bindings that an actor sees: the pairs that it inherited at its fork, then its own stack.
 /// The last pair with a key wins. An inherited pair is never taken away, and never changes when the
 /// actor that it came from binds or unbinds, as JEP 506 has it of scoped values.
 #[derive(Drop)]
 pub struct Env {
-    inherited: SharedPairs,
-    stack: Vec<Binding>,
-    // All pairs, made by the last `inherit` and kept for the next; `None` once they changed.
-    snapshot: Option<SharedPairs>,
+    pairs: Pairs,
+    alloc: Global,
+}
+
+// It takes no more, since a realm keeps one for each task that was ever forked, and few of these
+// bind anything.
+const _: () = prove!(size_of::<Env>() <= 24);
+
+/// The pairs of an actor. Room for pairs of its own is made at its first bind, and kept from then
+/// on.
+#[derive(Drop)]
+enum Pairs {
+    Inherited(SharedPairs),
+    WithOwn(Box<OwnPairs>),
 }
 
 impl Model for Env {
-    ghost use Rattle.std.specs.Prelude.{◌≡◌, ◌++◌, IfSome};
     ghost use Rattle.scoped_env.specs.Layers.{Layers};
 
     ghost Value = { Layers };
 
-    ghost view = { λ e. record { inherited = e.inherited; stack = e.stack.items } };
+    ghost use Rattle.scoped_env.specs.Pairs.{layers};
 
-    ghost invariant = { λ e. IfSome e.snapshot (λ all. all ≡ e.inherited ++ e.stack.items) };
+    ghost view = { λ e. layers e.pairs };
 }
 
 impl Env {
@@ -45,10 +56,10 @@ impl Env {
         ensures { IfOk result (λ env. env ≡ record { inherited = []; stack = stack.now }) }
     {
         let stack = Vec::from_slice(alloc, stack)?;
+        let own = Box::new(alloc, OwnPairs::above(SharedPairs::empty(), stack))?;
         Ok(Env {
-            inherited: SharedPairs::empty(),
-            stack,
-            snapshot: None,
+            pairs: Pairs::WithOwn(own),
+            alloc,
         })
     }
 
@@ -57,9 +68,8 @@ impl Env {
         ensures { result ≡ record { inherited = inherited; stack = [] } }
     {
         Env {
-            inherited,
-            stack: Vec::new(alloc),
-            snapshot: None,
+            pairs: Pairs::Inherited(inherited),
+            alloc,
         }
     }
 
@@ -69,9 +79,19 @@ impl Env {
         ensures ok { OnOk result (self.new ≡ with_pair self.old (record { key = key; value = value })) }
         ensures err { OnErr result (self.new ≡ self.old) }
     {
-        self.stack.push(Binding { key, value })?;
-        self.snapshot = None;
-        Ok(())
+        match &mut self.pairs {
+            Pairs::WithOwn(own) => own.bind(key, value),
+            Pairs::Inherited(inherited) => {
+                // All memory is taken before anything changes.
+                let nothing = OwnPairs::above(SharedPairs::empty(), Vec::new(self.alloc));
+                let mut own = Box::new(self.alloc, nothing)?;
+                let mut stack = Vec::new(self.alloc);
+                stack.push(Binding { key, value })?;
+                *own = OwnPairs::above(mem::replace(inherited, SharedPairs::empty()), stack);
+                self.pairs = Pairs::WithOwn(own);
+                Ok(())
+            }
+        }
     }
 
     /// Takes away the last pair of the own stack. It is refused `NotBound` exactly where that is
@@ -82,12 +102,9 @@ impl Env {
         ensures refusal { IfErr result (λ refusal. refusal ≡ Refusal.NotBound) }
         ensures err { OnErr result (self.new ≡ self.old) }
     {
-        match self.stack.pop() {
-            Some(_) => {
-                self.snapshot = None;
-                Ok(())
-            }
-            None => Err(Refusal::NotBound),
+        match &mut self.pairs {
+            Pairs::WithOwn(own) => own.unbind(),
+            Pairs::Inherited(_) => Err(Refusal::NotBound),
         }
     }
 
@@ -98,7 +115,7 @@ impl Env {
         ensures last { IfSome result (IsLastBound (all_pairs self.now) key) }
         ensures none { IsNone result ↔ HasNone (all_pairs self.now) key }
     {
-        last_value(&self.stack, &key).or_else(|| last_value(self.inherited.as_slice(), &key))
+        last_value(self.stack(), &key).or_else(|| last_value(self.inherited(), &key))
     }
 
     /// The environment of a task that this one's actor forks now: all pairs of this one are its
@@ -109,37 +126,18 @@ impl Env {
         ensures ok { IfOk result (λ env. env ≡ inheriting self.old) }
         ensures unchanged { self.new ≡ self.old }
     {
-        let alloc = *self.stack.allocator();
-        let inherited = self.share_all()?;
-        Ok(Env::above(inherited, alloc))
-    }
-
-    /// All pairs, in the list that the last call made where they are the same still.
-    fn share_all(&mut self) -> Result<SharedPairs, AllocError>
-        ensures ok { IfOk result (λ all. all ≡ all_pairs self.old) }
-        ensures unchanged { self.new ≡ self.old }
-    {
-        if self.stack.is_empty() {
-            return self.inherited.share();
-        }
-        if let Some(all) = &self.snapshot {
-            return all.share();
-        }
-        let all = SharedPairs::joined(
-            *self.stack.allocator(),
-            self.inherited.as_slice(),
-            &self.stack,
-        )?;
-        let shared = all.share()?;
-        self.snapshot = Some(all);
-        Ok(shared)
+        let inherited = match &mut self.pairs {
+            Pairs::WithOwn(own) => own.share_all()?,
+            Pairs::Inherited(inherited) => inherited.share()?,
+        };
+        Ok(Env::above(inherited, self.alloc))
     }
 
     /// How many pairs there are, inherited and own.
     pub fn depth(&self) -> usize
         ensures { result ≡ length (all_pairs self.now) }
     {
-        self.inherited.as_slice().len() + self.stack.len()
+        self.inherited().len() + self.stack().len()
     }
 
     /// How many own pairs there are. By this number a caller tells whether the bindings are those
@@ -147,14 +145,27 @@ impl Env {
     pub fn stack_len(&self) -> usize
         ensures { result ≡ length self.now.stack }
     {
-        self.stack.len()
+        self.stack().len()
     }
 
     /// The own pairs, the latest last.
     pub fn stack(&self) -> &[Binding]
         ensures { result.now ≡ self.now.stack }
     {
-        &self.stack
+        match &self.pairs {
+            Pairs::WithOwn(own) => own.stack(),
+            Pairs::Inherited(_) => &[],
+        }
+    }
+
+    /// The inherited pairs, the oldest first.
+    fn inherited(&self) -> &[Binding]
+        ensures { result.now ≡ self.now.inherited }
+    {
+        match &self.pairs {
+            Pairs::WithOwn(own) => own.inherited(),
+            Pairs::Inherited(inherited) => inherited.as_slice(),
+        }
     }
 }
 

@@ -4,6 +4,7 @@
 #![tactic(auto)]
 
 mod env;
+mod own;
 mod shared;
 
 pub use env::Env;

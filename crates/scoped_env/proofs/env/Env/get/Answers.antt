@@ -1,5 +1,5 @@
 -- The own pairs stand above the inherited ones.
-use Rattle.std.proofs.Common.{◌≡◌, rules, ap, sym, ◌∙◌}
+use Rattle.std.proofs.Common.{◌≡◌, rules, sym, ◌∙◌}
 use Rattle.std.specs.Option.{option_or}
 use Rattle.scope_rules.specs.Bindings.{bound_to}
 use Rattle.scoped_env.specs.Layers.{all_pairs}
@@ -9,11 +9,11 @@ use Rattle.scoped_env.proofs.env.Env.get.Goals as goal
 
 pub returns : goal.returns
 returns c =
-    let inside = c.self.inside in
-    let found : c.or_else.result ≡ option_or (bound_to c.args.key inside.stack.items) (bound_to c.args.key inside.inherited) = search rules in
-    let pairs = all_pairs c.args.self.now in
+    let layers = c.args.self.now in
+    let found : c.or_else.result ≡ option_or (bound_to c.args.key layers.stack) (bound_to c.args.key layers.inherited) = search rules in
+    let pairs = all_pairs layers in
     let value : c.or_else.result ≡ bound_to c.args.key pairs =
-    found ∙ sym (bound_to_append c.args.key inside.inherited inside.stack.items) ∙ ap (λ e. bound_to c.args.key (all_pairs e)) c.self.view_is in
+    found ∙ sym (bound_to_append c.args.key layers.inherited layers.stack) in
     record {
       value = value;
       last = rw value (last_from_bound_to c.args.key pairs);

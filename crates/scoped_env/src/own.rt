@@ -1,0 +1,105 @@
+ghost use Rattle.std.specs.Prelude.{◌≡◌, ◌↔◌, [], IfOk, OnOk, OnErr, IfErr, IsErr};
+
+use crate::shared::SharedPairs;
+use scope_rules::{Binding, Name, Refusal, Value};
+use std::alloc::AllocError;
+use std::marker::Model;
+
+/// The pairs of an actor that binds some itself: those that it inherited, then its own stack.
+#[derive(Drop)]
+pub struct OwnPairs {
+    inherited: SharedPairs,
+    stack: Vec<Binding>,
+    // All pairs, made by the last `share_all` and kept for the next; `None` once they changed.
+    snapshot: Option<SharedPairs>,
+}
+
+impl Model for OwnPairs {
+    ghost use Rattle.std.specs.Prelude.{◌≡◌, ◌++◌, IfSome};
+    ghost use Rattle.scoped_env.specs.Layers.{Layers};
+
+    ghost Value = { Layers };
+
+    ghost view = { λ e. record { inherited = e.inherited; stack = e.stack.items } };
+
+    ghost invariant = { λ e. IfSome e.snapshot (λ all. all ≡ e.inherited ++ e.stack.items) };
+}
+
+impl OwnPairs {
+    ghost use Rattle.scoped_env.specs.Layers.{all_pairs, with_pair, without_last_pair};
+
+    /// The inherited pairs, and above them those of the stack, the latest last.
+    pub fn above(inherited: SharedPairs, stack: Vec<Binding>) -> OwnPairs
+        ensures { result ≡ record { inherited = inherited; stack = stack.items } }
+    {
+        OwnPairs {
+            inherited,
+            stack,
+            snapshot: None,
+        }
+    }
+
+    /// Binds the key to the value, above all other pairs. It is refused for memory alone, and then
+    /// changes nothing.
+    pub fn bind(&mut self, key: Name, value: Value) -> Result<(), AllocError>
+        ensures ok { OnOk result (self.new ≡ with_pair self.old (record { key = key; value = value })) }
+        ensures err { OnErr result (self.new ≡ self.old) }
+    {
+        self.stack.push(Binding { key, value })?;
+        self.snapshot = None;
+        Ok(())
+    }
+
+    /// Takes away the last pair of the own stack. It is refused `NotBound` exactly where that is
+    /// empty: an inherited pair stays. It takes no memory.
+    pub fn unbind(&mut self) -> Result<(), Refusal>
+        ensures ok { OnOk result (self.new ≡ without_last_pair self.old) }
+        ensures empty { IsErr result ↔ (self.old.stack ≡ []) }
+        ensures refusal { IfErr result (λ refusal. refusal ≡ Refusal.NotBound) }
+        ensures err { OnErr result (self.new ≡ self.old) }
+    {
+        match self.stack.pop() {
+            Some(_) => {
+                self.snapshot = None;
+                Ok(())
+            }
+            None => Err(Refusal::NotBound),
+        }
+    }
+
+    /// All pairs, in the list that the last call made where they are the same still. It is refused
+    /// for memory, or where std's count of holders is full.
+    pub fn share_all(&mut self) -> Result<SharedPairs, AllocError>
+        ensures ok { IfOk result (λ all. all ≡ all_pairs self.old) }
+        ensures unchanged { self.new ≡ self.old }
+    {
+        if self.stack.is_empty() {
+            return self.inherited.share();
+        }
+        if let Some(all) = &self.snapshot {
+            return all.share();
+        }
+        let all = SharedPairs::joined(
+            *self.stack.allocator(),
+            self.inherited.as_slice(),
+            &self.stack,
+        )?;
+        let shared = all.share()?;
+        self.snapshot = Some(all);
+        Ok(shared)
+    }
+
+    /// The inherited pairs, the oldest first.
+    pub fn inherited(&self) -> &[Binding]
+        ensures { result.now ≡ self.now.inherited }
+    {
+        self.inherited.as_slice()
+    }
+
+    /// The own pairs, the latest last.
+    pub fn stack(&self) -> &[Binding]
+        ensures { result.now ≡ self.now.stack }
+    {
+        &self.stack
+    }
+}
