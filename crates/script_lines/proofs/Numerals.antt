@@ -1,20 +1,17 @@
--- Numerals are texts, and what parsing gives of them.
-use Rattle.std.proofs.Common.{◌≡◌, ℕ, ◌<◌, ◌≤◌, ◌^◌, true, List, [], ◌∷◌, length, rules, arith, Result, Ok, Err, MatchOption}
-use Rattle.std.specs.Char.{is_ascii_digit}
+-- Numerals, and the value of their first digits.
+use Rattle.std.proofs.Common.{◌≡◌, ℕ, ◌+◌, ◌-◌, ◌*◌, ◌<◌, ◌≤◌, true, List, [], ◌∷◌, length, get_or, take, ◌∙◌, ap, rules, arith}
+use Rattle.std.specs.Char.{is_ascii_digit, digit_value}
+use Rattle.std.specs.Int.{IsInRange}
 use Rattle.std.specs.List.{list_all}
-use Rattle.std.specs.Result.{OkIff, result_ok}
-use Rattle.std.specs.Str.{IsUtf8}
-use Rattle.std.specs.Str.Parse.{digits_value, ParsesUnsigned}
-use Rattle.std.proofs.lemmas.Fmt.{IsAscii-from_digits}
-use Rattle.std.proofs.lemmas.Str.{IsUtf8-from_ascii}
-use Rattle.std.proofs.lemmas.Str.Parse.{IsNumeralModel, numerals_by_value, parse_digits}
+use Rattle.std.specs.Str.Parse.{digits_value}
+use Rattle.std.proofs.lemmas.Int.Digits.{digits_value_more}
+use Rattle.std.proofs.lemmas.List.Folds.{list_all_more}
+use Rattle.std.proofs.lemmas.Str.{digit_value_digit}
+use Rattle.std.proofs.lemmas.Str.Parse.{IsNumeralModel, numerals_by_value, digits_value-take-le}
 use Rattle.script_lines.specs.Numbers.{is_numeral}
 
 pub by_digits : IsNumeralModel (λ ds. list_all is_ascii_digit ds ≡ true) (digits_value 10)
 by_digits = numerals_by_value _ (search rules)
-
-not_below : (n : ℕ) → (n < 2 ^ 64 → ⊥) → 2 ^ 64 ≤ n
-not_below n above = grind arith
 
 pub digits_of_numeral : (word : List ℕ) → is_numeral word ≡ true → list_all is_ascii_digit word ≡ true
 unfolding is_numeral
@@ -25,16 +22,20 @@ unfolding is_numeral
 length_of_numeral [] is = absurd cc
 length_of_numeral (b ∷ bs) is = omega arith
 
-pub numeral_is_text : (word : List ℕ) → is_numeral word ≡ true → IsUtf8 word
-numeral_is_text word is = IsUtf8-from_ascii word (IsAscii-from_digits word (by_digits.to word (digits_of_numeral word is)))
+-- one digit more stands behind the digits before it
+pub digits_of_more : (ds : List ℕ) (i : ℕ) → i < length ds → list_all is_ascii_digit (take i ds) ≡ true → is_ascii_digit (get_or ds i 0) ≡ true → list_all is_ascii_digit (take (i + 1) ds) ≡ true
+digits_of_more ds i within so_far is = rw (list_all_more is_ascii_digit ds i 0 within, so_far) is
 
-numeral_parses : {E : Type 0} (word : List ℕ) (r : Result ℕ E) → ParsesUnsigned 64 10 word r → is_numeral word ≡ true → OkIff r ((0 < length word) × (digits_value 10 word < 2 ^ 64)) (digits_value 10 word)
-numeral_parses word r parses is = parse_digits by_digits 64 word r parses (digits_of_numeral word is)
+value_of_digit : (c : ℕ) → IsInRange 48 57 c → digit_value c ≡ c - 48
+value_of_digit c range = let sum = digit_value_digit c range in omega arith
 
-value_if_ok : {E : Type 0} (word : List ℕ) (r : Result ℕ E) → OkIff r ((0 < length word) × (digits_value 10 word < 2 ^ 64)) (digits_value 10 word) → 0 < length word → MatchOption (result_ok r) (2 ^ 64 ≤ digits_value 10 word) (λ n. n ≡ digits_value 10 word)
-value_if_ok word (Ok n) gives some = gives.1
-value_if_ok word (Err e) gives some = not_below (digits_value 10 word) (λ below. gives (some, below))
+-- it adds its value to ten times theirs
+pub value_of_more : (ds : List ℕ) (i : ℕ) → i < length ds → IsInRange 48 57 (get_or ds i 0) → digits_value 10 (take (i + 1) ds) ≡ digits_value 10 (take i ds) * 10 + (get_or ds i 0 - 48)
+value_of_more ds i within range = digits_value_more 10 ds i within ∙ ap (λ v. digits_value 10 (take i ds) * 10 + v) (value_of_digit (get_or ds i 0) range)
 
-pub numeral_value : {E : Type 0} (word text : List ℕ) (r : Result ℕ E) → ParsesUnsigned 64 10 text r → text ≡ word → is_numeral word ≡ true → MatchOption (result_ok r) (2 ^ 64 ≤ digits_value 10 word) (λ n. n ≡ digits_value 10 word)
-numeral_value word text r parses same is =
-    value_if_ok word r (numeral_parses word r (rw same at parses) is) (length_of_numeral word is)
+-- and all digits have no less
+pub value_at_least : (ds : List ℕ) (i : ℕ) → i < length ds → IsInRange 48 57 (get_or ds i 0) → digits_value 10 (take i ds) * 10 + (get_or ds i 0 - 48) ≤ digits_value 10 ds
+value_at_least ds i within range =
+    let more = value_of_more ds i within range in
+    let prefix = digits_value-take-le 10 ds (i + 1) (omega arith) in
+    omega arith

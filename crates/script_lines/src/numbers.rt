@@ -1,8 +1,8 @@
-ghost use Rattle.std.specs.Prelude.{◌≡◌, ◌≤◌, ◌^◌, IsTrue, IfSome, MatchOption};
+ghost use Rattle.std.specs.Prelude.{◌≡◌, ◌≤◌, ◌^◌, true, IfSome, IsNone};
 ghost use Rattle.std.specs.Char.{is_ascii_digit};
 ghost use Rattle.std.specs.List.{list_all};
 ghost use Rattle.std.specs.Str.Parse.{digits_value};
-ghost use Rattle.script_lines.specs.Numbers.{has_no_needless_zero, is_numeral, number_said, small_said, moment_said, negative_said, integer_said};
+ghost use Rattle.script_lines.specs.Numbers.{has_no_needless_zero, number_said, small_said, moment_said, negative_said, integer_said};
 
 /// The number that the word says, at most `u32::MAX`: of a scope, a task or an actor, or a count.
 pub fn small(word: &[u8]) -> Option<u32>
@@ -47,38 +47,18 @@ fn negative(digits: &[u8]) -> Option<i64>
 }
 
 /// The number that the word says, where it is at most the limit.
-#[tactic(auto, unfolding(crate::specs::Numbers::number_said))]
+#[tactic(auto, unfolding(crate::specs::Numbers::number_said, crate::specs::Numbers::is_numeral))]
 fn number(word: &[u8], limit: u64) -> Option<u64>
     ensures value { result ≡ number_said limit word.now }
     ensures within { IfSome result (λ number. number ≤ limit) }
 {
-    if !is_numeral(word) {
+    if !has_no_needless_zero(word) {
         return None;
     }
     match value_of_digits(word) {
         Some(number) if number <= limit => Some(number),
         _ => None,
     }
-}
-
-/// The number with these digits; `None` where it is greater than `u64::MAX`.
-#[tactic(auto, using(crate::proofs::Numerals::numeral_is_text))]
-fn value_of_digits(digits: &[u8]) -> Option<u64>
-    requires { IsTrue (is_numeral digits.now) }
-    ensures { MatchOption result (2 ^ 64 ≤ digits_value 10 digits.now) (λ number. number ≡ digits_value 10 digits.now) }
-{
-    match str::from_utf8(digits) {
-        Ok(text) => text.parse().ok(),
-        Err(_) => None,
-    }
-}
-
-/// Whether the word has decimal digits alone, with no needless zero in front.
-#[tactic(auto, unfolding(crate::specs::Numbers::is_numeral))]
-fn is_numeral(word: &[u8]) -> bool
-    ensures { result ≡ is_numeral word.now }
-{
-    has_no_needless_zero(word) && has_digits_alone(word)
 }
 
 /// Whether the word is one byte, or has a first byte that is no `0`.
@@ -92,9 +72,18 @@ fn has_no_needless_zero(word: &[u8]) -> bool
     }
 }
 
-/// Whether each byte is a decimal digit.
-fn has_digits_alone(word: &[u8]) -> bool
-    ensures { result ≡ list_all is_ascii_digit word.now }
+/// The number with these decimal digits; `None` where a byte is no digit, or where the number is greater
+/// than `u64::MAX`.
+fn value_of_digits(digits: &[u8]) -> Option<u64>
+    ensures none { IsNone result → list_all is_ascii_digit digits.now ≡ true → 2 ^ 64 ≤ digits_value 10 digits.now }
+    ensures some { IfSome result (λ number. (list_all is_ascii_digit digits.now ≡ true) × (number ≡ digits_value 10 digits.now)) }
 {
-    word.iter().all(|byte| byte.is_ascii_digit())
+    let mut value: u64 = 0;
+    for byte in digits {
+        if !byte.is_ascii_digit() {
+            return None;
+        }
+        value = value.checked_mul(10)?.checked_add(u64::from(*byte - b'0'))?;
+    }
+    Some(value)
 }

@@ -1,5 +1,5 @@
 //! The line of a reply.
-ghost use Rattle.std.specs.Prelude.{◌≡◌, ◌++◌, ◌∷◌, [], Some, OnOk, OnErr};
+ghost use Rattle.std.specs.Prelude.{◌≡◌, ◌++◌, ◌∷◌, [], Some, IfSome, OnOk, OnErr};
 ghost use Rattle.script_replies.specs.ReplyText.{reply_text};
 
 use crate::parts::ShownCounts;
@@ -62,10 +62,32 @@ pub fn append_line(text: &mut Vec<u8>, reply: &Reply) -> Result<(), AllocError>
     ensures ok { OnOk result (text.new.items ≡ text.old.items ++ reply_text reply.now ++ 10 ∷ []) }
     ensures err { OnErr result (text.new.items ≡ text.old.items) }
 {
+    if let Some(line) = fixed_line(reply) {
+        return text.extend_from_slice(line);
+    }
     let mut line = ArrayString::<SHORT_LINE>::new();
     match writeln!(line, "{reply}") {
         Ok(()) => text.extend_from_slice(line.as_bytes()),
         Err(_) => append_long_line(text, reply),
+    }
+}
+
+/// The line, with its line feed, of a reply that is the same each time; `None` of a rare one, and of one
+/// that tells something.
+#[tactic(auto, unfolding(crate::specs::ReplyText::reply_text))]
+fn fixed_line(reply: &Reply) -> Option<&'static [u8]>
+    ensures { IfSome result (λ line. line.now ≡ reply_text reply.now ++ 10 ∷ []) }
+{
+    match reply {
+        Reply::Started => Some(b"started\n"),
+        Reply::Finished => Some(b"finished\n"),
+        Reply::Cancelled => Some(b"cancelled\n"),
+        Reply::Moved => Some(b"moved\n"),
+        Reply::Bound => Some(b"bound\n"),
+        Reply::Unbound => Some(b"unbound\n"),
+        Reply::Closing => Some(b"closing\n"),
+        Reply::Closed(Verdict::Plain) => Some(b"closed\n"),
+        _ => None,
     }
 }
 

@@ -1,20 +1,15 @@
 //! Where the lines of a piece end.
 
-ghost use Rattle.std.specs.Prelude.{◌≡◌, false, position, MatchOption};
-ghost use Rattle.scope_script.specs.Cutting.{is_feed, has_feed, CutsLine};
+ghost use Rattle.std.specs.Prelude.{◌≡◌, false, MatchOption};
+ghost use Rattle.scope_script.specs.Cutting.{has_feed, CutsLine};
+
+use memchr::memchr;
 
 /// The first line that a line feed ends in the bytes, and what comes after it; `None` where none ends.
-#[tactic(auto, using(crate::proofs::Feeds::no_feed, crate::proofs::Feeds::feed_within))]
+#[tactic(auto, using(crate::proofs::Feeds::no_feed))]
 pub(crate) fn first_line(bytes: &[u8]) -> Option<(&[u8], &[u8])>
     ensures { MatchOption result (has_feed bytes.now ≡ false) (λ cut. CutsLine bytes.now cut.0.now cut.1.now) }
 {
-    let end = first_feed(bytes)?;
+    let end = memchr(b'\n', bytes)?;
     Some((bytes.split_at(end).0, bytes.split_at(end + 1).1))
-}
-
-/// Where the first line feed stands.
-fn first_feed(bytes: &[u8]) -> Option<usize>
-    ensures { result ≡ position is_feed bytes.now }
-{
-    bytes.iter().position(|byte| *byte == b'\n')
 }

@@ -17,7 +17,7 @@ use std::alloc::Global;
 use std::io::{Read, Write};
 
 /// How many bytes are read at a time, and for how many of reply there is room from the beginning.
-pub const PIECE: usize = 4096;
+pub const PIECE: usize = 32_768;
 
 /// Whether a run writes its replies.
 #[derive(Clone, Copy, PartialEq, Eq)]
