@@ -91,7 +91,7 @@ impl<N: RealmName, W: Ready> Order<N, W> {
     /// join of its handle finds it. Gives the spawner back.
     pub fn run_here<S, R: Wait>(self, rt: &R, spawner: S) -> S
     where
-        W: Work<N, S>,
+        W: Work<N, S> + Drop,
     {
         let (finished, way_back, spawner) = self.run(rt, spawner);
         way_back.put(rt, finished);
