@@ -2,6 +2,7 @@
 
 mod deeds;
 mod duties;
+mod helped;
 mod logs;
 mod outcomes;
 mod rows;

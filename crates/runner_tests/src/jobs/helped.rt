@@ -1,0 +1,93 @@
+//! Jobs that main runs itself, where no thread has taken them yet.
+ghost use Rattle.std.specs.Prelude.{◌≡◌};
+
+use super::duties::{Board, Duty, Shared, TestJob, fork};
+use job_runner::{JobWork, TaskCtx};
+use join_rules::Joiner;
+use realm_lock::{Realm, RealmName, Seed};
+use scope_rules::{AnyEnd, Limits, Options, Value};
+use std::alloc::Global;
+use std::marker::Brand;
+use std::sync::Wait;
+use std::test::Fail;
+use thread_crew::{Crew, CrewRuntime, OsThreads};
+
+/// How many scopes there are, one after another, with a job each.
+const SCOPES: u32 = 500;
+
+/// Main's context over the threads of a crew.
+type MainCtx<N> = TaskCtx<AnyEnd, OsThreads<N, JobWork<AnyEnd, N, TestJob>>, N>;
+
+/// Opens a scope, forks a job, helps, joins and closes: whether main ran the job. None where that didn't end as
+/// it was to.
+fn help_once<N: RealmName, R: Wait>(rt: &R, ctx: &mut MainCtx<N>, board: &Shared) -> Option<bool> {
+    let Ok(scope) = ctx.open(rt, Joiner::AwaitAll, Options::PLAIN) else {
+        return None;
+    };
+    let task = fork(rt, ctx, scope, board, Duty::Plain(7)).ok()?;
+    let has_helped = ctx.help::<TestJob, R>(rt, scope);
+    ctx.join(rt, scope).ok()?;
+    let is_right = ctx.result(rt, task) == Ok(Value::Num(7));
+    ctx.close_scope_bare(rt, scope).ok()?;
+    if is_right { Some(has_helped) } else { None }
+}
+
+/// Does so in each scope: how many jobs main ran. None where one didn't end as it was to, or was not called
+/// just once.
+fn help_in_each<N: RealmName, R: Wait>(
+    rt: &R,
+    ctx: &mut MainCtx<N>,
+    board: &Shared,
+) -> Option<u32> {
+    let mut helped = 0u32;
+    for _ in 0..SCOPES {
+        if help_once(rt, ctx, board)? {
+            helped = helped.saturating_add(1);
+        }
+    }
+    if board.calls() == u64::from(SCOPES) {
+        Some(helped)
+    } else {
+        None
+    }
+}
+
+/// The same in a realm of its own, over the crew's threads.
+fn in_a_realm<N: RealmName, R: Wait>(
+    rt: &R,
+    alloc: Global,
+    crew: &Crew<N, JobWork<AnyEnd, N, TestJob>>,
+    seed: Seed,
+) -> Option<u32>
+    requires { seed ≡ N.table }
+{
+    let board = Board::shared(alloc)?;
+    let threads = crew.threads().ok()?;
+    let (realm, token) = Realm::<AnyEnd, N>::new(alloc, seed, Limits::GREATEST).ok()?;
+    let mut ctx = TaskCtx::main(alloc, realm, token, threads);
+    let helped = help_in_each(rt, &mut ctx, &board);
+    let (_token, _threads) = ctx.leave(rt);
+    helped
+}
+
+/// The same over a crew of which four threads may rest.
+fn over_a_crew<N: RealmName + Send + Sync + 'static, R: CrewRuntime>(
+    rt: &R,
+    alloc: Global,
+    seed: Seed,
+) -> Option<u32>
+    requires { seed ≡ N.table }
+{
+    let crew = Crew::<N, JobWork<AnyEnd, N, TestJob>>::open(rt, alloc, 4).ok()?;
+    let helped = in_a_realm(rt, alloc, &crew, seed);
+    crew.close(rt);
+    helped
+}
+
+/// Each job is called once, and main runs some: a thread that was called comes later.
+#[test]
+fn main_runs_jobs_that_no_thread_has_taken(rt: HostRuntime) -> Result<(), Fail> {
+    let helped = over_a_crew::<Brand, _>(&rt, rt.alloc(), Seed::new(rt.alloc())?);
+    assert!(rt; helped.unwrap_or(0) > 0);
+    Ok(())
+}
