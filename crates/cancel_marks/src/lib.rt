@@ -8,6 +8,8 @@ mod cells;
 pub mod laws;
 mod marks;
 mod setters;
+mod told;
+mod words;
 
 pub use cancellation::Cancellation;
 pub use cells::MarkCell;

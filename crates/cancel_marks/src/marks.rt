@@ -1,8 +1,7 @@
 ghost use Rattle.std.specs.Prelude.{◌≡◌, IfSome, Some};
 ghost use Rattle.once_cell.specs.Once.{Agrees};
 
-use crate::cancellation::Cancellation;
-use once_cell::race::Note;
+use crate::told::Note;
 use scope_rules::{Cause, ScopeId};
 use std::marker::Model;
 
@@ -11,7 +10,7 @@ use std::marker::Model;
 #[derive(Drop)]
 pub struct Seat {
     pub(crate) scope: ScopeId,
-    pub(crate) note: Note<Cancellation>,
+    pub(crate) note: Note,
 }
 
 impl Model for Seat {
@@ -23,8 +22,8 @@ impl Model for Seat {
 }
 
 impl Seat {
-    /// A second seat at the same cell, which was shown the same, as for another thread. It takes
-    /// `&mut`, since the proof reaches a note of `once_cell` only so; the seat stays as it is.
+    /// A second seat at the same cell, which was shown the same, as for another thread. The seat stays as
+    /// it is.
     pub fn again(&mut self) -> Seat
         ensures unchanged { self.new ≡ self.old }
         ensures same { result ≡ self.old }
@@ -42,7 +41,7 @@ impl Seat {
         ensures unchanged { self.new ≡ self.old }
         ensures agreed { IfSome other.known (Agrees self.old.known) }
     {
-        self.note.compare(other.note);
+        self.note.compare(&other.note);
     }
 }
 
