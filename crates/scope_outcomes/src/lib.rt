@@ -3,8 +3,10 @@
 #![tactic(auto)]
 
 mod answers;
+mod bare;
 mod forks;
 mod joined;
 
+pub use bare::BareOutcome;
 pub use forks::Forks;
-pub use joined::outcome;
+pub use joined::{bare_outcome, outcome};
