@@ -1,5 +1,5 @@
 -- A fitting history stays fitting with one more event that fits.
-use Rattle.std.proofs.Common.{◌≡◌, ℕ, ◌<◌, Bool, true, false, Result, Ok, Err, Option, Some, None, is_ok, slice_get, length, [], ◌∷◌, refl, sym, subst, arith, inl, inr, ◌∙◌}
+use Rattle.std.proofs.Common.{◌≡◌, Bool, true, false, Result, Some, is_ok, slice_get, [], sym, subst, arith, inl, inr, ◌∙◌}
 use Rattle.std.specs.Prelude.{if◌then◌else◌}
 use Rattle.scope_rules.specs.declared.types.events.Event.{Event}
 use Rattle.scope_rules.specs.declared.types.refusals.Refusal.{Refusal}

@@ -1,5 +1,5 @@
 -- Of a scope that was never opened, and of a task that was never forked, nothing is said.
-use Rattle.std.proofs.Common.{◌≡◌, ℕ, ◌+◌, ◌==◌, ◌&&◌, Bool, true, false, not, is_some, nat_lt, Option, Some, None, length, refl, ap, sym, ◌∙◌, arith}
+use Rattle.std.proofs.Common.{◌≡◌, ℕ, ◌+◌, ◌==◌, ◌&&◌, Bool, true, false, not, nat_lt, Option, Some, None, length, refl, ap, sym, ◌∙◌, arith}
 use Rattle.std.proofs.lemmas.Bool.Decides.{nat_tests}
 use Rattle.std.specs.Option.{option_map_or}
 use Rattle.scope_rules.specs.declared.types.capacity.Limits.{Limits}
@@ -11,7 +11,7 @@ use Rattle.scope_rules.specs.History.{History, before, opening, forking}
 use Rattle.scope_rules.specs.Scopes.{joined, closing, closed, innermost, surrounding, level, next_level}
 use Rattle.scope_rules.specs.Tasks.{stage, stage_of, settled, counts}
 use Rattle.scope_rules.specs.Legal.{Legal}
-use Rattle.scope_rules.proofs.Nesting.{IsOpened, forked_opened}
+use Rattle.scope_rules.proofs.Nesting.{forked_opened}
 use Rattle.scope_rules.proofs.NewScopes.{HasNoTask, joined_opened, no_tally}
 use Rattle.scope_rules.proofs.InnermostSteps.{closed_opened}
 use Rattle.scope_rules.proofs.Tallies.{settled_by_counts}

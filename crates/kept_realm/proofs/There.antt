@@ -1,21 +1,27 @@
 -- What is kept has a row for each scope that was opened, each task that was forked and each actor that acts.
-use Rattle.std.proofs.Common.{◌≡◌, ℕ, true, is_some, Option, Some, None, IsSome, refl, ap, sym, subst, ◌∙◌}
+use Rattle.std.proofs.Common.{◌≡◌, ℕ, ◌<◌, true, is_some, Option, Some, None, IsSome, length, slice_get, slice_index_or, refl, ap, sym, subst, ◌∙◌, arith}
+use Rattle.std.proofs.lemmas.Option.{slice_get_read}
 use Rattle.std.specs.Option.{option_and_then}
 use Rattle.scope_rules.specs.declared.types.capacity.Limits.{Limits}
+use Rattle.scope_rules.specs.declared.types.events.Event.{Event}
+use Rattle.scope_rules.specs.declared.types.events.Event.TheVariants.{Fork}
 use Rattle.scope_rules.specs.declared.types.records.Opening.{Opening}
-use Rattle.scope_rules.specs.History.{History, opening, forking}
+use Rattle.scope_rules.specs.declared.types.values.Label.{Label}
+use Rattle.scope_rules.specs.History.{History, opening, forking, forking_of}
 use Rattle.scope_rules.specs.Legal.{Legal}
 use Rattle.scope_rules.specs.Scopes.{joined, surrounding}
 use Rattle.scope_rules.specs.Checks.{actor_check, scope_check, task_check}
 use Rattle.scope_rules.specs.Replies.{outcome_check}
 use Rattle.scope_rules.proofs.Accepted.{checks_at, not_refused, not_not}
+use Rattle.scope_rules.proofs.Earlier.{forking_event, forking_within}
 use Rattle.scope_rules.proofs.Owing.{if_refused}
 use Rattle.scope_rules.proofs.Nesting.{IsOpened, surrounding_opened}
 use Rattle.scope_rules.proofs.NewScopes.{scope_passed}
 use Rattle.scope_rules.proofs.PassedRows.{actor_passed}
 use Rattle.scope_checks.specs.Passes.{Passes}
 use Rattle.scope_rows.specs.declared.records.ScopeRow.{ScopeRow}
-use Rattle.scope_rows.specs.Agreement.{AreRowsOf, IsScopeRow}
+use Rattle.scope_rows.specs.declared.records.TaskRow.{TaskRow}
+use Rattle.scope_rows.specs.Agreement.{AreRowsOf, IsScopeRow, IsTaskRow}
 use Rattle.scope_rows.specs.Table.{RowTable, scope_row}
 use Rattle.scope_rows.proofs.Joinings.{joined_is_some}
 use Rattle.scope_rows.proofs.Places.{scope_at, scope_row_is}
@@ -86,6 +92,26 @@ unfolding task_check
 task_there h k passed none =
     let some : is_some (forking h k) ≡ true = not_not _ (not_refused _ _ (if_refused _ _ _ passed)) in
     absurd (cc (some, ap is_some none))
+
+-- the fork of a task that has a row stands at the row's place
+pub fork_within : (h : History) (k : ℕ) (r : TaskRow) → IsTaskRow h k r → r.place < length h.events
+fork_within h k r row = omega (arith, row.place, forking_within h k row.forked row.is)
+
+pub fork_read : (h : History) (k : ℕ) (r : TaskRow) (e : Event) → IsTaskRow h k r → e ≡ slice_index_or h.events r.place e → (actor : ℕ) × (label : Label) × (e ≡ Fork actor r.scope label)
+fork_read h k r e row read =
+    let f = row.forked in
+    let there : slice_get h.events r.place ≡ Some (Fork f.actor f.scope f.label) = ap (slice_get h.events) (sym row.place) ∙ forking_event h k f row.is in
+    let here : Some e ≡ Some (Fork f.actor f.scope f.label) = sym (slice_get_read h.events (length h.events) r.place e refl (fork_within h k r row) read) ∙ there in
+    let is : e ≡ Fork f.actor f.scope f.label = cc in
+    (f.actor, f.label, is ∙ ap (λ s. Fork f.actor s f.label) row.scope)
+
+pub fork_there : (h : History) (k : ℕ) (r : TaskRow) (e : Event) → IsTaskRow h k r → e ≡ slice_index_or h.events r.place e → forking_of r.place e ≡ forking h k
+fork_there h k r e row read =
+    let f = row.forked in
+    let there : slice_get h.events f.place ≡ Some (Fork f.actor f.scope f.label) = forking_event h k f row.is in
+    let here : Some e ≡ Some (Fork f.actor f.scope f.label) = sym (slice_get_read h.events (length h.events) r.place e refl (fork_within h k r row) read) ∙ (ap (slice_get h.events) (sym row.place) ∙ there) in
+    let is : e ≡ Fork f.actor f.scope f.label = cc in
+    ap (forking_of r.place) is ∙ (ap (λ n. Some (record f { place = n })) (sym row.place) ∙ sym row.is)
 
 -- an actor that passes has an environment
 pub env_there : (h : History) (t : EnvTable) (a : ℕ) → AreEnvsOf h t → Passes (actor_check h a) → HasEnv t a

@@ -7,7 +7,6 @@ use crate::realm::KeptRealm;
 use join_rules::StoredTest;
 use scope_checks::{Readings, Told, table};
 use scope_journal::weight;
-use scope_kept::Kept;
 use scope_rules::types::answers::ForkReply;
 use scope_rules::types::bases::Base;
 use scope_rules::types::events::Event;
@@ -77,10 +76,7 @@ impl KeptRealm {
         let (Ok(answered), Ok(base)) = (self.base_after(alloc), self.base_after(alloc)) else {
             return Err(Refusal::Memory);
         };
-        let Ok(kept) = Kept::with_base(alloc, &base) else {
-            return Err(Refusal::Memory);
-        };
-        self.restart(base, kept);
+        self.restart(base);
         Ok(answered)
     }
 }

@@ -1,25 +1,32 @@
 //! What checks and questions ask of a realm, read off what is kept. Of a scope or task without a row it says
 //! what the rules say of one that was never opened or forked.
 
-ghost use Rattle.std.specs.Prelude.{◌≡◌, ◌==◌, ◌&&◌, ◌<◌, ◌^◌, Some, IsSome, is_some, not, if◌then◌else◌, MatchOption};
-ghost use Rattle.scope_rules.specs.History.{opening, forking};
+ghost use Rattle.std.specs.Prelude.{◌≡◌, ℕ, ◌==◌, ◌&&◌, ◌<◌, ◌^◌, Some, IsSome, is_some, not, option_map, if◌then◌else◌, MatchOption};
+ghost use Rattle.scope_rules.specs.declared.types.events.Event.TheVariants.{Fork};
+ghost use Rattle.scope_rules.specs.declared.types.values.Label.{Label};
+ghost use Rattle.scope_rules.specs.History.{opening, forking, forking_of};
 ghost use Rattle.scope_rules.specs.Checks.{actor_check};
 ghost use Rattle.scope_rules.specs.Legal.{Legal};
 ghost use Rattle.scope_rules.specs.Nests.{tasks_of};
+ghost use Rattle.scope_rules.specs.Outcomes.{outcome};
+ghost use Rattle.scope_rules.specs.Replies.{outcome_check};
 ghost use Rattle.scope_rules.specs.Scopes.{forked_in, surrounding, level};
 ghost use Rattle.scope_rows.specs.Agreement.{AreRowsOf, IsScopeRow, IsTaskRow};
 ghost use Rattle.scope_checks.specs.Passes.{Passes};
 ghost use Rattle.scope_cuts.specs.CutsOf.{AreCutsOf};
 ghost use Rattle.scope_cuts.specs.Coming.{IsNextDeadline, NoDeadlineComes};
 ghost use Rattle.scope_envs.specs.Agreement.{AreEnvsOf};
+ghost use Rattle.scope_outcomes.specs.Bare.{bare_of};
 ghost use Rattle.kept_realm.specs.Readings.{counts_some, opened_as_high};
 
 use crate::realm::KeptRealm;
 use scope_checks::Readings;
 use scope_cuts::Cuts;
 use scope_envs::Envs;
+use scope_outcomes::BareOutcome;
 use scope_rows::{Rows, ScopeRow, TaskRow};
 use scope_rules::types::answers::{Counts, Effective, Stage, State, Verdict};
+use scope_rules::types::events::Event;
 use scope_rules::types::names::Name;
 use scope_rules::types::outcomes::Outcome;
 use scope_rules::types::records::{Cut, Forking, Opening};
@@ -82,6 +89,15 @@ impl KeptRealm {
         self.kept.forks().of(scope)
     }
 
+    /// What the join of the scope answered, without the lists. It takes no memory, and constant time.
+    #[tactic(auto, using(crate::proofs::There::joined_there, crate::proofs::There::joined_row, crate::proofs::There::joined_forks))]
+    pub fn bare_outcome(&self, scope: ScopeId) -> BareOutcome
+        requires { Passes (outcome_check self.now.history scope) }
+        ensures { option_map bare_of (outcome self.now.history scope) ≡ Some result }
+    {
+        scope_outcomes::bare_outcome(self.rows(), self.cuts(), self.kept.forks(), scope)
+    }
+
     /// The scope that lies around whatever the actor opens next.
     #[tactic(auto, unfolding(scope_rules::specs::Scopes::surrounding))]
     fn surrounding(&self, actor: Actor) -> Option<ScopeId>
@@ -99,7 +115,7 @@ impl KeptRealm {
         ensures { result ≡ forked_in self.now.history actor }
     {
         match self.task_row(actor) {
-            Some(row) => Some(row.forking.scope),
+            Some(row) => Some(row.scope),
             None => None,
         }
     }
@@ -153,11 +169,11 @@ impl Readings for KeptRealm {
         }
     }
 
+    #[tactic(auto, using(crate::proofs::There::fork_within, crate::proofs::There::fork_read, crate::proofs::There::fork_there))]
     fn forking(&self, task: TaskId) -> Option<Forking> {
-        match self.task_row(task) {
-            Some(row) => Some(row.forking),
-            None => None,
-        }
+        let row = self.task_row(task)?;
+        let place = row.place as usize;
+        Some(forking_at(&self.journal.events()[place], place, row.scope))
     }
 
     #[tactic(auto, using(scope_rows::proofs::Joinings::joined_is_some, crate::proofs::NeverOpened::unjoined))]
@@ -304,6 +320,23 @@ impl Readings for KeptRealm {
 
     fn inner(&self, scope: ScopeId) -> Option<ScopeId> {
         scope_rows::nests::inner(self.rows(), scope)
+    }
+}
+
+/// The forking that the event at the place is, a fork in the scope. Who asks it for the scope alone, or
+/// whether there is one, reads no event.
+fn forking_at(event: &Event, place: usize, scope: ScopeId) -> Forking
+    requires { (actor : ℕ) × (label : Label) × (event.now ≡ Fork actor scope label) }
+    ensures { Some result ≡ forking_of place event.now }
+{
+    match *event {
+        Event::Fork { actor, label, .. } => Forking {
+            place,
+            actor,
+            scope,
+            label,
+        },
+        _ => unreachable!(),
     }
 }
 

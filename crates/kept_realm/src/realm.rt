@@ -160,15 +160,14 @@ impl KeptRealm {
         }
     }
 
-    /// Leaves the base alone, which is the history's, and what is kept of that.
-    pub(crate) fn restart(&mut self, base: Base, kept: Kept)
-        requires base { base ≡ base_of self.old.history }
-        requires kept { IsKeptOf (record { base = base; events = [] }) kept }
+    /// Leaves the base alone, which is the history's, and what is kept of that. It takes no memory.
+    pub(crate) fn restart(&mut self, base: Base)
+        requires { base ≡ base_of self.old.history }
         ensures { self.new ≡ starting self.old.limits base }
     {
         self.trails = Trails::new(self.journal.allocator(), base.scopes());
+        self.kept.restart(&base);
         self.journal.restart(base);
-        self.kept = kept;
     }
 
     /// The base that the realm's history leaves. Refused where memory is.

@@ -46,7 +46,7 @@ fn scope_of_task(rows: &Rows, task: TaskId) -> Option<ScopeId>
     ensures { (h : History) → AreRowsOf h rows.now → result ≡ scope_of_task h task }
 {
     match rows.task(task) {
-        Some(row) => Some(row.forking.scope),
+        Some(row) => Some(row.scope),
         None => None,
     }
 }

@@ -1,6 +1,5 @@
 -- A scope that was never opened is not cancelled.
-use Rattle.std.proofs.Common.{◌≡◌, ℕ, false, is_some, Option, None, refl, ap}
-use Rattle.scope_rules.specs.declared.types.records.Cut.{Cut}
+use Rattle.std.proofs.Common.{◌≡◌, ℕ, false, is_some, None, refl, ap}
 use Rattle.scope_rules.specs.History.{History, opening}
 use Rattle.scope_rules.specs.Cancels.{cut, is_cancelled}
 use Rattle.scope_rules.proofs.Nesting.{IsOpened}

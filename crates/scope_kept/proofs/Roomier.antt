@@ -5,8 +5,6 @@ use Rattle.scope_rows.specs.Table.{RowTable}
 use Rattle.scope_rows.specs.Agreement.{AreRowsOf}
 use Rattle.scope_rows.specs.DeadlineTable.{DeadlineTable}
 use Rattle.scope_rows.specs.DeadlinesOf.{AreDeadlinesOf}
-use Rattle.scope_envs.specs.EnvTable.{EnvTable}
-use Rattle.scope_envs.specs.Agreement.{AreEnvsOf}
 use Rattle.scope_outcomes.specs.ForkTable.{ForkTable}
 use Rattle.scope_outcomes.specs.ForksOf.{AreForksOf}
 use Rattle.scope_cuts.specs.CutTables.{CutTable}

@@ -6,6 +6,7 @@ ghost use Rattle.scope_rows.specs.Table.{HasTask, scope_of};
 ghost use Rattle.scope_rules.specs.History.{History, forking};
 ghost use Rattle.scope_kept.specs.KeptTables.{IsKeptOf, HasRoomToFork, all_counts};
 ghost use Rattle.scope_rules.specs.declared.types.capacity.Limits.{Limits};
+ghost use Rattle.scope_rules.specs.declared.types.values.Label.{Label};
 ghost use Rattle.scope_rules.specs.Legal.{Legal};
 ghost use Rattle.scope_rules.specs.Scopes.{forked_in, surrounding};
 ghost use Rattle.scope_rules.specs.Cancels.{is_cancelled};
@@ -16,10 +17,9 @@ use crate::closing::cancel_covered;
 use crate::completing::complete;
 use crate::kept::Kept;
 use join_rules::StoredTest;
-use scope_rules::types::records::{Forking, Opening};
+use scope_rules::types::records::Opening;
 use scope_rules::{
-    Actor, CauseKind, Completion, Counts, End, Event, Label, Name, Options, Policy, ScopeId,
-    TaskId, Value,
+    Actor, CauseKind, Completion, Counts, End, Event, Name, Options, Policy, ScopeId, TaskId, Value,
 };
 use std::alloc::AllocError;
 
@@ -125,11 +125,10 @@ impl Kept {
         &mut self,
         actor: Actor,
         scope: ScopeId,
-        label: Label,
         place: usize,
     ) -> Result<(), AllocError>
-        requires { IsReadyAt self.old (Event.Fork actor scope label) place }
-        ensures followed { OnOk result (HasFollowedAt self.old (Event.Fork actor scope label) place self.new) }
+        requires { (label : Label) × IsReadyAt self.old (Event.Fork actor scope label) place }
+        ensures followed { OnOk result ((label : Label) → HasFollowedAt self.old (Event.Fork actor scope label) place self.new) }
         ensures refused { OnErr result ((L : Limits) (h : History) → Legal L h → IsKeptOf h self.old → IsKeptOf h self.new) }
     {
         let cancelled = self.is_cancelled(scope);
@@ -139,13 +138,7 @@ impl Kept {
         self.forks.reserve(scope)?;
         self.cuts.reserve(scope, more)?;
         self.envs.fork(actor)?;
-        let forking = Forking {
-            place,
-            actor,
-            scope,
-            label,
-        };
-        self.rows.fork(forking, cancelled);
+        self.rows.fork(scope, place as u32, cancelled);
         self.forks.fork(scope, task);
         Ok(())
     }
@@ -209,7 +202,7 @@ impl Kept {
         ensures agrees { (h : History) → IsKeptOf h self.now → option_map (λ f. f.scope) (forking h task) ≡ Some result }
     {
         match self.rows.task(task) {
-            Some(row) => row.forking.scope,
+            Some(row) => row.scope,
             None => unreachable!(),
         }
     }
@@ -265,7 +258,7 @@ impl Kept {
         ensures { (h : History) → IsKeptOf h self.now → result ≡ forked_in h actor }
     {
         match self.rows.task(actor) {
-            Some(row) => Some(row.forking.scope),
+            Some(row) => Some(row.scope),
             None => None,
         }
     }

@@ -3,6 +3,7 @@ ghost use Rattle.std.specs.Borrow.{sem};
 ghost use Rattle.scope_rules.specs.declared.types.capacity.Limits.{Limits};
 ghost use Rattle.scope_rules.specs.History.{History};
 ghost use Rattle.scope_rules.specs.Legal.{Legal};
+ghost use Rattle.scope_rules.specs.Replies.{base_of};
 ghost use Rattle.scope_cuts.specs.CutsOf.{IsCancelOrderOf};
 ghost use Rattle.scope_cuts.specs.Lent.{scopes_of};
 ghost use Rattle.scope_kept.specs.KeptTables.{IsKeptOf};
@@ -68,6 +69,19 @@ impl Kept {
             deadlines: OwnDeadlines::new(alloc, base.scopes()),
             alloc,
         })
+    }
+
+    /// Lets all go but what is kept of the base, which the history leaves. It takes no memory, and keeps
+    /// that of the rows and the environments for what comes.
+    pub fn restart(&mut self, base: &Base)
+        requires { (h : History) × IsKeptOf h self.old × (base.now ≡ base_of h) }
+        ensures { IsKeptOf (record { base = base.now; events = [] }) self.new }
+    {
+        self.rows.restart(base.scopes(), base.tasks());
+        self.envs.restart(base.tasks());
+        self.cuts = Cuts::new(self.alloc, base.scopes(), base.moment());
+        self.forks = Forks::new(self.alloc, base.scopes());
+        self.deadlines = OwnDeadlines::new(self.alloc, base.scopes());
     }
 }
 

@@ -39,11 +39,7 @@ pub fn follow(
             policy,
             options,
         } => return kept.open(actor, policy, options, listed, place),
-        Event::Fork {
-            actor,
-            scope,
-            label,
-        } => return kept.fork(actor, scope, label, place),
+        Event::Fork { actor, scope, .. } => return kept.fork(actor, scope, place),
         Event::Move { scope, deadline } => return kept.move_deadline(scope, deadline, place),
         Event::Bind { actor, binding } => return kept.bind(actor, binding.key, binding.value),
         Event::Reject { task } => kept.reject(task),

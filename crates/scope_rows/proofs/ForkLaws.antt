@@ -52,9 +52,12 @@ module _ (L : Limits) (h : History) (t : RowTable) (f : Forking) (cancelled : Bo
   inner a = innermost_same h (Fork f.actor f.scope f.label) a refl (λ n. refl)
 
   -- the row of the new task is right
-  new_row : IsTaskRow (followed h (Fork f.actor f.scope f.label)) (tasks h + 1) (new_task_row f cancelled)
+  new_row : IsTaskRow (followed h (Fork f.actor f.scope f.label)) (tasks h + 1) (new_task_row f.scope f.place cancelled)
   new_row = record {
-    forking = forking_is;
+    forked = f;
+    is = forking_is;
+    scope = refl;
+    place = refl;
     stage = stage_is;
     state = state_is (followed h (Fork f.actor f.scope f.label)) (tasks h + 1) f forking_is ∙ ap (λ (o : Option Ending). option_map_or (state_of (followed h (Fork f.actor f.scope f.label)) f) o Unavailable) unended;
     innermost = inner (tasks h + 1) ∙ unforked_innermost L h (tasks h + 1) legal (λ same. absurd (omega (arith, same))) (next_unforked h);
@@ -88,9 +91,9 @@ module _ (L : Limits) (h : History) (t : RowTable) (f : Forking) (cancelled : Bo
       ]
 
   -- the rows of all tasks
-  forked_tasks : (i : ℕ) (r : TaskRow) → slice_get (t.tasks ++ new_task_row f cancelled ∷ []) i ≡ Some r → IsTaskRow (followed h (Fork f.actor f.scope f.label)) (t.tasks_before + 1 + i) r
+  forked_tasks : (i : ℕ) (r : TaskRow) → slice_get (t.tasks ++ new_task_row f.scope f.place cancelled ∷ []) i ≡ Some r → IsTaskRow (followed h (Fork f.actor f.scope f.label)) (t.tasks_before + 1 + i) r
   forked_tasks i r at =
-      elim (pushed_split t.tasks (new_task_row f cancelled) i r at) [
+      elim (pushed_split t.tasks (new_task_row f.scope f.place cancelled) i r at) [
         | inl old ↦ task_kept L h (Fork f.actor f.scope f.label) ((t.tasks_before + 1) + i) r legal (are.tasks i r old) refl refl refl (inner ((t.tasks_before + 1) + i))
         | inr new ↦
             let number : tasks h + 1 ≡ (t.tasks_before + 1) + i = omega (arith, new.0, are.tasks_before, are.task_count) in
@@ -98,7 +101,7 @@ module _ (L : Limits) (h : History) (t : RowTable) (f : Forking) (cancelled : Bo
       ]
 
   -- the rows with the new task agree after the fork
-  pub rows_forked : AreRowsOf (followed h (Fork f.actor f.scope f.label)) (forked t f cancelled)
+  pub rows_forked : AreRowsOf (followed h (Fork f.actor f.scope f.label)) (forked t f.scope f.place cancelled)
   rows_forked = record {
     scopes_before = are.scopes_before;
     tasks_before = are.tasks_before;
@@ -106,7 +109,7 @@ module _ (L : Limits) (h : History) (t : RowTable) (f : Forking) (cancelled : Bo
     scope_count = altered_length (recount (count_fork cancelled)) t.scopes (place_of t.scopes_before f.scope) ∙ (are.scope_count ∙ sym (count_same is_open h (Fork f.actor f.scope f.label) refl));
     task_count =
         let grown : forked_count (followed h (Fork f.actor f.scope f.label)) ≡ forked_count h + 1 = omega (arith, count_push is_fork h.events (Fork f.actor f.scope f.label)) in
-        omega (arith, length-append t.tasks (new_task_row f cancelled ∷ []), are.task_count, grown);
+        omega (arith, length-append t.tasks (new_task_row f.scope f.place cancelled ∷ []), are.task_count, grown);
     scopes = forked_scopes;
     tasks = forked_tasks;
   }

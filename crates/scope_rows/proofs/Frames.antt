@@ -27,6 +27,7 @@ use Rattle.scope_rules.proofs.TallySteps.{tally}
 use Rattle.scope_rules.proofs.VerdictSteps.{violated_grows}
 use Rattle.scope_rows.specs.declared.records.ScopeRow.{ScopeRow}
 use Rattle.scope_rows.specs.declared.records.TaskRow.{TaskRow}
+use Rattle.scope_rows.specs.Table.{inner_of}
 use Rattle.scope_rows.specs.Agreement.{IsScopeRow, IsTaskRow}
 use Rattle.scope_rows.proofs.Joinings.{joining_grows}
 
@@ -78,11 +79,14 @@ scope_kept h e s r it unjoined unbegun unended unviolated same =
     (joining_same h e s unjoined ∙ it.joined) (closing_same h e s unbegun ∙ it.closing) (closed_same h e s unended ∙ it.closed) (violated_same h e s unviolated ∙ it.violated) (same ∙ it.counts)
 
 -- a row of a task after one event more, by what the event may change
-pub task_on : (h : History) (e : Event) (k : ℕ) (r : TaskRow) (x : Stage) (y : State) (i : Option ℕ) → IsTaskRow h k r
-    → stage (followed h e) k ≡ x → state (followed h e) k ≡ y → innermost (followed h e) k ≡ i
-    → IsTaskRow (followed h e) k (record r { stage = x; state = y; innermost = i })
-task_on h e k r x y i it stage state innermost = record {
-  forking = forking_stays h e k r.forking it.forking;
+pub task_on : (h : History) (e : Event) (k : ℕ) (r : TaskRow) (x : Stage) (y : State) (n : ℕ) → IsTaskRow h k r
+    → stage (followed h e) k ≡ x → state (followed h e) k ≡ y → innermost (followed h e) k ≡ inner_of n
+    → IsTaskRow (followed h e) k (record r { stage = x; state = y; innermost = n })
+task_on h e k r x y n it stage state innermost = record {
+  forked = it.forked;
+  is = forking_stays h e k it.forked it.is;
+  scope = it.scope;
+  place = it.place;
   stage = stage;
   state = state;
   innermost = innermost;
@@ -94,12 +98,12 @@ no_end k i (Finish task end) none = ap (λ b. cond b (Some (record { place = i; 
 no_end k i _ none = refl
 
 -- an event that says nothing of the task leaves its stage and state
-pub task_moved : (L : Limits) (h : History) (e : Event) (k : ℕ) (r : TaskRow) (i : Option ℕ) → Legal L h → IsTaskRow h k r → rejects k e ≡ false → starts k e ≡ false → finishes k e ≡ false → innermost (followed h e) k ≡ i
-    → IsTaskRow (followed h e) k (record r { innermost = i })
-task_moved L h e k r i legal it unrejected unstarted unfinished inner =
-    task_on h e k r r.stage r.state i it
-    (stage_same L h e k r.forking legal it.forking unrejected unstarted unfinished ∙ it.stage)
-    (state_stays L h e k r.forking legal it.forking (no_end k (length h.events) e unfinished) ∙ it.state)
+pub task_moved : (L : Limits) (h : History) (e : Event) (k : ℕ) (r : TaskRow) (n : ℕ) → Legal L h → IsTaskRow h k r → rejects k e ≡ false → starts k e ≡ false → finishes k e ≡ false → innermost (followed h e) k ≡ inner_of n
+    → IsTaskRow (followed h e) k (record r { innermost = n })
+task_moved L h e k r n legal it unrejected unstarted unfinished inner =
+    task_on h e k r r.stage r.state n it
+    (stage_same L h e k it.forked legal it.is unrejected unstarted unfinished ∙ it.stage)
+    (state_stays L h e k it.forked legal it.is (no_end k (length h.events) e unfinished) ∙ it.state)
     inner
 
 -- and its row, where the innermost scope stays

@@ -1,14 +1,16 @@
 -- The rows of tasks, and main's innermost scope, after an event that moves the innermost scope of one actor.
-use Rattle.std.proofs.Common.{◌≡◌, ◌≢◌, ℕ, ◌+◌, ◌==◌, Bool, true, false, cond, Option, Some, length, slice_get, refl, ap, sym, subst, ◌∙◌, arith, inl, inr}
-use Rattle.std.proofs.lemmas.Bool.{eqb-true, eq-eqb}
+use Rattle.std.proofs.Common.{◌≡◌, ◌≢◌, ℕ, ◌+◌, ◌==◌, Bool, true, false, cond, Option, Some, None, unwrap_or, length, slice_get, refl, ap, sym, subst, ◌∙◌, arith, inl, inr}
+use Rattle.std.proofs.lemmas.Bool.{eqb-true, eq-eqb, ne_eqb}
 use Rattle.scope_rules.specs.declared.types.capacity.Limits.{Limits}
 use Rattle.scope_rules.specs.declared.types.events.Event.{Event}
 use Rattle.scope_rules.specs.History.{History, followed}
 use Rattle.scope_rules.specs.Scopes.{innermost}
 use Rattle.scope_rules.specs.Tasks.{rejects, starts, finishes}
 use Rattle.scope_rules.specs.Legal.{Legal}
+use Rattle.scope_rules.proofs.Earlier.{scope_given}
+use Rattle.scope_rules.proofs.Innermosts.{innermost_unclosed}
 use Rattle.scope_rows.specs.declared.records.TaskRow.{TaskRow}
-use Rattle.scope_rows.specs.Table.{RowTable, HasActor, HasTask, place_of}
+use Rattle.scope_rows.specs.Table.{RowTable, HasActor, HasTask, inner_of, place_of}
 use Rattle.scope_rows.specs.Agreement.{AreRowsOf, IsTaskRow}
 use Rattle.scope_rows.specs.Steps.{altered, with_inner, main_with, tasks_with}
 use Rattle.scope_rows.proofs.Altering.{altered_length, altered_split}
@@ -19,6 +21,14 @@ use Rattle.scope_rows.proofs.Frames.{task_moved, task_kept}
 not_main : (t : RowTable) (a : ℕ) → (a == 0) ≡ false → HasActor t a → HasTask t a
 not_main t a other (inl main) = absurd (cc (other, eq-eqb a 0 main))
 not_main t a other (inr has) = has
+
+-- an innermost scope has a number, which is not 0
+inner_numbered : (h : History) (a : ℕ) (i : Option ℕ) → innermost h a ≡ i → inner_of (unwrap_or i 0) ≡ i
+inner_numbered h a None is = refl
+inner_numbered h a (Some n) is =
+    let it = innermost_unclosed h a n is in
+    let number = scope_given h n it.opened it.is in
+    ap (λ b. cond b None (Some n)) (ne_eqb n 0 (λ zero. absurd (omega (arith, number.0, zero))))
 
 module _ (L : Limits) (h : History) (e : Event) (t : RowTable) (a : ℕ) (i : Option ℕ) (legal : Legal L h) (are : AreRowsOf h t) (has : HasActor t a) (none : (j : ℕ) → (rejects j e ≡ false) × (starts j e ≡ false) × (finishes j e ≡ false)) (now : innermost (followed h e) a ≡ i) (others : (b : ℕ) → b ≢ a → innermost (followed h e) b ≡ innermost h b) where
   main_by : (b : Bool) → (a == 0) ≡ b → innermost (followed h e) 0 ≡ cond b i t.main_innermost
@@ -45,7 +55,7 @@ module _ (L : Limits) (h : History) (e : Event) (t : RowTable) (a : ℕ) (i : Op
             let number : (t.tasks_before + 1) + j ≡ a = ap (λ n. (t.tasks_before + 1) + n) here.0 ∙ number_at t.tasks_before a task.0 in
             let was = subst (λ n. IsTaskRow h n here.1.was) number (are.tasks j here.1.was here.1.at) in
             let un = none a in
-            subst (λ n. IsTaskRow (followed h e) n r) (sym number) (subst (λ x. IsTaskRow (followed h e) a x) here.1.is (task_moved L h e a here.1.was i legal was un.0 un.1 un.2 now))
+            subst (λ n. IsTaskRow (followed h e) n r) (sym number) (subst (λ x. IsTaskRow (followed h e) a x) here.1.is (task_moved L h e a here.1.was (unwrap_or i 0) legal was un.0 un.1 un.2 (now ∙ sym (inner_numbered (followed h e) a i now))))
         | inr there ↦ kept j r there.1 (number_apart t.tasks_before j a task.0 there.0)
       ]
 

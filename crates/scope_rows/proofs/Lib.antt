@@ -21,6 +21,7 @@ pub mod Walks
 pub mod MarkLaws
 pub mod CloseLaws
 pub mod CloseWriting
+pub mod Paid
 pub mod WantsMet
 pub mod DeadlineSteps
 pub mod LevelLimit

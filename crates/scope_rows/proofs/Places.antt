@@ -100,6 +100,6 @@ task_row_is h t k it = row_is t.tasks_before t.tasks k it.has.0 ∙ it.at
 pub scope_of_is : (h : History) (t : RowTable) (k : ℕ) (f : Forking) → AreRowsOf h t → forking h k ≡ Some f → scope_of t k ≡ f.scope
 scope_of_is h t k f are is =
     let it = task_at h t k are (record { forked = f; is = is }) in
-    let same : Some f ≡ Some it.row.forking = sym is ∙ it.says.forking in
-    let one : f ≡ it.row.forking = cc in
-    ap (λ (o : Option TaskRow). option_map_or (λ (r : TaskRow). r.forking.scope) o 0) (task_row_is h t k it) ∙ ap (λ (x : Forking). x.scope) (sym one)
+    let same : Some it.says.forked ≡ Some f = sym it.says.is ∙ is in
+    let one : it.says.forked ≡ f = cc in
+    ap (λ (o : Option TaskRow). option_map_or (λ (r : TaskRow). r.scope) o 0) (task_row_is h t k it) ∙ (sym it.says.scope ∙ ap (λ (x : Forking). x.scope) one)

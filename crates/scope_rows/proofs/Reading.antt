@@ -11,7 +11,7 @@ use Rattle.scope_rules.specs.Scopes.{innermost}
 use Rattle.scope_rules.specs.Legal.{Legal}
 use Rattle.scope_rows.specs.declared.records.ScopeRow.{ScopeRow}
 use Rattle.scope_rows.specs.declared.records.TaskRow.{TaskRow}
-use Rattle.scope_rows.specs.Table.{RowTable, place_of, row_of, scope_row, task_row, innermost_of}
+use Rattle.scope_rows.specs.Table.{RowTable, place_of, row_of, scope_row, task_row, inner_of, innermost_of}
 use Rattle.scope_rows.specs.Agreement.{AreRowsOf, IsScopeRow, IsTaskRow}
 use Rattle.scope_rows.proofs.Places.{row_is, number_at, scope_at, task_at, scope_row_is, task_row_is}
 use Rattle.scope_rows.proofs.Unforked.{unforked_innermost}
@@ -80,7 +80,7 @@ row_before before rows n within = by (nat_lt before n) refl
     by false test = refl
 
 -- what is read of a task, or of what is none
-pub task_innermost : (L : Limits) (h : History) (t : RowTable) (a : ℕ) (o : Option TaskRow) → Legal L h → AreRowsOf h t → a ≢ 0 → task_row t a ≡ o → option_and_then (λ (r : TaskRow). r.innermost) o ≡ innermost h a
+pub task_innermost : (L : Limits) (h : History) (t : RowTable) (a : ℕ) (o : Option TaskRow) → Legal L h → AreRowsOf h t → a ≢ 0 → task_row t a ≡ o → option_and_then (λ (r : TaskRow). inner_of r.innermost) o ≡ innermost h a
 task_innermost L h t a (Some r) legal are other is = sym (task_row_says h t a r are is).innermost
 task_innermost L h t a None legal are other is =
     sym (unforked_innermost L h a legal other (λ it. absurd (cc (task_row_none h t a are is, it.is))))
@@ -89,6 +89,6 @@ task_innermost L h t a None legal are other is =
 pub innermost_says : (L : Limits) (h : History) (t : RowTable) (a : ℕ) → Legal L h → AreRowsOf h t → innermost_of t a ≡ innermost h a
 innermost_says L h t a legal are = by (a == 0) refl
   where
-    by : (b : Bool) → (a == 0) ≡ b → cond b t.main_innermost (option_and_then (λ (r : TaskRow). r.innermost) (task_row t a)) ≡ innermost h a
+    by : (b : Bool) → (a == 0) ≡ b → cond b t.main_innermost (option_and_then (λ (r : TaskRow). inner_of r.innermost) (task_row t a)) ≡ innermost h a
     by true main = sym are.main ∙ ap (innermost h) (sym (eqb-true a 0 main))
     by false other = task_innermost L h t a (task_row t a) legal are (λ same. absurd (cc (other, eq-eqb a 0 same))) refl

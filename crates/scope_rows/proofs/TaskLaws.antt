@@ -157,7 +157,7 @@ rows_taken L h t u k e to written legal are waits names so may now =
     (record {
       names = names;
       none = none;
-      task = λ r says. task_on h e k r to r.state r.innermost says now (state_stays L h e k r.forking legal says.forking (no_ending k (length h.events) e so) ∙ says.state) (innermost_same h e k none.opens_none none.ends_none ∙ says.innermost);
+      task = λ r says. task_on h e k r to r.state r.innermost says now (state_stays L h e k says.forked legal says.is (no_ending k (length h.events) e so) ∙ says.state) (innermost_same h e k none.opens_none none.ends_none ∙ says.innermost);
       counted = λ s n of had. counts_taken L h e k it.forked s n legal it.is names of had to may was now;
       elsewhere = λ s other. counts_elsewhere L h e k it.forked Waiting to legal it.is names was now s other;
     }))

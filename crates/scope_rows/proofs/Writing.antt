@@ -1,10 +1,9 @@
 -- What is written into the rows is what a step makes of them.
-use Rattle.std.proofs.Common.{◌≡◌, ℕ, ◌+◌, ◌-◌, ◌<◌, ◌==◌, Bool, false, cond, Option, Some, List, [], ◌∷◌, ◌++◌, length, get_or, slice_get, set, ap, sym, subst, ◌∙◌, arith, inl, inr}
+use Rattle.std.proofs.Common.{◌≡◌, ℕ, ◌+◌, ◌-◌, ◌<◌, ◌==◌, Bool, false, cond, Option, Some, unwrap_or, List, [], ◌∷◌, ◌++◌, length, get_or, slice_get, set, ap, sym, subst, ◌∙◌, arith, inl, inr}
 use Rattle.std.proofs.lemmas.Bool.{eq-eqb}
 use Rattle.std.specs.Option.{option_map_or, option_and_then}
 use Rattle.std.proofs.lemmas.Option.{slice_get-get_or}
 use Rattle.scope_rules.specs.declared.types.answers.Counts.{Counts}
-use Rattle.scope_rules.specs.declared.types.records.Forking.{Forking}
 use Rattle.scope_rules.specs.declared.types.records.Opening.{Opening}
 use Rattle.scope_rows.specs.declared.records.ScopeRow.{ScopeRow}
 use Rattle.scope_rows.specs.declared.records.TaskRow.{TaskRow}
@@ -22,16 +21,16 @@ scope_written f v t s at row same place within read =
     ∙ ap (λ (u : RowTable). record u { scopes = altered f u.scopes (place_of t.scopes_before s) }) same
 
 -- what is read of a task's row
-read_scope : (v t : RowTable) (k at : ℕ) (read : TaskRow) → v ≡ t → HasTask t k → at ≡ place_of t.tasks_before k → at < length t.tasks → read ≡ get_or v.tasks at read → scope_of t k ≡ read.forking.scope
+read_scope : (v t : RowTable) (k at : ℕ) (read : TaskRow) → v ≡ t → HasTask t k → at ≡ place_of t.tasks_before k → at < length t.tasks → read ≡ get_or v.tasks at read → scope_of t k ≡ read.scope
 read_scope v t k at read same has there within is =
     let found : slice_get t.tasks (place_of t.tasks_before k) ≡ Some read =
     ap (slice_get t.tasks) (sym there) ∙ (slice_get-get_or t.tasks at read within ∙ ap Some (ap (λ (u : RowTable). get_or u.tasks at read) (sym same) ∙ sym is)) in
-    ap (λ (o : Option TaskRow). option_map_or (λ (r : TaskRow). r.forking.scope) o 0) (row_is t.tasks_before t.tasks k has.0 ∙ found)
+    ap (λ (o : Option TaskRow). option_map_or (λ (r : TaskRow). r.scope) o 0) (row_is t.tasks_before t.tasks k has.0 ∙ found)
 
 -- the row of a task and the counts of its scope, changed
 pub move_written : (f : TaskRow → TaskRow) (g : Counts → Counts) (v t : RowTable) (k at of : ℕ) (read row : TaskRow) (scope : ScopeRow) (n : Counts) → v ≡ t → HasTask t k
     → at ≡ place_of t.tasks_before k → at < length t.tasks → read ≡ get_or v.tasks at read → row ≡ get_or v.tasks at row
-    → of ≡ place_of t.scopes_before read.forking.scope → of < length t.scopes → scope ≡ get_or v.scopes of scope → n ≡ g scope.counts
+    → of ≡ place_of t.scopes_before read.scope → of < length t.scopes → scope ≡ get_or v.scopes of scope → n ≡ g scope.counts
     → record v { tasks = set v.tasks at (f row); scopes = set v.scopes of (record scope { counts = n }) } ≡ moved t k f g
 move_written f g v t k at of read row scope n same has there within is_read is_row where_it inside is_scope counted =
     let tasks_are : length v.tasks ≡ length t.tasks = ap (λ (u : RowTable). length u.tasks) same in
@@ -63,14 +62,14 @@ open_written v t o parent below height scopes room last same pushed less is_belo
     ∙ ap (λ (u : RowTable). with_innermost (record u { scopes = u.scopes ++ new_scope_row o parent (innermost_of t o.actor) height ∷ []; scope_room = u.scope_room - 1 }) o.actor (Some (t.scopes_before + length t.scopes + 1))) same)))
 
 -- the row of a new task, and the counts of its scope
-pub fork_written : (v t : RowTable) (f : Forking) (cancelled : Bool) (scopes : List ScopeRow) (tasks : List TaskRow) (room : ℕ) (row : TaskRow) → v ≡ t
-    → scopes ≡ altered (recount (count_fork cancelled)) t.scopes (place_of t.scopes_before f.scope) → tasks ≡ v.tasks ++ row ∷ [] → row ≡ new_task_row f cancelled → room ≡ v.task_room - 1
-    → record v { scopes = scopes; tasks = tasks; task_room = room } ≡ forked t f cancelled
-fork_written v t f cancelled scopes tasks room row same counted pushed is_new less =
+pub fork_written : (v t : RowTable) (s place : ℕ) (cancelled : Bool) (scopes : List ScopeRow) (tasks : List TaskRow) (room : ℕ) (row : TaskRow) → v ≡ t
+    → scopes ≡ altered (recount (count_fork cancelled)) t.scopes (place_of t.scopes_before s) → tasks ≡ v.tasks ++ row ∷ [] → row ≡ new_task_row s place cancelled → room ≡ v.task_room - 1
+    → record v { scopes = scopes; tasks = tasks; task_room = room } ≡ forked t s place cancelled
+fork_written v t s place cancelled scopes tasks room row same counted pushed is_new less =
     ap (λ xs. record v { scopes = xs; tasks = tasks; task_room = room }) counted
-    ∙ (ap (λ ys. record v { scopes = altered (recount (count_fork cancelled)) t.scopes (place_of t.scopes_before f.scope); tasks = ys; task_room = room }) (pushed ∙ ap (λ (r : TaskRow). v.tasks ++ r ∷ []) is_new)
-    ∙ (ap (λ n. record v { scopes = altered (recount (count_fork cancelled)) t.scopes (place_of t.scopes_before f.scope); tasks = v.tasks ++ new_task_row f cancelled ∷ []; task_room = n }) less
-    ∙ ap (λ (u : RowTable). record u { scopes = altered (recount (count_fork cancelled)) t.scopes (place_of t.scopes_before f.scope); tasks = u.tasks ++ new_task_row f cancelled ∷ []; task_room = u.task_room - 1 }) same))
+    ∙ (ap (λ ys. record v { scopes = altered (recount (count_fork cancelled)) t.scopes (place_of t.scopes_before s); tasks = ys; task_room = room }) (pushed ∙ ap (λ (r : TaskRow). v.tasks ++ r ∷ []) is_new)
+    ∙ (ap (λ n. record v { scopes = altered (recount (count_fork cancelled)) t.scopes (place_of t.scopes_before s); tasks = v.tasks ++ new_task_row s place cancelled ∷ []; task_room = n }) less
+    ∙ ap (λ (u : RowTable). record u { scopes = altered (recount (count_fork cancelled)) t.scopes (place_of t.scopes_before s); tasks = u.tasks ++ new_task_row s place cancelled ∷ []; task_room = u.task_room - 1 }) same))
 
 -- ---- the innermost scope of a task
 
@@ -79,13 +78,14 @@ inner_place t a other (inl main) = absurd (cc (other, eq-eqb a 0 main))
 inner_place t a other (inr has) = place_within t.tasks_before (length t.tasks) a has.0 has.1
 
 -- the row of a task, with another innermost scope
-pub inner_written : (v t : RowTable) (a at : ℕ) (row : TaskRow) (i : Option ℕ) → v ≡ t → (a == 0) ≡ false → HasActor t a → at ≡ place_of v.tasks_before a → row ≡ get_or v.tasks at row
-    → record v { tasks = set v.tasks at (with_inner i row) } ≡ with_innermost t a i
-inner_written v t a at row i same other has place read =
+pub inner_written : (v t : RowTable) (a at : ℕ) (row : TaskRow) (i : Option ℕ) (n : ℕ) → v ≡ t → (a == 0) ≡ false → HasActor t a → at ≡ place_of v.tasks_before a → row ≡ get_or v.tasks at row → n ≡ unwrap_or i 0
+    → record v { tasks = set v.tasks at (record row { innermost = n }) } ≡ with_innermost t a i
+inner_written v t a at row i n same other has place read number =
     let within : place_of v.tasks_before a < length v.tasks = subst (λ (u : RowTable). place_of u.tasks_before a < length u.tasks) (sym same) (inner_place t a other has) in
-    ap (λ rows. record v { tasks = rows }) (written (with_inner i) v.tasks at (place_of v.tasks_before a) row place (omega arith) read)
+    ap (λ m. record v { tasks = set v.tasks at (record row { innermost = m }) }) number
+    ∙ (ap (λ rows. record v { tasks = rows }) (written (with_inner i) v.tasks at (place_of v.tasks_before a) row place (omega arith) read)
     ∙ (ap (λ (u : RowTable). record u { tasks = altered (with_inner i) u.tasks (place_of u.tasks_before a) }) same
-    ∙ ap (λ b. record t { main_innermost = cond b i t.main_innermost; tasks = cond b t.tasks (altered (with_inner i) t.tasks (place_of t.tasks_before a)) }) (sym other))
+    ∙ ap (λ b. record t { main_innermost = cond b i t.main_innermost; tasks = cond b t.tasks (altered (with_inner i) t.tasks (place_of t.tasks_before a)) }) (sym other)))
 
 -- the counts of a scope, changed
 pub counts_written : (g : Counts → Counts) (v t : RowTable) (s at : ℕ) (row : ScopeRow) (n : Counts) → v ≡ t → at ≡ place_of t.scopes_before s → at < length t.scopes → row ≡ get_or v.scopes at row → n ≡ g row.counts

@@ -1,5 +1,6 @@
 -- When rows agree with a history: each says what the history says of its scope or task.
 use Rattle.std.specs.Prelude.{◌≡◌, ℕ, ◌+◌, Some, length, slice_get}
+use Rattle.scope_rules.specs.declared.types.records.Forking.{Forking}
 use Rattle.scope_rules.specs.History.{History, before, opened_count, forked_count, opening, forking}
 use Rattle.scope_rules.specs.Scopes.{parent, innermost, closing, closed}
 use Rattle.scope_rules.specs.Outcomes.{joining}
@@ -8,7 +9,7 @@ use Rattle.scope_rules.specs.Tasks.{stage, state, counts}
 use Rattle.scope_rules.specs.Bindings.{stack}
 use Rattle.scope_rows.specs.declared.records.ScopeRow.{ScopeRow}
 use Rattle.scope_rows.specs.declared.records.TaskRow.{TaskRow}
-use Rattle.scope_rows.specs.Table.{RowTable}
+use Rattle.scope_rows.specs.Table.{RowTable, inner_of}
 
 -- the row says what the history says of scope s
 pub record IsScopeRow (h : History) (s : ℕ) (r : ScopeRow) : Type 0 where
@@ -23,12 +24,15 @@ pub record IsScopeRow (h : History) (s : ℕ) (r : ScopeRow) : Type 0 where
   pub violated : violated h s ≡ r.violated
   pub counts : counts h s ≡ r.counts
 
--- the row says what the history says of task k
+-- the row says what the history says of task k, and where its fork stands, which says the rest
 pub record IsTaskRow (h : History) (k : ℕ) (r : TaskRow) : Type 0 where
-  pub forking : forking h k ≡ Some r.forking
+  pub forked : Forking
+  pub is : forking h k ≡ Some forked
+  pub scope : forked.scope ≡ r.scope
+  pub place : forked.place ≡ r.place
   pub stage : stage h k ≡ r.stage
   pub state : state h k ≡ r.state
-  pub innermost : innermost h k ≡ r.innermost
+  pub innermost : innermost h k ≡ inner_of r.innermost
 
 -- the rows are those of the history
 pub record AreRowsOf (h : History) (t : RowTable) : Type 0 where

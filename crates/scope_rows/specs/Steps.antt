@@ -1,5 +1,5 @@
 -- What each call makes of the rows.
-use Rattle.std.specs.Prelude.{ℕ, zero, suc, ◌+◌, ◌-◌, ◌==◌, ◌||◌, Bool, true, false, not, Option, Some, None, List, [], ◌∷◌, ◌++◌, length, if◌then◌else◌}
+use Rattle.std.specs.Prelude.{ℕ, zero, suc, ◌+◌, ◌-◌, ◌==◌, ◌||◌, Bool, true, false, not, Option, Some, None, unwrap_or, List, [], ◌∷◌, ◌++◌, length, if◌then◌else◌}
 use Rattle.std.specs.Option.{option_and_then, option_map_or}
 use Rattle.scope_rules.specs.declared.types.answers.Counts.{Counts}
 use Rattle.scope_rules.specs.declared.types.answers.Stage.{Stage}
@@ -7,7 +7,6 @@ use Rattle.scope_rules.specs.declared.types.answers.Stage.TheVariants.{Never, Wa
 use Rattle.scope_rules.specs.declared.types.answers.State.{State}
 use Rattle.scope_rules.specs.declared.types.answers.State.TheVariants.{Unavailable}
 use Rattle.scope_rules.specs.declared.types.records.Opening.{Opening}
-use Rattle.scope_rules.specs.declared.types.records.Forking.{Forking}
 use Rattle.scope_rules.specs.Ends.{EndValue}
 use Rattle.scope_rules.specs.Tasks.{state_by_end}
 use Rattle.scope_rows.specs.declared.records.ScopeRow.{ScopeRow}
@@ -30,7 +29,7 @@ abbrev pub main_with : RowTable → ℕ → Option ℕ → Option ℕ
 main_with t a i = if a == 0 then i else t.main_innermost
 
 abbrev pub with_inner : Option ℕ → TaskRow → TaskRow
-with_inner i r = record r { innermost = i }
+with_inner i r = record r { innermost = unwrap_or i 0 }
 
 abbrev pub tasks_with : RowTable → ℕ → Option ℕ → List TaskRow
 tasks_with t a i = if a == 0 then t.tasks else altered (with_inner i) t.tasks (place_of t.tasks_before a)
@@ -117,14 +116,14 @@ count_taken _ c = record c { waiting = c.waiting - 1; never = c.never + 1 }
 abbrev pub count_finish : Counts → Counts
 count_finish c = record c { running = c.running - 1; finished = c.finished + 1 }
 
--- a task that was forked so: it never runs where its scope is cancelled
-abbrev pub new_task_row : Forking → Bool → TaskRow
-new_task_row f cancelled = record { forking = f; stage = if cancelled then Never else Waiting; state = Unavailable; innermost = None }
+-- a task that was forked in scope s by the event at the place: it never runs where the scope is cancelled
+abbrev pub new_task_row : ℕ → ℕ → Bool → TaskRow
+new_task_row s place cancelled = record { scope = s; place = place; innermost = 0; stage = if cancelled then Never else Waiting; state = Unavailable }
 
 -- the task has the next number
-abbrev pub forked : RowTable → Forking → Bool → RowTable
-forked t f cancelled =
-    record t { tasks = t.tasks ++ new_task_row f cancelled ∷ []; task_room = t.task_room - 1; scopes = altered (recount (count_fork cancelled)) t.scopes (place_of t.scopes_before f.scope) }
+abbrev pub forked : RowTable → ℕ → ℕ → Bool → RowTable
+forked t s place cancelled =
+    record t { tasks = t.tasks ++ new_task_row s place cancelled ∷ []; task_room = t.task_room - 1; scopes = altered (recount (count_fork cancelled)) t.scopes (place_of t.scopes_before s) }
 
 -- the task's row is changed, and the counts of its scope
 abbrev pub moved : RowTable → ℕ → (TaskRow → TaskRow) → (Counts → Counts) → RowTable

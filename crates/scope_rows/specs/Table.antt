@@ -1,6 +1,6 @@
 -- What rows hold: a row for each scope and each task since the base, in order of their numbers, which go
 -- on from the base's.
-use Rattle.std.specs.Prelude.{ℕ, ◌+◌, ◌-◌, ◌<◌, ◌≤◌, ◌==◌, ◌⊎◌, ◌≡◌, nat_lt, Option, None, List, [], length, slice_get, if◌then◌else◌}
+use Rattle.std.specs.Prelude.{ℕ, ◌+◌, ◌-◌, ◌<◌, ◌≤◌, ◌==◌, ◌⊎◌, ◌≡◌, nat_lt, Option, Some, None, List, [], length, slice_get, if◌then◌else◌}
 use Rattle.std.specs.Option.{option_and_then, option_map_or}
 use Rattle.scope_rows.specs.declared.records.ScopeRow.{ScopeRow}
 use Rattle.scope_rows.specs.declared.records.TaskRow.{TaskRow}
@@ -49,11 +49,15 @@ task_row t k = row_of t.tasks_before t.tasks k
 
 -- the scope in which the task was forked, or 0 where there is no row of the task
 abbrev pub scope_of : RowTable → ℕ → ℕ
-scope_of t k = option_map_or (λ r. r.forking.scope) (task_row t k) 0
+scope_of t k = option_map_or (λ r. r.scope) (task_row t k) 0
+
+-- the scope of this number, which is 0 where there is none
+abbrev pub inner_of : ℕ → Option ℕ
+inner_of n = if n == 0 then None else Some n
 
 -- the actor's innermost unclosed scope
 abbrev pub innermost_of : RowTable → ℕ → Option ℕ
-innermost_of t a = if a == 0 then t.main_innermost else option_and_then (λ r. r.innermost) (task_row t a)
+innermost_of t a = if a == 0 then t.main_innermost else option_and_then (λ r. inner_of r.innermost) (task_row t a)
 
 -- the rows of no scope and no task
 abbrev pub empty_table : ℕ → ℕ → RowTable

@@ -1,6 +1,6 @@
 //! The rows.
 
-use scope_rules::types::records::{Forking, Opening};
+use scope_rules::types::records::Opening;
 use scope_rules::{Counts, ScopeId, Stage, State};
 
 /// What is kept of a scope.
@@ -24,12 +24,18 @@ pub struct ScopeRow {
     pub counts: Counts,
 }
 
-/// What is kept of a task.
+/// What is kept of a task. What else its fork said stands in the history alone.
 #[derive(Clone, Copy)]
 pub struct TaskRow {
-    pub forking: Forking,
+    /// The scope that it was forked in.
+    pub scope: ScopeId,
+    /// The place of its fork among the events since the base.
+    pub place: u32,
+    /// The latest scope that it opened and has not closed, or 0.
+    pub innermost: ScopeId,
     pub stage: Stage,
     pub state: State,
-    /// The latest scope that it opened and has not closed.
-    pub innermost: Option<ScopeId>,
 }
+
+// It takes no more, since a realm keeps one for each task that was ever forked.
+const _: () = prove!(size_of::<TaskRow>() <= 56);

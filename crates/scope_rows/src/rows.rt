@@ -7,7 +7,7 @@ ghost use Rattle.scope_rules.specs.Scopes.{innermost};
 ghost use Rattle.scope_rules.specs.Legal.{Legal};
 ghost use Rattle.scope_rules.specs.declared.types.capacity.Limits.{Limits};
 ghost use Rattle.scope_rows.specs.Agreement.{AreRowsOf, IsScopeRow, IsTaskRow};
-ghost use Rattle.scope_rows.specs.Table.{RowTable, HasScope, HasTask, HasActor, scope_row, task_row, innermost_of, empty_table, place_of};
+ghost use Rattle.scope_rows.specs.Table.{RowTable, HasScope, HasTask, HasActor, scope_row, task_row, inner_of, innermost_of, empty_table, place_of};
 ghost use Rattle.scope_rows.specs.Steps.{restarted, with_innermost};
 ghost use Rattle.scope_rows.specs.Wants.{HasScopeNumbers, HasTaskNumbers};
 
@@ -91,7 +91,7 @@ impl Rows {
             return self.main_innermost;
         }
         match self.task(actor) {
-            Some(row) => row.innermost,
+            Some(row) => inner_of(row.innermost),
             None => None,
         }
     }
@@ -212,7 +212,14 @@ impl Rows {
             self.main_innermost = innermost;
         } else {
             let at = place_of(self.tasks_before, actor);
-            self.tasks[at].innermost = innermost;
+            self.tasks[at].innermost = innermost.unwrap_or(0);
         }
     }
+}
+
+/// The scope of this number, which is 0 where there is none.
+fn inner_of(number: u32) -> Option<ScopeId>
+    ensures { result ≡ inner_of number }
+{
+    if number == 0 { None } else { Some(number) }
 }

@@ -1,11 +1,12 @@
 //! What the events of tasks make of the rows.
 
-ghost use Rattle.std.specs.Prelude.{◌≡◌, ◌≤◌, length};
+ghost use Rattle.std.specs.Prelude.{◌≡◌, ℕ, ◌≤◌, length};
 ghost use Rattle.scope_rules.specs.History.{History, followed};
 ghost use Rattle.scope_rules.specs.Cancels.{is_cancelled};
 ghost use Rattle.scope_rules.specs.Legal.{Legal, Accepts};
 ghost use Rattle.scope_rules.specs.declared.types.capacity.Limits.{Limits};
 ghost use Rattle.scope_rules.specs.declared.types.events.Event.TheVariants.{Fork, Reject, Start, Finish};
+ghost use Rattle.scope_rules.specs.declared.types.values.Label.{Label};
 ghost use Rattle.scope_rows.specs.Agreement.{AreRowsOf};
 ghost use Rattle.scope_rows.specs.Table.{scope_of};
 ghost use Rattle.scope_rows.specs.Steps.{forked, taken, rejected, started, finished, count_fork, count_taken, count_finish, new_task_row, state_at_end};
@@ -13,22 +14,21 @@ ghost use Rattle.scope_rows.specs.Wants.{CanFork, CanBeTaken, CanFinish, HasCoun
 
 use crate::records::TaskRow;
 use crate::rows::Rows;
-use scope_rules::types::records::Forking;
-use scope_rules::{Counts, End, Stage, State, TaskId};
+use scope_rules::{Counts, End, ScopeId, Stage, State, TaskId};
 
 impl Rows {
-    /// The row of the task that is forked so, which has the next number. Where its scope is cancelled
-    /// it never runs. There is room for it.
-    pub fn fork(&mut self, forking: Forking, cancelled: bool)
+    /// The row of the task that is forked in the scope by the event at the place, which has the next
+    /// number. Where its scope is cancelled it never runs. There is room for it.
+    pub fn fork(&mut self, scope: ScopeId, place: u32, cancelled: bool)
         requires room { 1 ≤ self.old.task_room }
-        requires there { CanFork self.old forking.scope }
-        ensures rows { self.new ≡ forked self.old forking cancelled }
-        ensures agrees { (L : Limits) (h : History) → Legal L h → Accepts L h (Fork forking.actor forking.scope forking.label) → AreRowsOf h self.old → forking.place ≡ length h.events → cancelled ≡ is_cancelled h forking.scope → AreRowsOf (followed h (Fork forking.actor forking.scope forking.label)) self.new }
+        requires there { CanFork self.old scope }
+        ensures rows { self.new ≡ forked self.old scope place cancelled }
+        ensures agrees { (L : Limits) (h : History) (actor : ℕ) (label : Label) → Legal L h → Accepts L h (Fork actor scope label) → AreRowsOf h self.old → place ≡ length h.events → cancelled ≡ is_cancelled h scope → AreRowsOf (followed h (Fork actor scope label)) self.new }
     {
-        let of = self.scope_place(forking.scope);
+        let of = self.scope_place(scope);
         let row = &mut self.scopes[of];
         row.counts = with_fork(row.counts, cancelled);
-        self.tasks.push_reserved(new_row(forking, cancelled));
+        self.tasks.push_reserved(new_row(scope, place, cancelled));
     }
 
     /// The task, which waits, gets no thread.
@@ -55,7 +55,7 @@ impl Rows {
         ensures { self.new ≡ taken self.old task stage }
     {
         let at = self.task_place(task);
-        let of = self.scope_place(self.tasks[at].forking.scope);
+        let of = self.scope_place(self.tasks[at].scope);
         self.tasks[at].stage = stage;
         let row = &mut self.scopes[of];
         row.counts = with_taken(row.counts, stage);
@@ -68,7 +68,7 @@ impl Rows {
         ensures agrees { (L : Limits) (h : History) → Legal L h → Accepts L h (Finish task end) → AreRowsOf h self.old → cancelled ≡ is_cancelled h (scope_of self.old task) → AreRowsOf (followed h (Finish task end)) self.new }
     {
         let at = self.task_place(task);
-        let of = self.scope_place(self.tasks[at].forking.scope);
+        let of = self.scope_place(self.tasks[at].scope);
         let ended = &mut self.tasks[at];
         ended.stage = Stage::Finished;
         ended.state = state_at_end(end, cancelled);
@@ -77,19 +77,20 @@ impl Rows {
     }
 }
 
-/// The row of a task that is forked so.
-fn new_row(forking: Forking, cancelled: bool) -> TaskRow
-    ensures { result ≡ new_task_row forking cancelled }
+/// The row of a task that is forked in the scope by the event at the place.
+fn new_row(scope: ScopeId, place: u32, cancelled: bool) -> TaskRow
+    ensures { result ≡ new_task_row scope place cancelled }
 {
     TaskRow {
-        forking,
+        scope,
+        place,
+        innermost: 0,
         stage: if cancelled {
             Stage::Never
         } else {
             Stage::Waiting
         },
         state: State::Unavailable,
-        innermost: None,
     }
 }
 

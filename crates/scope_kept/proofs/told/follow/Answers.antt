@@ -7,7 +7,7 @@ pub open-requires : goal.open-requires
 open-requires g c = subst (λ e. IsReadyAt c.args.kept.now e c.args.place) c.in-Open.is c.requires
 
 pub fork-requires : goal.fork-requires
-fork-requires g c = subst (λ e. IsReadyAt c.args.kept.now e c.args.place) c.in-Fork.is c.requires
+fork-requires g c = (c.in-Fork.label, subst (λ e. IsReadyAt c.args.kept.now e c.args.place) c.in-Fork.is c.requires)
 
 pub move_deadline-requires : goal.move_deadline-requires
 move_deadline-requires g c = subst (λ e. IsReadyAt c.args.kept.now e c.args.place) c.in-Move.is c.requires

@@ -1,5 +1,6 @@
 use Rattle.std.proofs.Common.{◌+◌, refl, ap, sym, subst, arith}
 use Rattle.scope_rules.specs.declared.types.events.Event.TheVariants.{Fork}
+use Rattle.scope_rows.proofs.Paid.{fork_place}
 use Rattle.scope_rows.proofs.WantsMet.{can_fork}
 use Rattle.scope_cuts.specs.CutTables.{HasRow}
 use Rattle.scope_cuts.specs.CutsOf.{AreCutsOf}
@@ -17,26 +18,26 @@ use Rattle.scope_kept.proofs.kept.Kept.fork.Goals as goal
 
 pub room_to_fork-more-requires : goal.room_to_fork-more-requires
 room_to_fork-more-requires c =
-    let ready = (subst (λ t. IsReadyAt t (Fork c.args.actor c.args.scope c.args.label) c.args.place) (sym c.self.view_is) c.requires).0 in
+    let ready = (subst (λ t. IsReadyAt t (Fork c.args.actor c.args.scope c.requires.0) c.args.place) (sym c.self.view_is) c.requires.1).0 in
     let old : KeptTable = record { rows = c.self.inside.rows; cuts = c.self.inside.cuts; envs = c.self.inside.envs; forks = c.self.inside.forks; deadlines = c.self.inside.deadlines } in
-    subst (λ (t : KeptTable). HasRow t.cuts c.args.scope) c.self.view_is (fork_row old c.args.actor c.args.scope c.args.label ready)
+    subst (λ (t : KeptTable). HasRow t.cuts c.args.scope) c.self.view_is (fork_row old c.args.actor c.args.scope c.requires.0 ready)
 
 pub last_task-task-requires : goal.last_task-task-requires
 last_task-task-requires c =
-    let ready = (subst (λ t. IsReadyAt t (Fork c.args.actor c.args.scope c.args.label) c.args.place) (sym c.self.view_is) c.requires).0 in
-    let few = fork_numbers ready.limits ready.history c.self.inside.rows c.args.actor c.args.scope c.args.label ready.accepted ready.kept.rows in
+    let ready = (subst (λ t. IsReadyAt t (Fork c.args.actor c.args.scope c.requires.0) c.args.place) (sym c.self.view_is) c.requires.1).0 in
+    let few = fork_numbers ready.limits ready.history c.self.inside.rows c.args.actor c.args.scope c.requires.0 ready.accepted ready.kept.rows in
     omega (arith, few)
 
 pub overflow_add-task : goal.overflow_add-task
 overflow_add-task c =
-    let ready = (subst (λ t. IsReadyAt t (Fork c.args.actor c.args.scope c.args.label) c.args.place) (sym c.self.view_is) c.requires).0 in
-    let few = fork_numbers ready.limits ready.history c.self.inside.rows c.args.actor c.args.scope c.args.label ready.accepted ready.kept.rows in
+    let ready = (subst (λ t. IsReadyAt t (Fork c.args.actor c.args.scope c.requires.0) c.args.place) (sym c.self.view_is) c.requires.1).0 in
+    let few = fork_numbers ready.limits ready.history c.self.inside.rows c.args.actor c.args.scope c.requires.0 ready.accepted ready.kept.rows in
     omega (arith, few, c.last_task-task.ensures.number)
 
 pub reserve-requires : goal.reserve-requires
 reserve-requires c =
     let old : KeptTable = record { rows = c.self.inside.rows; cuts = c.self.inside.cuts; envs = c.self.inside.envs; forks = c.self.inside.forks; deadlines = c.self.inside.deadlines } in
-    fork_list old c.args.actor c.args.scope c.args.label (subst (λ t. IsReadyAt t (Fork c.args.actor c.args.scope c.args.label) c.args.place) (sym c.self.view_is) c.requires).0
+    fork_list old c.args.actor c.args.scope c.requires.0 (subst (λ t. IsReadyAt t (Fork c.args.actor c.args.scope c.requires.0) c.args.place) (sym c.self.view_is) c.requires.1).0
 
 pub returns-in_err-reserve-clause-refused : goal.returns-in_err-reserve-clause-refused
 returns-in_err-reserve-clause-refused c =
@@ -48,7 +49,7 @@ returns-in_err-reserve-clause-refused c =
 pub reserve-requires-2 : goal.reserve-requires-2
 reserve-requires-2 c =
     let old : KeptTable = record { rows = c.self.inside.rows; cuts = c.self.inside.cuts; envs = c.self.inside.envs; forks = c.self.inside.forks; deadlines = c.self.inside.deadlines } in
-    fork_row old c.args.actor c.args.scope c.args.label (subst (λ t. IsReadyAt t (Fork c.args.actor c.args.scope c.args.label) c.args.place) (sym c.self.view_is) c.requires).0
+    fork_row old c.args.actor c.args.scope c.requires.0 (subst (λ t. IsReadyAt t (Fork c.args.actor c.args.scope c.requires.0) c.args.place) (sym c.self.view_is) c.requires.1).0
 
 pub returns-in_err-reserve-2-clause-refused : goal.returns-in_err-reserve-2-clause-refused
 returns-in_err-reserve-2-clause-refused c =
@@ -59,14 +60,14 @@ returns-in_err-reserve-2-clause-refused c =
 
 pub fork-requires : goal.fork-requires
 fork-requires c =
-    let ready = (subst (λ t. IsReadyAt t (Fork c.args.actor c.args.scope c.args.label) c.args.place) (sym c.self.view_is) c.requires).0 in
+    let ready = (subst (λ t. IsReadyAt t (Fork c.args.actor c.args.scope c.requires.0) c.args.place) (sym c.self.view_is) c.requires.1).0 in
     let old : KeptTable = record { rows = c.self.inside.rows; cuts = c.self.inside.cuts; envs = c.self.inside.envs; forks = c.self.inside.forks; deadlines = c.self.inside.deadlines } in
-    fork_env old c.args.actor c.args.scope c.args.label ready
+    fork_env old c.args.actor c.args.scope c.requires.0 ready
 
 pub returns-in_err-fork-clause-refused : goal.returns-in_err-fork-clause-refused
 returns-in_err-fork-clause-refused c =
     let old : KeptTable = record { rows = c.self.inside.rows; cuts = c.self.inside.cuts; envs = c.self.inside.envs; forks = c.self.inside.forks; deadlines = c.self.inside.deadlines } in
-    let row = fork_row old c.args.actor c.args.scope c.args.label (subst (λ t. IsReadyAt t (Fork c.args.actor c.args.scope c.args.label) c.args.place) (sym c.self.view_is) c.requires).0 in
+    let row = fork_row old c.args.actor c.args.scope c.requires.0 (subst (λ t. IsReadyAt t (Fork c.args.actor c.args.scope c.requires.0) c.args.place) (sym c.self.view_is) c.requires.1).0 in
     on_err_anyway c.from_residual-in_err-fork.result
     (λ L h legal kept.
     let was = subst (IsKeptOf h) (sym c.self.view_is) kept in
@@ -80,38 +81,43 @@ returns-in_err-fork-clause-refused c =
       room = room_reserved h old.cuts c.reserve-2.new.self c.args.scope c.room_to_fork-more.result row c.in_ok-reserve-2.ensures.reserved enough was.room;
     })
 
+pub overflow_cast-place : goal.overflow_cast-place
+overflow_cast-place c =
+    let ready = subst (λ t. IsReadyAt t (Fork c.args.actor c.args.scope c.requires.0) c.args.place) (sym c.self.view_is) c.requires.1 in
+    omega (arith, ready.1, fork_place ready.0.limits ready.0.history c.args.actor c.args.scope c.requires.0 ready.0.legal ready.0.accepted)
+
 pub fork-requires-2-clause-there : goal.fork-requires-2-clause-there
 fork-requires-2-clause-there c =
-    let ready = (subst (λ t. IsReadyAt t (Fork c.args.actor c.args.scope c.args.label) c.args.place) (sym c.self.view_is) c.requires).0 in
-    can_fork ready.limits ready.history c.reserve_task.new.self c.args.actor c.args.scope c.args.label ready.legal ready.accepted
+    let ready = (subst (λ t. IsReadyAt t (Fork c.args.actor c.args.scope c.requires.0) c.args.place) (sym c.self.view_is) c.requires.1).0 in
+    can_fork ready.limits ready.history c.reserve_task.new.self c.args.actor c.args.scope c.requires.0 ready.legal ready.accepted
     (task_rows_roomier ready.history c.self.inside.rows c.reserve_task.new.self c.reserve_task.ensures.kept ready.kept.rows)
 
 pub fork-requires-3-clause-list : goal.fork-requires-3-clause-list
 fork-requires-3-clause-list c =
     let old : KeptTable = record { rows = c.self.inside.rows; cuts = c.self.inside.cuts; envs = c.self.inside.envs; forks = c.self.inside.forks; deadlines = c.self.inside.deadlines } in
-    still_has_forks old.forks c.reserve.new.self c.args.scope c.args.scope _ c.reserve.ensures.kept (fork_list old c.args.actor c.args.scope c.args.label (subst (λ t. IsReadyAt t (Fork c.args.actor c.args.scope c.args.label) c.args.place) (sym c.self.view_is) c.requires).0)
+    still_has_forks old.forks c.reserve.new.self c.args.scope c.args.scope _ c.reserve.ensures.kept (fork_list old c.args.actor c.args.scope c.requires.0 (subst (λ t. IsReadyAt t (Fork c.args.actor c.args.scope c.requires.0) c.args.place) (sym c.self.view_is) c.requires.1).0)
 
 pub returns-clause-followed : goal.returns-clause-followed
-returns-clause-followed c =
+returns-clause-followed c = λ label.
     let old : KeptTable = record { rows = c.self.inside.rows; cuts = c.self.inside.cuts; envs = c.self.inside.envs; forks = c.self.inside.forks; deadlines = c.self.inside.deadlines } in
     let new : KeptTable = record { rows = c.fork-2.new.self; cuts = c.reserve-2.new.self; envs = c.fork.new.self; forks = c.fork-3.new.self; deadlines = c.self.inside.deadlines } in
-    let row = fork_row old c.args.actor c.args.scope c.args.label (subst (λ t. IsReadyAt t (Fork c.args.actor c.args.scope c.args.label) c.args.place) (sym c.self.view_is) c.requires).0 in
-    subst (λ t. HasFollowedAt t (Fork c.args.actor c.args.scope c.args.label) c.args.place new) c.self.view_is
+    let row = fork_row old c.args.actor c.args.scope c.requires.0 (subst (λ t. IsReadyAt t (Fork c.args.actor c.args.scope c.requires.0) c.args.place) (sym c.self.view_is) c.requires.1).0 in
+    subst (λ t. HasFollowedAt t (Fork c.args.actor c.args.scope label) c.args.place new) c.self.view_is
     (λ L h legal ok kept at.
     let whole = subst (IsKeptOf h) c.self.view_is kept in
     let enough = subst (λ (t : KeptTable). HasRoomToFork h t.cuts c.args.scope c.room_to_fork-more.result) (sym c.self.view_is) (c.room_to_fork-more.ensures L h legal whole) in
     let rows = task_rows_roomier h c.self.inside.rows c.reserve_task.new.self c.reserve_task.ensures.kept kept.rows in
     let cuts = cuts_roomier h old.cuts new.cuts c.args.scope c.room_to_fork-more.result c.in_ok-reserve-2.ensures.reserved kept.cuts in
     record {
-      rows = c.fork-2.ensures.agrees L h legal ok rows at (c.is_cancelled-cancelled.ensures L h legal whole);
-      cuts = cuts_stay L h (Fork c.args.actor c.args.scope c.args.label) new.cuts legal cuts refl;
-      envs = c.in_ok-fork.ensures.agrees L h c.args.scope c.args.label legal kept.envs;
-      forks = c.fork-3.ensures.agrees h c.args.actor c.args.label (c.reserve.ensures.agrees h kept.forks) (ap (λ n. n + 1) (c.last_task-task.ensures.agrees h kept.rows));
-      deadlines = deadlines_stay h (Fork c.args.actor c.args.scope c.args.label) old.deadlines refl kept.deadlines;
-      room = room_forked h old.cuts new.cuts c.args.actor c.args.scope c.args.label c.room_to_fork-more.result row c.in_ok-reserve-2.ensures.reserved enough kept.room;
+      rows = c.fork-2.ensures.agrees L h c.args.actor label legal ok rows at (c.is_cancelled-cancelled.ensures L h legal whole);
+      cuts = cuts_stay L h (Fork c.args.actor c.args.scope label) new.cuts legal cuts refl;
+      envs = c.in_ok-fork.ensures.agrees L h c.args.scope label legal kept.envs;
+      forks = c.fork-3.ensures.agrees h c.args.actor label (c.reserve.ensures.agrees h kept.forks) (ap (λ n. n + 1) (c.last_task-task.ensures.agrees h kept.rows));
+      deadlines = deadlines_stay h (Fork c.args.actor c.args.scope label) old.deadlines refl kept.deadlines;
+      room = room_forked h old.cuts new.cuts c.args.actor c.args.scope label c.room_to_fork-more.result row c.in_ok-reserve-2.ensures.reserved enough kept.room;
     })
 
 pub invariant_of-self-2 : goal.invariant_of-self-2
 invariant_of-self-2 c =
     let new : KeptTable = record { rows = c.fork-2.new.self; cuts = c.reserve-2.new.self; envs = c.fork.new.self; forks = c.fork-3.new.self; deadlines = c.self.inside.deadlines } in
-    alike_next_at c.args.self.now new (Fork c.args.actor c.args.scope c.args.label) c.args.place c.requires (returns-clause-followed c)
+    alike_next_at c.args.self.now new (Fork c.args.actor c.args.scope c.requires.0) c.args.place c.requires.1 (returns-clause-followed c c.requires.0)

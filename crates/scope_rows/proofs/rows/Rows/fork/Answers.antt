@@ -11,9 +11,10 @@ use Rattle.scope_rows.proofs.rows.Rows.fork.Goals as goal
 
 pub returns-clause-rows : goal.returns-clause-rows
 returns-clause-rows c =
-    let counted = counts_written (count_fork c.args.cancelled) _ c.args.self.now c.args.forking.scope c.scope_place-of.result c.index_mut-row.result.now c.with_fork-row.result c.self.view_is c.scope_place-of.ensures.place c.scope_place-of.ensures.within c.index_mut-row.ensures.value c.with_fork-row.ensures in
-    fork_written _ c.args.self.now c.args.forking c.args.cancelled _ _ _ c.new_row.result c.self.view_is counted c.push_reserved.ensures.items c.new_row.ensures (omega (arith, c.push_reserved.ensures.len, c.push_reserved.ensures.capacity))
+    let counted = counts_written (count_fork c.args.cancelled) _ c.args.self.now c.args.scope c.scope_place-of.result c.index_mut-row.result.now c.with_fork-row.result c.self.view_is c.scope_place-of.ensures.place c.scope_place-of.ensures.within c.index_mut-row.ensures.value c.with_fork-row.ensures in
+    fork_written _ c.args.self.now c.args.scope c.args.place c.args.cancelled _ _ _ c.new_row.result c.self.view_is counted c.push_reserved.ensures.items c.new_row.ensures (omega (arith, c.push_reserved.ensures.len, c.push_reserved.ensures.capacity))
 
 pub returns-clause-agrees : goal.returns-clause-agrees
-returns-clause-agrees c = λ L h legal ok are now cut.
-    subst (λ (t : RowTable). AreRowsOf (followed h (Fork c.args.forking.actor c.args.forking.scope c.args.forking.label)) t) (sym (returns-clause-rows c)) (rows_forked L h c.args.self.now c.args.forking c.args.cancelled legal ok are now cut)
+returns-clause-agrees c = λ L h actor label legal ok are now cut.
+    subst (λ (t : RowTable). AreRowsOf (followed h (Fork actor c.args.scope label)) t) (sym (returns-clause-rows c))
+    (rows_forked L h c.args.self.now (record { place = c.args.place; actor = actor; scope = c.args.scope; label = label }) c.args.cancelled legal ok are now cut)
