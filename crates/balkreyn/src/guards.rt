@@ -5,7 +5,7 @@ ghost use Rattle.scope_rules.specs.Replies.{next_scope};
 ghost use Rattle.join_rules.specs.Joiners.{policy_of};
 ghost use Rattle.kept_realm.specs.Fits.{Fitting};
 ghost use Rattle.realm_core.specs.Calls.{SeesMore, history_seen};
-ghost use Rattle.realm_core.specs.Views.{Joins};
+ghost use Rattle.realm_core.specs.Views.{Joins, JoinsBare};
 ghost use Rattle.realm_close.specs.Closes.{ClosesBare};
 ghost use Rattle.realm_close.specs.Waiting.{IsOpenOf};
 ghost use Rattle.realm_lock.specs.Waits.{JoinsBy};
@@ -18,7 +18,7 @@ ghost use Rattle.job_runner.specs.Rooms.{DoesInRoom};
 use crate::aliases::Forks;
 use job_runner::{Answers, Clock, ForkRefusal, NamedJob, TaskCtx};
 use join_rules::Joiner;
-use realm_lock::{CloseReport, Joined, RealmName};
+use realm_lock::{BareOutcome, CloseReport, Joined, RealmName};
 use realm_steps::RealmStep;
 use scope_rules::{Catalog, Event, ForkReply, Options, Refusal, ScopeId, Verdict};
 use std::marker::Model;
@@ -102,6 +102,23 @@ impl Opened {
         ensures waited { result ≡ Err NotReady → ⊥ }
     {
         ctx.join(rt, self.scope)
+    }
+
+    /// Joins the scope and tells its outcome without the lists, as `TaskCtx::join_bare` does. That it
+    /// returns is not promised.
+    ///
+    /// # Errors
+    /// Those of `TaskCtx::join_bare`.
+    pub fn join_bare<C: Catalog, S: Spawner<N>, N: RealmName, R: Wait>(
+        &self,
+        rt: &R,
+        ctx: &mut TaskCtx<C, S, N>,
+    ) -> Result<BareOutcome, Refusal>
+        ensures answer { (ctx.new ≡ record ctx.old { token = ctx.new.token }) × JoinsBare ctx.old.token ctx.new.token self.now result }
+        ensures fitting { Fitting C.fitting (history_seen ctx.new.token) }
+        ensures waited { result ≡ Err NotReady → ⊥ }
+    {
+        ctx.join_bare(rt, self.scope)
     }
 
     /// Joins the scope by the clock, as `TaskCtx::join_by` does: deadlines pass while it waits (Trio).

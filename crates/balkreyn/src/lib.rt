@@ -26,7 +26,9 @@ pub use job_runner::{
 };
 pub use job_slots::{Promise, Slot, Typed, TypedJob, Yields, fork_into, promised};
 pub use join_rules::{CompletionTest, Joiner, UntilTest};
-pub use realm_lock::{ActorToken, CloseReport, Joined, Mark, Realm, RealmName, Seed, View};
+pub use realm_lock::{
+    ActorToken, BareOutcome, CloseReport, Joined, Mark, Realm, RealmName, Seed, View,
+};
 pub use realm_looks::{Shows, ShowsByToken};
 pub use scope_log::{LogEntry, ScopeLog};
 pub use scope_rules::{

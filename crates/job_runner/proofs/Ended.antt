@@ -1,15 +1,26 @@
 -- What the end of a context leaves.
-use Rattle.std.proofs.Common.{◌≡◌, ℕ, Bool, true, false, None, sym, ap, ◌∙◌, subst, inl, inr}
+use Rattle.std.proofs.Common.{◌≡◌, ℕ, Bool, true, false, Option, None, Some, is_some, Err, List, [], ◌∷◌, refl, sym, ap, ◌∙◌, subst, inl, inr}
 use Rattle.scope_rules.specs.declared.types.capacity.Limits.{Limits}
+use Rattle.scope_rules.specs.declared.types.answers.Stage.TheVariants.{Running}
+use Rattle.scope_rules.specs.declared.types.events.Event.TheVariants.{Finish}
+use Rattle.scope_rules.specs.declared.types.refusals.Refusal.{Refusal}
 use Rattle.scope_rules.specs.Ends.{EndValue}
+use Rattle.scope_rules.specs.History.{History}
+use Rattle.scope_rules.specs.Tasks.{stage}
+use Rattle.scope_rules.specs.Table.{check_of}
 use Rattle.scope_rules.specs.Scopes.{innermost}
 use Rattle.scope_rules.proofs.ClosingScopes.{nothing_open, nothing_runs}
-use Rattle.realm_steps.specs.Steps.{IsLegal}
-use Rattle.realm_steps.proofs.Histories.{legal_history}
+use Rattle.scope_rules.proofs.PassedRows.{finish_passed}
+use Rattle.realm_steps.specs.declared.steps.RealmStep.{RealmStep}
+use Rattle.realm_steps.specs.declared.steps.RealmStep.TheVariants.{Happened}
+use Rattle.realm_steps.specs.Steps.{history_of, IsLegal}
+use Rattle.realm_steps.proofs.Histories.{beginning_legal, legal_history}
+use Rattle.realm_steps.proofs.Waits.{started_runs}
 use Rattle.share_ledger.specs.Values.{OwnerValue, TicketValue}
-use Rattle.realm_core.specs.Calls.{Looked, history_seen}
-use Rattle.realm_core.proofs.Unopened.{innermost_still}
-use Rattle.job_runner.specs.Endings.{NothingOpen, LeavesNothing, Ended, EndsAsMay}
+use Rattle.realm_core.specs.Calls.{Added, Looked, history_seen}
+use Rattle.realm_core.specs.Tasks.{Finishes}
+use Rattle.realm_core.proofs.Unopened.{innermost_still, may_finish}
+use Rattle.job_runner.specs.Endings.{NothingOpen, LeavesNothing, Ended, EndsAsMay, has_open}
 
 -- where main has no open scope, all is over
 pub leaves_nothing : (token : OwnerValue) → NothingOpen token → LeavesNothing token
@@ -23,6 +34,34 @@ leaves_nothing token left = record {
         settled = λ k. nothing_runs token.limits (history_seen token) k legal none;
       };
 }
+
+-- an end was accepted: the token had shown no open scope
+pub ended_unopened : (old : OwnerValue) (k : ℕ) (end : EndValue) (seen : List RealmStep) → old.actor ≡ k → Added old (record old { seen = seen }) (Happened (Finish k end)) → has_open old ≡ false
+ended_unopened old k end seen same added =
+    let legal = beginning_legal old.limits added.there (Happened (Finish k end) ∷ []) (subst (IsLegal old.limits) added.is added.legal) in
+    let none : innermost (history_of added.there) k ≡ None = (finish_passed old.limits (history_of added.there) k end added.accepted).no_scope in
+    let still = innermost_still old.limits old.actor old.seen added.there added.agrees legal in
+    ap is_some (sym still ∙ (ap (innermost (history_of added.there)) same ∙ none))
+
+-- the end of a task that runs is refused for its open scope
+refused_for_scope : (L : Limits) (h : History) (k : ℕ) (end : EndValue) (r : Refusal) → stage h k ≡ Running → check_of L h (Finish k end) ≡ Err r → is_some (innermost h k) ≡ true
+refused_for_scope L h k end r runs refused = by (innermost h k) refl
+  where
+    by : (o : Option ℕ) → innermost h k ≡ o → is_some o ≡ true
+    by None is = absurd (cc (may_finish L h k end runs is, refused))
+    by (Some s) is = refl
+
+-- so where an end was refused, the token had shown one
+pub refused_open : (ticket new : TicketValue) (old : OwnerValue) (end : EndValue) (back : Refusal × OwnerValue) → old.actor ≡ ticket.task → Finishes ticket new old end (Err back) → has_open old ≡ true
+refused_open ticket new old end back same it =
+    let seen : new.seen ≡ back.1.seen = sym (ap (λ (t : OwnerValue). t.seen) it.1) in
+    let task : new.task ≡ ticket.task = ap (λ (t : TicketValue). t.task) it.0.0 in
+    let looks = it.2.looks in
+    let running = it.4 in
+    let runs : stage (history_of back.1.seen) ticket.task ≡ Running = started_runs old.limits back.1.seen ticket.task looks.legal (rw (task, seen) at running.given) (rw (task, seen) at running.started) (rw (task, seen) at running.unfinished) in
+    let open_now = refused_for_scope old.limits (history_of back.1.seen) ticket.task end back.0 runs it.2.by in
+    let still = innermost_still old.limits old.actor old.seen back.1.seen looks.agrees looks.legal in
+    ap is_some (sym still ∙ ap (innermost (history_of back.1.seen)) same) ∙ open_now
 
 -- what a look found is what the token had shown before it
 pub found_before : (old new : OwnerValue) → Looked old new → innermost (history_seen new) new.actor ≡ innermost (history_seen old) old.actor

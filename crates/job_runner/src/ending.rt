@@ -1,7 +1,6 @@
 ghost use Rattle.std.specs.Prelude.{◌≡◌, Some, None, codes};
 ghost use Rattle.scope_rules.specs.Names.{text_of};
-ghost use Rattle.scope_rules.specs.Scopes.{innermost};
-ghost use Rattle.realm_core.specs.Calls.{SeesMore, history_seen};
+ghost use Rattle.realm_core.specs.Calls.{SeesMore};
 ghost use Rattle.realm_core.specs.Tasks.{MayFinish};
 ghost use Rattle.realm_steps.specs.Tickets.{end_in};
 ghost use Rattle.thread_crew.specs.Returns.{Returns};
@@ -37,39 +36,55 @@ impl<C: Catalog, S: Spawner<N>, N: RealmName> TaskCtx<C, S, N> {
         (token.into_held(), spawner)
     }
 
-    /// Ends the context's task, whose job has come to this end: closes what the job left open, the latest
-    /// first, and records the end, which is the fault `left-open` exactly where there was such a scope. Gives
-    /// the ticket and the spawner.
+    /// Ends the context's task, whose job has come to this end, and gives the ticket and the spawner. Where the
+    /// job left a scope open, the end is refused: then it closes what is open, the latest first, and records the
+    /// fault `left-open`.
     pub(crate) fn end_task<R: Wait>(self, rt: &R, ticket: Ticket, end: End) -> (Ticket, S)
         requires { self.token.actor ≡ ticket.task → MayFinish N.table C.fitting ticket self.token end }
         ensures returns { Returns N.table ticket result.0 }
         ensures ended { Ended (has_open self.token) end result.0 }
     {
-        is_of_task(rt, self.token.held.actor(), ticket.task());
-        let mut ctx = self;
-        if ctx.close_what_is_open(rt) {
-            ctx.finish(rt, ticket, Err(left_open()))
-        } else {
-            ctx.finish(rt, ticket, end)
+        let TaskCtx {
+            alloc,
+            realm,
+            token,
+            spawner,
+            around,
+            opened,
+            team,
+        } = self;
+        let held = token.into_held();
+        is_of_task(rt, held.actor(), ticket.task());
+        match realm.lent().finish(rt, ticket, held, end) {
+            Ok(ended) => (ended, spawner),
+            Err((_, ticket, held)) => {
+                let mut ctx = TaskCtx {
+                    alloc,
+                    realm,
+                    token: OfRealm::new(held),
+                    spawner,
+                    around,
+                    opened,
+                    team,
+                };
+                ctx.close_what_is_open(rt);
+                ctx.finish(rt, ticket, Err(left_open()))
+            }
         }
     }
 
-    /// Closes the scopes of the context's actor that are not closed, the latest first, and answers whether
-    /// there was one: each close begins, joins the scope's threads, and ends.
-    fn close_what_is_open<R: Wait>(&mut self, rt: &R) -> bool
+    /// Closes the scopes of the context's actor that are not closed, the latest first: each close begins,
+    /// joins the scope's threads, and ends.
+    fn close_what_is_open<R: Wait>(&mut self, rt: &R)
         ensures token { SeesMore self.old.token self.new.token }
         ensures closed { NothingOpen self.new.token }
-        ensures found { result ≡ has_open self.old.token }
     {
-        let Some(latest) = self.innermost(rt) else {
-            return false;
-        };
-        let mut next = latest;
         for _ in rt.forever() {
-            let _how = self.close_scope_bare(rt, next);
             match self.innermost(rt) {
-                Some(scope) => next = scope,
-                None => return true,
+                Some(scope) => {
+                    let _how = self.close_scope_bare(rt, scope);
+                }
+                None => return,
             }
         }
         unreachable!()
@@ -79,7 +94,6 @@ impl<C: Catalog, S: Spawner<N>, N: RealmName> TaskCtx<C, S, N> {
     fn innermost<R: Wait>(&mut self, rt: &R) -> Option<ScopeId>
         ensures token { SeesMore self.old.token self.new.token }
         ensures legal { result ≡ None → NothingOpen self.new.token }
-        ensures answer { result ≡ innermost (history_seen self.old.token) self.old.token.actor }
     {
         let token = &mut self.token;
         self.realm.lent().innermost(rt, &mut token.held)

@@ -6,10 +6,10 @@ ghost use Rattle.scope_rules.specs.Table.{answering, until_check};
 ghost use Rattle.scope_rules.specs.Replies.{result_reply, fault_reply, binding_reply};
 ghost use Rattle.kept_realm.specs.Fits.{Fitting};
 ghost use Rattle.realm_core.specs.Calls.{Reads, history_seen};
-ghost use Rattle.realm_core.specs.Views.{Joins, MarkedViewAnswers, ViewAnswers};
+ghost use Rattle.realm_core.specs.Views.{Joins, JoinsBare, MarkedViewAnswers, ViewAnswers};
 
 use crate::contexts::TaskCtx;
-use realm_lock::{Joined, Look, Mark, Realm, RealmName, View};
+use realm_lock::{BareOutcome, Joined, Look, Mark, Realm, RealmName, View};
 use scope_rules::{Catalog, Effective, Event, Fault, Name, Refusal, ScopeId, State, TaskId, Value};
 use std::sync::Wait;
 use thread_crew::Spawner;
@@ -27,6 +27,18 @@ impl<C: Catalog, S: Spawner<N>, N: RealmName> TaskCtx<C, S, N> {
     {
         let token = &mut self.token;
         self.realm.lent().join(rt, &mut token.held, scope)
+    }
+
+    /// Joins the actor's scope as `join` does, and tells its outcome without the lists and without its
+    /// log: in constant time, and without memory. Refused as `Realm::join_bare` is. That it returns is not
+    /// promised.
+    pub fn join_bare<R: Wait>(&mut self, rt: &R, scope: ScopeId) -> Result<BareOutcome, Refusal>
+        ensures answer { (self.new ≡ record self.old { token = self.new.token }) × JoinsBare self.old.token self.new.token scope result }
+        ensures fitting { Fitting C.fitting (history_seen self.new.token) }
+        ensures waited { result ≡ Err Refusal.NotReady → ⊥ }
+    {
+        let token = &mut self.token;
+        self.realm.lent().join_bare(rt, &mut token.held, scope)
     }
 
     /// The value of the task, read by the owner of its scope after the join (JEP 505, `Subtask.get`).

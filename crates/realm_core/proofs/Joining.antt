@@ -14,8 +14,9 @@ use Rattle.realm_steps.specs.declared.steps.Holder.TheVariants.{TokenOf}
 use Rattle.realm_steps.specs.Holders.{is_own, Agrees, Looks, Adds}
 use Rattle.share_ledger.specs.Values.{OwnerValue}
 use Rattle.realm_core.specs.Calls.{SeesMore}
-use Rattle.realm_core.specs.Views.{Joins}
+use Rattle.realm_core.specs.Views.{Joins, JoinsBare}
 use Rattle.realm_core.specs.declared.joins.Joined.{Joined}
+use Rattle.scope_outcomes.specs.declared.bare.BareOutcome.{BareOutcome}
 
 nothing_more : {A : Type 0} (xs : List A) → xs ≡ xs ++ []
 nothing_more [] = refl
@@ -57,3 +58,13 @@ joins_on old new xs s (Err refusal) agrees it = (
 -- a join after looks is a join
 pub joins_later : (old now new : OwnerValue) (s : ℕ) (result : Result Joined Refusal) → SeesMore old now → Agrees (TokenOf old.actor) old.seen now.seen → Joins now new s result → Joins old new s result
 joins_later old now new s result same agrees it = joins_on old new now.seen s result agrees (subst (λ (t : OwnerValue). Joins t new s result) same it)
+
+joins_bare_on : (old new : OwnerValue) (xs : List RealmStep) (s : ℕ) (result : Result BareOutcome Refusal) → Agrees (TokenOf old.actor) old.seen xs → JoinsBare (record old { seen = xs }) new s result → JoinsBare old new s result
+joins_bare_on old new xs s (Ok answer) agrees it =
+    (it.0, (adds_on (TokenOf old.actor) old.limits old.seen xs new.seen (Happened (Join old.actor s)) agrees it.1.0, it.1.1))
+joins_bare_on old new xs s (Err refusal) agrees it =
+    (it.0, record { looks = looks_on (TokenOf old.actor) old.limits old.seen xs new.seen agrees it.1.looks; by = it.1.by })
+
+-- the same of a join that tells no lists
+pub joins_bare_later : (old now new : OwnerValue) (s : ℕ) (result : Result BareOutcome Refusal) → SeesMore old now → Agrees (TokenOf old.actor) old.seen now.seen → JoinsBare now new s result → JoinsBare old new s result
+joins_bare_later old now new s result same agrees it = joins_bare_on old new now.seen s result agrees (subst (λ (t : OwnerValue). JoinsBare t new s result) same it)

@@ -6,6 +6,7 @@ pub mod Started
 pub mod Previewed
 pub mod LaterClosing
 pub mod Ended
+pub mod BareJoins
 pub mod Closes
 mod Done
 pub mod ToldCalls

@@ -1,5 +1,5 @@
 -- What views and joins show.
-use Rattle.std.specs.Prelude.{◌≡◌, ℕ, ◌⊎◌, Some, Result, Ok, Err}
+use Rattle.std.specs.Prelude.{◌≡◌, ℕ, ◌⊎◌, Some, option_map, Result, Ok, Err}
 use Rattle.scope_rules.specs.declared.types.answers.Cause.{Cause}
 use Rattle.scope_rules.specs.declared.types.events.Event.TheVariants.{Join}
 use Rattle.scope_rules.specs.declared.types.refusals.Refusal.{Refusal}
@@ -10,6 +10,8 @@ use Rattle.scope_rules.specs.Tasks.{counts}
 use Rattle.scope_rules.specs.Outcomes.{outcome}
 use Rattle.scope_rules.specs.Checks.{scope_check}
 use Rattle.scope_log.specs.Log.{log}
+use Rattle.scope_outcomes.specs.declared.bare.BareOutcome.{BareOutcome}
+use Rattle.scope_outcomes.specs.Bare.{bare_of}
 use Rattle.realm_steps.specs.declared.steps.RealmStep.TheVariants.{Happened}
 use Rattle.share_ledger.specs.Values.{OwnerValue}
 use Rattle.realm_core.specs.declared.views.View.{View}
@@ -51,3 +53,13 @@ DidJoin old new s (Err refusal) = Refused old new (Happened (Join old.actor s)) 
 -- and nothing else of the token has changed
 abbrev pub Joins : OwnerValue → OwnerValue → ℕ → Result Joined Refusal → Type 0
 Joins old new s result = SeesMore old new × DidJoin old new s result
+
+-- what a join of scope s did that tells its outcome without the lists: it is there, and the outcome is that with it;
+-- it is never refused memory
+abbrev pub DidJoinBare : OwnerValue → OwnerValue → ℕ → Result BareOutcome Refusal → Type 0
+DidJoinBare old new s (Ok answer) = Added old new (Happened (Join old.actor s)) × (option_map bare_of (outcome (history_seen new) s) ≡ Some answer)
+DidJoinBare old new s (Err refusal) = Refused old new (Happened (Join old.actor s)) refusal
+
+-- and nothing else of the token has changed
+abbrev pub JoinsBare : OwnerValue → OwnerValue → ℕ → Result BareOutcome Refusal → Type 0
+JoinsBare old new s result = SeesMore old new × DidJoinBare old new s result

@@ -1,6 +1,6 @@
 ghost use Rattle.std.specs.Prelude.{◌≡◌, is_ok};
 ghost use Rattle.realm_core.specs.Telling.{Stepped};
-ghost use Rattle.realm_core.specs.Views.{Joins};
+ghost use Rattle.realm_core.specs.Views.{Joins, JoinsBare};
 
 use crate::RealmName;
 use crate::events::done;
@@ -8,6 +8,7 @@ use crate::state::RealmCore;
 use crate::telling::tell;
 use realm_steps::RealmStep;
 use scope_log::ScopeLog;
+use scope_outcomes::BareOutcome;
 use scope_rules::{Catalog, Event, Outcome, Refusal, ScopeId};
 use share_ledger::OwnerShare;
 
@@ -46,6 +47,27 @@ impl<C: Catalog, N: RealmName> RealmCore<C, N> {
                 self.keeper.follow(share);
                 Err(refusal)
             }
+        }
+    }
+
+    /// Joins the actor's scope, and tells its outcome without the lists and without its log. It takes no
+    /// memory. Refused as `join` is, but for memory.
+    pub fn join_bare(
+        &mut self,
+        share: &mut OwnerShare,
+        scope: ScopeId,
+    ) -> Result<BareOutcome, Refusal>
+        requires named { share.old.table ≡ N.table }
+        ensures steps { Stepped self.old self.new share.new (RealmStep.Happened (Event.Join share.old.actor scope)) (is_ok result) }
+        ensures answer { JoinsBare share.old share.new scope result }
+    {
+        let actor = share.actor();
+        let event = Event::Join { actor, scope };
+        let joined = done(&mut self.realm, event);
+        tell(&mut self.keeper, share, &event, joined.is_ok());
+        match joined {
+            Ok(()) => Ok(self.realm.realm().bare_outcome(scope)),
+            Err(refusal) => Err(refusal),
         }
     }
 }

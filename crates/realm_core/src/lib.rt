@@ -21,6 +21,7 @@ mod views;
 pub use answers::{told_done, told_noted};
 pub use forking::Forked;
 pub use joins::Joined;
+pub use scope_outcomes::BareOutcome;
 pub use share_ledger::RealmName;
 pub use state::RealmCore;
 pub use views::{View, marked_view_of, view_of};

@@ -1,10 +1,10 @@
 ghost use Rattle.std.specs.Prelude.{◌≡◌, Err};
 ghost use Rattle.kept_realm.specs.Fits.{Fitting};
 ghost use Rattle.realm_core.specs.Calls.{history_seen};
-ghost use Rattle.realm_core.specs.Views.{Joins};
+ghost use Rattle.realm_core.specs.Views.{Joins, JoinsBare};
 
 use crate::realm::Realm;
-use realm_core::{Joined, RealmName};
+use realm_core::{BareOutcome, Joined, RealmName};
 use scope_rules::{Catalog, Refusal, ScopeId};
 use share_ledger::OwnerShare;
 use std::sync::Wait;
@@ -36,6 +36,37 @@ impl<C: Catalog, N: RealmName> Realm<C, N> {
                 }
                 Ok(joined) => {
                     return Ok(joined);
+                }
+            }
+        }
+        unreachable!()
+    }
+
+    /// Joins the actor's scope as `join` does, and tells its outcome without the lists and without its
+    /// log: in constant time, and without memory. Refused as `join` is, but for memory. That it returns is
+    /// not promised.
+    pub fn join_bare<R: Wait>(
+        &self,
+        rt: &R,
+        token: &mut OwnerShare,
+        scope: ScopeId,
+    ) -> Result<BareOutcome, Refusal>
+        requires named { token.old.table ≡ N.table }
+        ensures answer { JoinsBare token.old token.new scope result }
+        ensures fitting { Fitting C.fitting (history_seen token.new) }
+        ensures waited { result ≡ Err Refusal.NotReady → ⊥ }
+    {
+        let mut locked = self.room.locked.lock(rt);
+        for _ in rt.forever() {
+            match locked.join_bare(token, scope) {
+                Err(Refusal::NotReady) => {
+                    locked = self.sleep_at(rt, locked, scope);
+                }
+                Err(refusal) => {
+                    return Err(refusal);
+                }
+                Ok(outcome) => {
+                    return Ok(outcome);
                 }
             }
         }

@@ -25,5 +25,5 @@ pub use kept_realm::KeptRealm;
 pub use looks::Look;
 pub use realm::Realm;
 pub use realm_close::CloseReport;
-pub use realm_core::{Forked, Joined, RealmName, View};
+pub use realm_core::{BareOutcome, Forked, Joined, RealmName, View};
 pub use share_ledger::{OwnerShare as ActorToken, Seed, Ticket};

@@ -15,7 +15,7 @@ ghost use Rattle.share_ledger.specs.Values.{IsWaiting, TicketValue, is_recorded_
 ghost use Rattle.realm_core.specs.Calls.{Added, DoesOrMemory, Looked, Performed, Records, SeesMore, TicketAdded, history_seen};
 ghost use Rattle.realm_core.specs.Tasks.{GivesTicket, MayFinish, Finishes, IsRunning, ticket_aside};
 ghost use Rattle.realm_core.specs.Telling.{Shown};
-ghost use Rattle.realm_core.specs.Views.{Joins};
+ghost use Rattle.realm_core.specs.Views.{Joins, JoinsBare};
 ghost use Rattle.realm_close.specs.Waiting.{FoundUnsettled, IsOpenOf};
 ghost use Rattle.realm_close.specs.Closes.{IsBegun, Begins, MayEnd, MayReport};
 ghost use Rattle.realm_lock.specs.Cells.{GivesCell};
@@ -27,13 +27,12 @@ use crate::setters::Setters;
 use cancel_marks::MarkCell;
 use join_rules::Joiner;
 use realm_close::{CloseReport, begin, end_if_settled, report_if_settled, unsettled};
-use realm_core::{Forked, Joined, RealmCore, RealmName, told_done};
+use realm_core::{BareOutcome, Forked, Joined, RealmCore, RealmName, told_done};
 use realm_steps::RealmStep;
 use scope_checks::checks::scope_check;
 use scope_checks::{Readings, Told, table};
 use scope_rules::{
-    Base, Cancelling, Catalog, End, Event, Label, Limits, Options, Refusal, ScopeId, TaskId,
-    Verdict,
+    Base, Cancelling, Catalog, End, Event, Label, Limits, Options, Refusal, ScopeId, Verdict,
 };
 use share_ledger::{OwnerShare, Seed, Ticket};
 use std::alloc::Global;
@@ -142,6 +141,24 @@ impl<C: Catalog, N: RealmName> MarkedCore<C, N> {
     {
         let _legal = self.core.limits();
         let result = self.core.join(token, scope);
+        self.setters.catch_up(&mut self.core);
+        let _fitting = self.core.limits();
+        result
+    }
+
+    /// The same, where the outcome is told without the lists.
+    #[tactic(auto, using(crate::proofs::Behind::behind_stepped))]
+    pub(crate) fn join_bare(
+        &mut self,
+        token: &mut OwnerShare,
+        scope: ScopeId,
+    ) -> Result<BareOutcome, Refusal>
+        requires named { token.old.table ≡ N.table }
+        ensures answer { JoinsBare token.old token.new scope result }
+        ensures fitting { Fitting C.fitting (history_seen token.new) }
+    {
+        let _legal = self.core.limits();
+        let result = self.core.join_bare(token, scope);
         self.setters.catch_up(&mut self.core);
         let _fitting = self.core.limits();
         result

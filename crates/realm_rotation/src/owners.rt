@@ -71,7 +71,7 @@ impl<J: Answers + Drop, Q: Drop, T: Turned> Owner<'_, J, Q, T> {
         for _ in rt.forever() {
             let scope = Opened::at(rt, ctx, Joiner::AwaitAll, Options::PLAIN)?;
             let more = self.take_turn(rt, ctx, scope.number(), clock);
-            let joined = scope.join(rt, ctx);
+            let joined = scope.join_bare(rt, ctx);
             self.end_turn(rt, ctx, scope)?;
             if let Err(refusal) = joined {
                 return Err(refusal);
