@@ -3,9 +3,10 @@ ghost use Rattle.std.specs.Prelude.{◌≡◌, MatchResult, string_bytes};
 ghost use Rattle.scope_rules.specs.declared.types.refusals.Refusal.TheVariants.{Memory};
 ghost use Rattle.history_script.specs.Script.{script_text};
 ghost use Rattle.tree_dump.specs.Tree.{dump_text};
+ghost use Rattle.tree_text.specs.Tree.{tree_text};
 ghost use Rattle.realm_core.specs.Calls.{Reads};
 
-use crate::pictures::{Journal, Tree};
+use crate::pictures::{Dump, Journal, Tree};
 use job_runner::TaskCtx;
 use realm_lock::RealmName;
 use scope_rules::{Catalog, Refusal};
@@ -23,7 +24,15 @@ pub trait ShowsByToken {
     /// This is what is left, but for what the token has seen.
     ghost kept: { Self → Self → Type 0 };
 
-    /// The tree of the scopes that are not closed, as JSON without blanks.
+    /// The tree of the scopes that are not closed, as text for a terminal.
+    ///
+    /// # Errors
+    /// `Memory`.
+    fn tree<R: Wait>(&mut self, rt: &R, alloc: Global) -> Result<String, Refusal>
+        ensures rest { Self.kept self.old self.new }
+        ensures answer { Reads (Self.token self.old) (Self.token self.new) (λ h. MatchResult result (λ text. string_bytes text ≡ tree_text h) (λ refusal. refusal ≡ Memory)) };
+
+    /// The same tree for programs, as JSON without blanks.
     ///
     /// # Errors
     /// `Memory`.
@@ -45,8 +54,12 @@ impl<C: Catalog, S: Spawner<N>, N: RealmName> ShowsByToken for TaskCtx<C, S, N> 
 
     ghost kept = { λ old new. new ≡ record old { token = new.token } };
 
-    fn dump<R: Wait>(&mut self, rt: &R, alloc: Global) -> Result<String, Refusal> {
+    fn tree<R: Wait>(&mut self, rt: &R, alloc: Global) -> Result<String, Refusal> {
         self.look(rt, Tree { alloc })
+    }
+
+    fn dump<R: Wait>(&mut self, rt: &R, alloc: Global) -> Result<String, Refusal> {
+        self.look(rt, Dump { alloc })
     }
 
     fn journal<R: Wait>(&mut self, rt: &R, alloc: Global) -> Result<String, Refusal> {

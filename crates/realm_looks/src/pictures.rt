@@ -3,6 +3,7 @@ ghost use Rattle.std.specs.Prelude.{◌≡◌, MatchResult, string_bytes};
 ghost use Rattle.scope_rules.specs.declared.types.refusals.Refusal.TheVariants.{Memory};
 ghost use Rattle.history_script.specs.Script.{script_text};
 ghost use Rattle.tree_dump.specs.Tree.{dump_text};
+ghost use Rattle.tree_text.specs.Tree.{tree_text};
 ghost use Rattle.realm_lock.specs.Looks.{IsSeen};
 
 use history_script::script_of;
@@ -11,8 +12,9 @@ use scope_rules::{Catalog, Refusal};
 use std::alloc::Global;
 use std::sync::Wait;
 use tree_dump::dump_of;
+use tree_text::tree_of;
 
-/// The tree of what stands in a realm, as JSON without blanks.
+/// The tree of what stands in a realm, as text for a terminal.
 #[derive(Clone, Copy)]
 pub(crate) struct Tree {
     pub(crate) alloc: Global,
@@ -21,7 +23,26 @@ pub(crate) struct Tree {
 impl Look for Tree {
     type Answer = Result<String, Refusal>;
 
-    ghost tells = { λ tree h answer. MatchResult answer (λ text. string_bytes text ≡ dump_text h) (λ refusal. refusal ≡ Memory) };
+    ghost tells = { λ tree h answer. MatchResult answer (λ text. string_bytes text ≡ tree_text h) (λ refusal. refusal ≡ Memory) };
+
+    fn look(self, realm: &KeptRealm) -> Result<String, Refusal> {
+        match tree_of(self.alloc, realm) {
+            Ok(text) => Ok(text),
+            Err(_) => Err(Refusal::Memory),
+        }
+    }
+}
+
+/// The same tree, as JSON without blanks.
+#[derive(Clone, Copy)]
+pub(crate) struct Dump {
+    pub(crate) alloc: Global,
+}
+
+impl Look for Dump {
+    type Answer = Result<String, Refusal>;
+
+    ghost tells = { λ dump h answer. MatchResult answer (λ text. string_bytes text ≡ dump_text h) (λ refusal. refusal ≡ Memory) };
 
     fn look(self, realm: &KeptRealm) -> Result<String, Refusal> {
         match dump_of(self.alloc, realm) {
@@ -59,8 +80,15 @@ pub trait Shows {
     /// It is so of a history that it may have come to.
     ghost seen: { (History → Type 0) → Type 0 };
 
-    /// The tree of the scopes that are not closed, as JSON without blanks: what `scopectl dump` writes of a
-    /// script.
+    /// The tree of the scopes that are not closed, as text for a terminal: a line for each scope and for each
+    /// of its tasks, with how far it has come, why it is cancelled and what is still awaited.
+    ///
+    /// # Errors
+    /// `Memory`.
+    fn tree<R: Wait>(&self, rt: &R, alloc: Global) -> Result<String, Refusal>
+        ensures { Self.seen (λ h. MatchResult result (λ text. string_bytes text ≡ tree_text h) (λ refusal. refusal ≡ Memory)) };
+
+    /// The same tree for programs, as JSON without blanks: what `scopectl dump` writes of a script.
     ///
     /// # Errors
     /// `Memory`.
@@ -79,8 +107,12 @@ pub trait Shows {
 impl<C: Catalog, N: RealmName> Shows for Realm<C, N> {
     ghost seen = { λ said. IsSeen C.fitting said };
 
-    fn dump<R: Wait>(&self, rt: &R, alloc: Global) -> Result<String, Refusal> {
+    fn tree<R: Wait>(&self, rt: &R, alloc: Global) -> Result<String, Refusal> {
         self.look_from_outside(rt, Tree { alloc })
+    }
+
+    fn dump<R: Wait>(&self, rt: &R, alloc: Global) -> Result<String, Refusal> {
+        self.look_from_outside(rt, Dump { alloc })
     }
 
     fn journal<R: Wait>(&self, rt: &R, alloc: Global) -> Result<String, Refusal> {

@@ -1,0 +1,82 @@
+-- The lines of a tree, without their indents.
+use Rattle.std.specs.Prelude.{ℕ, zero, suc, ◌+◌, Bool, true, false, List, [], ◌++◌, Option, None, Some, codes}
+use Rattle.std.specs.Fmt.{decimal}
+use Rattle.scope_log.specs.LogText.{joiner_text}
+use Rattle.scope_rules.specs.Names.{text_of}
+use Rattle.scope_rules.specs.Texts.{state_word}
+use Rattle.scope_rules.specs.declared.types.answers.Cause.{Cause}
+use Rattle.scope_rules.specs.declared.types.answers.CauseKind.{CauseKind}
+use Rattle.scope_rules.specs.declared.types.answers.CauseKind.TheVariants as kind
+use Rattle.scope_rules.specs.declared.types.answers.Counts.{Counts}
+use Rattle.scope_rules.specs.declared.types.answers.Stage.{Stage}
+use Rattle.scope_rules.specs.declared.types.answers.Stage.TheVariants.{Never, Waiting, Running, Finished}
+use Rattle.scope_rules.specs.declared.types.answers.State.{State}
+use Rattle.scope_rules.specs.declared.types.events.Expiry.{Expiry}
+use Rattle.scope_rules.specs.declared.types.events.Expiry.TheVariants.{Fail, MoveOn}
+use Rattle.scope_rules.specs.declared.types.infos.ScopeInfo.{ScopeInfo}
+use Rattle.scope_rules.specs.declared.types.infos.ScopeStage.{ScopeStage}
+use Rattle.scope_rules.specs.declared.types.infos.ScopeStage.TheVariants.{Open, Closing, Closed}
+use Rattle.scope_rules.specs.declared.types.names.Name.{Name}
+
+-- two spaces for each level
+abbrev pub indent : ℕ → List ℕ
+indent zero = []
+indent (suc n) = indent n ++ codes "  "
+
+-- an actor: main, or a task
+abbrev pub owner_text : ℕ → List ℕ
+owner_text zero = codes "main"
+owner_text (suc n) = codes "task " ++ decimal (suc n)
+
+-- how far the scope has come
+abbrev pub stage_text : ScopeStage → List ℕ
+stage_text Open = codes "open"
+stage_text Closing = codes "closing"
+stage_text Closed = codes "closed"
+
+abbrev pub joined_text : Bool → List ℕ
+joined_text false = []
+joined_text true = codes ", joined"
+
+-- the scope's own deadline, where it has one, and whether the join then moves on
+abbrev pub deadline_text : Option ℕ → Expiry → List ℕ
+deadline_text None expiry = []
+deadline_text (Some moment) Fail = codes ", deadline " ++ decimal moment
+deadline_text (Some moment) MoveOn = codes ", deadline " ++ decimal moment ++ codes " to move on"
+
+abbrev pub shield_text : Bool → List ℕ
+shield_text false = []
+shield_text true = codes ", shielded"
+
+abbrev pub kind_text : CauseKind → List ℕ
+kind_text kind.Call = codes "a call on"
+kind_text kind.Close = codes "the close of"
+kind_text kind.Joiner = codes "the joiner of"
+kind_text kind.Deadline = codes "the deadline of"
+
+-- why the scope is cancelled, where it is: what made the own cancel that reached it, of which scope
+abbrev pub cause_text : Option Cause → List ℕ
+cause_text None = []
+cause_text (Some cause) = codes ", cancelled by " ++ kind_text cause.kind ++ codes " scope " ++ decimal cause.scope
+
+-- how many of the scope's tasks wait or run, of how many
+abbrev pub awaits_text : Counts → List ℕ
+awaits_text c = codes ", awaits " ++ decimal (c.waiting + c.running) ++ codes " of " ++ decimal (c.waiting + c.running + (c.never + c.finished))
+
+abbrev pub head_text : ScopeInfo → List ℕ
+head_text i = codes "scope " ++ decimal i.scope ++ codes " " ++ stage_text i.stage ++ codes ", of " ++ owner_text i.owner ++ codes ", joins " ++ joiner_text i.policy
+
+-- the line of a scope, by itself and by how many tasks it has at each stage
+abbrev pub scope_text : ScopeInfo → Counts → List ℕ
+scope_text i c = head_text i ++ joined_text i.joined ++ deadline_text i.deadline i.expiry ++ shield_text i.shield ++ cause_text i.cause ++ awaits_text c
+
+-- how far a task has come, and what can be read of it once no more comes of it
+abbrev pub progress_text : Stage → State → List ℕ
+progress_text Waiting state = codes "waiting"
+progress_text Running state = codes "running"
+progress_text Never state = codes "never started, " ++ state_word state
+progress_text Finished state = codes "finished, " ++ state_word state
+
+-- the line of task k
+abbrev pub task_text : ℕ → Name → Stage → State → List ℕ
+task_text k name stage state = codes "task " ++ decimal k ++ codes " " ++ text_of name ++ codes ": " ++ progress_text stage state
