@@ -14,10 +14,12 @@ use std::rt::Clock as SystemTime;
 use std::sync::Wait;
 use std::test::Fail;
 
-/// What was seen of a request that takes too long: the tree of what stands, and the script of what happened.
+/// What was seen of a request that takes too long: the tree of what stands, as text and as JSON, and the script
+/// of what happened.
 #[derive(Drop)]
 struct Seen {
     tree: String,
+    dump: String,
     script: String,
 }
 
@@ -48,8 +50,12 @@ impl<K: Handle, N: RealmName, S: Spawner<N>> TypedJob<S, N> for Watch<K, N> {
         let mut clock = self.clock;
         let until = clock.now().saturating_add(self.millis);
         match ctx.sleep_by(&clock.runtime(), &mut clock, until) {
-            Ok(None) => match (self.realm.tree(rt, self.alloc), ctx.journal(rt, self.alloc)) {
-                (Ok(tree), Ok(script)) => Ok(Seen { tree, script }),
+            Ok(None) => match (
+                self.realm.tree(rt, self.alloc),
+                self.realm.dump(rt, self.alloc),
+                ctx.journal(rt, self.alloc),
+            ) {
+                (Ok(tree), Ok(dump), Ok(script)) => Ok(Seen { tree, dump, script }),
                 _ => Err(Fault(name)),
             },
             _ => Err(Fault(name)), // the request came to its end before
@@ -148,6 +154,10 @@ fn a_request_that_hangs_is_looked_at(rt: HostRuntime) -> Result<(), Fail> {
     assert_eq!(rt;
         seen.tree.as_str(),
         "moment 0\nscope 1 open, of main, joins any, awaits 2 of 2\n  task 1 shop: running\n  task 2 watch: running\n"
+    );
+    assert_eq!(rt;
+        seen.dump.as_str(),
+        "{\"moment\":0,\"root\":{\"cause\":null,\"deadline\":null,\"expiry\":\"fail\",\"id\":1,\"inner\":null,\"joined\":false,\"joiner\":\"any\",\"owner\":0,\"shield\":false,\"stage\":\"open\",\"tasks\":[{\"id\":1,\"inner\":null,\"name\":\"shop\",\"stage\":\"running\",\"state\":\"unavailable\"},{\"id\":2,\"inner\":null,\"name\":\"watch\",\"stage\":\"running\",\"state\":\"unavailable\"}]}}"
     );
     assert_eq!(rt;
         seen.script.as_str(),
