@@ -23,18 +23,18 @@ impl KeptRealm {
     /// task and its scope's joiner has one.
     pub fn perform(
         &mut self,
-        event: Event,
+        event: &Event,
         listed: bool,
         test: Option<&StoredTest>,
     ) -> Result<Told, Refusal>
-        ensures { Tells self.old event result self.new }
+        ensures { Tells self.old event.now result self.new }
     {
-        table::row(self, &self.limits(), &event)?;
-        let told = self.told(&event);
+        table::row(self, &self.limits(), event)?;
+        let told = self.told(event);
         if matches!(told, Told::Already) {
             return Ok(told);
         }
-        if weight(&event) == 0 {
+        if weight(event) == 0 {
             self.record(event, test);
         } else {
             self.try_append(event, listed)?;

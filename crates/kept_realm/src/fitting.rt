@@ -71,12 +71,12 @@ impl<C: Catalog> FittingRealm<C> {
     /// Performs the command of the event, which fits where it is the end of a task (`KeptRealm::perform`).
     pub fn perform(
         &mut self,
-        event: Event,
+        event: &Event,
         listed: bool,
         test: Option<&StoredTest>,
     ) -> Result<Told, Refusal>
-        requires fits { FitsEvent C.fitting self.old.history event }
-        ensures { Tells self.old event result self.new }
+        requires fits { FitsEvent C.fitting self.old.history event.now }
+        ensures { Tells self.old event.now result self.new }
     {
         self.kept.perform(event, listed, test)
     }

@@ -118,42 +118,42 @@ impl KeptRealm {
 impl KeptRealm {
     /// Appends the event, which was accepted, or is refused memory. `listed` says of a scope that it
     /// opens whether a closure of the caller's is shown its completions.
-    pub(crate) fn try_append(&mut self, event: Event, listed: bool) -> Result<(), Refusal>
-        requires { Accepts self.old.limits self.old.history event }
-        ensures answer { MatchResult result (λ _. self.new ≡ with_event self.old event) (λ refusal. (refusal ≡ Refusal.Memory) × (self.new ≡ self.old)) }
+    pub(crate) fn try_append(&mut self, event: &Event, listed: bool) -> Result<(), Refusal>
+        requires { Accepts self.old.limits self.old.history event.now }
+        ensures answer { MatchResult result (λ _. self.new ≡ with_event self.old event.now) (λ refusal. (refusal ≡ Refusal.Memory) × (self.new ≡ self.old)) }
     {
         let _legal = self.journal.limits();
         let place = self.journal.events().len();
-        let cost = weight(&event);
+        let cost = weight(event);
         if self.journal.reserve(cost).is_err() {
             return Err(Refusal::Memory);
         }
-        if make_room(&mut self.trails, &event, self.journal.load() + cost).is_err() {
+        if make_room(&mut self.trails, event, self.journal.load() + cost).is_err() {
             return Err(Refusal::Memory);
         }
-        let scope = scope_of_event(self.kept.rows(), &event);
-        if follow(&mut self.kept, &event, listed, None, place).is_err() {
+        let scope = scope_of_event(self.kept.rows(), event);
+        if follow(&mut self.kept, event, listed, None, place).is_err() {
             return Err(Refusal::Memory);
         }
-        tell(&mut self.trails, &event, scope, place as u32);
+        tell(&mut self.trails, event, scope, place as u32);
         self.journal.record(event);
         Ok(())
     }
 
     /// Appends the event, which was accepted and costs nothing. `test` is the caller's closure that may
     /// be asked where it ends a task.
-    pub(crate) fn record(&mut self, event: Event, test: Option<&StoredTest>)
-        requires accepted { Accepts self.old.limits self.old.history event }
-        requires free { weight event ≡ 0 }
-        ensures added { self.new ≡ with_event self.old event }
+    pub(crate) fn record(&mut self, event: &Event, test: Option<&StoredTest>)
+        requires accepted { Accepts self.old.limits self.old.history event.now }
+        requires free { weight event.now ≡ 0 }
+        ensures added { self.new ≡ with_event self.old event.now }
         ensures legal { Legal self.new.limits self.new.history }
     {
         let _legal = self.journal.limits();
         let place = self.journal.events().len();
-        let scope = scope_of_event(self.kept.rows(), &event);
-        match follow(&mut self.kept, &event, false, test, place) {
+        let scope = scope_of_event(self.kept.rows(), event);
+        match follow(&mut self.kept, event, false, test, place) {
             Ok(()) => {
-                tell(&mut self.trails, &event, scope, place as u32);
+                tell(&mut self.trails, event, scope, place as u32);
                 self.journal.record(event);
             }
             Err(_) => unreachable!(),

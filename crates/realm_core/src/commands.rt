@@ -29,7 +29,7 @@ impl<C: Catalog, N: RealmName> RealmCore<C, N> {
         ensures steps { Stepped self.old self.new share.new (step_by share.old.actor event.now) (records result) }
         ensures answer { Performed share.old share.new event.now result }
     {
-        let result = self.realm.perform(*event, false, None);
+        let result = self.realm.perform(event, false, None);
         tell(&mut self.keeper, share, event, records(&result));
         result
     }

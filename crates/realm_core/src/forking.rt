@@ -43,7 +43,7 @@ impl<C: Catalog, N: RealmName> RealmCore<C, N> {
             scope,
             label,
         };
-        match self.realm.perform(event, false, None) {
+        match self.realm.perform(&event, false, None) {
             Ok(Told::Task(ForkReply::Thread(task))) => {
                 let ticket = self.keeper.fork(share, task, scope, &label);
                 Ok(Forked::Thread(ticket))

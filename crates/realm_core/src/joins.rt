@@ -36,7 +36,7 @@ impl<C: Catalog, N: RealmName> RealmCore<C, N> {
         let event = Event::Join { actor, scope };
         match self.realm.realm().join_preview(actor, scope) {
             Ok(preview) => {
-                let joined = done(&mut self.realm, event);
+                let joined = done(&mut self.realm, &event);
                 tell(&mut self.keeper, share, &event, joined.is_ok());
                 Ok(Joined {
                     outcome: preview.outcome,
@@ -63,7 +63,7 @@ impl<C: Catalog, N: RealmName> RealmCore<C, N> {
     {
         let actor = share.actor();
         let event = Event::Join { actor, scope };
-        let joined = done(&mut self.realm, event);
+        let joined = done(&mut self.realm, &event);
         tell(&mut self.keeper, share, &event, joined.is_ok());
         match joined {
             Ok(()) => Ok(self.realm.realm().bare_outcome(scope)),

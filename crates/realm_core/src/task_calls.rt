@@ -26,7 +26,7 @@ impl<C: Catalog, N: RealmName> RealmCore<C, N> {
     {
         let task = ticket.task();
         self.keeper.reject(ticket);
-        let rejected = done(&mut self.realm, Event::Reject { task });
+        let rejected = done(&mut self.realm, &Event::Reject { task });
         prove!(rejected.is_ok());
     }
 
@@ -41,7 +41,7 @@ impl<C: Catalog, N: RealmName> RealmCore<C, N> {
     {
         let task = ticket.task();
         let token = self.keeper.start(ticket);
-        let started = done(&mut self.realm, Event::Start { task });
+        let started = done(&mut self.realm, &Event::Start { task });
         prove!(started.is_ok());
         token
     }
@@ -64,7 +64,7 @@ impl<C: Catalog, N: RealmName> RealmCore<C, N> {
         let _granted = ticket.label();
         self.keeper.follow_ticket(ticket);
         let task = ticket.task();
-        match done(&mut self.realm, Event::Finish { task, end }) {
+        match done(&mut self.realm, &Event::Finish { task, end }) {
             Ok(()) => {
                 self.keeper.finish(ticket, share, end);
                 Ok(())

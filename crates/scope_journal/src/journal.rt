@@ -126,11 +126,11 @@ impl Journal {
     /// # Errors
     ///
     /// `Memory` where memory is refused. Then nothing has changed.
-    pub fn append(&mut self, event: Event) -> Result<(), Refusal>
-        requires { Accepts self.old.realm.limits self.old.realm.history event }
-        ensures answer { MatchResult result (λ _. self.new.realm ≡ with_event self.old.realm event) (λ refusal. (refusal ≡ Refusal.Memory) × (self.new ≡ self.old)) }
+    pub fn append(&mut self, event: &Event) -> Result<(), Refusal>
+        requires { Accepts self.old.realm.limits self.old.realm.history event.now }
+        ensures answer { MatchResult result (λ _. self.new.realm ≡ with_event self.old.realm event.now) (λ refusal. (refusal ≡ Refusal.Memory) × (self.new ≡ self.old)) }
     {
-        if self.reserve(weight(&event)).is_err() {
+        if self.reserve(weight(event)).is_err() {
             return Err(Refusal::Memory);
         }
         self.record(event);
@@ -139,15 +139,15 @@ impl Journal {
 
     /// Appends the event, which was accepted, and for which there is room: one that costs nothing always
     /// has it.
-    pub fn record(&mut self, event: Event)
-        requires accepted { Accepts self.old.realm.limits self.old.realm.history event }
-        requires room { weight event ≤ self.old.spare }
-        ensures added { self.new.realm ≡ with_event self.old.realm event }
-        ensures room { self.new.spare ≡ self.old.spare - weight event }
+    pub fn record(&mut self, event: &Event)
+        requires accepted { Accepts self.old.realm.limits self.old.realm.history event.now }
+        requires room { weight event.now ≤ self.old.spare }
+        ensures added { self.new.realm ≡ with_event self.old.realm event.now }
+        ensures room { self.new.spare ≡ self.old.spare - weight event.now }
         ensures legal { Legal self.new.realm.limits self.new.realm.history }
     {
-        self.load += weight(&event);
-        self.events.push_reserved(event);
+        self.load += weight(event);
+        self.events.push_reserved(*event);
     }
 
     /// Leaves the base alone, which is that of the history.

@@ -32,11 +32,12 @@ impl<C: Catalog> BookState<C> {
         ensures entered { EntersOrMemory (realm_of self.old) (Event.Open actor (policy_of joiner) options) (next_scope (history_of self.old)) (refusal_alone result) (realm_of self.new) }
         ensures handed_back { IfErr result (λ e. e.1 ≡ joiner) }
     {
-        if let Err(refusal) = table::open_row(self.realm(), &self.limits(), actor) {
-            return Err((refusal, joiner));
-        }
         if self.tests.reserve(1).is_err() {
-            return Err((Refusal::Memory, joiner));
+            let refusal = match table::open_row(self.realm(), &self.limits(), actor) {
+                Ok(()) => Refusal::Memory,
+                Err(refusal) => refusal,
+            };
+            return Err((refusal, joiner));
         }
         let listed = joiner.asks_closure();
         let policy = joiner.policy();
@@ -45,7 +46,7 @@ impl<C: Catalog> BookState<C> {
             policy,
             options,
         };
-        match self.realm.perform(event, listed, None) {
+        match self.realm.perform(&event, listed, None) {
             Ok(Told::Scope(scope)) => {
                 self.tests.push_reserved(if listed {
                     Some(joiner.into_test())
@@ -72,7 +73,7 @@ impl<C: Catalog> BookState<C> {
             scope,
             label,
         };
-        match self.perform(event)? {
+        match self.perform(&event)? {
             Told::Task(reply) => Ok(reply),
             _ => unreachable!(),
         }
@@ -83,7 +84,7 @@ impl<C: Catalog> BookState<C> {
     pub fn reject(&mut self, task: TaskId) -> Result<(), Refusal>
         ensures { Enters (realm_of self.old) (Event.Reject task) tt result (realm_of self.new) }
     {
-        self.perform(Event::Reject { task })?;
+        self.perform(&Event::Reject { task })?;
         Ok(())
     }
 
@@ -92,7 +93,7 @@ impl<C: Catalog> BookState<C> {
     pub fn start(&mut self, task: TaskId) -> Result<(), Refusal>
         ensures { Enters (realm_of self.old) (Event.Start task) tt result (realm_of self.new) }
     {
-        self.perform(Event::Start { task })?;
+        self.perform(&Event::Start { task })?;
         Ok(())
     }
 
@@ -104,7 +105,7 @@ impl<C: Catalog> BookState<C> {
     {
         let test = test_of(&self.tests, self.realm.realm(), task);
         self.realm
-            .perform(Event::Finish { task, end }, false, test)?;
+            .perform(&Event::Finish { task, end }, false, test)?;
         Ok(())
     }
 
@@ -114,7 +115,7 @@ impl<C: Catalog> BookState<C> {
     pub fn cancel(&mut self, scope: ScopeId) -> Result<Cancelling, Refusal>
         ensures { NotesOrMemory (realm_of self.old) (Event.Cancel scope) result (realm_of self.new) }
     {
-        Ok(self.perform(Event::Cancel { scope })?.noting())
+        Ok(self.perform(&Event::Cancel { scope })?.noting())
     }
 
     /// Sets the deadline of the scope anew, in milliseconds, or takes it away (Trio: a cancel scope's
@@ -123,7 +124,7 @@ impl<C: Catalog> BookState<C> {
     pub fn move_deadline(&mut self, scope: ScopeId, deadline: Option<u64>) -> Result<(), Refusal>
         ensures { EntersOrMemory (realm_of self.old) (Event.Move scope deadline) tt result (realm_of self.new) }
     {
-        self.perform(Event::Move { scope, deadline })?;
+        self.perform(&Event::Move { scope, deadline })?;
         Ok(())
     }
 
@@ -132,7 +133,7 @@ impl<C: Catalog> BookState<C> {
     pub fn tick(&mut self, now: u64) -> Result<(), Refusal>
         ensures { EntersOrMemory (realm_of self.old) (Event.Tick now) tt result (realm_of self.new) }
     {
-        self.perform(Event::Tick { now })?;
+        self.perform(&Event::Tick { now })?;
         Ok(())
     }
 
@@ -142,7 +143,7 @@ impl<C: Catalog> BookState<C> {
         ensures { EntersOrMemory (realm_of self.old) (Event.Bind actor (record { key = key; value = value })) tt result (realm_of self.new) }
     {
         let binding = Binding { key, value };
-        self.perform(Event::Bind { actor, binding })?;
+        self.perform(&Event::Bind { actor, binding })?;
         Ok(())
     }
 
@@ -152,7 +153,7 @@ impl<C: Catalog> BookState<C> {
     pub fn unbind(&mut self, actor: Actor) -> Result<(), Refusal>
         ensures { EntersOrMemory (realm_of self.old) (Event.Unbind actor) tt result (realm_of self.new) }
     {
-        self.perform(Event::Unbind { actor })?;
+        self.perform(&Event::Unbind { actor })?;
         Ok(())
     }
 
@@ -163,7 +164,7 @@ impl<C: Catalog> BookState<C> {
     pub fn join_now(&mut self, actor: Actor, scope: ScopeId) -> Result<(), Refusal>
         ensures { Enters (realm_of self.old) (Event.Join actor scope) tt result (realm_of self.new) }
     {
-        self.perform(Event::Join { actor, scope })?;
+        self.perform(&Event::Join { actor, scope })?;
         Ok(())
     }
 
@@ -174,7 +175,7 @@ impl<C: Catalog> BookState<C> {
     pub fn begin_close(&mut self, actor: Actor, scope: ScopeId) -> Result<Cancelling, Refusal>
         ensures { Notes (realm_of self.old) (Event.BeginClose actor scope) result (realm_of self.new) }
     {
-        Ok(self.perform(Event::BeginClose { actor, scope })?.noting())
+        Ok(self.perform(&Event::BeginClose { actor, scope })?.noting())
     }
 
     /// Closes the actor's scope. Refused where the actor is no running task or main, for a scope that is
@@ -186,7 +187,7 @@ impl<C: Catalog> BookState<C> {
         ensures entered { Enters (realm_of self.old) (Event.EndClose actor scope) (verdict (history_of self.old) scope) result (realm_of self.new) }
         ensures whole { OnOk result (IsWhole (history_of self.new) scope) }
     {
-        let told = self.perform(Event::EndClose { actor, scope })?;
+        let told = self.perform(&Event::EndClose { actor, scope })?;
         let _legal = self.limits();
         match told {
             Told::Closed(verdict) => Ok(verdict),
@@ -195,9 +196,9 @@ impl<C: Catalog> BookState<C> {
     }
 
     /// Performs a command to which no closure of a caller's belongs.
-    fn perform(&mut self, event: Event) -> Result<Told, Refusal>
-        requires fits { FitsEvent C.fitting (history_of self.old) event }
-        ensures { Tells (realm_of self.old) event result (realm_of self.new) }
+    fn perform(&mut self, event: &Event) -> Result<Told, Refusal>
+        requires fits { FitsEvent C.fitting (history_of self.old) event.now }
+        ensures { Tells (realm_of self.old) event.now result (realm_of self.new) }
     {
         self.realm.perform(event, false, None)
     }

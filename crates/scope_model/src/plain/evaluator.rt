@@ -74,7 +74,7 @@ impl Plain {
         requires { Accepts self.old.limits self.old.history event }
         ensures answer { MatchResult result (λ _. self.new ≡ with_event self.old event) (λ refusal. (refusal ≡ Refusal.Memory) × (self.new ≡ self.old)) }
     {
-        self.journal.append(event)
+        self.journal.append(&event)
     }
 
     /// Appends the event, which was accepted and for which there is room.
@@ -84,7 +84,7 @@ impl Plain {
         ensures added { self.new ≡ with_event self.old event }
         ensures legal { Legal self.new.limits self.new.history }
     {
-        self.journal.record(event)
+        self.journal.record(&event)
     }
 
     /// Leaves the base alone, which is the history's.

@@ -6,4 +6,4 @@ use Rattle.realm_core.proofs.events.done.Goals as goal
 pub returns : goal.returns
 returns g c =
     let h = c.args.realm.now.history in
-    (rw c.in_ok-perform.ensures.0.0 refl, rw (told_records h c.args.event c.in_ok-perform.field-0 (c.requires.new h) c.in_ok-perform.ensures.0.1) at c.in_ok-perform.ensures.1)
+    (rw c.in_ok-perform.ensures.0.0 refl, rw (told_records h c.args.event.now c.in_ok-perform.field-0 (c.requires.new h) c.in_ok-perform.ensures.0.1) at c.in_ok-perform.ensures.1)

@@ -7,5 +7,5 @@ use Rattle.kept_realm.proofs.fitting.FittingRealm.perform.Goals as goal
 
 pub invariant_of-self : goal.invariant_of-self
 invariant_of-self g c =
-    let fits = subst (λ (r : Realm). FitsEvent g.C.Catalog.fitting r.history c.args.event) (sym c.self.view_is) c.requires.fits in
-    fitting_after g.C.Catalog.fitting c.self.inside.kept c.perform.new.self c.args.event c.perform.result c.self.invariant fits c.perform.ensures.1
+    let fits = subst (λ (r : Realm). FitsEvent g.C.Catalog.fitting r.history c.args.event.now) (sym c.self.view_is) c.requires.fits in
+    fitting_after g.C.Catalog.fitting c.self.inside.kept c.perform.new.self c.args.event.now c.perform.result c.self.invariant fits c.perform.ensures.1

@@ -9,18 +9,18 @@ use Rattle.scope_journal.proofs.journal.Journal.record.Goals as goal
 
 pub push_reserved-requires : goal.push_reserved-requires
 push_reserved-requires c =
-    let ok = subst (λ (t : JournalTable). Accepts t.realm.limits t.realm.history c.args.event) (sym c.self.view_is) c.requires.accepted in
-    let spare = subst (λ (t : JournalTable). weight c.args.event ≤ t.spare) (sym c.self.view_is) c.requires.room in
-    omega (arith, kept_room _ _ c.args.event _ _ c.self.invariant ok (omega (arith, spare, c.self.invariant.room, c.self.invariant.counted)), c.self.inside.events.ok.0)
+    let ok = subst (λ (t : JournalTable). Accepts t.realm.limits t.realm.history c.args.event.now) (sym c.self.view_is) c.requires.accepted in
+    let spare = subst (λ (t : JournalTable). weight c.args.event.now ≤ t.spare) (sym c.self.view_is) c.requires.room in
+    omega (arith, kept_room _ _ c.args.event.now _ _ c.self.invariant ok (omega (arith, spare, c.self.invariant.room, c.self.invariant.counted)), c.self.inside.events.ok.0)
 
 pub invariant_of-self : goal.invariant_of-self
 invariant_of-self c =
-    let ok = subst (λ (t : JournalTable). Accepts t.realm.limits t.realm.history c.args.event) (sym c.self.view_is) c.requires.accepted in
-    let spare = subst (λ (t : JournalTable). weight c.args.event ≤ t.spare) (sym c.self.view_is) c.requires.room in
+    let ok = subst (λ (t : JournalTable). Accepts t.realm.limits t.realm.history c.args.event.now) (sym c.self.view_is) c.requires.accepted in
+    let spare = subst (λ (t : JournalTable). weight c.args.event.now ≤ t.spare) (sym c.self.view_is) c.requires.room in
     rw (c.push_reserved.ensures.items, c.push_reserved.ensures.capacity, c.weight.ensures.cost)
-    (kept_push _ _ c.args.event _ _ _ c.self.invariant ok (omega (arith, spare, c.self.invariant.room, c.self.invariant.counted)))
+    (kept_push _ _ c.args.event.now _ _ _ c.self.invariant ok (omega (arith, spare, c.self.invariant.room, c.self.invariant.counted)))
 
 pub returns-clause-legal : goal.returns-clause-legal
 returns-clause-legal c =
-    let ok = subst (λ (t : JournalTable). Accepts t.realm.limits t.realm.history c.args.event) (sym c.self.view_is) c.requires.accepted in
-    rw c.push_reserved.ensures.items (legal_push _ _ c.args.event c.self.invariant.legal ok)
+    let ok = subst (λ (t : JournalTable). Accepts t.realm.limits t.realm.history c.args.event.now) (sym c.self.view_is) c.requires.accepted in
+    rw c.push_reserved.ensures.items (legal_push _ _ c.args.event.now c.self.invariant.legal ok)
