@@ -41,31 +41,31 @@ pub enum TwoNumbers {
     FaultOf,
 }
 
-/// Each word that a form begins with, and its keyword.
+/// Each word that a form begins with, and its keyword; those first that scripts have most often.
 const KEYWORDS: [(&[u8], Keyword); 23] = [
-    (b"open", Keyword::Open),
-    (b"fork", Keyword::Fork),
     (b"ok", Keyword::Succeed),
-    (b"fail", Keyword::Fail),
-    (b"move", Keyword::Move),
-    (b"tick", Keyword::Tick),
-    (b"bind", Keyword::Bind),
-    (b"get", Keyword::Get),
-    (b"reject", Keyword::OneNumber(OneNumber::Reject)),
     (b"start", Keyword::OneNumber(OneNumber::Start)),
-    (b"cancel", Keyword::OneNumber(OneNumber::Cancel)),
-    (b"unbind", Keyword::OneNumber(OneNumber::Unbind)),
-    (b"retire", Keyword::OneNumber(OneNumber::Retire)),
-    (b"state", Keyword::OneNumber(OneNumber::State)),
-    (b"stage", Keyword::OneNumber(OneNumber::Stage)),
-    (b"cause", Keyword::OneNumber(OneNumber::Cause)),
-    (b"until", Keyword::OneNumber(OneNumber::Until)),
+    (b"fork", Keyword::Fork),
+    (b"tick", Keyword::Tick),
+    (b"open", Keyword::Open),
     (b"counts", Keyword::OneNumber(OneNumber::Counts)),
+    (b"state", Keyword::OneNumber(OneNumber::State)),
+    (b"cause", Keyword::OneNumber(OneNumber::Cause)),
     (b"join", Keyword::TwoNumbers(TwoNumbers::Join)),
     (b"close", Keyword::TwoNumbers(TwoNumbers::Close)),
     (b"closed", Keyword::TwoNumbers(TwoNumbers::Closed)),
+    (b"cancel", Keyword::OneNumber(OneNumber::Cancel)),
+    (b"bind", Keyword::Bind),
+    (b"get", Keyword::Get),
+    (b"fail", Keyword::Fail),
+    (b"stage", Keyword::OneNumber(OneNumber::Stage)),
     (b"result", Keyword::TwoNumbers(TwoNumbers::ResultOf)),
     (b"fault", Keyword::TwoNumbers(TwoNumbers::FaultOf)),
+    (b"until", Keyword::OneNumber(OneNumber::Until)),
+    (b"move", Keyword::Move),
+    (b"unbind", Keyword::OneNumber(OneNumber::Unbind)),
+    (b"reject", Keyword::OneNumber(OneNumber::Reject)),
+    (b"retire", Keyword::OneNumber(OneNumber::Retire)),
 ];
 
 /// The keyword that the word is.

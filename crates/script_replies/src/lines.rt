@@ -5,7 +5,7 @@ ghost use Rattle.script_replies.specs.ReplyText.{reply_text};
 use crate::parts::ShownCounts;
 use crate::reply::Reply;
 use arrayvec::ArrayString;
-use scope_rules::{Effective, ForkReply, Verdict};
+use scope_rules::{Effective, ForkReply, Stage, State, Verdict};
 use std::alloc::AllocError;
 use std::fmt;
 use std::fmt::{Display, Write};
@@ -87,6 +87,13 @@ fn fixed_line(reply: &Reply) -> Option<&'static [u8]>
         Reply::Unbound => Some(b"unbound\n"),
         Reply::Closing => Some(b"closing\n"),
         Reply::Closed(Verdict::Plain) => Some(b"closed\n"),
+        Reply::Cause(None) => Some(b"live\n"),
+        Reply::State(State::Unavailable) => Some(b"state unavailable\n"),
+        Reply::State(State::Success(_)) => Some(b"state success\n"),
+        Reply::State(State::Failed(_)) => Some(b"state failed\n"),
+        Reply::Stage(Stage::Waiting) => Some(b"stage waiting\n"),
+        Reply::Stage(Stage::Running) => Some(b"stage running\n"),
+        Reply::Stage(Stage::Finished) => Some(b"stage finished\n"),
         _ => None,
     }
 }
