@@ -1,14 +1,15 @@
 -- How a run comes on: what it has read, written and left behind.
-use Rattle.std.proofs.Common.{◌≡◌, ℕ, Option, List, [], ◌++◌, ap, sym, ◌∙◌, subst, append_assoc, append-nil, take}
+use Rattle.std.proofs.Common.{◌≡◌, ℕ, Option, Some, List, [], refl, ◌++◌, ap, sym, ◌∙◌, subst, append_assoc, append-nil, take}
 use Rattle.std.specs.Io.KnownBytes.{Appends, Consumes, IsAtEnd, Keeps}
 use Rattle.std.proofs.KnownBytes.{Appends-trans, Appends-nil, Consumes-trans, Consumes-nil, Consumes-kept}
 use Rattle.scope_rules.specs.declared.types.capacity.Limits.{Limits}
 use Rattle.scope_rules.specs.Replies.{Realm}
 use Rattle.scope_script.specs.declared.session.run.Mode.{Mode}
 use Rattle.scope_script.specs.Streams.{AppendsPart}
-use Rattle.scope_script.specs.Sessions.{shown, replies_of}
+use Rattle.scope_script.specs.Sessions.{shown, realm_of_script, replies_of}
 use Rattle.scope_script.specs.ByBytes.{Session, the_beginning, after_bytes, bytes_reply, end_reply, end_tally}
-use Rattle.scope_script.specs.Running.{RunsToEnd, RunsTallied, RunsPartly}
+use Rattle.scope_script.specs.Running.{RunsToEnd, RunsTallied, RunsText, RunsPartly}
+use Rattle.scope_script.specs.Tallies.{tally_of_script}
 use Rattle.scope_script.specs.declared.session.tally.Tally.{Tally}
 use Rattle.scope_script.proofs.Scripts.{shown_append, after_append, told_more, after_none, reply_none}
 use Rattle.scope_script.proofs.Kept.{script_replies, script_leaves, script_tallies}
@@ -130,3 +131,40 @@ reads_none a b c x y mode L s piece n none run read =
       replied = run.replied;
       session = run.session;
     }
+
+-- ---- a script that is at hand as a whole
+
+module _ (x : Option (List ℕ)) (mode : Mode) (L : Limits) (s : Session) (script : List ℕ) (begins : s ≡ the_beginning L) where
+  nothing_left : Consumes (Some script) (Some []) script
+  nothing_left = sym (append-nil script)
+
+  text_taken : (y : Option (List ℕ)) (t : Session) → Appends x y (shown mode (bytes_reply s script)) → t ≡ after_bytes s script → UnderWay (Some script) (Some []) x y mode L t
+  text_taken y t written is = goes_on (Some script) (Some script) (Some []) x x y mode L s t script (begins_run (Some script) x mode L s begins) nothing_left written is
+
+  same_script : (read : List ℕ) → script ≡ read ++ [] → read ≡ script
+  same_script read is = sym (is ∙ append-nil read)
+
+  pub text_ends : (y z : Option (List ℕ)) (t : Session) (realm : Realm) (tally : Tally) → Appends x y (shown mode (bytes_reply s script)) → t ≡ after_bytes s script → Appends y z (shown mode (end_reply t)) → realm ≡ t.realm → tally ≡ end_tally t
+      → RunsText x z mode L script realm tally
+  text_ends y z t realm tally written is ended left counted =
+      let run = ends_tallied (Some script) (Some []) x y z mode L t realm tally (text_taken y t written is) refl ended left counted in
+      let same = same_script run.ends.script run.ends.read in
+      record {
+        replied = subst (λ bytes. Appends x z (shown mode (replies_of L bytes))) same run.ends.replied;
+        left = subst (λ bytes. realm ≡ realm_of_script L bytes) same run.ends.left;
+        counted = subst (λ bytes. tally ≡ tally_of_script L bytes) same run.counted;
+      }
+
+  pub text_stops : (y : Option (List ℕ)) → AppendsPart x y (shown mode (bytes_reply s script)) → AppendsPart x y (shown mode (replies_of L script))
+  text_stops y written =
+      let run = stops_within (Some script) (Some script) (Some []) x x y mode L s script (begins_run (Some script) x mode L s begins) nothing_left written in
+      subst (λ bytes. AppendsPart x y (shown mode (replies_of L bytes))) (same_script run.script run.read) run.replied
+
+  pub text_stops_ending : (y z : Option (List ℕ)) (t : Session) → Appends x y (shown mode (bytes_reply s script)) → t ≡ after_bytes s script → AppendsPart y z (shown mode (end_reply t)) → AppendsPart x z (shown mode (replies_of L script))
+  text_stops_ending y z t written is ended =
+      let run = stops_ending (Some script) (Some []) x y z mode L t (text_taken y t written is) ended in
+      subst (λ bytes. AppendsPart x z (shown mode (replies_of L bytes))) (same_script run.script run.read) run.replied
+
+-- nothing is a beginning of anything
+pub nothing_yet : (x : Option (List ℕ)) (bytes : List ℕ) → AppendsPart x x bytes
+nothing_yet x bytes = part_of_all x x bytes [] bytes refl (Appends-nil x)

@@ -23,6 +23,12 @@ pub record RunsTallied (unread unread_new written written_new : Option (List ℕ
   pub ends : RunsToEnd unread unread_new written written_new mode L realm
   pub counted : tally ≡ tally_of_script L ends.script
 
+-- the run of this script wrote exactly the replies to it, left the realm that it leaves, and refused so many lines
+pub record RunsText (written written_new : Option (List ℕ)) (mode : Mode) (L : Limits) (script : List ℕ) (realm : Realm) (tally : Tally) : Type 0 where
+  pub replied : Appends written written_new (shown mode (replies_of L script))
+  pub left : realm ≡ realm_of_script L script
+  pub counted : tally ≡ tally_of_script L script
+
 -- a fault ended the run: it wrote a beginning of the replies to what it read
 pub record RunsPartly (unread unread_new written written_new : Option (List ℕ)) (mode : Mode) (L : Limits) : Type 0 where
   pub script : List ℕ

@@ -12,6 +12,7 @@ pub use script_lines as reading;
 pub use script_lines::{Command, LINE_LIMIT, Line, Question, read_line};
 pub use script_replies as replies;
 pub use script_replies::{Reply, append_line};
-pub use session::run::{Mode, Ran, ScriptFault, run, run_tallied};
+pub use session::cutting::first_line;
+pub use session::run::{Mode, Ran, ScriptFault, run, run_tallied, run_text};
 pub use session::tally::Tally;
 pub use streams::watched::{StreamFailed, Watched};

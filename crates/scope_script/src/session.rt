@@ -1,7 +1,7 @@
 //! A script under way: the book, how many lines were refused, and the line that is begun.
 
 mod begun;
-mod cutting;
+pub mod cutting;
 pub mod run;
 mod script;
 pub mod tally;

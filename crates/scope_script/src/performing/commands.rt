@@ -13,6 +13,7 @@ use script_replies::Reply;
 use std::alloc::AllocError;
 
 /// What the book answers to the command; want of memory is `Refused(Memory)` here.
+#[inline(always)]
 pub(crate) fn answer(book: &mut BookState<AnyEnd>, command: Command) -> Reply
     requires { Legal (limits_of book.old) (history_of book.old) }
     ensures { PerformsOrStops (realm_of book.old) command (realm_of book.new) result }
@@ -25,6 +26,7 @@ pub(crate) fn answer(book: &mut BookState<AnyEnd>, command: Command) -> Reply
 }
 
 /// What the book answers to the event, which it adds to its history where it accepts it.
+#[inline(always)]
 fn try_event(book: &mut BookState<AnyEnd>, event: Event) -> Reply
     requires { Legal (limits_of book.old) (history_of book.old) }
     ensures { PerformsOrStops (realm_of book.old) (Command.Do event) (realm_of book.new) result }
@@ -61,6 +63,7 @@ fn try_event(book: &mut BookState<AnyEnd>, event: Event) -> Reply
 }
 
 /// What the book answers to the question.
+#[inline(always)]
 #[tactic(auto, unfolding(crate::specs::Replying::answer_to))]
 fn ask(book: &BookState<AnyEnd>, question: Question) -> Reply
     ensures { result ≡ answer_to (history_of book.now) question }
@@ -119,6 +122,7 @@ fn join(book: &mut BookState<AnyEnd>, actor: Actor, scope: ScopeId) -> Reply
 /// Performs the command on the book, as any actor may ask: its reply is the model's, and an accepted
 /// command adds exactly its event. `Refused(Memory)` is never a reply: where memory is refused, this
 /// is an Err, and the book is as it was, but that a join stands whose outcome could not be told.
+#[inline(always)]
 pub fn perform(book: &mut BookState<AnyEnd>, command: Command) -> Result<Reply, AllocError>
     ensures performs { IfOk result (λ said. Performs (realm_of book.old) command (realm_of book.new) said) }
     ensures told { IfOk result (λ said. said ≢ Reply.Refused Refusal.Memory) }

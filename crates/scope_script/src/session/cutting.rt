@@ -6,8 +6,9 @@ ghost use Rattle.scope_script.specs.Cutting.{has_feed, CutsLine};
 use memchr::memchr;
 
 /// The first line that a line feed ends in the bytes, and what comes after it; `None` where none ends.
+#[inline(always)]
 #[tactic(auto, using(crate::proofs::Feeds::no_feed))]
-pub(crate) fn first_line(bytes: &[u8]) -> Option<(&[u8], &[u8])>
+pub fn first_line(bytes: &[u8]) -> Option<(&[u8], &[u8])>
     ensures { MatchOption result (has_feed bytes.now ≡ false) (λ cut. CutsLine bytes.now cut.0.now cut.1.now) }
 {
     let end = memchr(b'\n', bytes)?;

@@ -3,10 +3,10 @@ ghost use Rattle.scope_rules.specs.declared.types.capacity.Limits.{Limits};
 ghost use Rattle.std.specs.Io.KnownBytes.{Appends};
 ghost use Rattle.scope_book.specs.Books.{realm_of};
 ghost use Rattle.scope_script.specs.Books.{session_of};
-ghost use Rattle.scope_script.specs.Sessions.{shown};
+ghost use Rattle.scope_script.specs.Sessions.{replies_of, shown};
 ghost use Rattle.scope_script.specs.ByBytes.{after_bytes, bytes_reply, end_reply, end_tally, the_beginning};
 ghost use Rattle.scope_script.specs.Streams.{AppendsPart};
-ghost use Rattle.scope_script.specs.Running.{RunsToEnd, RunsTallied, RunsPartly};
+ghost use Rattle.scope_script.specs.Running.{RunsToEnd, RunsTallied, RunsText, RunsPartly};
 
 use crate::session::script::Script;
 use crate::session::tally::Tally;
@@ -106,6 +106,36 @@ pub fn run_tallied<R: Read + Drop, W: Write + Drop>(
     }
 }
 
+/// What `run_tallied` does with a script that is at hand as a whole, and of which no read can fail. All replies are
+/// put together before they are written.
+pub fn run_text<W: Write + Drop>(
+    alloc: Global,
+    script: &[u8],
+    writer: &mut Watched<W>,
+    limits: Limits,
+    mode: Mode,
+) -> Result<Ran, ScriptFault>
+    requires writer { writer.old.failed ≡ false }
+    ensures ok { IfOk result (λ ran. RunsText (W.contents writer.old.inner) (W.contents writer.new.inner) mode limits script.now (realm_of ran.book) ran.tally) }
+    ensures fault { OnErr result (AppendsPart (W.contents writer.old.inner) (W.contents writer.new.inner) (shown mode (replies_of limits script.now))) }
+    ensures read { IsErrOf result ScriptFault.Read → ⊥ }
+    ensures write { IsErrOf result ScriptFault.Write → writer.new.failed ≡ true }
+    ensures write_failed { writer.new.failed ≡ true → IsErrOf result ScriptFault.Write }
+{
+    let mut begun = Script::new(alloc, limits);
+    let Ok(mut replies) = Vec::with_capacity(alloc, PIECE) else {
+        return Err(ScriptFault::Memory);
+    };
+    match step(&mut begun, writer, mode, script, &mut replies) {
+        Ok(()) => {}
+        Err(fault) => return Err(fault),
+    }
+    match finish(&mut begun, writer, mode, &mut replies) {
+        Ok(()) => Ok(begun.into_ran()),
+        Err(fault) => Err(fault),
+    }
+}
+
 /// Takes the pieces of a script that begins, and writes what each is answered, and then what the end is. The
 /// run keeps the piece that was read last, and the replies to it.
 fn read_pieces<R: Read + Drop, W: Write + Drop>(
@@ -147,6 +177,7 @@ fn read_pieces<R: Read + Drop, W: Write + Drop>(
 
 /// Takes a piece of the script, and writes what it is answered. After a fault, a beginning of that was
 /// written: where memory was refused, what was answered before that.
+#[inline(always)]
 fn step<W: Write + Drop>(
     script: &mut Script,
     writer: &mut Watched<W>,
