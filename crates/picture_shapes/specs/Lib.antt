@@ -1,0 +1,6 @@
+pub mod Spots
+pub mod Strokes
+pub mod Marks
+pub mod Captions
+pub mod Pieces
+pub mod Frame

@@ -1,0 +1,3 @@
+mod Rowed
+mod Reaching
+mod Befores
