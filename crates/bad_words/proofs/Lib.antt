@@ -1,0 +1,4 @@
+mod Ascii
+mod Tables
+mod Options
+mod FaultsFit

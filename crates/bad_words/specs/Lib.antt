@@ -1,0 +1,5 @@
+pub mod Shown
+pub mod Shapes
+pub mod Faults
+pub mod Sentences
+pub mod Fits

@@ -1,0 +1,93 @@
+-- What searches find.
+use Rattle.std.proofs.Common.{◌≡◌, ℕ, zero, suc, ◌+◌, ◌<◌, ◌≤◌, Bool, true, false, cond, Option, Some, None, List, [], ◌∷◌, ◌++◌, length, slice_get, take, refl, ap, sym, ◌∙◌, arith}
+use Rattle.std.proofs.lemmas.List.{length-take}
+use Rattle.std.proofs.lemmas.List.Sums.{count_by-le-length, length-filter}
+use Rattle.std.proofs.lemmas.List.FromFn.{length-range_with_len}
+use Rattle.std.specs.List.{find}
+use Rattle.scope_rules.specs.Completions.{is_task_of}
+use Rattle.scope_rules.specs.Nests.{tasks_of}
+use Rattle.scope_rules.specs.declared.types.records.Opening.{Opening}
+use Rattle.scope_rules.specs.Search.{earliest}
+use Rattle.scope_rules.specs.History.{History, before, opening, forked_count, tasks, task_numbers}
+use Rattle.scope_rules.proofs.Searching.{earliest_none_step, earliest_found}
+use Rattle.scope_rules.proofs.Earlier.{opening_before, opening_since, opening_within}
+use Rattle.scope_rules.proofs.Prefixes.{take_at, take_whole}
+use Rattle.refusal_reasons.specs.Places.{place_if, first_place}
+
+-- ---- places
+
+pub place_none : (test : ℕ → Bool) → first_place test 0 ≡ None
+unfolding first_place earliest
+place_none test = refl
+
+pub place_passed : (test : ℕ → Bool) (i : ℕ) → first_place test i ≡ None → test i ≡ false → first_place test (i + 1) ≡ None
+unfolding first_place
+place_passed test i none fails = earliest_none_step (place_if test) i none (ap (λ b. cond b (Some i) None) fails)
+
+pub place_found : (test : ℕ → Bool) (i n : ℕ) → first_place test i ≡ None → test i ≡ true → i < n → first_place test n ≡ Some i
+unfolding first_place
+place_found test i n none here within = earliest_found (place_if test) i i n none (ap (λ b. cond b (Some i) None) here) within
+
+-- ---- elements
+
+find_none-append : {A : Type 0} (p : A → Bool) (xs ys : List A) → find p xs ≡ None → find p (xs ++ ys) ≡ find p ys
+find_none-append p [] ys none = refl
+find_none-append p (x ∷ xs) ys none = by (p x) none (find_none-append p xs ys)
+  where
+    by : (b : Bool) → cond b (Some x) (find p xs) ≡ None → (find p xs ≡ None → find p (xs ++ ys) ≡ find p ys) → cond b (Some x) (find p (xs ++ ys)) ≡ find p ys
+    by true none more = absurd cc
+    by false none more = more none
+
+few_tasks : (h : History) (s : ℕ) → length (tasks_of h s) ≤ tasks h
+unfolding tasks_of
+few_tasks h s = omega (arith, length-filter (is_task_of h s) (task_numbers h), count_by-le-length (is_task_of h s) (task_numbers h), length-range_with_len (h.base.tasks + 1) (forked_count h))
+
+-- one more that does not pass
+pub find_passed : {A : Type 0} (p : A → Bool) (xs : List A) (i : ℕ) (x : A) → slice_get xs i ≡ Some x → find p (take i xs) ≡ None → p x ≡ false → find p (take (i + 1) xs) ≡ None
+find_passed p xs i x at none fails = ap (find p) (take_at xs i x at) ∙ (find_none-append p (take i xs) (x ∷ []) none ∙ ap (λ b. cond b (Some x) None) fails)
+
+-- the first that passes
+pub find_found : {A : Type 0} (p : A → Bool) (xs : List A) (i : ℕ) (x : A) → slice_get xs i ≡ Some x → find p (take i xs) ≡ None → p x ≡ true → find p xs ≡ Some x
+find_found p [] i x at none holds = absurd cc
+find_found p (y ∷ ys) zero x at none holds = let same : y ≡ x = cc in rw same (ap (λ b. cond b (Some x) (find p ys)) holds)
+find_found p (y ∷ ys) (suc i) x at none holds = by (p y) none (λ rest. find_found p ys i x at rest holds)
+  where
+    by : (b : Bool) → cond b (Some y) (find p (take i ys)) ≡ None → (find p (take i ys) ≡ None → find p ys ≡ Some x) → cond b (Some y) (find p ys) ≡ Some x
+    by true none more = absurd cc
+    by false none more = more none
+
+-- where the place has come to the number of all tasks, all tasks of the scope were passed
+pub all_passed : (p : ℕ → Bool) (h : History) (s i : ℕ) → tasks h ≤ i → find p (take i (tasks_of h s)) ≡ None → find p (tasks_of h s) ≡ None
+all_passed p h s i all none = ap (find p) (sym (take_whole (tasks_of h s) i (omega (arith, all, few_tasks h s)))) ∙ none
+
+-- ---- openings before a place
+
+-- what was opened later was not opened then
+pub opened_later : (h : History) (n s : ℕ) (o : Opening) → opening h s ≡ Some o → n ≤ o.place → opening (before h n) s ≡ None
+opened_later h n s o is later = by (opening (before h n) s) refl
+  where
+    by : (p : Option Opening) → opening (before h n) s ≡ p → p ≡ None
+    by None e = refl
+    by (Some q) e =
+        let same : q ≡ o = the_same (sym (opening_since h s n q e) ∙ is) in
+        absurd (omega (arith, opening_within (before h n) s q e, few, ap (λ (x : Opening). x.place) same, later))
+      where
+        the_same : Some q ≡ Some o → q ≡ o
+        the_same x = cc
+
+        few : length (take n h.events) ≤ n
+        few = omega (arith, length-take n h.events)
+
+-- nor was what is not opened
+pub never_opened : (h : History) (n s : ℕ) → opening h s ≡ None → opening (before h n) s ≡ None
+never_opened h n s none = by (opening (before h n) s) refl
+  where
+    by : (p : Option Opening) → opening (before h n) s ≡ p → p ≡ None
+    by None e = refl
+    by (Some q) e = absurd (apart (sym none ∙ opening_since h s n q e))
+      where
+        apart : None ≡ Some q → ⊥
+        apart x = cc
+
+pub opened_before : (h : History) (n s : ℕ) (o : Opening) → opening h s ≡ Some o → o.place < n → opening (before h n) s ≡ Some o
+opened_before h n s o is later = opening_before h s n o is later

@@ -1,0 +1,5 @@
+pub mod Places
+pub mod Obstacles
+pub mod Rows
+pub mod Sentences
+pub mod Fits

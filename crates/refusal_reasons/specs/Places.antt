@@ -1,0 +1,37 @@
+-- By which event a scope came to stand as it does. Places are counted from 0 since the base, events from 1.
+use Rattle.std.specs.Prelude.{ℕ, ◌+◌, Bool, not, Option, Some, None, List, length, if◌then◌else◌}
+use Rattle.std.specs.List.{find, position}
+use Rattle.scope_rules.specs.declared.types.events.Event.{Event}
+use Rattle.scope_rules.specs.Search.{earliest}
+use Rattle.scope_rules.specs.History.{History}
+use Rattle.scope_rules.specs.Scopes.{joins, ends, closing_at}
+use Rattle.scope_rules.specs.Tasks.{stage, is_settled}
+use Rattle.scope_rules.specs.Nests.{tasks_of}
+
+-- the place, if the test holds of it
+abbrev pub place_if : (ℕ → Bool) → ℕ → Option ℕ
+place_if test i = if test i then Some i else None
+
+-- the first of n places of which the test holds
+unfoldable pub first_place : (ℕ → Bool) → ℕ → Option ℕ
+first_place test n = earliest (place_if test) n
+
+-- the place of the event that began a close that covers scope s, the first such
+unfoldable pub closing_place : History → ℕ → Option ℕ
+closing_place h s = first_place (closing_at h s) (length h.events)
+
+-- the place of the event that closed scope s
+abbrev pub closed_place : List Event → ℕ → Option ℕ
+closed_place events s = position (ends s) events
+
+-- the place of the event that joined scope s
+abbrev pub joined_place : List Event → ℕ → Option ℕ
+joined_place events s = position (joins s) events
+
+-- task k waits or runs
+abbrev pub is_pending : History → ℕ → Bool
+is_pending h k = not (is_settled (stage h k))
+
+-- the first task of scope s that waits or runs
+unfoldable pub pending_task : History → ℕ → Option ℕ
+pending_task h s = find (is_pending h) (tasks_of h s)

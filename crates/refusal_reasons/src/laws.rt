@@ -1,0 +1,12 @@
+//! That the reasons are those of the refusals. The function does nothing: its contract is the law.
+
+ghost use Rattle.refusal_reasons.specs.Fits.{EventsFit, RetirementsFit, QuestionsFit};
+
+/// A command has a reason just where its checks refuse it, whatever the history, and the reason is of that
+/// refusal.
+#[tactic(auto, using(crate::proofs::RowsFit::events_fit, crate::proofs::RowsFit::retirements_fit, crate::proofs::RowsFit::questions_fit))]
+pub fn reasons_fit()
+    ensures events { EventsFit }
+    ensures retirements { RetirementsFit }
+    ensures questions { QuestionsFit }
+{}

@@ -1,0 +1,177 @@
+//! By which event a scope came to stand as it does, and which task it waits for.
+
+ghost use Rattle.std.specs.Prelude.{◌≡◌, ◌<◌, IfSome, length, take};
+ghost use Rattle.std.specs.List.{list_any};
+ghost use Rattle.scope_rules.specs.Checks.{scope_check};
+ghost use Rattle.scope_rules.specs.History.{before, opening};
+ghost use Rattle.scope_rules.specs.Scopes.{joins, ends, closing_at, begins_closing, have_one_opener, covers};
+ghost use Rattle.scope_checks.specs.Passes.{Passes};
+ghost use Rattle.refusal_reasons.specs.Places.{closed_place, joined_place, closing_place, is_pending, pending_task};
+
+use scope_checks::Readings;
+use scope_rules::types::records::Opening;
+use scope_rules::{Event, ScopeId, Stage, TaskId};
+
+/// Whether the event joins the scope.
+fn joins(event: &Event, scope: ScopeId) -> bool
+    ensures { result ≡ joins scope event.now }
+{
+    match *event {
+        Event::Join { scope: joined, .. } => joined == scope,
+        _ => false,
+    }
+}
+
+/// Whether the event ends the close of the scope.
+fn ends(event: &Event, scope: ScopeId) -> bool
+    ensures { result ≡ ends scope event.now }
+{
+    match *event {
+        Event::EndClose { scope: closed, .. } => closed == scope,
+        _ => false,
+    }
+}
+
+/// The place of the event that joined the scope.
+pub(crate) fn joined_place(events: &[Event], scope: ScopeId) -> Option<usize>
+    ensures place { result ≡ joined_place events.now scope }
+    ensures within { IfSome result (λ place. place < length events.now) }
+{
+    events.iter().position(|event| joins(event, scope))
+}
+
+/// The place of the event that closed the scope.
+pub(crate) fn closed_place(events: &[Event], scope: ScopeId) -> Option<usize>
+    ensures place { result ≡ closed_place events.now scope }
+    ensures within { IfSome result (λ place. place < length events.now) }
+{
+    events.iter().position(|event| ends(event, scope))
+}
+
+/// The place of the event that began a close that covers the scope, the first such.
+#[tactic(auto, using(crate::proofs::Searched::place_found, crate::proofs::Searched::place_passed, crate::proofs::Searched::place_none), unfolding(crate::specs::Places::closing_place))]
+pub(crate) fn closing_place<R: Readings>(
+    readings: &R,
+    events: &[Event],
+    scope: ScopeId,
+) -> Option<usize>
+    requires { events.now ≡ (R.history readings.now).events }
+    ensures place { result ≡ closing_place (R.history readings.now) scope }
+    ensures within { IfSome result (λ place. place < length events.now) }
+{
+    for place in 0..events.len() {
+        if closing_at(readings, events, place, scope) {
+            return Some(place);
+        }
+    }
+    None
+}
+
+/// Whether the event at the place begins a close that covers the scope.
+fn closing_at<R: Readings>(readings: &R, events: &[Event], place: usize, scope: ScopeId) -> bool
+    requires { events.now ≡ (R.history readings.now).events }
+    ensures { result ≡ closing_at (R.history readings.now) scope place }
+{
+    match events.get(place) {
+        Some(event) => begins_closing(readings, events, place, event, scope),
+        None => false,
+    }
+}
+
+/// Whether the event, which stands at the place, begins a close that covers the scope.
+fn begins_closing<R: Readings>(
+    readings: &R,
+    events: &[Event],
+    place: usize,
+    event: &Event,
+    scope: ScopeId,
+) -> bool
+    requires events { events.now ≡ (R.history readings.now).events }
+    requires within { place < length events.now }
+    ensures { result ≡ begins_closing (before (R.history readings.now) place) scope event.now }
+{
+    match *event {
+        Event::BeginClose { scope: closed, .. } => covers(readings, events, place, closed, scope),
+        _ => false,
+    }
+}
+
+/// Whether the beginning of the close of the scope at the place covers the other one: it is that, or its
+/// owner opened it later and had not closed it.
+#[tactic(auto, unfolding(scope_rules::specs::Scopes::covers, scope_rules::specs::Scopes::closed))]
+fn covers<R: Readings>(
+    readings: &R,
+    events: &[Event],
+    place: usize,
+    closed: ScopeId,
+    scope: ScopeId,
+) -> bool
+    requires events { events.now ≡ (R.history readings.now).events }
+    requires within { place < length events.now }
+    ensures { result ≡ covers (before (R.history readings.now) place) closed scope }
+{
+    if closed == scope {
+        return true;
+    }
+    if scope <= closed || closed_before(events, place, scope) {
+        return false;
+    }
+    have_one_opener(
+        opening_before(readings, place, closed),
+        opening_before(readings, place, scope),
+    )
+}
+
+/// Whether the scope was closed before the place.
+fn closed_before(events: &[Event], place: usize, scope: ScopeId) -> bool
+    requires { place < length events.now }
+    ensures { result ≡ list_any (ends scope) (take place events.now) }
+{
+    events[..place].iter().any(|event| ends(event, scope))
+}
+
+/// Whether the two openings are of one actor.
+fn have_one_opener(left: Option<Opening>, right: Option<Opening>) -> bool
+    ensures { result ≡ have_one_opener left right }
+{
+    match (left, right) {
+        (Some(left), Some(right)) => left.actor == right.actor,
+        _ => false,
+    }
+}
+
+/// The opening of the scope, if it was opened before the place.
+#[tactic(auto, using(crate::proofs::Searched::opened_before, crate::proofs::Searched::opened_later, crate::proofs::Searched::never_opened))]
+fn opening_before<R: Readings>(readings: &R, place: usize, scope: ScopeId) -> Option<Opening>
+    ensures { result ≡ opening (before (R.history readings.now) place) scope }
+{
+    match readings.opening(scope) {
+        Some(opening) if opening.place < place => Some(opening),
+        _ => None,
+    }
+}
+
+/// Whether the task waits or runs.
+fn is_pending<R: Readings>(readings: &R, task: TaskId) -> bool
+    ensures { result ≡ is_pending (R.history readings.now) task }
+{
+    match readings.stage(task) {
+        Stage::Waiting | Stage::Running => true,
+        Stage::Never | Stage::Finished => false,
+    }
+}
+
+/// The first task of the scope that waits or runs.
+#[tactic(auto, using(crate::proofs::Searched::find_found, crate::proofs::Searched::find_passed, crate::proofs::Searched::all_passed), unfolding(crate::specs::Places::pending_task))]
+pub(crate) fn pending_task<R: Readings>(readings: &R, scope: ScopeId) -> Option<TaskId>
+    requires { Passes (scope_check (R.history readings.now) scope) }
+    ensures { result ≡ pending_task (R.history readings.now) scope }
+{
+    for index in 0..readings.tasks() as usize {
+        let task = readings.task_at(scope, index)?;
+        if is_pending(readings, task) {
+            return Some(task);
+        }
+    }
+    None
+}

@@ -1,0 +1,3 @@
+pub mod Whys
+pub mod Notes
+pub mod Fits
