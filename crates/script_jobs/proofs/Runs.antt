@@ -6,8 +6,8 @@ use Rattle.scope_rules.specs.declared.types.capacity.Limits.{Limits}
 use Rattle.scope_script.specs.Running.{RunsPartly, RunsTallied}
 use Rattle.scope_script.specs.declared.session.tally.Tally.{Tally}
 use Rattle.scope_script.specs.declared.session.run.Mode.TheVariants.{Quiet, Replies}
-use Rattle.tree_dump.specs.Tree.{dump_text}
-use Rattle.script_jobs.specs.Jobs.{Dumped, ReadSome, Replayed}
+use Rattle.script_jobs.specs.Jobs.{ReadSome, Replayed, Showed, shown_text}
+use Rattle.script_jobs.specs.declared.showing.View.{View}
 
 no_part : (part rest : List ℕ) → [] ≡ part ++ rest → part ≡ []
 no_part [] rest e = refl
@@ -25,13 +25,13 @@ module _ (limits : Limits) (unread unread_new written written_new : Option (List
 
   -- ---- a run that writes nothing
 
-  pub dumped : (realm : Realm) (tally : Tally) (text : List ℕ) (counted : Tally) → RunsTallied unread unread_new written written_new Quiet limits realm tally → (text ≡ dump_text realm.history ++ 10 ∷ []) × (counted ≡ tally)
-      → Dumped unread unread_new limits text counted
-  dumped realm tally text counted run is = record {
+  pub shown : (view : View) (realm : Realm) (tally : Tally) (text : List ℕ) (counted : Tally) → RunsTallied unread unread_new written written_new Quiet limits realm tally → (text ≡ shown_text view realm.history) × (counted ≡ tally)
+      → Showed unread unread_new limits view text counted
+  shown view realm tally text counted run is = record {
     script = run.ends.script;
     read = run.ends.read;
     all = run.ends.all;
-    is = is.0 ∙ ap (λ (r : Realm). dump_text r.history ++ 10 ∷ []) run.ends.left;
+    is = is.0 ∙ ap (λ (r : Realm). shown_text view r.history) run.ends.left;
     counted = is.1 ∙ run.counted;
   }
 

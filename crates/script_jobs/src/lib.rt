@@ -1,9 +1,12 @@
-//! The jobs of the program that run a script, over any streams: its replies are written, or the tree of what
-//! it leaves is given.
+//! The jobs of the program that run a script, over any streams: its replies are written, or what it leaves is
+//! given as it is to be shown.
 #![tactic(auto)]
 
-mod dumping;
+mod noting;
 mod replaying;
+mod showing;
+mod whole;
 
-pub use dumping::{Tree, dumped};
+pub use noting::{NotedReplay, replayed_noted};
 pub use replaying::replayed;
+pub use showing::{Rendering, View, shown};
