@@ -11,7 +11,7 @@ use Rattle.clap.specs.Walk.{Names, Row, Rule, Text, arg_by_id, arg_by_index, arg
 use Rattle.command_line.specs.Application.{option_rule, scopectl, with_options}
 use Rattle.command_line.specs.CommandLine.{command_word, is_among, option_names}
 use Rattle.command_line.specs.declared.lines.Job.{Job}
-use Rattle.command_line.specs.declared.lines.Job.TheVariants.{Replay, Dump, Quote}
+use Rattle.command_line.specs.declared.lines.Job.TheVariants.{Replay, Dump, Tree, Timeline, Quote}
 use Rattle.command_line.proofs.Levels.{IsLevel}
 
 -- the job has an option of this name
@@ -65,11 +65,11 @@ built_top = record (built_command Replay) { name = codes "scopectl"; rules = top
 abbrev pub built_app : App
 built_app = record {
   top = built_top;
-  subs = built_command Replay ∷ built_command Dump ∷ built_command Quote ∷ [];
+  subs = built_command Replay ∷ built_command Dump ∷ built_command Tree ∷ built_command Timeline ∷ built_command Quote ∷ [];
 }
 
 abbrev pub command_names : Names
-command_names = (command_word Replay, []) ∷ (command_word Dump, []) ∷ (command_word Quote, []) ∷ []
+command_names = (command_word Replay, []) ∷ (command_word Dump, []) ∷ (command_word Tree, []) ∷ (command_word Timeline, []) ∷ (command_word Quote, []) ∷ []
 
 pub is_built : built scopectl ≡ built_app
 unfolding scopectl with_options job_rules top_rules
@@ -174,12 +174,16 @@ pub job_level : (job : Job) → IsLevel (built_command job)
 unfolding job_rules
 job_level Replay = level_of (built_command Replay) refl refl help_asks
 job_level Dump = level_of (built_command Dump) refl refl help_asks
+job_level Tree = level_of (built_command Tree) refl refl help_asks
+job_level Timeline = level_of (built_command Timeline) refl refl help_asks
 job_level Quote = level_of (built_command Quote) refl refl help_asks
 
 pub job_has_none : (job : Job) → list_all (λ a. is_empty a.defaults) (job_rules job) ≡ true
 unfolding job_rules
 job_has_none Replay = refl
 job_has_none Dump = refl
+job_has_none Tree = refl
+job_has_none Timeline = refl
 job_has_none Quote = refl
 
 -- the faults of the words after a job's word

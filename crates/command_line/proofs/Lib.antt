@@ -2,6 +2,7 @@ mod Answering
 mod Built
 mod Clearing
 mod Delays
+mod Flagging
 mod HelpWords
 mod Hinting
 mod Levels
@@ -10,6 +11,5 @@ mod Parsed
 mod Passing
 mod Requests
 mod Saying
-mod StrictWords
 mod TopLevel
 mod Walking

@@ -15,7 +15,7 @@ use Rattle.clap.specs.Walk.{Held, Row, Rule, Text, Walk, arg_by_long, default_ro
 use Rattle.command_line.specs.Application.{scopectl}
 use Rattle.command_line.specs.CommandLine.{Given, command_said, command_word, given_to, job_named, said_by, text_given}
 use Rattle.command_line.specs.declared.lines.Job.{Job}
-use Rattle.command_line.specs.declared.lines.Job.TheVariants.{Replay, Dump, Quote}
+use Rattle.command_line.specs.declared.lines.Job.TheVariants.{Replay, Dump, Tree, Timeline, Quote}
 use Rattle.command_line.proofs.Built.{asks_help, asks_version, built_app, built_help, built_top, built_version, command_names, is_built, job_has_none, job_rules, top_level, top_rules, words_fault}
 use Rattle.command_line.proofs.Levels.{at, dashes, dashes_end, holding, long_clear, no_value, nothing_past_dashes, or_else-nil, past_dashes}
 use Rattle.command_line.proofs.Saying.{reads}
@@ -55,6 +55,8 @@ pub stops : (job : Job) (rest : List Text) → walk top_rules command_names noth
 unfolding walked
 stops Replay rest = stop_more Replay [] rest
 stops Dump rest = stop_more Dump [] rest
+stops Tree rest = stop_more Tree [] rest
+stops Timeline rest = stop_more Timeline [] rest
 stops Quote rest = stop_more Quote [] rest
 
 -- ---- any other first word meets a fault
@@ -116,6 +118,8 @@ module _ (word : Text) (rest : List Text) (own : subcommand_met command_names id
 pub entered_is : (job : Job) (rest : List Text) → entered_fault built_app (Some (command_word job, rest)) ≡ words_fault job rest
 entered_is Replay rest = refl
 entered_is Dump rest = refl
+entered_is Tree rest = refl
+entered_is Timeline rest = refl
 entered_is Quote rest = refl
 
 words_clear : (job : Job) (rest : List Text) → built_fault built_app nothing_held (command_word job ∷ rest) ≡ [] → words_fault job rest ≡ []
@@ -154,6 +158,8 @@ pub named_is : (job : Job) → job_named (command_word job) ≡ Some job
 unfolding job_named
 named_is Replay = refl
 named_is Dump = refl
+named_is Tree = refl
+named_is Timeline = refl
 named_is Quote = refl
 
 -- the rows that a job's command leaves
@@ -163,6 +169,8 @@ rows_left job rest = finished (job_rules job) (walk (job_rules job) [] nothing_h
 rows_entered : (job : Job) (rest : List Text) → entered built_app (Some (command_word job, rest)) ≡ Some (command_word job, rows_left job rest)
 rows_entered Replay rest = refl
 rows_entered Dump rest = refl
+rows_entered Tree rest = refl
+rows_entered Timeline rest = refl
 rows_entered Quote rest = refl
 
 said_at : (program : Text) (job : Job) (rest : List Text) → command_said (program ∷ command_word job ∷ rest) ≡ option_and_then (λ given. said_by job (text_given given)) (given_to job rest)
@@ -192,18 +200,21 @@ read_command program job rest e =
     }
 
 read_after : (program word : Text) (rest : List Text) → built_fault built_app nothing_held (word ∷ rest) ≡ [] → IsRead (program ∷ word ∷ rest)
-read_after program word rest e = go (bytes_eq (codes "replay") word) refl (bytes_eq (codes "dump") word) refl (bytes_eq (codes "quote") word) refl
+read_after program word rest e =
+    go (bytes_eq (codes "replay") word) refl (bytes_eq (codes "dump") word) refl (bytes_eq (codes "tree") word) refl (bytes_eq (codes "timeline") word) refl (bytes_eq (codes "quote") word) refl
   where
     at_job : (job : Job) → command_word job ≡ word → IsRead (program ∷ word ∷ rest)
     at_job job same =
         subst (λ w. IsRead (program ∷ w ∷ rest)) same (read_command program job rest (words_clear job rest (subst (λ w. built_fault built_app nothing_held (w ∷ rest) ≡ []) (sym same) e)))
 
-    go : (a : Bool) → bytes_eq (codes "replay") word ≡ a → (b : Bool) → bytes_eq (codes "dump") word ≡ b → (c : Bool) → bytes_eq (codes "quote") word ≡ c
-        → IsRead (program ∷ word ∷ rest)
-    go true replays b dumps c quotes = at_job Replay ((bytes_eq-Decides (codes "replay") word).0 replays)
-    go false replays true dumps c quotes = at_job Dump ((bytes_eq-Decides (codes "dump") word).0 dumps)
-    go false replays false dumps true quotes = at_job Quote ((bytes_eq-Decides (codes "quote") word).0 quotes)
-    go false replays false dumps false quotes = absurd (no_other word rest (rw (replays, dumps, quotes) refl) e)
+    go : (a : Bool) → bytes_eq (codes "replay") word ≡ a → (b : Bool) → bytes_eq (codes "dump") word ≡ b → (c : Bool) → bytes_eq (codes "tree") word ≡ c → (d : Bool) → bytes_eq (codes "timeline") word ≡ d
+        → (q : Bool) → bytes_eq (codes "quote") word ≡ q → IsRead (program ∷ word ∷ rest)
+    go true replays b dumps c trees d lines q quotes = at_job Replay ((bytes_eq-Decides (codes "replay") word).0 replays)
+    go false replays true dumps c trees d lines q quotes = at_job Dump ((bytes_eq-Decides (codes "dump") word).0 dumps)
+    go false replays false dumps true trees d lines q quotes = at_job Tree ((bytes_eq-Decides (codes "tree") word).0 trees)
+    go false replays false dumps false trees true lines q quotes = at_job Timeline ((bytes_eq-Decides (codes "timeline") word).0 lines)
+    go false replays false dumps false trees false lines true quotes = at_job Quote ((bytes_eq-Decides (codes "quote") word).0 quotes)
+    go false replays false dumps false trees false lines false quotes = absurd (no_other word rest (rw (replays, dumps, trees, lines, quotes) refl) e)
 
 pub read : (words : List Text) → fault_of scopectl words ≡ [] → IsRead words
 read [] e = absurd (none_met [] refl (sym (fault_is []) ∙ e))

@@ -5,11 +5,11 @@ use Rattle.std.specs.List.{list_any}
 use Rattle.std.specs.Str.{bytes_eq}
 use Rattle.clap.specs.Lexer.{long_of}
 use Rattle.command_line.specs.HelpWord.{turned}
-use Rattle.command_line.specs.StrictWord.{is_strict}
+use Rattle.command_line.specs.Flags.{is_explained, is_strict, is_traced}
 use Rattle.command_line.specs.Settings.{NameAndMillis, Numbers, deadline_by, delay_by, delay_of, name_of, numbers_by, numbers_of}
 use Rattle.command_line.specs.declared.lines.CommandLine.{CommandLine}
 use Rattle.command_line.specs.declared.lines.Job.{Job}
-use Rattle.command_line.specs.declared.lines.Job.TheVariants.{Replay, Dump, Quote}
+use Rattle.command_line.specs.declared.lines.Job.TheVariants.{Replay, Dump, Tree, Timeline, Quote}
 use Rattle.command_line.specs.declared.settings.Setting.TheVariants.{Scopes, Tasks, Load, Deadline, After}
 
 -- ---- jobs
@@ -18,13 +18,17 @@ use Rattle.command_line.specs.declared.settings.Setting.TheVariants.{Scopes, Tas
 abbrev pub command_word : Job → List ℕ
 command_word Replay = codes "replay"
 command_word Dump = codes "dump"
+command_word Tree = codes "tree"
+command_word Timeline = codes "timeline"
 command_word Quote = codes "quote"
 
 -- the job that has this word
 unfoldable pub job_named : List ℕ → Option Job
 job_named word = if bytes_eq (command_word Replay) word then Some Replay
     else (if bytes_eq (command_word Dump) word then Some Dump
-    else (if bytes_eq (command_word Quote) word then Some Quote else None))
+    else (if bytes_eq (command_word Tree) word then Some Tree
+    else (if bytes_eq (command_word Timeline) word then Some Timeline
+    else (if bytes_eq (command_word Quote) word then Some Quote else None))))
 
 -- the names of the options that set the limits of a realm
 abbrev pub limit_names : List (List ℕ)
@@ -38,6 +42,8 @@ time_names = name_of Deadline ∷ name_of After ∷ []
 abbrev pub option_names : Job → List (List ℕ)
 option_names Replay = limit_names
 option_names Dump = limit_names
+option_names Tree = limit_names
+option_names Timeline = limit_names
 option_names Quote = time_names
 
 -- ---- options
@@ -117,10 +123,12 @@ command_said _ = None
 abbrev pub said_of : CommandLine → Said
 said_of command = said_with command.job (numbers_of command.limits) command.deadline (option_map delay_of command.after)
 
--- the words say the command, as they are read, and have `--strict` where it is strict
+-- the words say the command, as they are read, and have the options without a text that it has
 pub record Says (words : List (List ℕ)) (command : CommandLine) : Type 0 where
   pub said : command_said (turned words) ≡ Some (said_of command)
   pub strict : command.strict ≡ is_strict words
+  pub explain : command.explain ≡ is_explained words
+  pub trace : command.trace ≡ is_traced words
 
 -- the words say no command, as they are read
 abbrev pub SaysNone : List (List ℕ) → Type 0

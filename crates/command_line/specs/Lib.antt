@@ -1,7 +1,7 @@
 pub mod Application
 pub mod CommandLine
 pub mod Faults
-pub mod StrictWord
+pub mod Flags
 pub mod HelpWord
 pub mod Hints
 pub mod Settings

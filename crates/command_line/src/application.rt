@@ -26,7 +26,9 @@ pub fn application<'a>(alloc: Global) -> Result<Command<'a>, AllocError>
         .disable_help_subcommand(true);
     let with_replay = with_job(alloc, program, Job::Replay)?;
     let with_dump = with_job(alloc, with_replay, Job::Dump)?;
-    with_job(alloc, with_dump, Job::Quote)
+    let with_tree = with_job(alloc, with_dump, Job::Tree)?;
+    let with_timeline = with_job(alloc, with_tree, Job::Timeline)?;
+    with_job(alloc, with_timeline, Job::Quote)
 }
 
 // The program with the command of one job more.
@@ -45,7 +47,7 @@ fn command<'a>(alloc: Global, job: Job) -> Result<Command<'a>, AllocError>
     let word: &'a str = job.word();
     let bare = Command::new(alloc, word);
     match job {
-        Job::Replay | Job::Dump => with_limits(alloc, bare),
+        Job::Replay | Job::Dump | Job::Tree | Job::Timeline => with_limits(alloc, bare),
         Job::Quote => with_times(alloc, bare),
     }
 }

@@ -16,10 +16,12 @@ pub const HELP: &str = "Replays scripts of commands on task scopes, by proved ru
 Usage: scopectl <COMMAND>
 
 Commands:
-  replay  Reads a script of commands from standard input, and writes the replies
-  dump    Reads a script of commands from standard input, and writes what it leaves as JSON
-  quote   Reads a plan of offers from standard input, asks them on threads, and writes the answer
-  help    Print this message or the help of a command
+  replay    Reads a script of commands from standard input, and writes the replies
+  dump      Reads a script of commands from standard input, and writes what it leaves as JSON
+  tree      Reads a script of commands from standard input, and writes what it leaves as text
+  timeline  Reads a script of commands from standard input, and draws its run as an SVG picture
+  quote     Reads a plan of offers from standard input, asks them on threads, and writes the answer
+  help      Print this message or the help of a command
 
 Options:
   -h, --help     Print help
@@ -34,10 +36,10 @@ Exit status:
 Try 'scopectl replay --help', or that of another command, for an example.
 ";
 
-/// The help of a job that runs a script: what it does and how it is called, its options, an example, and the
-/// statuses.
+/// The help of a job that runs a script: what it does and how it is called, its options, those of this job
+/// alone, an example, and the statuses.
 macro_rules! script_help {
-    ($begin:literal, $example:literal) => {
+    ($begin:literal, $options:literal, $example:literal) => {
         concat!(
             $begin,
             "
@@ -46,7 +48,9 @@ Options:
       --tasks <N>   How many tasks may be forked, from 1 to 65536 [default: 65536]
       --load <N>    How much load the realm takes, from 1 to 1048576 units [default: 1048576]
       --strict      End with status 3 where lines were refused
-  -h, --help        Print help
+",
+            $options,
+            "  -h, --help        Print help
 ",
             $example,
             "
@@ -69,6 +73,9 @@ standard output. A line that is empty or begins with # has no reply.
 
 Usage: scopectl replay [OPTIONS]
 ",
+    "      --explain     Say on standard error of each refused line why it was refused
+      --trace       Say on standard error of each line what it was answered
+",
     "
 Example: the script on the left has the replies on the right.
 
@@ -90,6 +97,7 @@ it and inside them, and why it is cancelled.
 
 Usage: scopectl dump [OPTIONS]
 ",
+    "",
     "
 Example: the script
 
@@ -101,6 +109,43 @@ has the dump (one line, which is broken here)
   {\"moment\":0,\"root\":{\"cause\":null,\"deadline\":100,\"expiry\":\"fail\",\"id\":1,\"inner\":null,
   \"joined\":false,\"joiner\":\"all\",\"owner\":0,\"shield\":false,\"stage\":\"open\",\"tasks\":[
   {\"id\":1,\"inner\":null,\"name\":\"a\",\"stage\":\"waiting\",\"state\":\"unavailable\"}]}}
+"
+);
+
+/// What `scopectl tree --help` writes.
+pub const TREE_HELP: &str = script_help!(
+    "Reads a script of commands from standard input, one a line, and writes no replies, but in the end
+the tree of the scopes that are not closed, as text: a line a scope or task, indented.
+
+Usage: scopectl tree [OPTIONS]
+",
+    "",
+    "
+Example: the script
+
+  open 0 all deadline=100
+  fork 0 1 a
+
+has the tree
+
+  moment 0
+  scope 1 open, of main, joins all, deadline 100, awaits 1 of 1
+    task 1 a: waiting
+"
+);
+
+/// What `scopectl timeline --help` writes.
+pub const TIMELINE_HELP: &str = script_help!(
+    "Reads a script of commands from standard input, one a line, and writes no replies, but in the end
+a picture of the run, as SVG: a band a scope and a lane a task, with events from left to right.
+
+Usage: scopectl timeline [OPTIONS]
+",
+    "",
+    "
+Example: the journal of a service is a script, too.
+
+  scopectl timeline < FILE > run.svg
 "
 );
 
@@ -170,6 +215,10 @@ fn help_at(command: &str) -> &'static str
         REPLAY_HELP
     } else if command == "dump" {
         DUMP_HELP
+    } else if command == "tree" {
+        TREE_HELP
+    } else if command == "timeline" {
+        TIMELINE_HELP
     } else if command == "quote" {
         QUOTE_HELP
     } else {

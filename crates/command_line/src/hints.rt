@@ -15,6 +15,13 @@ pub const REPLAY_INPUT: &str =
 /// Where the script of a dump comes from.
 pub const DUMP_INPUT: &str = "hint: the script is read from standard input: scopectl dump < FILE";
 
+/// Where the script of a tree comes from.
+pub const TREE_INPUT: &str = "hint: the script is read from standard input: scopectl tree < FILE";
+
+/// Where the script of a timeline comes from.
+pub const TIMELINE_INPUT: &str =
+    "hint: the script is read from standard input: scopectl timeline < FILE";
+
 /// Where a plan comes from.
 pub const QUOTE_INPUT: &str = "hint: the plan is read from standard input: scopectl quote < FILE";
 
@@ -65,6 +72,8 @@ fn input_hint(job: Job) -> &'static str
     match job {
         Job::Replay => REPLAY_INPUT,
         Job::Dump => DUMP_INPUT,
+        Job::Tree => TREE_INPUT,
+        Job::Timeline => TIMELINE_INPUT,
         Job::Quote => QUOTE_INPUT,
     }
 }

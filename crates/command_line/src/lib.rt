@@ -2,8 +2,10 @@
 //! that they ask for.
 //!
 //! ```text
-//! scopectl replay [--scopes N] [--tasks N] [--load N]
-//! scopectl dump [--scopes N] [--tasks N] [--load N]
+//! scopectl replay [--scopes N] [--tasks N] [--load N] [--strict] [--explain] [--trace]
+//! scopectl dump [--scopes N] [--tasks N] [--load N] [--strict]
+//! scopectl tree [--scopes N] [--tasks N] [--load N] [--strict]
+//! scopectl timeline [--scopes N] [--tasks N] [--load N] [--strict]
 //! scopectl quote [--deadline MS] [--after NAME=MS]
 //! scopectl help [COMMAND]
 //! ```
@@ -18,12 +20,12 @@
 
 mod application;
 mod faults;
+mod flags;
 mod help;
 mod help_word;
 mod hints;
 mod lines;
 mod settings;
-mod strict_word;
 
 pub use faults::LineFault;
 pub use help::{VERSION_LINE, help_of};

@@ -3,13 +3,13 @@ ghost use Rattle.std.specs.Prelude.{◌≡◌, ◌⊎◌, IfOk, IfErr, map};
 ghost use Rattle.command_line.specs.CommandLine.{Says, SaysNone, command_word, job_named};
 ghost use Rattle.command_line.specs.Faults.{Answers};
 ghost use Rattle.command_line.specs.HelpWord.{turned};
-ghost use Rattle.command_line.specs.StrictWord.{is_strict};
+ghost use Rattle.command_line.specs.Flags.{is_explained, is_strict, is_traced};
 
 use crate::faults::LineFault;
+use crate::flags::{Flag, taken};
 use crate::help_word::{has_help_word, turned};
 use crate::hints::hint_for;
 use crate::settings::Delay;
-use crate::strict_word::without_strict;
 use crate::{application, settings};
 use scope_rules::Limits;
 use std::alloc::Global;
@@ -27,6 +27,10 @@ pub struct CommandLine {
     pub after: Option<Delay>,
     /// Whether the status is to tell that lines of the script were refused; of a plan it is not.
     pub strict: bool,
+    /// Whether it is to be said why lines of a replay were refused.
+    pub explain: bool,
+    /// Whether each line of a replay is to be said with its reply.
+    pub trace: bool,
 }
 
 /// The kinds of work.
@@ -34,8 +38,12 @@ pub struct CommandLine {
 pub enum Job {
     /// Replays the script on standard input, and writes the replies.
     Replay,
-    /// Runs the script on standard input without replies, and writes the tree of what it leaves.
+    /// Runs the script on standard input without replies, and writes the tree of what it leaves as JSON.
     Dump,
+    /// Does the same, and writes the tree as text for a terminal.
+    Tree,
+    /// Does the same, and writes a picture of the run.
+    Timeline,
     /// Serves the plan on standard input, and writes the answer.
     Quote,
 }
@@ -48,6 +56,8 @@ impl Job {
         match self {
             Job::Replay => "replay",
             Job::Dump => "dump",
+            Job::Tree => "tree",
+            Job::Timeline => "timeline",
             Job::Quote => "quote",
         }
     }
@@ -61,6 +71,10 @@ impl Job {
             Some(Job::Replay)
         } else if word == "dump" {
             Some(Job::Dump)
+        } else if word == "tree" {
+            Some(Job::Tree)
+        } else if word == "timeline" {
+            Some(Job::Timeline)
         } else if word == "quote" {
             Some(Job::Quote)
         } else {
@@ -83,23 +97,46 @@ pub fn line<'a>(alloc: Global, words: &'a [&'a str]) -> Result<CommandLine, Line
 {
     if has_help_word(words) {
         let read = turned(alloc, words)?;
-        return command(alloc, words, &read, false);
+        return command(alloc, words, &read, Flags::NONE);
     }
-    match without_strict(alloc, words)? {
-        Some(read) => command(alloc, words, &read, true),
-        None => command(alloc, words, words, false),
-    }
+    let (strict, loose) = taken(alloc, Flag::Strict, words)?;
+    let (explain, plain) = taken(alloc, Flag::Explain, &loose)?;
+    let (trace, read) = taken(alloc, Flag::Trace, &plain)?;
+    let flags = Flags {
+        strict,
+        explain,
+        trace,
+    };
+    command(alloc, words, &read, flags)
 }
 
-// The command that the words say, which are read as `read`, strict or not.
+// Which options without a text stand in the words.
+#[derive(Clone, Copy)]
+struct Flags {
+    strict: bool,
+    explain: bool,
+    trace: bool,
+}
+
+impl Flags {
+    const NONE: Flags = Flags {
+        strict: false,
+        explain: false,
+        trace: false,
+    };
+}
+
+// The command that the words say, which are read as `read` and have these flags.
 fn command<'a>(
     alloc: Global,
     words: &'a [&'a str],
     read: &'a [&'a str],
-    strict: bool,
+    flags: Flags,
 ) -> Result<CommandLine, LineFault>
     requires read { map (λ word. word.now) read.now ≡ turned (map (λ word. word.now) words.now) }
-    requires strict { strict ≡ is_strict (map (λ word. word.now) words.now) }
+    requires strict { flags.strict ≡ is_strict (map (λ word. word.now) words.now) }
+    requires explain { flags.explain ≡ is_explained (map (λ word. word.now) words.now) }
+    requires trace { flags.trace ≡ is_traced (map (λ word. word.now) words.now) }
     ensures said { IfOk result (Says (map (λ word. word.now) words.entry.now)) }
     ensures refused { IfErr result (λ fault. (fault ≡ LineFault.Memory)
         ⊎ SaysNone (map (λ word. word.now) words.entry.now)) }
@@ -124,6 +161,8 @@ fn command<'a>(
         limits,
         deadline,
         after,
-        strict,
+        strict: flags.strict,
+        explain: flags.explain,
+        trace: flags.trace,
     })
 }

@@ -3,7 +3,7 @@ use Rattle.std.proofs.lemmas.Result.{IfOk-weaker}
 use Rattle.clap.specs.Simple.{on_top}
 use Rattle.clap.specs.Words.{App, app_of, new_app, with_subcommand}
 use Rattle.command_line.specs.Application.{command_of, scopectl}
-use Rattle.command_line.specs.declared.lines.Job.TheVariants.{Replay, Dump, Quote}
+use Rattle.command_line.specs.declared.lines.Job.TheVariants.{Replay, Dump, Tree, Timeline, Quote}
 use Rattle.command_line.proofs.application.application.Goals as goal
 
 abbrev alone : App
@@ -19,10 +19,18 @@ replaying = with_subcommand alone (command_of Replay).top
 abbrev dumping : App
 dumping = with_subcommand replaying (command_of Dump).top
 
+abbrev treeing : App
+treeing = with_subcommand dumping (command_of Tree).top
+
+abbrev timing : App
+timing = with_subcommand treeing (command_of Timeline).top
+
 pub returns : goal.returns
 unfolding scopectl
 returns c =
     let start_is : app_of c.disable_help_subcommand-program.result ≡ alone = search rules in
     let one_is : app_of c.in_ok-with_replay.with_replay ≡ replaying = c.in_ok-with_replay.ensures ∙ ap (λ (a : App). with_subcommand a (command_of Replay).top) start_is in
     let two_is : app_of c.in_ok-with_dump.with_dump ≡ dumping = c.in_ok-with_dump.ensures ∙ ap (λ (a : App). with_subcommand a (command_of Dump).top) one_is in
-    IfOk-weaker c.with_job-3.result _ _ (λ m h. h ∙ ap (λ (a : App). with_subcommand a (command_of Quote).top) two_is) c.with_job-3.ensures
+    let three_is : app_of c.in_ok-with_tree.with_tree ≡ treeing = c.in_ok-with_tree.ensures ∙ ap (λ (a : App). with_subcommand a (command_of Tree).top) two_is in
+    let four_is : app_of c.in_ok-with_timeline.with_timeline ≡ timing = c.in_ok-with_timeline.ensures ∙ ap (λ (a : App). with_subcommand a (command_of Timeline).top) three_is in
+    IfOk-weaker c.with_job-5.result _ _ (λ m h. h ∙ ap (λ (a : App). with_subcommand a (command_of Quote).top) four_is) c.with_job-5.ensures

@@ -94,4 +94,6 @@ returns-clause-said c =
           sym said ∙ all_said p.got.job (first_value (found_of c.in-Some.options.now)) _ c.in_ok-limits.ensures.said _ c.in_ok-deadline.ensures.said _ c.in_ok-after.ensures.said
           ∙ ap (λ j. Some (said_with j (numbers_of c.in_ok-limits.limits) c.in_ok-deadline.deadline (option_map delay_of c.in_ok-after.after))) (sym same);
       strict = c.requires.strict;
+      explain = c.requires.explain;
+      trace = c.requires.trace;
     }
