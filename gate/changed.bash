@@ -66,7 +66,7 @@ try_edits_of() {
 test_program_of() {
     local base=$1 program
     shift
-    is_among scopectl "$@" || ! git diff --quiet "$base" -- crates/scopectl/rows crates/scopectl/test-program README.md docs/PLAN.md examples || return 0
+    is_among scopectl "$@" || ! git diff --quiet "$base" -- crates/scopectl/rows crates/scopectl/test-program crates/scopectl/test-shown crates/scopectl/testing.bash README.md docs/SCRIPT.md docs/scopectl.1 docs/PLAN.md examples || return 0
     program=$(program_of "$(digest_of_program_sources)")
     ! is_among scopectl "$@" || program=crates/scopectl/out/scopectl
     if [[ -z $program ]]; then

@@ -16,6 +16,10 @@ IsSaid text said said_new failed =
 abbrev pub tally_line : Tally → List ℕ
 tally_line tally = codes "scopectl: lines refused: " ++ decimal tally.refused ++ codes ", of which no commands: " ++ decimal tally.bad_words ++ 10 ∷ []
 
+-- the same, or nothing where there are none
+abbrev pub refusals_text : Tally → List ℕ
+refusals_text tally = if tally.refused == 0 then [] else tally_line tally
+
 abbrev pub EitherBy : Bool → Type 0 → Type 0 → Type 0
 EitherBy true A B = A
 EitherBy false A B = B
@@ -23,6 +27,10 @@ EitherBy false A B = B
 -- nothing was said where there are none, so that the stream is as it was, and else that line
 abbrev pub Noted : Tally → (Kept : Type 0) (said said_new : Option (List ℕ)) (failed : Bool) → Type 0
 Noted tally Kept said said_new failed = EitherBy (tally.refused == 0) Kept (IsSaid (tally_line tally) said said_new failed)
+
+-- the notes on a script's lines were said, and then that line
+abbrev pub SaidNotes : (notes : List ℕ) → Tally → (said said_new : Option (List ℕ)) (failed : Bool) → Type 0
+SaidNotes notes tally said said_new failed = IsSaid (notes ++ refusals_text tally) said said_new failed
 
 -- the status: 0, but 3 where there are some and it is to tell so
 abbrev pub status_of : (strict : Bool) → Tally → ℕ

@@ -1,11 +1,12 @@
 //! All that the program does.
-ghost use Rattle.std.specs.Prelude.{◌≡◌, ◌≢◌, ◌≤◌, ◌⊎◌, ℕ, Option, false, true, map, string_bytes};
+ghost use Rattle.std.specs.Prelude.{◌≡◌, ◌≢◌, ◌≤◌, ◌⊎◌, ◌++◌, if◌then◌else◌, ℕ, Option, None, Some, false, true, map, string_bytes};
+ghost use Rattle.script_notes.specs.declared.notes.Notes.{Notes};
 ghost use Rattle.std.specs.Io.KnownBytes.{Appends};
 ghost use Rattle.scope_rules.specs.declared.types.capacity.Limits.{Limits};
 ghost use Rattle.scope_script.specs.Streams.{AppendsPart};
 ghost use Rattle.scopectl.specs.Naming.{IsOfPlan, NamesFault, SaysQuote};
-ghost use Rattle.scopectl.specs.Program.{DidAsSaid, DidJob, DidPart, DidPartly, DidWhole, GaveText, GaveTextPartly, IsNotUnderstood};
-ghost use Rattle.scopectl.specs.Saying.{IsSaid, Noted, status_of, tally_line};
+ghost use Rattle.scopectl.specs.Program.{DidAsSaid, DidJob, DidPart, DidPartly, DidWhole, GaveText, GaveTextPartly, IsNotUnderstood, job_of, notes_wanted};
+ghost use Rattle.scopectl.specs.Saying.{IsSaid, Noted, SaidNotes, status_of, tally_line};
 ghost use Rattle.scopectl.specs.Texts.{line_of};
 
 use crate::fault::{ProgramFault, tally_line};
@@ -16,7 +17,8 @@ use quote_gateway::LateJob;
 use realm_lock::{RealmName, Seed};
 use scope_rules::{Due, Limits};
 use scope_script::{Tally, Watched};
-use script_jobs::{Tree, dumped, replayed};
+use script_jobs::{NotedReplay, Rendering, View, replayed, replayed_noted, shown};
+use script_notes::Notes;
 use std::alloc::Global;
 use std::io::{ErrorKind, Read, Write};
 use std::rt::Clock as SystemTime;
@@ -42,19 +44,20 @@ pub const LINES_REFUSED: u8 = 3;
 ///
 /// With status 0 or 3 the words asked for help or the version, and exactly that text was written and nothing
 /// read; or they said a replay, all bytes were read, and exactly the reply text of them was written, in
-/// a realm of the limits that stand in the words; or they said a dump, all bytes were read, and exactly
-/// the dump text of the realm that they leave was written, and a line feed; or they said a quote, all bytes
+/// a realm of the limits that stand in the words; or they said a dump, a tree or a timeline, all bytes were read,
+/// and exactly that text of the realm that they leave was written; or they said a quote, all bytes
 /// were read, which are a plan, and exactly a line that it allows was written, and a line feed; by a deadline
 /// the line may say some of the prices. Where lines of a script were refused, one line on `errors` says how
-/// many, and how many of them are no commands; else nothing was said there. The status is 3 where lines were
-/// refused and the words are strict, and else 0.
+/// many, and how many of them are no commands; before it stand the notes on the lines of a replay that are to be
+/// explained or traced; else nothing was said there. The status is 3 where lines were refused and the words are
+/// strict, and else 0.
 ///
 /// With status 1 one line on `errors` names the fault: `read` or `write` only where that stream failed,
 /// or the reader was given up after 2^64 - 1 reads; a line of the plan only where it is the first bad one of all
 /// bytes, or of those that were read and whatever comes after them; `rejected`, `cancelled` or `lost` only of a
 /// quote whose bytes were all read; `strange` never; `memory` and `time` where the system refused them.
 /// Nothing was read or written, or the writer failed at the text that was asked for, or what was written
-/// is a beginning of the replies to what was read. Of a dump or a quote nothing was written, but where all
+/// is a beginning of the replies to what was read. Of any other job nothing was written, but where all
 /// bytes were read and the writer failed.
 ///
 /// With status 2 the words say no command and ask for no text, and nothing was read or written. So words
@@ -96,22 +99,31 @@ pub fn act<
 {
     match line(alloc, words) {
         Ok(command) => match command.job {
-            Job::Replay => replay(
-                alloc,
-                command.limits,
-                command.strict,
-                reader,
-                writer,
-                errors,
-            ),
-            Job::Dump => dump(
-                alloc,
-                command.limits,
-                command.strict,
-                reader,
-                writer,
-                errors,
-            ),
+            Job::Replay => {
+                let (limits, strict) = (command.limits, command.strict);
+                let wanted = notes_wanted(command.explain, command.trace);
+                replay(alloc, limits, strict, wanted, reader, writer, errors)
+            }
+            Job::Dump => {
+                let (limits, strict) = (command.limits, command.strict);
+                show(alloc, limits, View::Dump, strict, reader, writer, errors)
+            }
+            Job::Tree => {
+                let (limits, strict) = (command.limits, command.strict);
+                show(alloc, limits, View::Tree, strict, reader, writer, errors)
+            }
+            Job::Timeline => {
+                let (limits, strict) = (command.limits, command.strict);
+                show(
+                    alloc,
+                    limits,
+                    View::Timeline,
+                    strict,
+                    reader,
+                    writer,
+                    errors,
+                )
+            }
             Job::Quote => {
                 let (deadline, after) = (command.deadline, command.after);
                 quote::<N, S, T, R, W, E>(
@@ -143,8 +155,43 @@ pub fn refuse_words<E: Write + Drop>(kind: ErrorKind, errors: &mut Watched<E>) -
     NOT_UNDERSTOOD
 }
 
-/// Replays the script that is read.
+/// The notes that are wanted, if some are.
+fn notes_wanted(explain: bool, trace: bool) -> Option<Notes>
+    ensures { result ≡ notes_wanted explain trace }
+{
+    match (explain, trace) {
+        (false, false) => None,
+        (true, false) => Some(Notes::Refusals),
+        (false, true) => Some(Notes::Replies),
+        (true, true) => Some(Notes::All),
+    }
+}
+
+/// Replays the script that is read, with the notes that are wanted.
 fn replay<R: Read + Drop, W: Write + Drop, E: Write + Drop>(
+    alloc: Global,
+    limits: Limits,
+    strict: bool,
+    wanted: Option<Notes>,
+    reader: &mut Watched<R>,
+    writer: &mut Watched<W>,
+    errors: &mut Watched<E>,
+) -> u8
+    requires reader { reader.old.failed ≡ false }
+    requires writer { writer.old.failed ≡ false }
+    ensures status { (result ≤ 3) × (result ≢ 2) }
+    ensures done { (deadline : Option ℕ) → result ≢ 1 → DidWhole Job.Replay limits deadline strict wanted (errors.new ≡ errors.old) (R.remaining reader.old.inner) (R.remaining reader.new.inner) (W.contents writer.old.inner) (W.contents writer.new.inner) (E.contents errors.old.inner) (E.contents errors.new.inner) errors.new.failed result }
+    ensures fault { (deadline : Option ℕ) → result ≡ 1 → DidPart Job.Replay limits deadline (R.remaining reader.old.inner) (R.remaining reader.new.inner) (W.contents writer.old.inner) (W.contents writer.new.inner) writer.new.failed }
+    ensures named { result ≡ 1 → NamesFault (E.contents errors.old.inner) (E.contents errors.new.inner) errors.new.failed ((reader.new.failed ≡ true) ⊎ (reader.new.reads ≡ u64.MAX)) (writer.new.failed ≡ true) (λ _. ⊥) }
+{
+    match wanted {
+        Some(notes) => replay_noted(alloc, limits, strict, notes, reader, writer, errors),
+        None => replay_plainly(alloc, limits, strict, reader, writer, errors),
+    }
+}
+
+/// Replays the script that is read.
+fn replay_plainly<R: Read + Drop, W: Write + Drop, E: Write + Drop>(
     alloc: Global,
     limits: Limits,
     strict: bool,
@@ -155,7 +202,7 @@ fn replay<R: Read + Drop, W: Write + Drop, E: Write + Drop>(
     requires reader { reader.old.failed ≡ false }
     requires writer { writer.old.failed ≡ false }
     ensures status { (result ≤ 3) × (result ≢ 2) }
-    ensures done { (deadline : Option ℕ) → result ≢ 1 → DidWhole Job.Replay limits deadline strict (errors.new ≡ errors.old) (R.remaining reader.old.inner) (R.remaining reader.new.inner) (W.contents writer.old.inner) (W.contents writer.new.inner) (E.contents errors.old.inner) (E.contents errors.new.inner) errors.new.failed result }
+    ensures done { (deadline : Option ℕ) → result ≢ 1 → DidWhole Job.Replay limits deadline strict None (errors.new ≡ errors.old) (R.remaining reader.old.inner) (R.remaining reader.new.inner) (W.contents writer.old.inner) (W.contents writer.new.inner) (E.contents errors.old.inner) (E.contents errors.new.inner) errors.new.failed result }
     ensures fault { (deadline : Option ℕ) → result ≡ 1 → DidPart Job.Replay limits deadline (R.remaining reader.old.inner) (R.remaining reader.new.inner) (W.contents writer.old.inner) (W.contents writer.new.inner) writer.new.failed }
     ensures named { result ≡ 1 → NamesFault (E.contents errors.old.inner) (E.contents errors.new.inner) errors.new.failed ((reader.new.failed ≡ true) ⊎ (reader.new.reads ≡ u64.MAX)) (writer.new.failed ≡ true) (λ _. ⊥) }
 {
@@ -166,10 +213,70 @@ fn replay<R: Read + Drop, W: Write + Drop, E: Write + Drop>(
     fail(ProgramFault::of_run(fault), errors)
 }
 
-/// Dumps the realm that the script which is read leaves.
-fn dump<R: Read + Drop, W: Write + Drop, E: Write + Drop>(
+/// Replays the script that is read, and says the notes on its lines.
+fn replay_noted<R: Read + Drop, W: Write + Drop, E: Write + Drop>(
     alloc: Global,
     limits: Limits,
+    strict: bool,
+    notes: Notes,
+    reader: &mut Watched<R>,
+    writer: &mut Watched<W>,
+    errors: &mut Watched<E>,
+) -> u8
+    requires reader { reader.old.failed ≡ false }
+    requires writer { writer.old.failed ≡ false }
+    ensures status { (result ≤ 3) × (result ≢ 2) }
+    ensures done { (deadline : Option ℕ) → result ≢ 1 → DidWhole Job.Replay limits deadline strict (Some notes) (errors.new ≡ errors.old) (R.remaining reader.old.inner) (R.remaining reader.new.inner) (W.contents writer.old.inner) (W.contents writer.new.inner) (E.contents errors.old.inner) (E.contents errors.new.inner) errors.new.failed result }
+    ensures fault { (deadline : Option ℕ) → result ≡ 1 → DidPart Job.Replay limits deadline (R.remaining reader.old.inner) (R.remaining reader.new.inner) (W.contents writer.old.inner) (W.contents writer.new.inner) writer.new.failed }
+    ensures named { result ≡ 1 → NamesFault (E.contents errors.old.inner) (E.contents errors.new.inner) errors.new.failed ((reader.new.failed ≡ true) ⊎ (reader.new.reads ≡ u64.MAX)) (writer.new.failed ≡ true) (λ _. ⊥) }
+{
+    match replayed_noted(alloc, limits, notes, reader, writer) {
+        Ok(noted) => say_notes(strict, noted, errors),
+        Err(reason) => fail(ProgramFault::of_run(reason), errors),
+    }
+}
+
+/// Says the notes on a script's lines, and how many were refused, if some were, and answers the status of a script
+/// that was read to its end. Where memory is refused for it, that is said instead.
+fn say_notes<E: Write + Drop>(strict: bool, noted: NotedReplay, errors: &mut Watched<E>) -> u8
+    ensures status { (result ≤ 3) × (result ≢ 2) }
+    ensures told { result ≢ 1 → result ≡ status_of strict noted.tally }
+    ensures said { result ≢ 1 → SaidNotes (string_bytes noted.notes) noted.tally (E.contents errors.old.inner) (E.contents errors.new.inner) errors.new.failed }
+    ensures memory { result ≡ 1 → IsSaid (line_of ProgramFault.Memory) (E.contents errors.old.inner) (E.contents errors.new.inner) errors.new.failed }
+{
+    let NotedReplay { notes, tally } = noted;
+    if tally.refused > 0 {
+        return say_both(strict, notes, tally, errors);
+    }
+    say(&notes, errors);
+    DONE
+}
+
+/// Says the notes, and then how many lines were refused, which some were.
+fn say_both<E: Write + Drop>(
+    strict: bool,
+    notes: String,
+    tally: Tally,
+    errors: &mut Watched<E>,
+) -> u8
+    ensures status { (result ≤ 3) × (result ≢ 2) }
+    ensures told { result ≢ 1 → result ≡ (if strict then 3 else 0) }
+    ensures said { result ≢ 1 → IsSaid (string_bytes notes ++ tally_line tally) (E.contents errors.old.inner) (E.contents errors.new.inner) errors.new.failed }
+    ensures memory { result ≡ 1 → IsSaid (line_of ProgramFault.Memory) (E.contents errors.old.inner) (E.contents errors.new.inner) errors.new.failed }
+{
+    let mut text = notes;
+    match text.push_str(tally_line(tally).as_str()) {
+        Ok(()) => say(&text, errors),
+        Err(_) => return fail(ProgramFault::Memory, errors),
+    }
+    if strict { LINES_REFUSED } else { DONE }
+}
+
+/// Shows the realm that the script which is read leaves.
+fn show<R: Read + Drop, W: Write + Drop, E: Write + Drop>(
+    alloc: Global,
+    limits: Limits,
+    view: View,
     strict: bool,
     reader: &mut Watched<R>,
     writer: &mut Watched<W>,
@@ -178,35 +285,35 @@ fn dump<R: Read + Drop, W: Write + Drop, E: Write + Drop>(
     requires reader { reader.old.failed ≡ false }
     requires writer { writer.old.failed ≡ false }
     ensures status { (result ≤ 3) × (result ≢ 2) }
-    ensures done { (deadline : Option ℕ) → result ≢ 1 → DidWhole Job.Dump limits deadline strict (errors.new ≡ errors.old) (R.remaining reader.old.inner) (R.remaining reader.new.inner) (W.contents writer.old.inner) (W.contents writer.new.inner) (E.contents errors.old.inner) (E.contents errors.new.inner) errors.new.failed result }
-    ensures fault { (deadline : Option ℕ) → result ≡ 1 → DidPart Job.Dump limits deadline (R.remaining reader.old.inner) (R.remaining reader.new.inner) (W.contents writer.old.inner) (W.contents writer.new.inner) writer.new.failed }
+    ensures done { (deadline : Option ℕ) (wanted : Option Notes) → result ≢ 1 → DidWhole (job_of view) limits deadline strict wanted (errors.new ≡ errors.old) (R.remaining reader.old.inner) (R.remaining reader.new.inner) (W.contents writer.old.inner) (W.contents writer.new.inner) (E.contents errors.old.inner) (E.contents errors.new.inner) errors.new.failed result }
+    ensures fault { (deadline : Option ℕ) → result ≡ 1 → DidPart (job_of view) limits deadline (R.remaining reader.old.inner) (R.remaining reader.new.inner) (W.contents writer.old.inner) (W.contents writer.new.inner) writer.new.failed }
     ensures named { result ≡ 1 → NamesFault (E.contents errors.old.inner) (E.contents errors.new.inner) errors.new.failed ((reader.new.failed ≡ true) ⊎ (reader.new.reads ≡ u64.MAX)) (writer.new.failed ≡ true) (λ _. ⊥) }
 {
-    match dumped(alloc, limits, reader, writer) {
-        Ok(tree) => show(strict, &tree, writer, errors),
-        Err(reason) => fail(ProgramFault::of_run(reason), errors),
+    match shown(alloc, limits, view, reader, writer) {
+        Ok(shown) => tell_shown(strict, &shown, writer, errors),
+        Err(cause) => fail(ProgramFault::of_run(cause), errors),
     }
 }
 
-/// Writes the tree, and says how many lines were refused.
-fn show<W: Write + Drop, E: Write + Drop>(
+/// Writes what is shown, and says how many lines were refused.
+fn tell_shown<W: Write + Drop, E: Write + Drop>(
     strict: bool,
-    tree: &Tree,
+    shown: &Rendering,
     writer: &mut Watched<W>,
     errors: &mut Watched<E>,
 ) -> u8
     ensures status { (result ≤ 3) × (result ≢ 2) }
-    ensures done { result ≢ 1 → Appends (W.contents writer.old.inner) (W.contents writer.new.inner) (string_bytes tree.now.text) }
-    ensures noted { result ≢ 1 → Noted tree.now.tally (errors.new ≡ errors.old) (E.contents errors.old.inner) (E.contents errors.new.inner) errors.new.failed }
-    ensures told { result ≢ 1 → result ≡ status_of strict tree.now.tally }
-    ensures fault { result ≡ 1 → AppendsPart (W.contents writer.old.inner) (W.contents writer.new.inner) (string_bytes tree.now.text) }
+    ensures done { result ≢ 1 → Appends (W.contents writer.old.inner) (W.contents writer.new.inner) (string_bytes shown.now.text) }
+    ensures noted { result ≢ 1 → Noted shown.now.tally (errors.new ≡ errors.old) (E.contents errors.old.inner) (E.contents errors.new.inner) errors.new.failed }
+    ensures told { result ≢ 1 → result ≡ status_of strict shown.now.tally }
+    ensures fault { result ≡ 1 → AppendsPart (W.contents writer.old.inner) (W.contents writer.new.inner) (string_bytes shown.now.text) }
     ensures failed { result ≡ 1 → writer.new.failed ≡ true }
     ensures named { result ≡ 1 → IsSaid (line_of ProgramFault.Write) (E.contents errors.old.inner) (E.contents errors.new.inner) errors.new.failed }
 {
-    if tell(&tree.text, writer, errors) == FAULT {
+    if tell(&shown.text, writer, errors) == FAULT {
         return FAULT;
     }
-    note(strict, tree.tally, errors)
+    note(strict, shown.tally, errors)
 }
 
 /// Serves the plan that is read, by the deadline if there is one, in milliseconds from now. The job of the

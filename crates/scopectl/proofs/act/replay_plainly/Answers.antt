@@ -2,7 +2,7 @@ use Rattle.std.proofs.Common.{◌≡◌, ◌∙◌, ◌⊎◌, true, sym, ap, su
 use Rattle.scopectl.specs.Naming.{CameFrom}
 use Rattle.scopectl.specs.declared.fault.ProgramFault.{ProgramFault}
 use Rattle.scopectl.proofs.Jobs.{came_of, replay_whole, replayed_part}
-use Rattle.scopectl.proofs.act.replay.Goals as goal
+use Rattle.scopectl.proofs.act.replay_plainly.Goals as goal
 
 pub returns-in-Ok-clause-done : goal.returns-in-Ok-clause-done
 returns-in-Ok-clause-done g c = λ deadline e. replay_whole _ deadline _ _ _ _ _ _ _ _ _ _ _ c.note.ensures.noted c.note.ensures.status c.in-Ok.ensures.ok

@@ -1,0 +1,27 @@
+use Rattle.std.proofs.Common.{◌≡◌, ◌∙◌, ◌⊎◌, true, sym, ap, subst, Err}
+use Rattle.scopectl.specs.Naming.{CameFrom}
+use Rattle.scopectl.specs.declared.fault.ProgramFault.{ProgramFault}
+use Rattle.scopectl.specs.declared.fault.ProgramFault.TheVariants.{Memory}
+use Rattle.scopectl.proofs.Jobs.{came_of, replay_noted, replayed_all, replayed_part}
+use Rattle.scopectl.proofs.act.replay_noted.Goals as goal
+
+pub returns-in-Ok-clause-done : goal.returns-in-Ok-clause-done
+returns-in-Ok-clause-done g c =
+    λ deadline e. replay_noted _ deadline _ _ _ _ _ _ _ _ _ _ _ (c.say_notes.ensures.told e) _ _ (c.say_notes.ensures.said e) c.in-Ok.ensures.ok
+
+pub returns-in-Ok-clause-fault : goal.returns-in-Ok-clause-fault
+returns-in-Ok-clause-fault g c = λ deadline e. replayed_all _ deadline _ _ _ _ _ _ c.in-Ok.ensures.ok.replay
+
+pub returns-in-Ok-clause-named : goal.returns-in-Ok-clause-named
+returns-in-Ok-clause-named g c = λ e. record { fault = Memory; came = tt; line = c.say_notes.ensures.memory e }
+
+pub returns-in-Err-clause-fault : goal.returns-in-Err-clause-fault
+returns-in-Err-clause-fault g c = λ deadline e. replayed_part _ deadline _ _ _ _ _ c.in-Err.ensures.fault
+
+pub returns-in-Err-clause-named : goal.returns-in-Err-clause-named
+returns-in-Err-clause-named g c = λ e. record {
+  fault = c.of_run.result;
+  came = subst (λ (f : ProgramFault). CameFrom f ((c.replayed_noted.new.reader.failed ≡ true) ⊎ (c.replayed_noted.new.reader.reads ≡ 18446744073709551615)) (c.replayed_noted.new.writer.failed ≡ true) (λ _. ⊥)) (sym c.of_run.ensures)
+      (came_of c.in-Err.reason _ _ _ (λ is. c.replayed_noted.ensures.read (c.in-Err.is ∙ ap Err is)) (λ is. c.replayed_noted.ensures.write (c.in-Err.is ∙ ap Err is)));
+  line = c.fail.ensures.named;
+}

@@ -1,0 +1,46 @@
+# What the tests of a built scopectl have in common; sourced by them with the program as their first word.
+program=$(realpath "$1")
+cd "$(dirname "$0")/../.." || exit
+room=$(mktemp -d)
+trap 'rm -rf "$room"' EXIT
+failed=0
+
+complain() {
+    echo "test: $program $1" >&2
+    failed=1
+}
+
+# rows NAME: the file `rows` has the rows of the file crates/scopectl/rows/NAME, of which there are some. Lines
+# that begin with `;` say what stands below them.
+rows() {
+    grep -v '^;' "crates/scopectl/rows/$1" >"$room/rows" || complain "has no rows in crates/scopectl/rows/$1"
+}
+
+# lines TEXT: the lines that ` / ` parts, each ended by a line feed; where the text ends in `\c`, the last one is
+# not. Other bytes may be written as for printf.
+lines() {
+    printf '%b' "${1// \/ /\\n}\\n"
+}
+
+# so_many COUNT BYTE: so many of the byte
+so_many() {
+    printf "%$1s" '' | tr ' ' "$2"
+}
+
+# ends STATUS SAID WORDS..: the program ends with the status, and what it says on standard error begins
+# with SAID, or is nothing where that is empty. Streams are as the caller gives them.
+ends() {
+    local wanted=$1 said=$2 status=0 errors
+    shift 2
+    "$program" "$@" 2>"$room/errors" || status=$?
+    errors=$(<"$room/errors")
+    ((status == wanted)) || complain "$* ended with $status, not $wanted${errors:+, and said: $errors}"
+    [[ $errors == "$said"* && (-n $said || -z $errors) ]] || complain "$* said '$errors', not '$said'"
+}
+
+# notes REPLIES: what is said on standard error where a script has these replies: how many lines were refused
+notes() {
+    local refused bad_words
+    refused=$(grep -c '^refused ' "$1" || true) bad_words=$(grep -c '^refused 18 ' "$1" || true)
+    ((refused == 0)) || echo "scopectl: lines refused: $refused, of which no commands: $bad_words"
+}
