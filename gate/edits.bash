@@ -86,9 +86,9 @@ longest_untried() {
 }
 
 # edits_that_fit: how many edits fit into the run's time, by reckoning in processor minutes: an edit takes one,
-# proofs and tests 310 together, and a fifth of what the processors could do is lost.
+# proofs and tests 330 together, and a fifth of what the processors could do is lost.
 edits_that_fit() {
-    local left=$((minutes * $(nproc) * 4 / 5 - 310))
+    local left=$((minutes * $(nproc) * 4 / 5 - 330))
     echo $((left > 0 ? left : 0))
 }
 
