@@ -47,21 +47,40 @@ fn tell(rt: &impl Abort, book: &mut BookState<AnyEnd>, script: &str) -> Result<(
 const RUN: &str =
     "bind 0 user ann / tick 3 / open 0 all deadline=100 move-on / fork 0 1 first / fork 0 1 second / fork 0 1 third / start 1 / start 2 / reject 3 / bind 1 depth -1 / open 1 await shield / fork 1 2 inner / start 4 / move 2 90 / cancel 1 / ok 4 7 / join 1 2 / close 1 2 / closed 1 2 / unbind 1 / ok 1 done / fail 2 gone / move 1 never / join 0 1 / close 0 1 / closed 0 1 / open 0 until:sum:-5 deadline=9 shield / open 0 any / fork 0 4 last / tick 9";
 
-/// The journal of the run is that very script. A fresh book accepts each of its lines, has the same tree then,
-/// and the same journal, byte for byte.
+/// What a book shows: its journal, and its tree.
+#[derive(Drop)]
+struct Showing {
+    journal: String,
+    tree: String,
+}
+
+/// What a fresh book shows that is told the script, of which it may refuse nothing.
+fn left_by(rt: &(impl Abort + AllocGlobal), script: &str) -> Result<Showing, Fail> {
+    let mut book = BookState::new(rt.alloc(), Limits::GREATEST);
+    tell(rt, &mut book, script)?;
+    shown(rt, &book)
+}
+
+/// What the book shows.
+fn shown(rt: &impl AllocGlobal, book: &BookState<AnyEnd>) -> Result<Showing, Fail> {
+    let journal = journal_of(rt.alloc(), book.realm())?;
+    let tree = dump(rt.alloc(), book)?;
+    Ok(Showing { journal, tree })
+}
+
+/// The journal of the run is that very script. A fresh book that is told the journal accepts each of its lines, and has
+/// the same journal and the same tree then, byte for byte.
 #[test]
 fn a_journal_is_a_script(rt: HostRuntime) -> Result<(), Fail> {
     let script = lines(&rt, RUN)?;
-    let mut book = BookState::new(rt.alloc(), Limits::GREATEST);
-    tell(&rt, &mut book, script.as_str())?;
-    let journal = journal_of(rt.alloc(), book.realm())?;
-    assert!(rt; journal.as_str() == script.as_str(), "{journal}");
-    let mut again = BookState::new(rt.alloc(), Limits::GREATEST);
-    tell(&rt, &mut again, journal.as_str())?;
-    let tree = dump(rt.alloc(), &book)?;
-    let same = dump(rt.alloc(), &again)?;
-    assert!(rt; same.as_str() == tree.as_str(), "{same}");
-    let rewritten = journal_of(rt.alloc(), again.realm())?;
-    assert!(rt; rewritten.as_str() == journal.as_str(), "{rewritten}");
+    let first = left_by(&rt, script.as_str())?;
+    let again = left_by(&rt, first.journal.as_str())?;
+    let is_script = first.journal.as_str() == script.as_str();
+    let is_same = again.journal.as_str() == first.journal.as_str();
+    assert!(rt;
+        is_script && is_same && again.tree.as_str() == first.tree.as_str(),
+        "{}",
+        first.journal
+    );
     Ok(())
 }
