@@ -7,14 +7,8 @@ mod aliases;
 mod forks;
 mod guards;
 mod handles;
-#[cfg(test)]
-mod kinds;
-#[cfg(test)]
-mod requests;
 mod scoped;
 mod services;
-#[cfg(test)]
-mod watching;
 
 pub use aliases::{Forks, Handle};
 pub use forks::fork;

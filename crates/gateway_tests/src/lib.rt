@@ -1,5 +1,7 @@
-//! Tests of the quote gateway, on a crew of threads and on one thread.
+//! Tests on a crew of threads: of waits by a clock, and of the quote gateway, which runs on one thread too.
 #![tactic(auto)]
 
+#[cfg(test)]
+mod clocks;
 #[cfg(test)]
 mod gateway;

@@ -9,6 +9,3 @@ mod rotation;
 
 pub use requests::{Requests, Turned};
 pub use rotation::{Turns, rotate};
-
-#[cfg(test)]
-mod serving;

@@ -1,10 +1,10 @@
 //! Small works of several kinds, and how they are forked and joined.
 ghost use Rattle.std.specs.Prelude.{◌≡◌, IfSome};
 ghost use Rattle.thread_crew.specs.Returns.{Returns};
-ghost use Rattle.plain_ledger.specs.Tickets.{IsNew};
+ghost use Rattle.crew_tests.specs.Tickets.{IsNew};
 
 use super::boards::Board;
-use plain_ledger::Ledger;
+use crate::Ledger;
 use scope_rules::{Label, Name, Value};
 use share_ledger::{RealmName, Seed, Ticket};
 use std::alloc::{AllocError, Global};
@@ -45,7 +45,7 @@ pub struct CrewWork<N: RealmName> {
 
 impl<N: RealmName> Ready for CrewWork<N> {
     ghost use Rattle.std.proofs.Props.{props};
-    ghost use Rattle.plain_ledger.specs.Tickets.{IsNew};
+    ghost use Rattle.crew_tests.specs.Tickets.{IsNew};
 
     ghost ready_for = { λ work ticket. IsNew N.table ticket };
 

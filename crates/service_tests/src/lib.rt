@@ -1,0 +1,12 @@
+//! Tests of what a service imports: scopes that can't be forgotten, results of a caller's own type, a look at a
+//! request that hangs, and a service that never goes idle.
+#![tactic(auto)]
+
+#[cfg(test)]
+mod kinds;
+#[cfg(test)]
+mod requests;
+#[cfg(test)]
+mod rotation;
+#[cfg(test)]
+mod watching;

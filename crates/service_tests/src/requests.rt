@@ -1,0 +1,325 @@
+//! Requests over `within` and over a guard, on a crew: the code that docs/GUIDE.md shows. It imports `balkreyn`
+//! alone.
+ghost use Rattle.std.specs.Prelude.{◌≡◌};
+
+use balkreyn::{
+    Answers, AnyEnd, Clock, CrewRuntime, End, Fault, Forks, Handle, Job, Joiner, Label, Name,
+    NamedJob, Opened, Options, Outcome, Promises, RealmName, Refusal, ScopeId, Seed, Service,
+    Spawner, SystemClock, TaskCtx, TaskValue, Value, Verdict, fail_after, fork, realm_clock,
+    serve_on_crew, within,
+};
+use std::alloc::Global;
+use std::marker::Brand;
+use std::process::Abort;
+use std::rt::Clock as SystemTime;
+use std::sync::Wait;
+use std::test::Fail;
+
+/// A job that asks one shop for its price, inside a scope of its own. The shop takes so many milliseconds.
+#[derive(Clone, Copy)]
+struct Ask<T> {
+    shop: Name,
+    price: i64,
+    takes: u64,
+    clock: SystemClock<T>,
+}
+
+impl<T> Answers for Ask<T> {
+    ghost may_end = { λ job end. Unit {0} };
+}
+
+impl<T: Wait + SystemTime + Copy, N: RealmName, S: Spawner<N>> Job<AnyEnd, S, N> for Ask<T> {
+    fn run<R: Wait>(self, rt: &R, ctx: &mut TaskCtx<AnyEnd, S, N>) -> End {
+        let Ask {
+            shop,
+            price,
+            takes,
+            mut clock,
+        } = self;
+        let asked = within(
+            rt,
+            ctx,
+            Joiner::AwaitAll,
+            Options::PLAIN,
+            |ctx: &mut TaskCtx<AnyEnd, S, N>, _scope: ScopeId| -> Result<i64, Refusal> {
+                let own = clock.runtime();
+                let until = clock.now().saturating_add(takes);
+                match ctx.sleep_by(&own, &mut clock, until)? {
+                    None => Ok(price),
+                    Some(_) => Err(Refusal::Unavailable), // nobody wants the price any more
+                }
+            },
+        );
+        match asked {
+            Ok(price) => Ok(Value::Num(price)),
+            Err(_) => Err(Fault(shop)),
+        }
+    }
+}
+
+/// How a request is written.
+#[derive(Clone, Copy)]
+enum Form {
+    /// Over `within`.
+    Within,
+    /// Over a guard, and `close`.
+    Guarded,
+    /// Over a guard, and `report`.
+    Reported,
+    /// Over `within`, with a body that gives up once it has forked.
+    GivesUp,
+    /// Over a guard whose scope is closed by its number before.
+    ClosedBefore,
+}
+
+/// A request: how it is written, and how much time it has, in milliseconds.
+#[derive(Clone, Copy)]
+struct Request {
+    form: Form,
+    millis: u64,
+}
+
+/// The sum of two prices, asked for at once, if both come within so many milliseconds.
+fn sum_within<R: Wait + SystemTime + Copy, N: RealmName, S: Forks<AnyEnd, N, Ask<R>>>(
+    rt: &R,
+    ctx: &mut TaskCtx<AnyEnd, S, N>,
+    clock: &mut SystemClock<R>,
+    asks: (Ask<R>, Ask<R>),
+    millis: u64,
+) -> Result<Option<i64>, Refusal> {
+    let options = fail_after(clock, millis);
+    let (first, second) = asks;
+    within(
+        rt,
+        ctx,
+        Joiner::All,
+        options,
+        |ctx: &mut TaskCtx<AnyEnd, S, N>, scope: ScopeId| -> Result<Option<i64>, Refusal> {
+            fork(rt, ctx, scope, first.shop, first)?;
+            fork(rt, ctx, scope, second.shop, second)?;
+            let joined = ctx.join_by(rt, scope, clock)?;
+            Ok(sum_in(&joined.outcome))
+        },
+    )
+}
+
+/// The sum of what all tasks succeeded with, if they did.
+fn sum_in(outcome: &Outcome) -> Option<i64> {
+    let values = outcome.values()?;
+    Some(sum_of(values))
+}
+
+/// The sum of the numbers among the values.
+fn sum_of(values: &[TaskValue]) -> i64 {
+    let mut sum = 0i64;
+    for value in values {
+        if let Value::Num(number) = value.value {
+            sum = sum.saturating_add(number);
+        }
+    }
+    sum
+}
+
+/// What both shops say, in the guarded scope.
+fn ask_both<R: Wait + SystemTime + Copy, N: RealmName, S: Forks<AnyEnd, N, Ask<R>>>(
+    rt: &R,
+    ctx: &mut TaskCtx<AnyEnd, S, N>,
+    scope: &Opened,
+    clock: &mut SystemClock<R>,
+    asks: (Ask<R>, Ask<R>),
+) -> Result<Option<i64>, Refusal> {
+    let label = Label {
+        name: asks.0.shop,
+        due: None,
+    };
+    if let Err((why, _job)) = scope.fork(rt, ctx, NamedJob::new(label, asks.0)) {
+        return Err(why.refusal());
+    }
+    fork(rt, ctx, scope.number(), asks.1.shop, asks.1)?;
+    let joined = scope.join_by(rt, ctx, clock)?;
+    Ok(sum_in(&joined.outcome))
+}
+
+/// The same sum over a guard.
+fn sum_guarded<R: Wait + SystemTime + Copy, N: RealmName, S: Forks<AnyEnd, N, Ask<R>>>(
+    rt: &R,
+    ctx: &mut TaskCtx<AnyEnd, S, N>,
+    clock: &mut SystemClock<R>,
+    asks: (Ask<R>, Ask<R>),
+    millis: u64,
+) -> Result<Option<i64>, Refusal> {
+    let options = fail_after(clock, millis);
+    let scope = Opened::at(rt, ctx, Joiner::All, options)?;
+    let found = ask_both(rt, ctx, &scope, clock, asks);
+    scope.close(rt, ctx)?;
+    found
+}
+
+/// The same with a report, which must be of a scope that was closed plainly, alone.
+fn sum_reported<R: Wait + SystemTime + Copy, N: RealmName, S: Forks<AnyEnd, N, Ask<R>>>(
+    rt: &R,
+    ctx: &mut TaskCtx<AnyEnd, S, N>,
+    clock: &mut SystemClock<R>,
+    asks: (Ask<R>, Ask<R>),
+    millis: u64,
+) -> Result<Option<i64>, Refusal> {
+    let options = fail_after(clock, millis);
+    let scope = Opened::at(rt, ctx, Joiner::All, options)?;
+    let found = ask_both(rt, ctx, &scope, clock, asks);
+    match scope.report(rt, ctx) {
+        Ok(report) => {
+            if report.verdict == Verdict::Plain && report.nested.is_empty() {
+                found
+            } else {
+                Err(Refusal::Structure)
+            }
+        }
+        Err((refusal, back)) => {
+            back.close(rt, ctx)?;
+            Err(refusal)
+        }
+    }
+}
+
+/// The refusal of a close of the scope that a body left by a `?`: it is closed already.
+fn close_after_giving_up<R: Wait + SystemTime + Copy, N: RealmName, S: Forks<AnyEnd, N, Ask<R>>>(
+    rt: &R,
+    ctx: &mut TaskCtx<AnyEnd, S, N>,
+    ask: Ask<R>,
+) -> Result<Option<i64>, Refusal> {
+    let mut number = 0;
+    let found = within(
+        rt,
+        ctx,
+        Joiner::All,
+        Options::PLAIN,
+        |ctx: &mut TaskCtx<AnyEnd, S, N>, scope: ScopeId| -> Result<Value, Refusal> {
+            number = scope;
+            fork(rt, ctx, scope, ask.shop, ask)?;
+            ctx.result(rt, 1) // refused: the scope is not joined
+        },
+    );
+    match (found, ctx.close_scope_bare(rt, number)) {
+        (Err(Refusal::NotJoined), Err(refusal)) => Err(refusal),
+        _ => Ok(None),
+    }
+}
+
+/// The refusal of a guard's close whose scope was closed by its number: the guard came back from the report,
+/// which was refused for that too.
+fn close_twice<R: Wait, N: RealmName, S: Spawner<N>>(
+    rt: &R,
+    ctx: &mut TaskCtx<AnyEnd, S, N>,
+) -> Result<Option<i64>, Refusal> {
+    let scope = Opened::at(rt, ctx, Joiner::Any, Options::PLAIN)?;
+    let early = ctx.close_scope_bare(rt, scope.number());
+    match scope.report(rt, ctx) {
+        Ok(_report) => Ok(None),
+        Err((first, back)) => {
+            let second = back.close(rt, ctx);
+            match (early, first, second) {
+                (Ok(Verdict::Plain), Refusal::Closed, Err(refusal)) => Err(refusal),
+                _ => Ok(None),
+            }
+        }
+    }
+}
+
+/// Serves the request in the form that it asks for.
+fn serve<R: Wait + SystemTime + Copy, N: RealmName, S: Forks<AnyEnd, N, Ask<R>>>(
+    rt: &R,
+    ctx: &mut TaskCtx<AnyEnd, S, N>,
+    clock: &mut SystemClock<R>,
+    asks: (Ask<R>, Ask<R>),
+    request: Request,
+) -> Result<Option<i64>, Refusal> {
+    match request.form {
+        Form::Within => sum_within(rt, ctx, clock, asks, request.millis),
+        Form::Guarded => sum_guarded(rt, ctx, clock, asks, request.millis),
+        Form::Reported => sum_reported(rt, ctx, clock, asks, request.millis),
+        Form::GivesUp => close_after_giving_up(rt, ctx, asks.1),
+        Form::ClosedBefore => close_twice(rt, ctx),
+    }
+}
+
+/// Main's part: a request to two shops, of which the second takes so long, in milliseconds.
+#[derive(Clone, Copy)]
+struct TwoShops {
+    shop: Name,
+    takes: u64,
+    request: Request,
+}
+
+impl Promises for TwoShops {
+    type Answer = Option<i64>;
+
+    ghost may_answer = { λ shops sum. Unit {0} };
+}
+
+impl<N: RealmName, R: Handle, S: Forks<AnyEnd, N, Ask<R>>> Service<S, N, R> for TwoShops {
+    fn serve(self, rt: &R, ctx: &mut TaskCtx<AnyEnd, S, N>) -> Result<Option<i64>, Refusal> {
+        let mut clock = realm_clock(rt)?;
+        let first = Ask {
+            shop: self.shop,
+            price: 30,
+            takes: 5,
+            clock,
+        };
+        let second = Ask {
+            price: 12,
+            takes: self.takes,
+            ..first
+        };
+        serve(rt, ctx, &mut clock, (first, second), self.request)
+    }
+}
+
+/// Serves one request on a crew of its own.
+fn one_request<N: RealmName + Send + Sync + 'static, R: CrewRuntime + SystemTime>(
+    rt: &R,
+    alloc: Global,
+    seed: Seed,
+    shops: TwoShops,
+) -> Result<Option<i64>, Refusal>
+    requires { seed ≡ N.table }
+{
+    serve_on_crew::<N, Ask<R>, _, R>(rt, alloc, seed, 4, shops)
+}
+
+#[test]
+fn each_form_serves_its_request_or_its_time_runs_out(rt: HostRuntime) -> Result<(), Fail> {
+    let shop = Name::new(b"shop").ok_or("a name")?;
+    for form in [Form::Within, Form::Guarded, Form::Reported] {
+        for (takes, millis, wanted) in [(5u64, 60_000u64, Some(42i64)), (60_000, 50, None)] {
+            let seed = Seed::new(rt.alloc())?;
+            let request = Request { form, millis };
+            let shops = TwoShops {
+                shop,
+                takes,
+                request,
+            };
+            let sum = one_request::<Brand, _>(&rt, rt.alloc(), seed, shops)?;
+            assert!(rt; sum == wanted);
+        }
+    }
+    Ok(())
+}
+
+#[test]
+fn a_scope_is_closed_once(rt: HostRuntime) -> Result<(), Fail> {
+    let shop = Name::new(b"shop").ok_or("a name")?;
+    for form in [Form::GivesUp, Form::ClosedBefore] {
+        let seed = Seed::new(rt.alloc())?;
+        let shops = TwoShops {
+            shop,
+            takes: 60_000,
+            request: Request {
+                form,
+                millis: 60_000,
+            },
+        };
+        let closed = one_request::<Brand, _>(&rt, rt.alloc(), seed, shops);
+        assert!(rt; matches!(closed, Err(Refusal::Closed)));
+    }
+    Ok(())
+}
