@@ -1,10 +1,9 @@
-//! Tests of the book, of what no contract says: it stands beside the plain evaluator at random scripts, and
-//! both are asked everything after each command; a call that is refused memory changes nothing; and the
-//! example of docs/BOOK.md.
+//! Tests of the book, of what no contract says: a call that is refused memory changes nothing; a caller's closure
+//! is asked once for each completion; and the example of docs/BOOK.md.
 #![tactic(auto)]
 
 #[cfg(test)]
-mod beside;
+mod answers;
 #[cfg(test)]
 mod calls;
 #[cfg(test)]

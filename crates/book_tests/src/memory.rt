@@ -3,8 +3,7 @@
 //! refused: the call that wanted it answers `Memory` and changes nothing, and is accepted when it is made
 //! again. Calls for which room was made, and questions, are never refused it.
 
-use crate::beside::answers::{Answer, Book, told_book};
-use crate::beside::scripts::Step;
+use crate::answers::{Answer, Book, Step, told_book};
 use crate::closures::joiner_of;
 use join_rules::Joiner;
 use scope_book::BookState;
@@ -209,7 +208,7 @@ fn joiner(alloc: Global, policy: Policy) -> Result<Joiner, AllocError> {
 /// What the book answers to the command.
 fn told(alloc: Global, book: &mut Book, step: Step) -> Result<Answer, AllocError> {
     let joiner = joiner(alloc, policy_in(step))?;
-    Ok(told_book(book, step, Some(joiner)))
+    Ok(told_book(book, step, joiner))
 }
 
 /// Tells the book the command, and once more where memory was refused, which changed nothing.

@@ -10,11 +10,15 @@
 //!     growth tickets        a close with its ticket
 //!     growth jobs           jobs on threads
 //!     growth stress N SEED  N realms in which main and its jobs do anything, by numbers that look random
+//!     growth plain FILE..   scripts on the plain evaluator, for `test-beside`
+//!     growth told FILE..    the same on a book
+//!     growth calls FILE..   the same as calls of a realm under its lock
 //!
 //! In a script the line `#` with ` no more memory` behind it uses memory up, where all requests from some place
 //! on are refused: the calls behind it take none.
 #![tactic(auto)]
 
+mod beside;
 mod duties;
 mod jobs;
 mod marks;
@@ -22,11 +26,13 @@ mod parts;
 mod refusals;
 mod reports;
 mod roaming;
+mod said;
 mod scripts;
 mod stress;
 mod tickets;
 mod waits;
 
+use beside::On;
 use refusals::Refusals;
 use share_ledger::Seed;
 use std::alloc::Global;
@@ -39,7 +45,7 @@ use thread_crew::CrewRuntime;
 
 /// What the words say, the first of them the program's name.
 const WORDS: &str =
-    "growth book FILE | realm FILE | parts | marks | tickets | jobs | stress N SEED";
+    "growth book FILE | realm FILE | parts | marks | tickets | jobs | stress N SEED | plain FILE.. | told FILE.. | calls FILE..";
 
 /// The status where something was otherwise than without a refusal.
 const WRONG: u8 = 1;
@@ -103,6 +109,9 @@ fn play<R: CrewRuntime + SystemTime + Files + AllocGlobal + Print + Eprint>(
             let (realms, seed) = (word(words, 2).parse().ok(), word(words, 3).parse().ok());
             Some(stress::play(rt, alloc, realms?, seed?))
         }
+        "plain" => beside::play(rt, On::Plain, words.get(2..)?),
+        "told" => beside::play(rt, On::Book, words.get(2..)?),
+        "calls" => beside::play(rt, On::Realm, words.get(2..)?),
         _ => Some(println!(rt; "{WORDS}").is_ok()),
     }
 }

@@ -2,12 +2,13 @@
 ghost use Rattle.std.specs.Prelude.{◌≡◌};
 
 use crate::refusals::{Call, Refusals, again};
+use crate::said::Said;
 use realm_hands::{Hands, driven};
 use realm_lock::{ActorToken, Realm, RealmName, Seed};
 use scope_book::BookState;
 use scope_rules::types::values::MAIN;
 use scope_rules::{AnyEnd, Cause, Event, Limits, Refusal, ScopeId, TaskId};
-use scope_script::{Command, Line, Reply, append_line, perform, read_line};
+use scope_script::{Command, Line, Reply, perform, read_line};
 use std::alloc::Global;
 use std::sync::Wait;
 
@@ -17,9 +18,6 @@ const NO_MORE: &str = "# no more memory";
 /// The first scope that is not asked about after each line.
 const SEEN: ScopeId = 10;
 
-/// How many bytes of replies there is room for.
-const ROOM: usize = 262_144;
-
 /// Asks for memory until it is refused, a million times at most: where all requests from some place on are to
 /// be refused, that place is passed then.
 fn use_up(alloc: Global) {
@@ -27,41 +25,6 @@ fn use_up(alloc: Global) {
         if Box::new(alloc, 0u64).is_err() {
             return;
         }
-    }
-}
-
-/// What a script is played on says of it, a line a reply.
-#[derive(Drop)]
-struct Said {
-    text: Vec<u8>,
-    /// Whether there was room for all.
-    is_whole: bool,
-}
-
-impl Said {
-    /// Nothing, with room for what will be. None where memory is refused.
-    fn new(alloc: Global) -> Option<Said> {
-        let mut text = Vec::new(alloc);
-        text.reserve(ROOM).ok()?;
-        Some(Said {
-            text,
-            is_whole: true,
-        })
-    }
-
-    /// Adds the reply's line.
-    fn say(&mut self, reply: &Reply) {
-        self.is_whole = append_line(&mut self.text, reply).is_ok() && self.is_whole;
-    }
-
-    /// Adds the number, as the line of a moment.
-    fn count(&mut self, number: usize) {
-        self.say(&Reply::Moment(number as u64));
-    }
-
-    /// Writes all of it; false where that fails, or there was no room for all.
-    fn write<R: Print>(&self, rt: &R) -> bool {
-        self.is_whole && rt.write_all(self.text.as_slice()).is_ok()
     }
 }
 

@@ -1,8 +1,7 @@
-//! Tests of the realm under its lock: by one thread, by several, and beside the program.
+//! Tests of the realm under its lock: by one thread, and by several. What it answers to scripts beside the program is
+//! tested by `crates/growth/test-beside`.
 #![tactic(auto)]
 
-#[cfg(test)]
-mod beside;
 #[cfg(test)]
 mod common;
 #[cfg(test)]
@@ -10,15 +9,11 @@ mod lines;
 #[cfg(test)]
 mod marks;
 #[cfg(test)]
-mod random;
-#[cfg(test)]
 mod replay;
 #[cfg(test)]
 mod reports;
 #[cfg(test)]
 mod rows;
-#[cfg(test)]
-mod scripts;
 #[cfg(test)]
 mod stress;
 #[cfg(test)]

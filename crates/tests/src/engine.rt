@@ -1,9 +1,9 @@
-//! Commands on a book, and the plain evaluator's questions that no script asks.
+//! Commands on a book, and bytes that are written.
 
+use crate::books::command_of;
 use scope_book::BookState;
-use scope_model::Plain;
-use scope_rules::{AnyEnd, Event, Expiry, Limits, Options, Outcome, Policy, Refusal};
-use scope_script::{Command, Line, Reply, Watched, perform, perform_all, read_line};
+use scope_rules::{AnyEnd, Event, Limits, Refusal};
+use scope_script::{Command, Reply, Watched, perform, perform_all};
 use std::process::Abort;
 use std::test::Fail;
 
@@ -11,10 +11,7 @@ use std::test::Fail;
 fn commands(rt: &impl AllocGlobal, text: &str) -> Result<Vec<Command>, Fail> {
     let mut all = Vec::new(rt.alloc());
     for line in text.split(" / ") {
-        match read_line(line.as_bytes()) {
-            Line::Command(command) => all.push(command)?,
-            _ => return Err(Fail::from("a command")),
-        }
+        all.push(command_of(line)?)?;
     }
     Ok(all)
 }
@@ -47,31 +44,4 @@ fn bytes_are_written(rt: HostRuntime) -> Result<(), Fail> {
     assert!(rt; !writer.has_failed() && !writer.has_given_up());
     assert!(rt; writer.into_inner().as_slice() == b"scope 1\n".as_slice());
     Ok(())
-}
-
-/// What a join gave is read of the plain evaluator, and when a scope was cancelled.
-fn check_join(rt: &impl Abort, realm: &mut Plain) {
-    assert_eq!(rt; realm.open(0, Policy::AwaitAll, OPTIONS), Ok(1));
-    let refusals = [realm.outcome(1).err(), realm.outcome(9).err()];
-    assert_eq!(rt;
-        refusals,
-        [Some(Refusal::NotJoined), Some(Refusal::NoScope)]
-    );
-    assert_eq!(rt; realm.cancelled_at(1), Ok(None));
-    assert!(rt; realm.cancel(1).is_ok());
-    assert_eq!(rt; realm.cancelled_at(1), Ok(Some(1)));
-    assert!(rt; realm.join_now(0, 1).is_ok());
-    assert!(rt; matches!(realm.outcome(1), Ok(Outcome::Cancelled(1))));
-}
-
-const OPTIONS: Options = Options {
-    deadline: None,
-    shield: false,
-    expiry: Expiry::Fail,
-};
-
-#[test]
-fn outcomes_of_the_plain_evaluator(rt: HostRuntime) {
-    let mut realm = Plain::new(rt.alloc(), Limits::GREATEST);
-    check_join(&rt, &mut realm);
 }

@@ -1,5 +1,7 @@
-//! The script of a book's history, which is told to a fresh book.
+//! The script of a book's history, which is told to a fresh book. That it gives just that history again after each
+//! random script, `crates/growth/test-beside` sees.
 
+use crate::books::tell_lines;
 use crate::texts::lines;
 use history_script::script_of;
 use journal_laws::journal_of;
@@ -10,9 +12,26 @@ use std::process::Abort;
 use std::test::Fail;
 use tree_dump::dump;
 
+/// Runs of which each ends behind a retirement, so that their histories begin with a base. ` / ` parts the lines.
+const RETIRED: [&str; 3] = [
+    "open 0 / fork 0 1 a / reject 1 / join 0 1 / close 0 1 / closed 0 1 / retire 0",
+    "bind 0 user ann / tick 3 / open 0 await / fork 0 1 a / start 1 / ok 1 1 / join 0 1 / close 0 1 / closed 0 1 / retire 0 / open 0 all / fork 0 2 b",
+    "tick 9 / open 0 / close 0 1 / closed 0 1 / retire 0 / bind 0 depth -1 / open 0 await / close 0 2 / closed 0 2 / retire 0 / retire 0 / unbind 0",
+];
+
+#[test]
+fn a_journal_with_a_base_is_played_back(rt: HostRuntime) -> Result<(), Fail> {
+    for script in RETIRED {
+        let mut book = BookState::new(rt.alloc(), Limits::GREATEST);
+        tell_lines(&rt, &mut book, script)?;
+        compare(&rt, &book, script)?;
+    }
+    Ok(())
+}
+
 /// Tells a fresh book the script of the history that the book is left with. It must accept each command, and
 /// the script of its own history must be that very one.
-pub fn compare(
+fn compare(
     rt: &(impl Abort + AllocGlobal),
     book: &BookState<AnyEnd>,
     line: &str,

@@ -1,21 +1,22 @@
-//! The log of a scope: that of the book beside that of the plain evaluator and beside what the book
-//! answers of the scope, and by its lines.
+//! The log of a scope, beside what the book answers of the scope, and by its lines. That it is the plain evaluator's
+//! too, `crates/growth/test-beside` sees.
 
-use crate::plain::reply_of;
+use crate::books::{command_of, tell_lines};
 use crate::texts::lines;
 use scope_book::BookState;
 use scope_log::{LogEntry, Preview, ScopeLog};
-use scope_model::Plain;
-use scope_rules::{Actor, AnyEnd, Limits, Outcome, Refusal, ScopeId, TaskId};
-use scope_script::{Line, Reply, append_line, read_line};
+use scope_rules::{Actor, AnyEnd, Event, Limits, Outcome, Refusal, ScopeId, TaskId};
+use scope_script::{Command, Reply, append_line, perform};
 use std::alloc::Global;
 use std::process::Abort;
 use std::test::Fail;
 
+type Book = BookState<AnyEnd>;
+
 /// Compares what the log tells with what the book answers of its scope and of the tasks of it.
-pub fn compare(
+fn compare(
     rt: &(impl Abort + AllocGlobal),
-    book: &BookState<AnyEnd>,
+    book: &Book,
     log: &ScopeLog,
     line: &str,
 ) -> Result<(), Fail> {
@@ -43,13 +44,7 @@ pub fn compare(
 }
 
 /// Compares the stage and the state of a task of the scope.
-fn compare_task(
-    rt: &impl Abort,
-    book: &BookState<AnyEnd>,
-    log: &ScopeLog,
-    task: TaskId,
-    line: &str,
-) {
+fn compare_task(rt: &impl Abort, book: &Book, log: &ScopeLog, task: TaskId, line: &str) {
     assert_eq!(rt; Ok(log.stage(task)), book.stage(task), "{line}");
     assert!(rt; Ok(log.state(task)) == book.state(task), "{line}");
 }
@@ -57,7 +52,7 @@ fn compare_task(
 /// Compares what the join of the scope answered, by its line.
 fn compare_outcome(
     rt: &(impl Abort + AllocGlobal),
-    book: &BookState<AnyEnd>,
+    book: &Book,
     log: &ScopeLog,
     line: &str,
 ) -> Result<(), Fail> {
@@ -81,7 +76,7 @@ fn outcome_line(alloc: Global, answer: Result<Outcome, Refusal>) -> Result<Vec<u
 
 /// Compares what was seen of a join before it with the line that it was answered, and with the log that
 /// it left.
-pub fn compare_join(
+fn compare_join(
     rt: &(impl Abort + AllocGlobal),
     seen: Result<Preview, Refusal>,
     left: Result<ScopeLog, Refusal>,
@@ -101,7 +96,7 @@ pub fn compare_join(
 }
 
 /// Compares two logs by their lines, or by what each was refused for.
-pub fn compare_logs(
+fn compare_logs(
     rt: &(impl Abort + AllocGlobal),
     one: Result<ScopeLog, Refusal>,
     other: Result<ScopeLog, Refusal>,
@@ -156,24 +151,15 @@ const LOGS: [(&str, &[&str]); 4] = [
     ),
 ];
 
-/// Tells the plain evaluator the lines.
-fn tell_lines(plain: &mut Plain, script: &str) {
-    for line in script.split(" / ") {
-        if let Line::Command(command) = read_line(line.as_bytes()) {
-            let _reply = reply_of(plain, command);
-        }
-    }
-}
-
 /// Compares the log of the scope with the lines wanted.
 fn compare_lines(
     rt: &(impl Abort + AllocGlobal),
-    plain: &Plain,
+    book: &Book,
     scope: ScopeId,
     wanted: &str,
 ) -> Result<(), Fail> {
     let wanted = lines(rt, wanted)?;
-    let shown = match plain.project(scope) {
+    let shown = match book.project(scope) {
         Ok(log) => format!(in rt.alloc(); "{log}")?,
         Err(_) => return Err(Fail::from("the scope has a log")),
     };
@@ -181,18 +167,18 @@ fn compare_lines(
     Ok(())
 }
 
-/// Tells the plain evaluator the lines, and compares the logs of scope 1 and on.
+/// Tells the book the lines, and compares the logs of scope 1 and on.
 fn compare_row(
     rt: &(impl Abort + AllocGlobal),
-    plain: &mut Plain,
+    book: &mut Book,
     script: &str,
     logs: &[&str],
 ) -> Result<(), Fail> {
-    tell_lines(plain, script);
+    tell_lines(rt, book, script)?;
     let mut scope: ScopeId = 0;
     for wanted in logs {
         scope = scope.wrapping_add(1);
-        compare_lines(rt, plain, scope, wanted)?;
+        compare_lines(rt, book, scope, wanted)?;
     }
     Ok(())
 }
@@ -200,30 +186,94 @@ fn compare_row(
 #[test]
 fn logs_after_scripts(rt: HostRuntime) -> Result<(), Fail> {
     for (script, logs) in LOGS {
-        let mut plain = Plain::new(rt.alloc(), Limits::GREATEST);
-        compare_row(&rt, &mut plain, script, logs)?;
+        let mut book: Book = BookState::new(rt.alloc(), Limits::GREATEST);
+        compare_row(&rt, &mut book, script, logs)?;
+    }
+    Ok(())
+}
+
+/// Scripts with each kind of outcome, after each line of which the logs of all scopes are compared with what the
+/// book answers. ` / ` parts the lines.
+const SCRIPTS: [&str; 6] = [
+    "open 0 all / fork 0 1 a / fork 0 1 b / join 0 1 / start 1 / start 2 / fail 1 boom / ok 2 5 / join 0 1 / join 0 1 / close 0 1 / closed 0 1 / retire 0",
+    "open 0 any / fork 0 1 a / fork 0 1 b / start 1 / start 2 / ok 2 7 / ok 1 9 / join 0 1",
+    "open 0 until:sum:10 / fork 0 1 a / fork 0 1 b / fork 0 1 c / start 1 / start 2 / reject 3 / ok 1 -3 / ok 2 13 / join 0 1",
+    "open 0 all deadline=10 move-on / fork 0 1 a / fork 0 1 b / start 1 / start 2 / ok 1 4 / tick 10 / ok 2 5 / join 0 1",
+    "open 0 await deadline=9 / fork 0 1 a / reject 1 / move 1 20 / tick 20 / fork 0 1 b / join 0 1 / close 0 1 / closed 0 1",
+    "open 0 await / fork 0 1 a / start 1 / open 1 all / fork 1 2 b / start 2 / cancel 1 / ok 2 5 / join 1 2 / close 1 2 / closed 1 2 / ok 1 6 / close 0 1 / closed 0 1",
+];
+
+/// Tells the book the line. Of a join, what was seen of it before is compared with what came.
+fn tell_line(rt: &(impl Abort + AllocGlobal), book: &mut Book, line: &str) -> Result<(), Fail> {
+    let command = command_of(line)?;
+    let Command::Do(Event::Join { actor, scope }) = command else {
+        let _reply = perform(book, command)?;
+        return Ok(());
+    };
+    let seen = book.join_preview(actor, scope);
+    let mut answered = Vec::new(rt.alloc());
+    append_line(&mut answered, &perform(book, command)?)?;
+    compare_join(rt, seen, book.project(scope), answered.as_slice(), line)
+}
+
+/// Compares the log of the scope with what the book answers of it.
+fn compare_scope(
+    rt: &(impl Abort + AllocGlobal),
+    book: &Book,
+    scope: ScopeId,
+    line: &str,
+) -> Result<(), Fail> {
+    match book.project(scope) {
+        Ok(log) => compare(rt, book, &log, line),
+        Err(refusal) => {
+            assert_eq!(rt; book.cause(scope), Err(refusal), "{line}");
+            Ok(())
+        }
+    }
+}
+
+/// Tells the book the lines, after each of which the logs are compared.
+fn compare_after_each(
+    rt: &(impl Abort + AllocGlobal),
+    book: &mut Book,
+    script: &str,
+) -> Result<(), Fail> {
+    for line in script.split(" / ") {
+        tell_line(rt, book, line)?;
+        for scope in 0..4u32 {
+            compare_scope(rt, book, scope, line)?;
+        }
+    }
+    Ok(())
+}
+
+#[test]
+fn logs_tell_what_the_book_answers(rt: HostRuntime) -> Result<(), Fail> {
+    for script in SCRIPTS {
+        let mut book: Book = BookState::new(rt.alloc(), Limits::GREATEST);
+        compare_after_each(&rt, &mut book, script)?;
     }
     Ok(())
 }
 
 /// A scope that is not there has no log, nor one from before a retirement; what a join is refused for,
 /// its preview is.
-fn compare_refusals(rt: &impl Abort, plain: &mut Plain, main: Actor) {
-    assert_eq!(rt; plain.project(1).err(), Some(Refusal::NoScope));
-    tell_lines(plain, "open 0 all / fork 0 1 a");
-    assert_eq!(rt; plain.join_preview(main, 1).err(), Some(Refusal::NotReady));
-    tell_lines(plain, "reject 1 / join 0 1");
+fn compare_refusals(rt: &impl Abort, book: &mut Book, main: Actor) -> Result<(), Fail> {
+    assert_eq!(rt; book.project(1).err(), Some(Refusal::NoScope));
+    tell_lines(rt, book, "open 0 all / fork 0 1 a")?;
+    assert_eq!(rt; book.join_preview(main, 1).err(), Some(Refusal::NotReady));
+    tell_lines(rt, book, "reject 1 / join 0 1")?;
     assert_eq!(rt;
-        plain.join_preview(main, 1).err(),
+        book.join_preview(main, 1).err(),
         Some(Refusal::AlreadyJoined)
     );
-    tell_lines(plain, "close 0 1 / closed 0 1 / retire 0");
-    assert_eq!(rt; plain.project(1).err(), Some(Refusal::Retired));
+    tell_lines(rt, book, "close 0 1 / closed 0 1 / retire 0")?;
+    assert_eq!(rt; book.project(1).err(), Some(Refusal::Retired));
+    Ok(())
 }
 
 #[test]
 fn refused_logs(rt: HostRuntime) -> Result<(), Fail> {
-    let mut plain = Plain::new(rt.alloc(), Limits::GREATEST);
-    compare_refusals(&rt, &mut plain, 0);
-    Ok(())
+    let mut book: Book = BookState::new(rt.alloc(), Limits::GREATEST);
+    compare_refusals(&rt, &mut book, 0)
 }
