@@ -1,22 +1,22 @@
 -- A line has a fault just where it is a bad word.
 use Rattle.std.proofs.Common.{◌≡◌, ℕ, ◌+◌, Bool, true, false, not, cond, is_some, nat_lt, Option, Some, None, List, [], ◌∷◌, length, option_map, refl, ap, sym, ◌∙◌}
-use Rattle.script_lines.specs.declared.commands.Command.{Command}
-use Rattle.script_lines.specs.declared.commands.Line.TheVariants as line
-use Rattle.script_lines.specs.declared.keywords.Keyword.{Keyword}
-use Rattle.script_lines.specs.declared.keywords.Keyword.TheVariants as keyword
-use Rattle.script_lines.specs.declared.keywords.OneNumber.{OneNumber}
-use Rattle.script_lines.specs.declared.keywords.OneNumber.TheVariants as one
-use Rattle.script_lines.specs.declared.keywords.TwoNumbers.{TwoNumbers}
-use Rattle.script_lines.specs.declared.keywords.TwoNumbers.TheVariants as two
-use Rattle.script_lines.specs.declared.lines.TheConstants.{LINE_LIMIT}
-use Rattle.script_lines.specs.Steps.{◌>>=◌}
-use Rattle.script_lines.specs.Fields.{fields, just_one, just_two, just_three}
-use Rattle.script_lines.specs.Forms.{number_alone, two_numbers, fork_said, ok_said, fail_said, move_said, tick_said, bind_said, get_said, one_number_said, two_numbers_said, form_said, new_deadline_said}
-use Rattle.script_lines.specs.Keywords.{keyword_said}
-use Rattle.script_lines.specs.Lines.{command_said, line_of, begins_comment, fields_said, line_said}
-use Rattle.script_lines.specs.Numbers.{small_said, moment_said}
-use Rattle.script_lines.specs.Openings.{opened, open_said, is_empty}
-use Rattle.script_lines.specs.Words.{name_said, value_said}
+use Rattle.script_words.specs.declared.commands.Command.{Command}
+use Rattle.script_words.specs.declared.commands.Line.TheVariants as line
+use Rattle.script_words.specs.declared.keywords.Keyword.{Keyword}
+use Rattle.script_words.specs.declared.keywords.Keyword.TheVariants as keyword
+use Rattle.script_words.specs.declared.keywords.OneNumber.{OneNumber}
+use Rattle.script_words.specs.declared.keywords.OneNumber.TheVariants as one
+use Rattle.script_words.specs.declared.keywords.TwoNumbers.{TwoNumbers}
+use Rattle.script_words.specs.declared.keywords.TwoNumbers.TheVariants as two
+use Rattle.script_words.specs.declared.lines.TheConstants.{LINE_LIMIT}
+use Rattle.script_words.specs.Steps.{◌>>=◌}
+use Rattle.script_words.specs.Fields.{fields, just_one, just_two, just_three}
+use Rattle.script_words.specs.Forms.{number_alone, two_numbers, fork_said, ok_said, fail_said, move_said, tick_said, bind_said, get_said, one_number_said, two_numbers_said, form_said, new_deadline_said}
+use Rattle.script_words.specs.Keywords.{keyword_said}
+use Rattle.script_words.specs.Lines.{command_said, line_of, begins_comment, fields_said, line_said}
+use Rattle.script_words.specs.Numbers.{small_said, moment_said}
+use Rattle.script_words.specs.Openings.{opened, open_said, is_empty}
+use Rattle.script_words.specs.Words.{name_said, value_said}
 use Rattle.bad_words.specs.declared.faults.WordFault.{WordFault}
 use Rattle.bad_words.specs.declared.faults.WordFault.TheVariants as fault
 use Rattle.bad_words.specs.declared.shapes.FieldKind.{FieldKind}

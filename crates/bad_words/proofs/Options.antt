@@ -5,10 +5,10 @@ use Rattle.std.specs.Str.{bytes_eq}
 use Rattle.std.proofs.lemmas.Option.{some_pair_parts}
 use Rattle.scope_rules.specs.declared.types.joiners.Policy.TheVariants.{AwaitOk}
 use Rattle.scope_rules.specs.declared.types.joiners.Rule.{Rule}
-use Rattle.script_lines.specs.Fields.{first_and_rest}
-use Rattle.script_lines.specs.Joiners.{after, policy_said, rule_said, failures_said, successes_said, sum_said}
-use Rattle.script_lines.specs.Numbers.{small_said, integer_said}
-use Rattle.script_lines.specs.Openings.{found_or, next_said, policy_next, deadline_said, deadline_next, flag_said, flag_next}
+use Rattle.script_words.specs.Fields.{first_and_rest}
+use Rattle.script_words.specs.Joiners.{after, policy_said, rule_said, failures_said, successes_said, sum_said}
+use Rattle.script_words.specs.Numbers.{small_said, integer_said}
+use Rattle.script_words.specs.Openings.{found_or, next_said, policy_next, deadline_said, deadline_next, flag_said, flag_next}
 use Rattle.bad_words.specs.Faults.{is_small_after, is_integer_after}
 
 -- ---- rules

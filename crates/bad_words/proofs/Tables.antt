@@ -1,11 +1,11 @@
 -- The table of shapes has what the table of keywords has.
 use Rattle.std.proofs.Common.{◌≡◌, ℕ, Bool, true, false, cond, List, [], ◌∷◌, Option, Some, None, option_map, map, codes, refl}
 use Rattle.std.specs.Str.{bytes_eq}
-use Rattle.script_lines.specs.declared.keywords.Keyword.{Keyword}
-use Rattle.script_lines.specs.declared.keywords.Keyword.TheVariants as keyword
-use Rattle.script_lines.specs.declared.keywords.OneNumber.TheVariants as one
-use Rattle.script_lines.specs.declared.keywords.TwoNumbers.TheVariants as two
-use Rattle.script_lines.specs.Keywords.{keyword_beside, keyword_said}
+use Rattle.script_words.specs.declared.keywords.Keyword.{Keyword}
+use Rattle.script_words.specs.declared.keywords.Keyword.TheVariants as keyword
+use Rattle.script_words.specs.declared.keywords.OneNumber.TheVariants as one
+use Rattle.script_words.specs.declared.keywords.TwoNumbers.TheVariants as two
+use Rattle.script_words.specs.Keywords.{keyword_beside, keyword_said}
 use Rattle.bad_words.specs.declared.shapes.Shape.{Shape}
 use Rattle.bad_words.specs.Shapes.{shape_of, shape_beside}
 

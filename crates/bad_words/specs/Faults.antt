@@ -1,15 +1,15 @@
 -- Why a line is no command: the first of its fields that its form does not have there.
 use Rattle.std.specs.Prelude.{ℕ, ◌+◌, Bool, true, false, nat_lt, List, [], ◌∷◌, length, Option, Some, None, option_map, is_some, codes, if◌then◌else◌}
 use Rattle.std.specs.Option.{option_map_or}
-use Rattle.script_lines.specs.declared.lines.TheConstants.{LINE_LIMIT}
-use Rattle.script_lines.specs.Fields.{fields}
-use Rattle.script_lines.specs.Forms.{new_deadline_said}
-use Rattle.script_lines.specs.Joiners.{after, policy_said}
-use Rattle.script_lines.specs.Keywords.{keyword_said}
-use Rattle.script_lines.specs.Lines.{begins_comment}
-use Rattle.script_lines.specs.Numbers.{small_said, moment_said, integer_said}
-use Rattle.script_lines.specs.Openings.{policy_next, deadline_next, flag_next}
-use Rattle.script_lines.specs.Words.{name_said, value_said}
+use Rattle.script_words.specs.declared.lines.TheConstants.{LINE_LIMIT}
+use Rattle.script_words.specs.Fields.{fields}
+use Rattle.script_words.specs.Forms.{new_deadline_said}
+use Rattle.script_words.specs.Joiners.{after, policy_said}
+use Rattle.script_words.specs.Keywords.{keyword_said}
+use Rattle.script_words.specs.Lines.{begins_comment}
+use Rattle.script_words.specs.Numbers.{small_said, moment_said, integer_said}
+use Rattle.script_words.specs.Openings.{policy_next, deadline_next, flag_next}
+use Rattle.script_words.specs.Words.{name_said, value_said}
 use Rattle.bad_words.specs.declared.faults.WordFault.{WordFault}
 use Rattle.bad_words.specs.declared.faults.WordFault.TheVariants as fault
 use Rattle.bad_words.specs.declared.shapes.FieldKind.{FieldKind}

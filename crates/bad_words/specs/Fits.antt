@@ -1,8 +1,8 @@
 -- That a line has a fault just where it is no command.
 use Rattle.std.specs.Prelude.{◌≡◌, ℕ, Bool, true, false, List, is_some}
-use Rattle.script_lines.specs.declared.commands.Line.{Line}
-use Rattle.script_lines.specs.declared.commands.Line.TheVariants.{Silent, BadWord, Command}
-use Rattle.script_lines.specs.Lines.{line_said}
+use Rattle.script_words.specs.declared.commands.Line.{Line}
+use Rattle.script_words.specs.declared.commands.Line.TheVariants.{Silent, BadWord, Command}
+use Rattle.script_words.specs.Lines.{line_said}
 use Rattle.bad_words.specs.Faults.{fault_of}
 
 abbrev pub is_bad : Line → Bool

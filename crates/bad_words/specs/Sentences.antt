@@ -9,7 +9,7 @@ use Rattle.bad_words.specs.declared.shapes.Shape.{Shape}
 use Rattle.bad_words.specs.declared.shapes.Shape.TheVariants as shape
 use Rattle.bad_words.specs.Shown.{shown_text}
 use Rattle.bad_words.specs.Faults.{left_over}
-use Rattle.script_lines.specs.Fields.{fields}
+use Rattle.script_words.specs.Fields.{fields}
 
 -- the field at the index; no bytes where there is none
 unfoldable pub field_at : List (List ℕ) → ℕ → List ℕ

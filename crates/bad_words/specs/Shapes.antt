@@ -1,10 +1,10 @@
 -- The shapes of forms: which fields stand behind the first word.
 use Rattle.std.specs.Prelude.{ℕ, List, [], ◌∷◌, Option, Some, None, if◌then◌else◌}
 use Rattle.std.specs.Str.{bytes_eq}
-use Rattle.script_lines.specs.declared.keywords.Keyword.{Keyword}
-use Rattle.script_lines.specs.declared.keywords.Keyword.TheVariants as keyword
-use Rattle.script_lines.specs.declared.keywords.OneNumber.TheVariants as one
-use Rattle.script_lines.specs.declared.keywords.TwoNumbers.TheVariants as two
+use Rattle.script_words.specs.declared.keywords.Keyword.{Keyword}
+use Rattle.script_words.specs.declared.keywords.Keyword.TheVariants as keyword
+use Rattle.script_words.specs.declared.keywords.OneNumber.TheVariants as one
+use Rattle.script_words.specs.declared.keywords.TwoNumbers.TheVariants as two
 use Rattle.bad_words.specs.declared.shapes.FieldKind.{FieldKind}
 use Rattle.bad_words.specs.declared.shapes.FieldKind.TheVariants as kind
 use Rattle.bad_words.specs.declared.shapes.Shape.{Shape}

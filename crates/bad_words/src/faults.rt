@@ -1,12 +1,12 @@
 //! Why a line is no command.
 ghost use Rattle.std.specs.Prelude.{◌≡◌, Some};
-ghost use Rattle.script_lines.specs.Fields.{fields};
+ghost use Rattle.script_words.specs.Fields.{fields};
 ghost use Rattle.bad_words.specs.Faults.{stray_fault, open_fault, shape_fault, fields_fault, fault_of};
 
 use crate::fields::{left_over, misfit};
 use crate::shapes::{FieldKind, Shape, kinds, shape_of_word};
 use crate::words::is_kind;
-use script_lines::{LINE_LIMIT, next_field};
+use script_words::{LINE_LIMIT, next_field};
 
 /// Why a line is no command. Fields are counted from 0, behind the first word.
 #[derive(Clone, Copy)]

@@ -1,14 +1,14 @@
 //! Fields that are looked at one after the other.
 ghost use Rattle.std.specs.Prelude.{◌≡◌, ◌+◌, ◌≤◌, length, codes};
-ghost use Rattle.script_lines.specs.Fields.{fields};
-ghost use Rattle.script_lines.specs.Openings.{policy_next, deadline_next, flag_next};
+ghost use Rattle.script_words.specs.Fields.{fields};
+ghost use Rattle.script_words.specs.Openings.{policy_next, deadline_next, flag_next};
 ghost use Rattle.bad_words.specs.Faults.{misfit, left_over};
 ghost use Rattle.bad_words.specs.Sentences.{field_at};
 
 use crate::faults::WordFault;
 use crate::shapes::{FieldKind, Shape};
 use crate::words::{is_deadline, is_kind, is_policy};
-use script_lines::next_field;
+use script_words::next_field;
 
 /// The first field of the text, counted from the index, that is not of its kind, is missing or is too many.
 #[tactic(auto, unfolding(crate::specs::Faults::misfit))]

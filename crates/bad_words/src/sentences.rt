@@ -1,6 +1,6 @@
 //! The sentences of faults.
 ghost use Rattle.std.specs.Prelude.{◌≡◌, Some};
-ghost use Rattle.script_lines.specs.Fields.{fields};
+ghost use Rattle.script_words.specs.Fields.{fields};
 ghost use Rattle.bad_words.specs.Sentences.{field_at, behind, shape_text, kind_text, wanted_text, form_text, field_text, stray_text, line_fault_text};
 ghost use Rattle.bad_words.specs.Shown.{shown_text};
 
@@ -8,7 +8,7 @@ use crate::faults::WordFault;
 use crate::fields::{field_at, left_over};
 use crate::shapes::{FieldKind, Shape};
 use crate::shown::ShownBytes;
-use script_lines::next_field;
+use script_words::next_field;
 use std::fmt;
 
 /// The text behind the first field.

@@ -1,6 +1,6 @@
 //! The shapes of forms: which fields stand behind the first word.
 ghost use Rattle.std.specs.Prelude.{◌≡◌, map, option_map};
-ghost use Rattle.script_lines.specs.Keywords.{keyword_said};
+ghost use Rattle.script_words.specs.Keywords.{keyword_said};
 ghost use Rattle.bad_words.specs.Shapes.{shape_of, shape_beside, kinds};
 
 /// What a field is to be.

@@ -1,17 +1,17 @@
 //! What a field is, as the script reads it.
 ghost use Rattle.std.specs.Prelude.{◌≡◌, is_some, codes};
-ghost use Rattle.script_lines.specs.Forms.{new_deadline_said};
-ghost use Rattle.script_lines.specs.Joiners.{policy_said, rule_said, after};
-ghost use Rattle.script_lines.specs.Numbers.{small_said, moment_said, negative_said, integer_said, number_said};
-ghost use Rattle.script_lines.specs.Openings.{deadline_said};
-ghost use Rattle.script_lines.specs.Words.{name_said, value_said};
+ghost use Rattle.script_words.specs.Forms.{new_deadline_said};
+ghost use Rattle.script_words.specs.Joiners.{policy_said, rule_said, after};
+ghost use Rattle.script_words.specs.Numbers.{small_said, moment_said, negative_said, integer_said, number_said};
+ghost use Rattle.script_words.specs.Openings.{deadline_said};
+ghost use Rattle.script_words.specs.Words.{name_said, value_said};
 ghost use Rattle.bad_words.specs.Faults.{is_kind, is_small_after, is_integer_after};
 
 use crate::shapes::FieldKind;
-use script_lines::{moment, name};
+use script_words::{moment, name};
 
 /// Whether the word is a number of at most the limit.
-#[tactic(auto, unfolding(script_lines::specs::Numbers::number_said))]
+#[tactic(auto, unfolding(script_words::specs::Numbers::number_said))]
 fn is_within(word: &[u8], limit: u64) -> bool
     ensures { result ≡ is_some (number_said limit word.now) }
 {
@@ -29,7 +29,7 @@ pub(crate) fn is_small(word: &[u8]) -> bool
 }
 
 /// Whether the word is a number below 0 of an `i64`, without its `-`.
-#[tactic(auto, unfolding(script_lines::specs::Numbers::negative_said, script_lines::specs::Numbers::number_said))]
+#[tactic(auto, unfolding(script_words::specs::Numbers::negative_said, script_words::specs::Numbers::number_said))]
 fn is_negative(digits: &[u8]) -> bool
     ensures { result ≡ is_some (negative_said digits.now) }
 {
@@ -40,7 +40,7 @@ fn is_negative(digits: &[u8]) -> bool
 }
 
 /// Whether the word is a number of an `i64`.
-#[tactic(auto, unfolding(script_lines::specs::Numbers::integer_said))]
+#[tactic(auto, unfolding(script_words::specs::Numbers::integer_said))]
 fn is_integer(word: &[u8]) -> bool
     ensures { result ≡ is_some (integer_said word.now) }
 {
@@ -52,7 +52,7 @@ fn is_integer(word: &[u8]) -> bool
 }
 
 /// Whether the word is a value.
-#[tactic(auto, unfolding(script_lines::specs::Words::value_said))]
+#[tactic(auto, unfolding(script_words::specs::Words::value_said))]
 fn is_value(word: &[u8]) -> bool
     ensures { result ≡ is_some (value_said word.now) }
 {
@@ -60,7 +60,7 @@ fn is_value(word: &[u8]) -> bool
 }
 
 /// Whether the word is a deadline, or `never`.
-#[tactic(auto, unfolding(script_lines::specs::Forms::new_deadline_said))]
+#[tactic(auto, unfolding(script_words::specs::Forms::new_deadline_said))]
 fn is_new_deadline(word: &[u8]) -> bool
     ensures { result ≡ is_some (new_deadline_said word.now) }
 {
@@ -81,7 +81,7 @@ pub(crate) fn is_kind(kind: FieldKind, word: &[u8]) -> bool
 }
 
 /// Whether the word is the prefix and then a count.
-#[tactic(auto, unfolding(script_lines::specs::Joiners::after))]
+#[tactic(auto, unfolding(script_words::specs::Joiners::after))]
 fn is_small_after(prefix: &[u8], word: &[u8]) -> bool
     ensures { result ≡ is_small_after prefix.now word.now }
 {
@@ -92,7 +92,7 @@ fn is_small_after(prefix: &[u8], word: &[u8]) -> bool
 }
 
 /// Whether the word is the prefix and then a number of an `i64`.
-#[tactic(auto, unfolding(script_lines::specs::Joiners::after))]
+#[tactic(auto, unfolding(script_words::specs::Joiners::after))]
 fn is_integer_after(prefix: &[u8], word: &[u8]) -> bool
     ensures { result ≡ is_integer_after prefix.now word.now }
 {
@@ -117,7 +117,7 @@ fn is_rule(word: &[u8]) -> bool
 }
 
 /// Whether the word is a joiner.
-#[tactic(auto, unfolding(script_lines::specs::Joiners::policy_said))]
+#[tactic(auto, unfolding(script_words::specs::Joiners::policy_said))]
 pub(crate) fn is_policy(word: &[u8]) -> bool
     ensures { result ≡ is_some (policy_said word.now) }
 {
@@ -129,7 +129,7 @@ pub(crate) fn is_policy(word: &[u8]) -> bool
 }
 
 /// Whether the word is a deadline of an open.
-#[tactic(auto, unfolding(script_lines::specs::Joiners::after))]
+#[tactic(auto, unfolding(script_words::specs::Joiners::after))]
 pub(crate) fn is_deadline(word: &[u8]) -> bool
     ensures { result ≡ is_some (deadline_said word.now) }
 {

@@ -10,11 +10,11 @@ use Rattle.scope_rules.specs.declared.types.events.Options.{Options}
 use Rattle.scope_rules.specs.declared.types.joiners.Policy.{Policy}
 use Rattle.scope_rules.specs.declared.types.refusals.Refusal.{Refusal}
 use Rattle.scope_rules.specs.Replies.{next_scope}
-use Rattle.realm_steps.specs.declared.steps.RealmStep.TheVariants.{Happened}
+use Rattle.share_ledger.specs.declared.steps.RealmStep.TheVariants.{Happened}
 use Rattle.share_ledger.specs.Values.{OwnerValue}
 use Rattle.realm_core.specs.Calls.{SeesMore, history_seen}
-use Rattle.realm_close.specs.Closes.{ClosesBare}
-use Rattle.realm_close.specs.Waiting.{IsOpenOf}
+use Rattle.realm_core.specs.Closes.{ClosesBare}
+use Rattle.realm_core.specs.Waiting.{IsOpenOf}
 use Rattle.job_runner.specs.Rooms.{DoesInRoom}
 
 -- what an open with such a joiner and such options did, and answered: in the history that the token has seen, and

@@ -2,7 +2,7 @@
 ghost use Rattle.std.specs.Prelude.{◌≡◌, IfOk};
 ghost use Rattle.realm_core.specs.Calls.{SeesMore};
 ghost use Rattle.job_runner.specs.Forks.{KeepsThread};
-ghost use Rattle.job_slots.specs.Slots.{ForksUnder};
+ghost use Rattle.balkreyn.specs.Slots.{ForksUnder};
 
 use crate::aliases::Forks;
 use job_runner::{Answers, NamedJob, TaskCtx};

@@ -1,16 +1,28 @@
 //! One crate to import: what a service needs of the runtime of task scopes, by the names that the guide
 //! uses. A guard holds a scope that can't be forgotten, and `within` runs a body in a scope that is closed
-//! whatever the body answers.
+//! whatever the body answers. A slot gives a job's result, of the caller's own type, to the owner of its scope
+//! alone, after the join. `rotate` runs a service that never goes idle, on two realms that serve in turn. A look
+//! from any thread shows the tree of what is open, and the script of what happened.
 #![tactic(auto)]
 
 mod aliases;
+mod baton;
+mod by_token;
 mod forks;
 mod guards;
 mod handles;
+mod jobs;
+mod owners;
+mod pictures;
+mod places;
+mod requests;
+mod rotation;
 mod scoped;
 mod services;
+mod slots;
 
 pub use aliases::{Forks, Handle};
+pub use by_token::ShowsByToken;
 pub use forks::fork;
 pub use guards::Opened;
 pub use handles::{By, JobBy};
@@ -18,12 +30,14 @@ pub use job_runner::{
     Answers, Clock, ForkRefusal, Job, JobWork, NamedJob, SetClock, SystemClock, TaskCtx,
     fail_after, move_on_after, pulse,
 };
-pub use job_slots::{Promise, Slot, Typed, TypedJob, Yields, fork_into, promised};
+pub use jobs::{Typed, TypedJob, Yields};
 pub use join_rules::{CompletionTest, Joiner, UntilTest};
+pub use pictures::Shows;
 pub use realm_lock::{
     ActorToken, BareOutcome, CloseReport, Joined, Mark, Realm, RealmName, Seed, View,
 };
-pub use realm_looks::{Shows, ShowsByToken};
+pub use requests::{Requests, Turned};
+pub use rotation::{Turns, rotate};
 pub use scope_log::{LogEntry, ScopeLog};
 pub use scope_rules::{
     AnyEnd, Cancelling, Catalog, Completion, Due, Effective, End, Event, Expiry, Fault, ForkReply,
@@ -32,6 +46,7 @@ pub use scope_rules::{
 };
 pub use scoped::{Scopes, within};
 pub use services::{Promises, Service, realm_clock, serve_on_crew};
+pub use slots::{Promise, Slot, fork_into, promised};
 pub use std::marker::Brand;
 pub use std::sync::Wait;
 pub use thread_crew::{Crew, CrewRuntime, OsThreads, Recalls, Spawner, Spawns};

@@ -1,11 +1,10 @@
 -- A cell and its scope, what a seat was shown of it, and what its setter did.
 use Rattle.std.specs.Prelude.{ℕ, Option}
-use Rattle.logbook.specs.Pages.{Book}
 use Rattle.cancel_marks.specs.declared.cancellation.Cancellation.{Cancellation}
 
 -- the name of the cell, and the scope whose it is
 pub record CellValue : Type 0 where
-  pub name : Book
+  pub name : ℕ
   pub scope : ℕ
 
 -- the cell, and what it held when it was looked at, if that was something

@@ -2,8 +2,9 @@ ghost use Rattle.std.specs.Prelude.{◌≡◌, IfOk, None, Some};
 ghost use Rattle.std.specs.Option.{MatchOption};
 ghost use Rattle.once_cell.specs.Once.{Agrees};
 
+use crate::cancellation::Cancellation;
 use crate::marks::{Mark, Seat};
-use crate::told::OnceTold;
+use once_cell::race::OnceBox;
 use scope_rules::ScopeId;
 use std::alloc::{AllocError, Global};
 use std::marker::Model;
@@ -14,7 +15,7 @@ use std::time::Duration;
 /// What all holders of a cell share: the cell itself, and what those sleep on who wait for its scope.
 #[derive(Drop)]
 pub(crate) struct Shared {
-    pub(crate) once: OnceTold,
+    pub(crate) once: OnceBox<Cancellation>,
     pub(crate) woken: Condvar,
 }
 
@@ -28,11 +29,12 @@ pub struct MarkCell {
 
 impl Model for MarkCell {
     ghost use Rattle.std.specs.Arc.{arc_value};
+    ghost use Rattle.once_cell.specs.Once.{cell_name};
     ghost use Rattle.cancel_marks.specs.Seats.{CellValue};
 
     ghost Value = { CellValue };
 
-    ghost view = { λ c. record { name = (arc_value c.shared).once; scope = c.scope } };
+    ghost view = { λ c. record { name = cell_name (arc_value c.shared).once; scope = c.scope } };
 }
 
 impl MarkCell {
@@ -76,7 +78,7 @@ impl MarkCell {
         ensures cell { seat.new.cell ≡ self.now }
         ensures mark { MatchOption result ((seat.old.known ≡ None) × (seat.new.known ≡ None)) (λ mark. (mark.seat ≡ seat.new) × (mark.scope ≡ self.now.scope) × (seat.new.known ≡ Some (said_by mark)) × Agrees seat.old.known (said_by mark)) }
     {
-        let told = self.shared.once.get_as(&mut seat.note)?;
+        let told = *self.shared.once.get_as(&mut seat.note)?;
         Some(Mark {
             scope: self.scope,
             cause: told.cause,

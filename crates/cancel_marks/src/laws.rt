@@ -5,7 +5,7 @@ ghost use Rattle.cancel_marks.specs.Marked.{said_by};
 use crate::marks::Mark;
 
 /// Two marks of one cell are equal. The first stays as it is; the second, which says the same, is used
-/// up (`Mark::again` makes one to spare).
+/// up, as a note of `once_cell` is by its comparison (`Mark::again` makes one to spare).
 pub fn agree(left: &mut Mark, right: Mark)
     requires { right.seat.cell ≡ left.old.seat.cell }
     ensures unchanged { left.new ≡ left.old }

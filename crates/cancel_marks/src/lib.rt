@@ -8,8 +8,6 @@ mod cells;
 pub mod laws;
 mod marks;
 mod setters;
-mod told;
-mod words;
 
 pub use cancellation::Cancellation;
 pub use cells::MarkCell;

@@ -1,7 +1,8 @@
 ghost use Rattle.std.specs.Prelude.{◌≡◌, IfSome, Some};
 ghost use Rattle.once_cell.specs.Once.{Agrees};
 
-use crate::told::Note;
+use crate::cancellation::Cancellation;
+use once_cell::race::Note;
 use scope_rules::{Cause, ScopeId};
 use std::marker::Model;
 
@@ -10,7 +11,7 @@ use std::marker::Model;
 #[derive(Drop)]
 pub struct Seat {
     pub(crate) scope: ScopeId,
-    pub(crate) note: Note,
+    pub(crate) note: Note<Cancellation>,
 }
 
 impl Model for Seat {
@@ -22,8 +23,8 @@ impl Model for Seat {
 }
 
 impl Seat {
-    /// A second seat at the same cell, which was shown the same, as for another thread. The seat stays as
-    /// it is.
+    /// A second seat at the same cell, which was shown the same, as for another thread. It takes
+    /// `&mut`, since the proof reaches a note of `once_cell` only so; the seat stays as it is.
     pub fn again(&mut self) -> Seat
         ensures unchanged { self.new ≡ self.old }
         ensures same { result ≡ self.old }
@@ -41,7 +42,7 @@ impl Seat {
         ensures unchanged { self.new ≡ self.old }
         ensures agreed { IfSome other.known (Agrees self.old.known) }
     {
-        self.note.compare(&other.note);
+        self.note.compare(other.note);
     }
 }
 

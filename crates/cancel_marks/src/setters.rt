@@ -5,8 +5,8 @@ ghost use Rattle.once_cell.specs.Once.{Agrees};
 use crate::cancellation::Cancellation;
 use crate::cells::{MarkCell, Shared};
 use crate::marks::Seat;
-use crate::told::OnceTold;
-use scope_rules::{Cause, ScopeId};
+use once_cell::race::OnceBox;
+use scope_rules::{Cause, CauseKind, ScopeId};
 use std::alloc::{AllocError, Global};
 use std::marker::Model;
 use std::sync::{Arc, Condvar};
@@ -16,31 +16,42 @@ use std::sync::{Arc, Condvar};
 pub struct CellRoom {
     one: Arc<Shared, Global>,
     other: Arc<Shared, Global>,
+    blank: Box<Cancellation>,
 }
 
 impl Model for CellRoom {
-    ghost use Rattle.std.specs.Prelude.{◌≡◌};
+    ghost use Rattle.std.specs.Prelude.{◌≡◌, ℕ};
     ghost use Rattle.std.specs.Arc.{arc_value};
-    ghost use Rattle.logbook.specs.Pages.{Book};
+    ghost use Rattle.once_cell.specs.Once.{cell_name};
 
-    ghost Value = { Book };
+    ghost Value = { ℕ };
 
-    ghost view = { λ r. (arc_value r.one).once };
+    ghost view = { λ r. cell_name (arc_value r.one).once };
 
-    ghost invariant = { λ r. (arc_value r.other).once ≡ (arc_value r.one).once };
+    ghost invariant = { λ r. cell_name (arc_value r.other).once ≡ cell_name (arc_value r.one).once };
 }
 
 impl CellRoom {
     /// Room for a new cell. It is refused for memory alone.
     pub fn new(alloc: Global) -> Result<CellRoom, AllocError> {
+        let blank = Box::new(alloc, CellRoom::BLANK)?;
         let shared = Shared {
-            once: OnceTold::new(),
+            once: OnceBox::new(alloc),
             woken: Condvar::new(),
         };
         let one = Arc::new(alloc, shared)?;
         let other = Arc::try_clone(&one)?;
-        Ok(CellRoom { one, other })
+        Ok(CellRoom { one, other, blank })
     }
+
+    // What the box holds until the cell is set with it. Nobody sees it.
+    const BLANK: Cancellation = Cancellation {
+        cause: Cause {
+            scope: 0,
+            kind: CauseKind::Call,
+        },
+        number: 0,
+    };
 
     /// The cell in it, as that of the scope: its setter, which wasn't used, and the cell itself for a
     /// holder. It takes no memory.
@@ -48,12 +59,13 @@ impl CellRoom {
         ensures setter { (result.0.cell.scope ≡ scope) × (result.0.used ≡ None) × (result.0.known ≡ None) }
         ensures cell { result.1 ≡ result.0.cell }
     {
-        let CellRoom { one, other } = self;
+        let CellRoom { one, other, blank } = self;
         let cell = MarkCell { scope, shared: one };
         let seat = cell.seat();
         let setter = MarkSetter {
             cell,
             seat,
+            blank: Some(blank),
             used: None,
         };
         let cell = MarkCell {
@@ -65,23 +77,27 @@ impl CellRoom {
 }
 
 /// The one that sets a cell, with what it was used with, and what it was shown of the cell since. It is
-/// kept beside what it tells of, under the same lock.
+/// kept beside what it tells of, under the same lock. Its room is made before, so that the setting takes
+/// no memory.
 #[derive(Drop)]
 pub struct MarkSetter {
     cell: MarkCell,
     seat: Seat,
+    // The box that the cell is set with; `None` once that was done.
+    blank: Option<Box<Cancellation>>,
     used: Option<Cancellation>,
 }
 
 impl Model for MarkSetter {
-    ghost use Rattle.std.specs.Prelude.{◌≡◌, IsSome};
+    ghost use Rattle.std.specs.Prelude.{◌≡◌, None, IsSome};
+    ghost use Rattle.std.specs.Option.{MatchOption};
     ghost use Rattle.cancel_marks.specs.Seats.{SetterValue};
 
     ghost Value = { SetterValue };
 
     ghost view = { λ s. record { cell = s.cell; used = s.used; known = s.seat.known } };
 
-    ghost invariant = { λ s. (s.seat.cell ≡ s.cell) × (IsSome s.used → IsSome s.seat.known) };
+    ghost invariant = { λ s. (s.seat.cell ≡ s.cell) × MatchOption s.blank (IsSome s.used × IsSome s.seat.known) (λ _. s.used ≡ None) };
 }
 
 impl MarkSetter {
@@ -105,13 +121,16 @@ impl MarkSetter {
         ensures first { IsTrue result → (self.old.known ≡ None) × (self.new.known ≡ self.new.used) }
         ensures known { (held : Cancellation) × (self.new.known ≡ Some held) × Agrees self.old.known held }
     {
-        if self.used.is_some() {
-            return false;
+        match self.blank.take() {
+            Some(mut blank) => {
+                let told = Cancellation { cause, number };
+                *blank = told;
+                self.used = Some(told);
+                let first = self.cell.shared.once.set_as(blank, &mut self.seat.note);
+                self.cell.wake();
+                first.is_ok()
+            }
+            None => false,
         }
-        let told = Cancellation { cause, number };
-        self.used = Some(told);
-        let first = self.cell.shared.once.set_as(told, &mut self.seat.note);
-        self.cell.wake();
-        first
     }
 }

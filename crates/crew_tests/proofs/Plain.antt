@@ -11,12 +11,12 @@ use Rattle.scope_rules.proofs.Owing.{count_push}
 use Rattle.scope_rules.proofs.Prefixes.{count_by-take-le, option_or-none}
 use Rattle.scope_rules.proofs.Searching.{earliest_where}
 use Rattle.atomic_table.specs.Seated.{TableId}
-use Rattle.realm_steps.specs.declared.steps.RealmStep.{RealmStep}
-use Rattle.realm_steps.specs.declared.steps.RealmStep.TheVariants.{Happened}
-use Rattle.realm_steps.specs.Steps.{history_of}
-use Rattle.realm_steps.specs.Tickets.{end_in, finished_in}
-use Rattle.realm_steps.proofs.Histories.{history-push}
-use Rattle.realm_steps.proofs.Told.{seen_tells, end_in-append}
+use Rattle.share_ledger.specs.declared.steps.RealmStep.{RealmStep}
+use Rattle.share_ledger.specs.declared.steps.RealmStep.TheVariants.{Happened}
+use Rattle.share_ledger.specs.Steps.{history_of}
+use Rattle.share_ledger.specs.Tickets.{end_in, finished_in}
+use Rattle.share_ledger.proofs.Histories.{history-push}
+use Rattle.share_ledger.proofs.Told.{seen_tells, end_in-append}
 use Rattle.share_ledger.specs.Values.{KeeperValue, OwnerValue, TicketValue, TicketAgrees}
 use Rattle.crew_tests.specs.Tickets.{IsPlain}
 

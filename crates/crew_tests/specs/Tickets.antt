@@ -4,8 +4,8 @@ use Rattle.scope_rules.specs.declared.types.values.Label.{Label}
 use Rattle.scope_rules.specs.Ends.{EndValue}
 use Rattle.scope_rules.specs.History.{tasks, opened_count}
 use Rattle.atomic_table.specs.Seated.{TableId}
-use Rattle.realm_steps.specs.Steps.{history_of}
-use Rattle.realm_steps.specs.Tickets.{given_in, started_in, finished_in, end_in}
+use Rattle.share_ledger.specs.Steps.{history_of}
+use Rattle.share_ledger.specs.Tickets.{given_in, started_in, finished_in, end_in}
 use Rattle.share_ledger.specs.Values.{KeeperValue, OwnerValue, TicketValue}
 
 -- the ticket is of the realm of this name, and its task waits for a thread

@@ -11,11 +11,11 @@ use Rattle.scope_rules.specs.Table.{check_of}
 use Rattle.scope_rules.specs.Scopes.{innermost}
 use Rattle.scope_rules.proofs.ClosingScopes.{nothing_open, nothing_runs}
 use Rattle.scope_rules.proofs.PassedRows.{finish_passed}
-use Rattle.realm_steps.specs.declared.steps.RealmStep.{RealmStep}
-use Rattle.realm_steps.specs.declared.steps.RealmStep.TheVariants.{Happened}
-use Rattle.realm_steps.specs.Steps.{history_of, IsLegal}
-use Rattle.realm_steps.proofs.Histories.{beginning_legal, legal_history}
-use Rattle.realm_steps.proofs.Waits.{started_runs}
+use Rattle.share_ledger.specs.declared.steps.RealmStep.{RealmStep}
+use Rattle.share_ledger.specs.declared.steps.RealmStep.TheVariants.{Happened}
+use Rattle.share_ledger.specs.Steps.{history_of, IsLegal}
+use Rattle.share_ledger.proofs.Histories.{beginning_legal, legal_history}
+use Rattle.share_ledger.proofs.Waits.{started_runs}
 use Rattle.share_ledger.specs.Values.{OwnerValue, TicketValue}
 use Rattle.realm_core.specs.Calls.{Added, Looked, history_seen}
 use Rattle.realm_core.specs.Tasks.{Finishes}

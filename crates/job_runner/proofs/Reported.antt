@@ -4,7 +4,7 @@ use Rattle.std.specs.Prelude.{◌⊎◌, IfOk, IfErr, MatchResult}
 use Rattle.scope_rules.specs.declared.types.refusals.Refusal.{Refusal}
 use Rattle.scope_rules.specs.declared.types.refusals.Refusal.TheVariants.{Memory, NotReady}
 use Rattle.share_ledger.specs.Values.{OwnerValue, TicketValue}
-use Rattle.realm_close.specs.declared.reports.CloseReport.{CloseReport}
+use Rattle.realm_core.specs.declared.reports.CloseReport.{CloseReport}
 use Rattle.thread_crew.specs.Teams.{TeamValue}
 use Rattle.job_runner.specs.Reports.{ClosesHere, EndsOwn, JoinsHere, StaysHere, Held}
 

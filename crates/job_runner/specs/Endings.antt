@@ -7,8 +7,8 @@ use Rattle.scope_rules.specs.Ends.{EndValue}
 use Rattle.scope_rules.specs.History.{History, opening}
 use Rattle.scope_rules.specs.Scopes.{closed, innermost}
 use Rattle.scope_rules.specs.Tasks.{stage, is_settled}
-use Rattle.realm_steps.specs.Steps.{IsLegal}
-use Rattle.realm_steps.specs.Tickets.{end_in}
+use Rattle.share_ledger.specs.Steps.{IsLegal}
+use Rattle.share_ledger.specs.Tickets.{end_in}
 use Rattle.share_ledger.specs.Values.{OwnerValue, TicketValue}
 use Rattle.realm_core.specs.Calls.{history_seen}
 

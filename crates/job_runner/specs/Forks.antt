@@ -8,8 +8,8 @@ use Rattle.scope_rules.specs.declared.types.refusals.Refusal.TheVariants as refu
 use Rattle.scope_rules.specs.Ends.{LabelValue}
 use Rattle.scope_rules.specs.History.{History}
 use Rattle.scope_rules.specs.Replies.{fork_reply}
-use Rattle.realm_steps.specs.declared.steps.RealmStep.TheVariants.{Happened}
-use Rattle.realm_steps.specs.Tickets.{end_in}
+use Rattle.share_ledger.specs.declared.steps.RealmStep.TheVariants.{Happened}
+use Rattle.share_ledger.specs.Tickets.{end_in}
 use Rattle.atomic_table.specs.Seated.{TableId}
 use Rattle.thread_crew.specs.Teams.{TeamValue, HasThreadMore, IsSameTeam}
 use Rattle.share_ledger.specs.Values.{OwnerValue, TicketValue, IsWaiting}

@@ -4,7 +4,7 @@ ghost use Rattle.realm_core.specs.Calls.{DoesOrMemory};
 use crate::contexts::TaskCtx;
 use named_jobs::Clock;
 use realm_lock::RealmName;
-use realm_steps::{Ask, RealmStep};
+use share_ledger::{Ask, RealmStep};
 use scope_rules::{Catalog, Refusal};
 use std::sync::Wait;
 use thread_crew::Spawner;

@@ -1,7 +1,7 @@
 ghost use Rattle.std.specs.Prelude.{◌≡◌, IsOk, MatchResult};
 ghost use Rattle.realm_core.specs.Calls.{SeesMore, history_seen};
-ghost use Rattle.realm_close.specs.Waiting.{IsOpenOf};
-ghost use Rattle.realm_close.specs.Closes.{ClosesBare};
+ghost use Rattle.realm_core.specs.Waiting.{IsOpenOf};
+ghost use Rattle.realm_core.specs.Closes.{ClosesBare};
 ghost use Rattle.job_runner.specs.Lists.{ListsBelow};
 ghost use Rattle.thread_crew.specs.Teams.{AreJoined, Joins};
 

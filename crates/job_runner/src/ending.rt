@@ -2,7 +2,7 @@ ghost use Rattle.std.specs.Prelude.{◌≡◌, Some, None, codes};
 ghost use Rattle.scope_rules.specs.Names.{text_of};
 ghost use Rattle.realm_core.specs.Calls.{SeesMore};
 ghost use Rattle.realm_core.specs.Tasks.{MayFinish};
-ghost use Rattle.realm_steps.specs.Tickets.{end_in};
+ghost use Rattle.share_ledger.specs.Tickets.{end_in};
 ghost use Rattle.thread_crew.specs.Returns.{Returns};
 ghost use Rattle.job_runner.specs.Endings.{Ended, LeavesNothing, NothingOpen, has_open};
 

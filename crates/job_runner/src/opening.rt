@@ -8,7 +8,7 @@ use crate::contexts::{OpenScope, TaskCtx};
 use crate::markers::Marker;
 use join_rules::Joiner;
 use realm_lock::RealmName;
-use realm_steps::RealmStep;
+use share_ledger::RealmStep;
 use scope_rules::{Catalog, Event, Options, Refusal, ScopeId};
 use std::sync::Wait;
 use thread_crew::Spawner;

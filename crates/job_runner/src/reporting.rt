@@ -1,8 +1,8 @@
 ghost use Rattle.std.specs.Prelude.{◌≡◌, ◌⊎◌, IfOk, IfErr, MatchResult};
 ghost use Rattle.scope_rules.specs.declared.types.refusals.Refusal.TheVariants.{Memory, NotReady};
 ghost use Rattle.realm_core.specs.Calls.{SeesMore, history_seen};
-ghost use Rattle.realm_close.specs.Waiting.{IsOpenOf};
-ghost use Rattle.realm_close.specs.Closes.{IsBegun};
+ghost use Rattle.realm_core.specs.Waiting.{IsOpenOf};
+ghost use Rattle.realm_core.specs.Closes.{IsBegun};
 ghost use Rattle.job_runner.specs.Lists.{ListsBelow};
 ghost use Rattle.job_runner.specs.Reports.{ClosesHere, EndsOwn, Held, StaysHere};
 ghost use Rattle.thread_crew.specs.Teams.{AreJoined};

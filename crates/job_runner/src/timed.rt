@@ -2,8 +2,8 @@ ghost use Rattle.std.specs.Prelude.{◌≡◌, ◌⊎◌, [], None, Some, Ok, If
 ghost use Rattle.scope_rules.specs.declared.types.refusals.Refusal.TheVariants.{NotReady};
 ghost use Rattle.kept_realm.specs.Fits.{Fitting};
 ghost use Rattle.realm_core.specs.Calls.{SeesMore, history_seen};
-ghost use Rattle.realm_close.specs.Waiting.{IsOpenOf};
-ghost use Rattle.realm_close.specs.Closes.{ClosesBare};
+ghost use Rattle.realm_core.specs.Waiting.{IsOpenOf};
+ghost use Rattle.realm_core.specs.Closes.{ClosesBare};
 ghost use Rattle.realm_lock.specs.Waits.{ClosesAfter, HasPassed, JoinsBy, StaysUnclosed, Stopped, StopsClosing, Waited, shown_in};
 ghost use Rattle.job_runner.specs.Lists.{KeepsOthers, ListsBelow};
 ghost use Rattle.job_runner.specs.Marks.{scope_here, seat_here, Shows};

@@ -20,7 +20,7 @@ use Rattle.scope_rules.proofs.Bound.{stack_then, is_held, held_by_innermost}
 use Rattle.scope_kept.proofs.NeverOpened.{never}
 use Rattle.kept_realm.specs.Readings.{opened_as_high}
 use Rattle.scope_rows.proofs.Unopened.{closing_opened}
-use Rattle.scope_cuts.proofs.OpenSteps.{false_by}
+use Rattle.scope_kept.proofs.OpenSteps.{false_by}
 
 pub unjoined : (L : Limits) (h : History) (s : ℕ) → Legal L h → opening h s ≡ None → joined h s ≡ false
 unjoined L h s legal none = false_by (joined h s) (λ is. never h s none (joined_opened L h s legal is))

@@ -16,9 +16,9 @@ use Rattle.scope_log.specs.LocalForms.{task_forked, tasks_in}
 use Rattle.scope_log.specs.Log.{said_with, entry_at, entries, log}
 use Rattle.scope_log.proofs.LogSizes.{entries_small}
 use Rattle.scope_rules.specs.Nests.{tasks_of}
-use Rattle.scope_trails.specs.Marks.{cancel_of, marked}
-use Rattle.scope_trails.specs.Places.{places_of}
-use Rattle.scope_trails.proofs.Projected.{IsSaid, place_said, next_said, projected}
+use Rattle.scope_journal.specs.Marks.{cancel_of, marked}
+use Rattle.scope_journal.specs.Places.{places_of}
+use Rattle.scope_journal.proofs.Projected.{IsSaid, place_said, next_said, projected}
 
 -- the entries of the first n places, and how many tasks they fork
 pub record AreSaid (h : History) (s : ℕ) (ps : List ℕ) (n : ℕ) (es : List LogEntry) (forked : ℕ) : Type 0 where

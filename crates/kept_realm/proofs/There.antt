@@ -25,19 +25,19 @@ use Rattle.scope_rows.specs.Agreement.{AreRowsOf, IsScopeRow, IsTaskRow}
 use Rattle.scope_rows.specs.Table.{RowTable, scope_row}
 use Rattle.scope_rows.proofs.Joinings.{joined_is_some}
 use Rattle.scope_rows.proofs.Places.{scope_at, scope_row_is}
-use Rattle.scope_cuts.specs.CutTables.{CutTable, HasRow}
-use Rattle.scope_cuts.specs.CutsOf.{AreCutsOf}
-use Rattle.scope_cuts.proofs.Readings.{has_row}
-use Rattle.scope_envs.specs.EnvTable.{EnvTable, HasEnv}
-use Rattle.scope_envs.specs.Agreement.{AreEnvsOf}
-use Rattle.scope_envs.proofs.Held.{has_env_of_actor}
+use Rattle.scope_kept.specs.CutTables.{CutTable, HasRow}
+use Rattle.scope_kept.specs.CutsOf.{AreCutsOf}
+use Rattle.scope_kept.proofs.CutReadings.{has_row}
+use Rattle.scoped_env.specs.EnvTable.{EnvTable, HasEnv}
+use Rattle.scoped_env.specs.Agreement.{AreEnvsOf}
+use Rattle.scoped_env.proofs.Held.{has_env_of_actor}
 use Rattle.scope_rows.specs.DeadlineTable.{DeadlineTable, HasDeadline}
 use Rattle.scope_rows.specs.DeadlinesOf.{AreDeadlinesOf}
 use Rattle.scope_rows.proofs.DeadlineSteps.{opened_has_deadline}
-use Rattle.scope_outcomes.specs.Answers.{HasJoined}
-use Rattle.scope_outcomes.specs.ForkTable.{ForkTable, HasForks}
-use Rattle.scope_outcomes.specs.ForksOf.{AreForksOf}
-use Rattle.scope_outcomes.proofs.Held.{opened_has_forks}
+use Rattle.scope_kept.specs.Answers.{HasJoined}
+use Rattle.scope_kept.specs.ForkTable.{ForkTable, HasForks}
+use Rattle.scope_kept.specs.ForksOf.{AreForksOf}
+use Rattle.scope_kept.proofs.Held.{opened_has_forks}
 
 -- a scope that passes was opened
 pub opened_there : (h : History) (s : ℕ) → Passes (scope_check h s) → IsSome (opening h s)

@@ -11,11 +11,11 @@ use Rattle.scope_rules.specs.Origin.{Origin}
 use Rattle.scope_rules.specs.Replies.{Realm, with_event, starting, AnswersOrMemory, base_check}
 use Rattle.scope_rules.specs.Checks.{Checked}
 use Rattle.scope_rules.proofs.Pushing.{load_push}
-use Rattle.scope_trails.specs.Places.{scope_of_event}
-use Rattle.scope_trails.specs.TrailTable.{TrailTable}
-use Rattle.scope_trails.specs.TrailsOf.{AreTrailsOf, HasLoadRoom}
-use Rattle.scope_trails.proofs.EventRoom.{events_room}
-use Rattle.scope_trails.proofs.Trailed.{event_trail}
+use Rattle.scope_journal.specs.Places.{scope_of_event}
+use Rattle.scope_journal.specs.TrailTable.{TrailTable}
+use Rattle.scope_journal.specs.TrailsOf.{AreTrailsOf, HasLoadRoom}
+use Rattle.scope_journal.proofs.EventRoom.{events_room}
+use Rattle.scope_journal.proofs.Trailed.{event_trail}
 use Rattle.kept_realm.specs.Telling.{HasRoomFor, CanBeTold}
 
 -- the event can be told where there is room

@@ -4,9 +4,9 @@ use Rattle.scope_rules.specs.declared.types.capacity.Limits.{Limits}
 use Rattle.scope_rules.specs.declared.types.events.Event.{Event}
 use Rattle.scope_rules.specs.History.{History, followed, is_open}
 use Rattle.scope_rules.specs.Legal.{Legal}
-use Rattle.scope_trails.specs.Places.{scope_of_event}
-use Rattle.scope_trails.specs.TrailTable.{TrailTable, HasTrail, HasEventRoom}
-use Rattle.scope_trails.specs.TrailsOf.{AreTrailsOf, HasLoadRoom}
+use Rattle.scope_journal.specs.Places.{scope_of_event}
+use Rattle.scope_journal.specs.TrailTable.{TrailTable, HasTrail, HasEventRoom}
+use Rattle.scope_journal.specs.TrailsOf.{AreTrailsOf, HasLoadRoom}
 
 -- there is room for what so much load pays for, and for the scope that the event opens, if it does
 abbrev pub HasRoomFor : TrailTable → Event → ℕ → Type 0

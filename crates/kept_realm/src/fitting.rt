@@ -1,7 +1,7 @@
 ghost use Rattle.std.specs.Prelude.{◌≡◌, ℕ, [], List, slice_get};
 ghost use Rattle.scope_checks.specs.Entering.{Retires, Tells};
 ghost use Rattle.scope_checks.specs.Ruled.{IsRuled};
-ghost use Rattle.scope_cuts.specs.CutsOf.{IsCancelOrderOf};
+ghost use Rattle.scope_kept.specs.CutsOf.{IsCancelOrderOf};
 ghost use Rattle.kept_realm.specs.Fits.{FitsEvent, Fitting};
 
 use crate::realm::KeptRealm;

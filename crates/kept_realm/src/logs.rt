@@ -9,8 +9,8 @@ ghost use Rattle.scope_rules.specs.Replies.{AnswersValue};
 ghost use Rattle.scope_log.specs.Log.{said_with, entry_at, entries, log};
 ghost use Rattle.scope_log.specs.LocalForms.{task_forked};
 ghost use Rattle.scope_log.specs.Previews.{preview};
-ghost use Rattle.scope_trails.specs.Places.{places_of};
-ghost use Rattle.scope_trails.specs.Marks.{up_to, marked};
+ghost use Rattle.scope_journal.specs.Places.{places_of};
+ghost use Rattle.scope_journal.specs.Marks.{up_to, marked};
 
 use crate::realm::KeptRealm;
 use scope_checks::checks::scope_check;

@@ -13,17 +13,17 @@ ghost use Rattle.scope_rules.specs.Replies.{outcome_check};
 ghost use Rattle.scope_rules.specs.Scopes.{forked_in, surrounding, level};
 ghost use Rattle.scope_rows.specs.Agreement.{AreRowsOf, IsScopeRow, IsTaskRow};
 ghost use Rattle.scope_checks.specs.Passes.{Passes};
-ghost use Rattle.scope_cuts.specs.CutsOf.{AreCutsOf};
-ghost use Rattle.scope_cuts.specs.Coming.{IsNextDeadline, NoDeadlineComes};
-ghost use Rattle.scope_envs.specs.Agreement.{AreEnvsOf};
-ghost use Rattle.scope_outcomes.specs.Bare.{bare_of};
+ghost use Rattle.scope_kept.specs.CutsOf.{AreCutsOf};
+ghost use Rattle.scope_kept.specs.Coming.{IsNextDeadline, NoDeadlineComes};
+ghost use Rattle.scoped_env.specs.Agreement.{AreEnvsOf};
+ghost use Rattle.scope_kept.specs.Bare.{bare_of};
 ghost use Rattle.kept_realm.specs.Readings.{counts_some, opened_as_high};
 
 use crate::realm::KeptRealm;
 use scope_checks::Readings;
-use scope_cuts::Cuts;
-use scope_envs::Envs;
-use scope_outcomes::BareOutcome;
+use scope_kept::Cuts;
+use scoped_env::Envs;
+use scope_kept::BareOutcome;
 use scope_rows::{Rows, ScopeRow, TaskRow};
 use scope_rules::types::answers::{Counts, Effective, Stage, State, Verdict};
 use scope_rules::types::events::Event;
@@ -95,7 +95,7 @@ impl KeptRealm {
         requires { Passes (outcome_check self.now.history scope) }
         ensures { option_map bare_of (outcome self.now.history scope) ≡ Some result }
     {
-        scope_outcomes::bare_outcome(self.rows(), self.cuts(), self.kept.forks(), scope)
+        scope_kept::bare_outcome(self.rows(), self.cuts(), self.kept.forks(), scope)
     }
 
     /// The scope that lies around whatever the actor opens next.
@@ -306,7 +306,7 @@ impl Readings for KeptRealm {
 
     #[tactic(auto, using(crate::proofs::There::joined_there, crate::proofs::There::joined_row, crate::proofs::There::joined_forks))]
     fn outcome(&self, alloc: Global, scope: ScopeId) -> Result<Outcome, AllocError> {
-        scope_outcomes::outcome(alloc, self.rows(), self.cuts(), self.kept.forks(), scope)
+        scope_kept::outcome(alloc, self.rows(), self.cuts(), self.kept.forks(), scope)
     }
 
     #[tactic(auto, using(crate::proofs::There::opened_there))]

@@ -3,8 +3,8 @@ ghost use Rattle.std.specs.Borrow.{sem};
 ghost use Rattle.scope_rules.specs.Legal.{Accepts, Legal};
 ghost use Rattle.scope_rules.specs.Load.{weight};
 ghost use Rattle.scope_rules.specs.Replies.{with_event, starting, base_check, base_of, AnswersOrMemory};
-ghost use Rattle.scope_cuts.specs.CutsOf.{IsCancelOrderOf};
-ghost use Rattle.scope_cuts.specs.Lent.{scopes_of};
+ghost use Rattle.scope_kept.specs.CutsOf.{IsCancelOrderOf};
+ghost use Rattle.scope_kept.specs.Lent.{scopes_of};
 ghost use Rattle.scope_kept.specs.KeptTables.{IsKeptOf};
 ghost use Rattle.kept_realm.specs.Lending.{KeepsRealm};
 ghost use Rattle.scope_checks.specs.Ruled.{IsRuled};
@@ -15,7 +15,7 @@ use scope_checks::Readings;
 use scope_journal::{Journal, weight};
 use scope_kept::{CancelledScopes, Kept, follow};
 use scope_rules::{Base, Event, Limits, Refusal};
-use scope_trails::Trails;
+use scope_journal::Trails;
 use std::alloc::{AllocError, Global};
 use std::marker::Model;
 
@@ -31,7 +31,7 @@ pub struct KeptRealm {
 impl Model for KeptRealm {
     ghost use Rattle.scope_rules.specs.Replies.{Realm};
     ghost use Rattle.scope_kept.specs.KeptTables.{IsKeptOf};
-    ghost use Rattle.scope_trails.specs.TrailsOf.{AreTrailsOf};
+    ghost use Rattle.scope_journal.specs.TrailsOf.{AreTrailsOf};
 
     ghost Value = { Realm };
 

@@ -3,13 +3,13 @@
 ghost use Rattle.std.specs.Prelude.{◌≡◌, false, OnOk};
 ghost use Rattle.scope_rules.specs.History.{History, is_open};
 ghost use Rattle.scope_rows.specs.Agreement.{AreRowsOf};
-ghost use Rattle.scope_trails.specs.Places.{scope_of_task, scope_of_event};
-ghost use Rattle.scope_trails.specs.TrailsOf.{AreTrailsOf};
+ghost use Rattle.scope_journal.specs.Places.{scope_of_task, scope_of_event};
+ghost use Rattle.scope_journal.specs.TrailsOf.{AreTrailsOf};
 ghost use Rattle.kept_realm.specs.Telling.{HasRoomFor, CanBeTold, HasTold};
 
 use scope_rows::Rows;
 use scope_rules::{Event, ScopeId, TaskId};
-use scope_trails::Trails;
+use scope_journal::Trails;
 use std::alloc::AllocError;
 
 /// Whether the event opens a scope.

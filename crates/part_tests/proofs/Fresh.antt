@@ -5,8 +5,8 @@ use Rattle.scope_rules.specs.Scopes.{outer}
 use Rattle.scope_rules.specs.Search.{earliest}
 use Rattle.scope_rules.specs.Chains.{chain_by, cut_by}
 use Rattle.scope_rules.specs.Cancels.{is_cancelled, cut, own, own_at}
-use Rattle.realm_steps.specs.declared.steps.RealmStep.{RealmStep}
-use Rattle.realm_steps.specs.Steps.{history_of}
+use Rattle.share_ledger.specs.declared.steps.RealmStep.{RealmStep}
+use Rattle.share_ledger.specs.Steps.{history_of}
 
 pub first_is_next : (xs : List RealmStep) → xs ≡ [] → 1 ≡ tasks (history_of xs) + 1
 unfolding history_of

@@ -27,17 +27,17 @@ use Rattle.scope_rules.proofs.NewScopes.{HasNoTask, no_task_of}
 use Rattle.scope_rules.proofs.OneEventMore.{rejected_grows}
 use Rattle.scope_rules.proofs.PassedRows.{fork_passed}
 use Rattle.scope_rules.proofs.StageSteps.{next_forking}
-use Rattle.scope_outcomes.proofs.Over.{forks_for}
-use Rattle.scope_outcomes.proofs.TaskLists.{if_one, tasks_kept, tasks_forked}
-use Rattle.realm_steps.specs.declared.steps.RealmStep.{RealmStep}
-use Rattle.realm_steps.specs.declared.steps.RealmStep.TheVariants.{Happened, Asked, Retirement}
-use Rattle.realm_steps.specs.declared.steps.Holder.TheVariants.{TokenOf}
-use Rattle.realm_steps.specs.Holders.{Agrees}
-use Rattle.realm_steps.specs.Steps.{advance, advanced, asked, fresh, history_of, IsLegal}
-use Rattle.realm_steps.proofs.Histories.{advanced-append, legal_history}
+use Rattle.scope_kept.proofs.Over.{forks_for}
+use Rattle.scope_kept.proofs.TaskLists.{if_one, tasks_kept, tasks_forked}
+use Rattle.share_ledger.specs.declared.steps.RealmStep.{RealmStep}
+use Rattle.share_ledger.specs.declared.steps.RealmStep.TheVariants.{Happened, Asked, Retirement}
+use Rattle.share_ledger.specs.declared.steps.Holder.TheVariants.{TokenOf}
+use Rattle.share_ledger.specs.Holders.{Agrees}
+use Rattle.share_ledger.specs.Steps.{advance, advanced, asked, fresh, history_of, IsLegal}
+use Rattle.share_ledger.proofs.Histories.{advanced-append, legal_history}
 use Rattle.share_ledger.specs.Values.{OwnerValue}
 use Rattle.realm_core.specs.Calls.{SeesMore, Added, history_seen}
-use Rattle.realm_close.specs.Waiting.{IsOpenOf}
+use Rattle.realm_core.specs.Waiting.{IsOpenOf}
 use Rattle.quote_gateway.specs.Going.{shapes, nests, GoesOn, KeepsScopes, KeepsTasks, IsOpenHere, HasForked, Opens, ForkedAs, task_in}
 use Rattle.quote_gateway.proofs.Going.{FindsEnds, shapes_find, nests_find, agreed, walked, open_going, open_followed, legal_there, history_added, same_actor, same_limits}
 use Rattle.quote_gateway.proofs.Following.{labels_stay, task_is}

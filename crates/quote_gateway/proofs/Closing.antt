@@ -6,16 +6,16 @@ use Rattle.scope_rules.specs.declared.types.answers.Cancelling.TheVariants.{Reco
 use Rattle.scope_rules.specs.declared.types.answers.Verdict.{Verdict}
 use Rattle.scope_rules.specs.declared.types.events.Event.TheVariants.{BeginClose}
 use Rattle.scope_rules.specs.declared.types.refusals.Refusal.{Refusal}
-use Rattle.realm_steps.specs.declared.steps.RealmStep.{RealmStep}
-use Rattle.realm_steps.specs.declared.steps.RealmStep.TheVariants.{Happened}
-use Rattle.realm_steps.specs.Steps.{IsLegal}
-use Rattle.realm_steps.proofs.Histories.{beginning_legal}
+use Rattle.share_ledger.specs.declared.steps.RealmStep.{RealmStep}
+use Rattle.share_ledger.specs.declared.steps.RealmStep.TheVariants.{Happened}
+use Rattle.share_ledger.specs.Steps.{IsLegal}
+use Rattle.share_ledger.proofs.Histories.{beginning_legal}
 use Rattle.share_ledger.specs.Values.{OwnerValue}
 use Rattle.realm_core.specs.Calls.{SeesMore}
-use Rattle.realm_close.specs.Closes.{Begins, ClosesBare, ClosesDown}
-use Rattle.realm_close.specs.Ends.{Ends, end_step}
-use Rattle.realm_close.specs.Reports.{numbers}
-use Rattle.realm_close.specs.declared.reports.CloseReport.{CloseReport}
+use Rattle.realm_core.specs.Closes.{Begins, ClosesBare, ClosesDown}
+use Rattle.realm_core.specs.Ends.{Ends, end_step}
+use Rattle.realm_core.specs.Reports.{numbers}
+use Rattle.realm_core.specs.declared.reports.CloseReport.{CloseReport}
 use Rattle.thread_crew.specs.Teams.{TeamValue}
 use Rattle.job_runner.specs.Reports.{ClosesHere, StaysHere, StaysBegunHere}
 use Rattle.quote_gateway.specs.Going.{shapes, KeepsTasks, EndsScope}

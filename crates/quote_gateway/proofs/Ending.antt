@@ -13,19 +13,19 @@ use Rattle.scope_rules.specs.Search.{latest}
 use Rattle.scope_rules.specs.Legal.{Accepts, Legal}
 use Rattle.scope_rules.proofs.InnermostEnds.{innermost_ended}
 use Rattle.scope_rules.proofs.InnermostSteps.{next_opening}
-use Rattle.realm_steps.specs.declared.steps.RealmStep.{RealmStep}
-use Rattle.realm_steps.specs.declared.steps.RealmStep.TheVariants.{Happened}
-use Rattle.realm_steps.specs.Steps.{history_of, IsLegal}
-use Rattle.realm_steps.proofs.Histories.{beginning_legal, history-push, legal_history}
+use Rattle.share_ledger.specs.declared.steps.RealmStep.{RealmStep}
+use Rattle.share_ledger.specs.declared.steps.RealmStep.TheVariants.{Happened}
+use Rattle.share_ledger.specs.Steps.{history_of, IsLegal}
+use Rattle.share_ledger.proofs.Histories.{beginning_legal, history-push, legal_history}
 use Rattle.share_ledger.specs.Values.{OwnerValue}
 use Rattle.atomic_table.specs.Seated.{TableId}
 use Rattle.realm_core.specs.Calls.{SeesMore, history_seen}
 use Rattle.realm_core.proofs.Others.{last_passes}
 use Rattle.realm_core.proofs.Unopened.{innermost_still}
-use Rattle.realm_close.specs.Ends.{Ends, end_step, ended}
-use Rattle.realm_close.specs.Waiting.{IsOpenOf}
-use Rattle.realm_close.proofs.EndChains.{closed_now}
-use Rattle.realm_close.proofs.EndSteps.{history_ended}
+use Rattle.realm_core.specs.Ends.{Ends, end_step, ended}
+use Rattle.realm_core.specs.Waiting.{IsOpenOf}
+use Rattle.realm_core.proofs.EndChains.{closed_now}
+use Rattle.realm_core.proofs.EndSteps.{history_ended}
 use Rattle.quote_gateway.specs.Going.{nests, shapes, GoesOn, IsBeginning, KeepsInnermost, Opens, EndsScope}
 use Rattle.quote_gateway.specs.Requests.{IsOpenedFor, unused}
 use Rattle.quote_gateway.proofs.Going.{FindsEnds, nests_find, shapes_find, walked, open_going, legal_there, history_added, begins_going, begins_on, begins_agreeing, same_actor}

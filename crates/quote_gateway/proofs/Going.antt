@@ -15,19 +15,19 @@ use Rattle.scope_rules.proofs.ClosingScopes.{nothing_open}
 use Rattle.scope_rules.proofs.Growing.{opening_stays}
 use Rattle.scope_rules.proofs.OneEventMore.{closed_grows}
 use Rattle.scope_rules.proofs.PassedRows.{ender_passed}
-use Rattle.realm_steps.specs.declared.steps.RealmStep.{RealmStep}
-use Rattle.realm_steps.specs.declared.steps.RealmStep.TheVariants.{Happened, Asked, Retirement}
-use Rattle.realm_steps.specs.declared.steps.Ask.{Ask}
-use Rattle.realm_steps.specs.declared.steps.Ask.TheVariants as ask
-use Rattle.realm_steps.specs.declared.steps.Holder.TheVariants.{TokenOf}
-use Rattle.realm_steps.specs.Holders.{is_own, Agrees, Looks, Adds}
-use Rattle.realm_steps.specs.Steps.{advance, advanced, asked, fresh, history_of, Passes, LegalFrom, IsLegal}
-use Rattle.realm_steps.specs.Tickets.{is_event}
-use Rattle.realm_steps.proofs.Histories.{advanced-append, history-push, legal_advance, legal_beginning, legal_history, beginning_legal, retired_without_scopes}
-use Rattle.realm_steps.proofs.Lists.{none_narrower}
+use Rattle.share_ledger.specs.declared.steps.RealmStep.{RealmStep}
+use Rattle.share_ledger.specs.declared.steps.RealmStep.TheVariants.{Happened, Asked, Retirement}
+use Rattle.share_ledger.specs.declared.steps.Ask.{Ask}
+use Rattle.share_ledger.specs.declared.steps.Ask.TheVariants as ask
+use Rattle.share_ledger.specs.declared.steps.Holder.TheVariants.{TokenOf}
+use Rattle.share_ledger.specs.Holders.{is_own, Agrees, Looks, Adds}
+use Rattle.share_ledger.specs.Steps.{advance, advanced, asked, fresh, history_of, Passes, LegalFrom, IsLegal}
+use Rattle.share_ledger.specs.Tickets.{is_event}
+use Rattle.share_ledger.proofs.Histories.{advanced-append, history-push, legal_advance, legal_beginning, legal_history, beginning_legal, retired_without_scopes}
+use Rattle.share_ledger.proofs.Lists.{none_narrower}
 use Rattle.share_ledger.specs.Values.{OwnerValue}
 use Rattle.realm_core.specs.Calls.{SeesMore}
-use Rattle.realm_close.specs.Waiting.{IsOpenOf}
+use Rattle.realm_core.specs.Waiting.{IsOpenOf}
 use Rattle.quote_gateway.specs.Going.{IsBeginning, nests, shapes, GoesOn}
 
 -- ---- whose such steps are

@@ -18,7 +18,7 @@ use Rattle.scope_rules.specs.Table.{answering}
 use Rattle.scope_rules.specs.Tasks.{state}
 use Rattle.scope_rules.proofs.Forkings.{task_there}
 use Rattle.scope_checks.proofs.Checked.{task_passes}
-use Rattle.realm_steps.proofs.Histories.{legal_history}
+use Rattle.share_ledger.proofs.Histories.{legal_history}
 use Rattle.share_ledger.specs.Values.{OwnerValue}
 use Rattle.realm_core.specs.Calls.{Looked, SeesMore, history_seen}
 use Rattle.realm_core.specs.Views.{Joins}

@@ -8,11 +8,11 @@ use Rattle.scope_rules.specs.Answers.{listing_by}
 use Rattle.scope_rules.specs.Nests.{tasks_of, label}
 use Rattle.scope_rules.specs.Outcomes.{outcome}
 use Rattle.scope_rules.specs.Tasks.{state}
-use Rattle.realm_steps.specs.declared.steps.RealmStep.TheVariants.{Happened}
-use Rattle.realm_steps.specs.Steps.{history_of}
+use Rattle.share_ledger.specs.declared.steps.RealmStep.TheVariants.{Happened}
+use Rattle.share_ledger.specs.Steps.{history_of}
 use Rattle.share_ledger.specs.Values.{OwnerValue}
 use Rattle.realm_core.specs.Calls.{SeesMore, history_seen, step_check}
-use Rattle.realm_close.specs.Ends.{end_step}
+use Rattle.realm_core.specs.Ends.{end_step}
 use Rattle.quote_plan.specs.Plans.{PlanValue, labels_of, policy_of}
 use Rattle.quote_plan.specs.Answering.{Answers}
 use Rattle.quote_plan.specs.declared.answers.Answer.{Answer}

@@ -10,15 +10,15 @@ use Rattle.scope_rules.specs.Table.{check_of}
 use Rattle.scope_rules.specs.Legal.{Accepts}
 use Rattle.scope_rules.proofs.Accepted.{checks_at, not_refused}
 use Rattle.scope_rules.proofs.Timed.{moment_grows}
-use Rattle.realm_steps.specs.declared.steps.Ask.TheVariants as ask
-use Rattle.realm_steps.specs.declared.steps.RealmStep.{RealmStep}
-use Rattle.realm_steps.specs.declared.steps.RealmStep.TheVariants.{Asked}
-use Rattle.realm_steps.specs.Steps.{history_of}
+use Rattle.share_ledger.specs.declared.steps.Ask.TheVariants as ask
+use Rattle.share_ledger.specs.declared.steps.RealmStep.{RealmStep}
+use Rattle.share_ledger.specs.declared.steps.RealmStep.TheVariants.{Asked}
+use Rattle.share_ledger.specs.Steps.{history_of}
 use Rattle.share_ledger.specs.Values.{OwnerValue}
 use Rattle.realm_core.specs.Calls.{history_seen}
-use Rattle.realm_close.specs.Ends.{ended}
-use Rattle.realm_close.specs.Waiting.{IsOpenOf}
-use Rattle.realm_close.proofs.EndSteps.{history_ended}
+use Rattle.realm_core.specs.Ends.{ended}
+use Rattle.realm_core.specs.Waiting.{IsOpenOf}
+use Rattle.realm_core.proofs.EndSteps.{history_ended}
 use Rattle.quote_gateway.specs.Going.{shapes, EndsScope, GoesOn, IsOpenHere, KeepsTasks}
 use Rattle.quote_gateway.specs.Requests.{IsTold}
 use Rattle.quote_gateway.proofs.Going.{history_added, shapes_find, walked}

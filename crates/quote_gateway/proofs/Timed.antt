@@ -12,9 +12,9 @@ use Rattle.scope_rules.specs.Ends.{LabelValue}
 use Rattle.scope_rules.specs.History.{History, moment}
 use Rattle.scope_rules.specs.Load.{over_load}
 use Rattle.scope_rules.specs.Table.{check_of}
-use Rattle.realm_steps.specs.declared.steps.Ask.TheVariants.{Tick}
-use Rattle.realm_steps.specs.declared.steps.RealmStep.TheVariants.{Asked}
-use Rattle.realm_steps.specs.Steps.{IsLegal}
+use Rattle.share_ledger.specs.declared.steps.Ask.TheVariants.{Tick}
+use Rattle.share_ledger.specs.declared.steps.RealmStep.TheVariants.{Asked}
+use Rattle.share_ledger.specs.Steps.{IsLegal}
 use Rattle.share_ledger.specs.Values.{OwnerValue}
 use Rattle.realm_core.specs.Calls.{SeesMore, history_seen}
 use Rattle.realm_core.specs.declared.joins.Joined.{Joined}

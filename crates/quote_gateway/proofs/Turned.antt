@@ -10,9 +10,9 @@ use Rattle.scope_rules.specs.declared.types.refusals.Refusal.{Refusal}
 use Rattle.scope_rules.specs.declared.types.refusals.Refusal.TheVariants.{Memory}
 use Rattle.scope_rules.specs.Ends.{LabelValue}
 use Rattle.scope_rules.specs.Replies.{next_scope}
-use Rattle.realm_steps.specs.declared.steps.Ask.TheVariants.{Tick}
-use Rattle.realm_steps.specs.declared.steps.RealmStep.{RealmStep}
-use Rattle.realm_steps.specs.declared.steps.RealmStep.TheVariants.{Happened, Asked}
+use Rattle.share_ledger.specs.declared.steps.Ask.TheVariants.{Tick}
+use Rattle.share_ledger.specs.declared.steps.RealmStep.{RealmStep}
+use Rattle.share_ledger.specs.declared.steps.RealmStep.TheVariants.{Happened, Asked}
 use Rattle.share_ledger.specs.Values.{OwnerValue}
 use Rattle.realm_core.specs.Calls.{Refused, OutOfMemory, DidOrMemory, DoesOrMemory, SeesMore, HasLooked, history_seen, step_check}
 use Rattle.realm_core.specs.Views.{Joins}

@@ -19,14 +19,14 @@ use Rattle.scope_rules.specs.Outcomes.{outcome}
 use Rattle.scope_rules.specs.Replies.{next_scope}
 use Rattle.scope_rules.specs.Scopes.{innermost}
 use Rattle.scope_rules.specs.Tasks.{rejected}
-use Rattle.realm_steps.specs.declared.steps.RealmStep.{RealmStep}
-use Rattle.realm_steps.specs.declared.steps.RealmStep.TheVariants.{Happened}
-use Rattle.realm_steps.specs.Steps.{IsLegal, history_of}
-use Rattle.realm_steps.specs.Tickets.{is_event}
+use Rattle.share_ledger.specs.declared.steps.RealmStep.{RealmStep}
+use Rattle.share_ledger.specs.declared.steps.RealmStep.TheVariants.{Happened}
+use Rattle.share_ledger.specs.Steps.{IsLegal, history_of}
+use Rattle.share_ledger.specs.Tickets.{is_event}
 use Rattle.share_ledger.specs.Values.{OwnerValue}
 use Rattle.realm_core.specs.Calls.{Accepted, history_seen, step_check}
-use Rattle.realm_close.specs.Ends.{Ends}
-use Rattle.realm_close.specs.Waiting.{IsOpenOf}
+use Rattle.realm_core.specs.Ends.{Ends}
+use Rattle.realm_core.specs.Waiting.{IsOpenOf}
 use Rattle.job_runner.specs.Forks.{reply_there}
 use Rattle.quote_gateway.specs.declared.faults.GatewayFault.{GatewayFault}
 use Rattle.quote_gateway.specs.declared.faults.GatewayFault.TheVariants as fault

@@ -15,9 +15,9 @@ use Rattle.scope_rules.specs.Nests.{tasks_of, label}
 use Rattle.scope_rules.specs.Outcomes.{outcome}
 use Rattle.scope_rules.specs.Scopes.{closed}
 use Rattle.scope_rules.specs.Tasks.{state}
-use Rattle.realm_steps.specs.declared.steps.Ask.TheVariants.{Tick}
-use Rattle.realm_steps.specs.declared.steps.RealmStep.{RealmStep}
-use Rattle.realm_steps.specs.declared.steps.RealmStep.TheVariants.{Happened, Asked}
+use Rattle.share_ledger.specs.declared.steps.Ask.TheVariants.{Tick}
+use Rattle.share_ledger.specs.declared.steps.RealmStep.{RealmStep}
+use Rattle.share_ledger.specs.declared.steps.RealmStep.TheVariants.{Happened, Asked}
 use Rattle.share_ledger.specs.Values.{OwnerValue}
 use Rattle.realm_core.specs.Calls.{history_seen}
 use Rattle.quote_plan.specs.Plans.{PlanValue, labels_of, policy_of}

@@ -4,9 +4,9 @@ use Rattle.std.specs.Prelude.{is_none, is_some}
 use Rattle.std.specs.Option.{option_or}
 use Rattle.scope_rules.specs.declared.types.names.Name.{Name}
 use Rattle.scope_rules.specs.declared.types.values.Fault.{Fault}
-use Rattle.script_lines.specs.Steps.{◌>>=◌}
-use Rattle.script_lines.specs.Fields.{just_two, just_three}
-use Rattle.script_lines.specs.Words.{name_said}
+use Rattle.script_words.specs.Steps.{◌>>=◌}
+use Rattle.script_words.specs.Fields.{just_two, just_three}
+use Rattle.script_words.specs.Words.{name_said}
 use Rattle.quote_plan.specs.PlanLines.{price_said, is_runtime_text, unless_runtime, fault_said, priced_said, failing_said, offer_said}
 use Rattle.quote_plan.specs.PlanWhys.{why_of_price, why_of_fault_named, why_of_fault, why_of_end, why_of_offer}
 use Rattle.quote_plan.specs.declared.lines.PlanLine.{PlanLine}

@@ -4,12 +4,12 @@ use Rattle.std.specs.Option.{option_or}
 use Rattle.std.specs.Str.{bytes_eq}
 use Rattle.scope_rules.specs.Names.{text_of}
 use Rattle.scope_rules.specs.declared.types.values.Fault.{Fault}
-use Rattle.script_lines.specs.Steps.{◌>>=◌}
-use Rattle.script_lines.specs.Fields.{fields, just_one, just_two, just_three}
-use Rattle.script_lines.specs.Lines.{begins_comment}
-use Rattle.script_lines.specs.Numbers.{moment_said}
-use Rattle.script_lines.specs.Words.{name_said}
-use Rattle.script_lines.specs.declared.lines.TheConstants.{LINE_LIMIT}
+use Rattle.script_words.specs.Steps.{◌>>=◌}
+use Rattle.script_words.specs.Fields.{fields, just_one, just_two, just_three}
+use Rattle.script_words.specs.Lines.{begins_comment}
+use Rattle.script_words.specs.Numbers.{moment_said}
+use Rattle.script_words.specs.Words.{name_said}
+use Rattle.script_words.specs.declared.lines.TheConstants.{LINE_LIMIT}
 use Rattle.quote_plan.specs.declared.plans.Mode.{Mode}
 use Rattle.quote_plan.specs.declared.plans.Mode.TheVariants as mode
 use Rattle.quote_plan.specs.declared.plans.Offer.TheVariants as offer

@@ -3,9 +3,9 @@ use Rattle.std.specs.Prelude.{ℕ, ◌+◌, ◌-◌, Bool, ◌==◌, nat_lt, Lis
 use Rattle.std.specs.List.{list_any, slice_split}
 use Rattle.std.specs.Str.{bytes_eq}
 use Rattle.scope_rules.specs.declared.types.names.Name.{Name}
-use Rattle.script_lines.specs.Fields.{fields}
-use Rattle.script_lines.specs.Words.{name_said}
-use Rattle.script_lines.specs.declared.lines.TheConstants.{LINE_LIMIT}
+use Rattle.script_words.specs.Fields.{fields}
+use Rattle.script_words.specs.Words.{name_said}
+use Rattle.script_words.specs.declared.lines.TheConstants.{LINE_LIMIT}
 use Rattle.quote_plan.specs.Cutting.{is_feed}
 use Rattle.quote_plan.specs.Plans.{Named}
 use Rattle.quote_plan.specs.PlanLines.{price_said, is_runtime_text}

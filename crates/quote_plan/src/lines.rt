@@ -1,12 +1,12 @@
 //! What one line of a plan says.
 
 ghost use Rattle.std.specs.Prelude.{◌≡◌};
-ghost use Rattle.script_lines.specs.Fields.{fields};
+ghost use Rattle.script_words.specs.Fields.{fields};
 ghost use Rattle.quote_plan.specs.PlanLines.{mode_said, mode_line_said, price_said, is_runtime_text, fault_said, priced_said, failing_said, offer_said, words_said, fields_said, line_said};
 
 use crate::plans::{Mode, Offer};
 use scope_rules::{Fault, Name, is_runtime_fault};
-use script_lines::{LINE_LIMIT, just_one, just_three, just_two, moment, name, next_field};
+use script_words::{LINE_LIMIT, just_one, just_three, just_two, moment, name, next_field};
 
 /// How many offers a plan has at the most.
 pub const OFFER_LIMIT: usize = 64;

@@ -1,13 +1,13 @@
 //! Why a line of a plan is a bad one.
 
 ghost use Rattle.std.specs.Prelude.{◌≡◌, ◌≤◌, length, is_none, is_some};
-ghost use Rattle.script_lines.specs.Fields.{fields};
+ghost use Rattle.script_words.specs.Fields.{fields};
 ghost use Rattle.quote_plan.specs.PlanLines.{offer_said};
 ghost use Rattle.quote_plan.specs.PlanWhys.{why_of_bytes, why_of_price, why_of_fault, why_of_end, why_of_offer, why_of_fields, words_of};
 
 use crate::lines::{is_made_by_runtime, price};
 use scope_rules::Fault;
-use script_lines::{LINE_LIMIT, just_one, just_two, name, next_field};
+use script_words::{LINE_LIMIT, just_one, just_two, name, next_field};
 
 /// Why a line may not stand where it stands in a plan. The causes after `ModeWanted` come only where a mode
 /// was said before.

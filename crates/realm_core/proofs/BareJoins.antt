@@ -16,12 +16,12 @@ use Rattle.scope_rules.proofs.Nesting.{IsOpened}
 use Rattle.scope_rules.proofs.NewScopes.{scope_passed}
 use Rattle.scope_rules.proofs.OneEventMore.{joined_grows, opening_same}
 use Rattle.scope_checks.proofs.Checked.{scope_passes}
-use Rattle.scope_outcomes.specs.declared.bare.BareOutcome.{BareOutcome}
-use Rattle.scope_outcomes.specs.Bare.{bare_of}
-use Rattle.realm_steps.specs.declared.steps.RealmStep.TheVariants.{Happened}
-use Rattle.realm_steps.specs.declared.steps.Holder.TheVariants.{TokenOf}
-use Rattle.realm_steps.specs.Steps.{history_of}
-use Rattle.realm_steps.proofs.Histories.{history-push}
+use Rattle.scope_kept.specs.declared.bare.BareOutcome.{BareOutcome}
+use Rattle.scope_kept.specs.Bare.{bare_of}
+use Rattle.share_ledger.specs.declared.steps.RealmStep.TheVariants.{Happened}
+use Rattle.share_ledger.specs.declared.steps.Holder.TheVariants.{TokenOf}
+use Rattle.share_ledger.specs.Steps.{history_of}
+use Rattle.share_ledger.proofs.Histories.{history-push}
 use Rattle.atomic_table.specs.Seated.{TableId}
 use Rattle.share_ledger.specs.Values.{KeeperValue, OwnerValue, OwnerAgrees}
 use Rattle.realm_core.specs.Cores.{Tied}

@@ -5,18 +5,18 @@ use Rattle.std.proofs.lemmas.List.Folds.{list_any-append}
 use Rattle.std.proofs.lemmas.Bool.{or_from}
 use Rattle.std.specs.List.{list_any}
 use Rattle.scope_rules.specs.declared.types.capacity.Limits.{Limits}
-use Rattle.realm_steps.specs.declared.steps.RealmStep.{RealmStep}
-use Rattle.realm_steps.specs.declared.steps.Holder.{Holder}
+use Rattle.share_ledger.specs.declared.steps.RealmStep.{RealmStep}
+use Rattle.share_ledger.specs.declared.steps.Holder.{Holder}
 use Rattle.scope_rules.specs.declared.types.events.Event.TheVariants.{Join}
 use Rattle.scope_rules.specs.declared.types.refusals.Refusal.{Refusal}
-use Rattle.realm_steps.specs.declared.steps.RealmStep.TheVariants.{Happened}
-use Rattle.realm_steps.specs.declared.steps.Holder.TheVariants.{TokenOf}
-use Rattle.realm_steps.specs.Holders.{is_own, Agrees, Looks, Adds}
+use Rattle.share_ledger.specs.declared.steps.RealmStep.TheVariants.{Happened}
+use Rattle.share_ledger.specs.declared.steps.Holder.TheVariants.{TokenOf}
+use Rattle.share_ledger.specs.Holders.{is_own, Agrees, Looks, Adds}
 use Rattle.share_ledger.specs.Values.{OwnerValue}
 use Rattle.realm_core.specs.Calls.{SeesMore}
 use Rattle.realm_core.specs.Views.{Joins, JoinsBare}
 use Rattle.realm_core.specs.declared.joins.Joined.{Joined}
-use Rattle.scope_outcomes.specs.declared.bare.BareOutcome.{BareOutcome}
+use Rattle.scope_kept.specs.declared.bare.BareOutcome.{BareOutcome}
 
 nothing_more : {A : Type 0} (xs : List A) → xs ≡ xs ++ []
 nothing_more [] = refl

@@ -4,11 +4,11 @@ use Rattle.std.specs.List.{list_any}
 use Rattle.scope_rules.specs.declared.types.capacity.Limits.{Limits}
 use Rattle.scope_rules.specs.History.{History}
 use Rattle.scope_rules.specs.Legal.{Legal}
-use Rattle.realm_steps.specs.declared.steps.RealmStep.{RealmStep}
-use Rattle.realm_steps.specs.declared.steps.Holder.TheVariants.{TokenOf}
-use Rattle.realm_steps.specs.Holders.{is_own, Agrees}
-use Rattle.realm_steps.specs.Steps.{advance, advanced, history_of, Passes, LegalFrom, IsLegal}
-use Rattle.realm_steps.proofs.Histories.{advanced-append, legal_advance, legal_beginning, legal_history}
+use Rattle.share_ledger.specs.declared.steps.RealmStep.{RealmStep}
+use Rattle.share_ledger.specs.declared.steps.Holder.TheVariants.{TokenOf}
+use Rattle.share_ledger.specs.Holders.{is_own, Agrees}
+use Rattle.share_ledger.specs.Steps.{advance, advanced, history_of, Passes, LegalFrom, IsLegal}
+use Rattle.share_ledger.proofs.Histories.{advanced-append, legal_advance, legal_beginning, legal_history}
 
 not_or : (b c : Bool) → (b || c) ≡ false → (b ≡ false) × (c ≡ false)
 not_or false false so = (refl, refl)

@@ -21,11 +21,11 @@ use Rattle.scope_checks.specs.declared.told.Told.{Told}
 use Rattle.scope_checks.specs.declared.told.Told.TheVariants as told
 use Rattle.scope_checks.specs.Telling.{noted, told_of, wants_memory, Performs, records, after_telling}
 use Rattle.scope_rules.specs.Origin.{Origin}
-use Rattle.realm_steps.specs.declared.steps.RealmStep.{RealmStep}
-use Rattle.realm_steps.specs.declared.steps.RealmStep.TheVariants.{Happened, Retirement}
-use Rattle.realm_steps.specs.declared.steps.Holder.TheVariants.{TokenOf}
-use Rattle.realm_steps.specs.Steps.{advance, history_of, step_by, Passes}
-use Rattle.realm_steps.proofs.Histories.{history-push}
+use Rattle.share_ledger.specs.declared.steps.RealmStep.{RealmStep}
+use Rattle.share_ledger.specs.declared.steps.RealmStep.TheVariants.{Happened, Retirement}
+use Rattle.share_ledger.specs.declared.steps.Holder.TheVariants.{TokenOf}
+use Rattle.share_ledger.specs.Steps.{advance, history_of, step_by, Passes}
+use Rattle.share_ledger.proofs.Histories.{history-push}
 use Rattle.atomic_table.specs.Seated.{TableId}
 use Rattle.share_ledger.specs.Values.{KeeperValue, OwnerValue, OwnerAgrees, is_recorded_by}
 use Rattle.kept_realm.specs.Fits.{FitsEvent}

@@ -12,10 +12,10 @@ use Rattle.scope_rules.specs.Replies.{AnswersValue}
 use Rattle.scope_rules.specs.Table.{check_of}
 use Rattle.scope_rules.specs.Legal.{Accepts}
 use Rattle.scope_rules.specs.Replies.{Realm, Answers}
-use Rattle.realm_steps.specs.declared.steps.RealmStep.TheVariants.{Happened}
-use Rattle.realm_steps.specs.declared.steps.Holder.TheVariants.{TokenOf}
-use Rattle.realm_steps.specs.Steps.{history_of}
-use Rattle.realm_steps.proofs.Histories.{history-push}
+use Rattle.share_ledger.specs.declared.steps.RealmStep.TheVariants.{Happened}
+use Rattle.share_ledger.specs.declared.steps.Holder.TheVariants.{TokenOf}
+use Rattle.share_ledger.specs.Steps.{history_of}
+use Rattle.share_ledger.proofs.Histories.{history-push}
 use Rattle.atomic_table.specs.Seated.{TableId}
 use Rattle.share_ledger.specs.Values.{KeeperValue, OwnerValue, OwnerAgrees}
 use Rattle.realm_core.specs.Cores.{Tied}

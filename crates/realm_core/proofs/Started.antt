@@ -15,14 +15,14 @@ use Rattle.scope_rules.specs.Replies.{Realm}
 use Rattle.scope_rules.proofs.Forkings.{forked_after}
 use Rattle.scope_rules.proofs.Stages.{staged, stage_is, waiting_forked}
 use Rattle.scope_rules.proofs.StateSteps.{no_ending}
-use Rattle.realm_steps.specs.declared.steps.RealmStep.{RealmStep}
-use Rattle.realm_steps.specs.declared.steps.RealmStep.TheVariants.{Happened}
-use Rattle.realm_steps.specs.Steps.{history_of}
-use Rattle.realm_steps.specs.Tickets.{Grant, is_event, grant_in, rejected_in, started_in, end_in}
-use Rattle.realm_steps.specs.StepLaws.{end_shown}
-use Rattle.realm_steps.proofs.Waits.{given_ticket_waits}
-use Rattle.realm_steps.proofs.Told.{end_in-append, grant-append, seen_tells}
-use Rattle.realm_steps.proofs.Ends.{tells_history}
+use Rattle.share_ledger.specs.declared.steps.RealmStep.{RealmStep}
+use Rattle.share_ledger.specs.declared.steps.RealmStep.TheVariants.{Happened}
+use Rattle.share_ledger.specs.Steps.{history_of}
+use Rattle.share_ledger.specs.Tickets.{Grant, is_event, grant_in, rejected_in, started_in, end_in}
+use Rattle.share_ledger.specs.StepLaws.{end_shown}
+use Rattle.share_ledger.proofs.Waits.{given_ticket_waits}
+use Rattle.share_ledger.proofs.Told.{end_in-append, grant-append, seen_tells}
+use Rattle.share_ledger.proofs.Ends.{tells_history}
 use Rattle.atomic_table.specs.Seated.{TableId}
 use Rattle.share_ledger.specs.Values.{KeeperValue, TicketValue, TicketAgrees, IsWaiting}
 use Rattle.realm_core.specs.Cores.{Tied}

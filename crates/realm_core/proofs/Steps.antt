@@ -4,11 +4,11 @@ use Rattle.scope_rules.specs.declared.types.capacity.Limits.{Limits}
 use Rattle.scope_rules.specs.History.{History}
 use Rattle.scope_rules.specs.Origin.{the_start}
 use Rattle.scope_rules.specs.Replies.{Realm, starting}
-use Rattle.realm_steps.specs.declared.steps.RealmStep.{RealmStep}
-use Rattle.realm_steps.specs.declared.steps.Holder.{Holder}
-use Rattle.realm_steps.specs.Holders.{Looks, Adds}
-use Rattle.realm_steps.specs.Steps.{advance, history_of, Passes, IsLegal}
-use Rattle.realm_steps.proofs.Histories.{goes_on}
+use Rattle.share_ledger.specs.declared.steps.RealmStep.{RealmStep}
+use Rattle.share_ledger.specs.declared.steps.Holder.{Holder}
+use Rattle.share_ledger.specs.Holders.{Looks, Adds}
+use Rattle.share_ledger.specs.Steps.{advance, history_of, Passes, IsLegal}
+use Rattle.share_ledger.proofs.Histories.{goes_on}
 use Rattle.atomic_table.specs.Seated.{TableId}
 use Rattle.share_ledger.specs.Values.{KeeperValue, AgreesWith}
 use Rattle.realm_core.specs.Cores.{Tied}

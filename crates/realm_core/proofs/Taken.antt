@@ -20,14 +20,14 @@ use Rattle.scope_rules.specs.Replies.{Realm, Answers}
 use Rattle.scope_rules.proofs.Forkings.{forked_after}
 use Rattle.scope_rules.proofs.Stages.{waiting_forked, running_forked}
 use Rattle.scope_checks.proofs.Checked.{task_passes}
-use Rattle.realm_steps.specs.declared.steps.RealmStep.TheVariants.{Happened}
-use Rattle.realm_steps.specs.declared.steps.Holder.TheVariants.{TicketOf}
-use Rattle.realm_steps.specs.Steps.{history_of}
-use Rattle.realm_steps.specs.Tickets.{Grant, grant_in}
-use Rattle.realm_steps.specs.StepLaws.{grant_shown}
-use Rattle.realm_steps.proofs.Waits.{given_ticket_waits, started_ticket_runs}
-use Rattle.realm_steps.proofs.Told.{seen_tells}
-use Rattle.realm_steps.proofs.Ends.{tells_history}
+use Rattle.share_ledger.specs.declared.steps.RealmStep.TheVariants.{Happened}
+use Rattle.share_ledger.specs.declared.steps.Holder.TheVariants.{TicketOf}
+use Rattle.share_ledger.specs.Steps.{history_of}
+use Rattle.share_ledger.specs.Tickets.{Grant, grant_in}
+use Rattle.share_ledger.specs.StepLaws.{grant_shown}
+use Rattle.share_ledger.proofs.Waits.{given_ticket_waits, started_ticket_runs}
+use Rattle.share_ledger.proofs.Told.{seen_tells}
+use Rattle.share_ledger.proofs.Ends.{tells_history}
 use Rattle.atomic_table.specs.Seated.{TableId}
 use Rattle.share_ledger.specs.Values.{KeeperValue, TicketValue, TicketAgrees, IsWaiting}
 use Rattle.kept_realm.specs.Fits.{FitsTask}

@@ -6,8 +6,8 @@ use Rattle.scope_rules.specs.declared.types.events.Options.{Options}
 use Rattle.scope_rules.specs.declared.types.joiners.Policy.{Policy}
 use Rattle.scope_rules.specs.declared.types.refusals.Refusal.{Refusal}
 use Rattle.scope_rules.specs.Replies.{next_scope, recorded}
-use Rattle.realm_steps.specs.declared.steps.RealmStep.TheVariants.{Happened}
-use Rattle.realm_steps.specs.Steps.{history_of}
+use Rattle.share_ledger.specs.declared.steps.RealmStep.TheVariants.{Happened}
+use Rattle.share_ledger.specs.Steps.{history_of}
 use Rattle.scope_checks.specs.declared.told.Told.{Told}
 use Rattle.scope_checks.specs.declared.told.Told.TheVariants as told
 use Rattle.scope_checks.specs.Telling.{wants_memory, records}

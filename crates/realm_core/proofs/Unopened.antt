@@ -19,14 +19,14 @@ use Rattle.scope_rules.proofs.Innermosts.{opened_after, innermost_unclosed, inne
 use Rattle.scope_rules.proofs.InnermostSteps.{innermost_same, innermost_open_other, innermost_end_other}
 use Rattle.scope_rules.proofs.Stages.{running_forked}
 use Rattle.scope_checks.proofs.Checked.{task_passes}
-use Rattle.realm_steps.specs.declared.steps.RealmStep.{RealmStep}
-use Rattle.realm_steps.specs.declared.steps.RealmStep.TheVariants.{Happened, Asked, Retirement}
-use Rattle.realm_steps.specs.declared.steps.Ask.{Ask}
-use Rattle.realm_steps.specs.declared.steps.Ask.TheVariants as ask
-use Rattle.realm_steps.specs.declared.steps.Holder.TheVariants.{TokenOf}
-use Rattle.realm_steps.specs.Holders.{is_own, Agrees}
-use Rattle.realm_steps.specs.Steps.{advance, asked, history_of, Passes, IsLegal}
-use Rattle.realm_steps.proofs.Histories.{retired_without_scopes}
+use Rattle.share_ledger.specs.declared.steps.RealmStep.{RealmStep}
+use Rattle.share_ledger.specs.declared.steps.RealmStep.TheVariants.{Happened, Asked, Retirement}
+use Rattle.share_ledger.specs.declared.steps.Ask.{Ask}
+use Rattle.share_ledger.specs.declared.steps.Ask.TheVariants as ask
+use Rattle.share_ledger.specs.declared.steps.Holder.TheVariants.{TokenOf}
+use Rattle.share_ledger.specs.Holders.{is_own, Agrees}
+use Rattle.share_ledger.specs.Steps.{advance, asked, history_of, Passes, IsLegal}
+use Rattle.share_ledger.proofs.Histories.{retired_without_scopes}
 use Rattle.realm_core.proofs.Others.{still}
 
 another : (b a : ℕ) → (b == a) ≡ false → b ≢ a

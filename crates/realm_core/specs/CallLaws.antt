@@ -5,9 +5,9 @@ use Rattle.scope_rules.specs.History.{History, opening}
 use Rattle.scope_rules.specs.Scopes.{closed, closing}
 use Rattle.scope_rules.specs.Legal.{Legal}
 use Rattle.scope_rules.specs.declared.types.capacity.Limits.{Limits}
-use Rattle.realm_steps.specs.declared.steps.RealmStep.{RealmStep}
-use Rattle.realm_steps.specs.declared.steps.Holder.{Holder}
-use Rattle.realm_steps.specs.Holders.{Agrees, Looks, Adds}
+use Rattle.share_ledger.specs.declared.steps.RealmStep.{RealmStep}
+use Rattle.share_ledger.specs.declared.steps.Holder.{Holder}
+use Rattle.share_ledger.specs.Holders.{Agrees, Looks, Adds}
 
 -- a holder agrees with what it has seen
 abbrev pub HoldersAgree : Type 0

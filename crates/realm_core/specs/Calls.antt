@@ -10,11 +10,11 @@ use Rattle.scope_rules.specs.declared.types.answers.Cancelling.TheVariants.{Reco
 use Rattle.scope_rules.specs.History.{History}
 use Rattle.scope_rules.specs.Checks.{Checked}
 use Rattle.scope_rules.specs.Table.{check_of, is_already, retire_check}
-use Rattle.realm_steps.specs.declared.steps.RealmStep.{RealmStep}
-use Rattle.realm_steps.specs.declared.steps.RealmStep.TheVariants.{Happened, Asked, Retirement}
-use Rattle.realm_steps.specs.declared.steps.Holder.TheVariants.{TokenOf, TicketOf}
-use Rattle.realm_steps.specs.Steps.{asked, history_of, step_by}
-use Rattle.realm_steps.specs.Holders.{Adds, Looks}
+use Rattle.share_ledger.specs.declared.steps.RealmStep.{RealmStep}
+use Rattle.share_ledger.specs.declared.steps.RealmStep.TheVariants.{Happened, Asked, Retirement}
+use Rattle.share_ledger.specs.declared.steps.Holder.TheVariants.{TokenOf, TicketOf}
+use Rattle.share_ledger.specs.Steps.{asked, history_of, step_by}
+use Rattle.share_ledger.specs.Holders.{Adds, Looks}
 use Rattle.scope_checks.specs.declared.told.Told.{Told}
 use Rattle.scope_checks.specs.declared.told.Told.TheVariants as told
 use Rattle.scope_checks.specs.Telling.{told_of, wants_memory, noting}

@@ -5,3 +5,9 @@ pub mod Tasks
 pub mod Views
 pub mod CallLaws
 pub mod Endings
+pub mod Ends
+pub mod Waiting
+pub mod Reports
+pub mod Tickets
+pub mod Runs
+pub mod Closes

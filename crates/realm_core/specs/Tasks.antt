@@ -6,8 +6,8 @@ use Rattle.scope_rules.specs.declared.types.events.Event.TheVariants.{Finish}
 use Rattle.scope_rules.specs.declared.types.refusals.Refusal.{Refusal}
 use Rattle.scope_rules.specs.declared.types.refusals.Refusal.TheVariants.{Structure}
 use Rattle.scope_rules.specs.Ends.{LabelValue, EndValue}
-use Rattle.realm_steps.specs.declared.steps.RealmStep.TheVariants.{Happened}
-use Rattle.realm_steps.specs.Tickets.{given_in, started_in, end_in, finished_in}
+use Rattle.share_ledger.specs.declared.steps.RealmStep.TheVariants.{Happened}
+use Rattle.share_ledger.specs.Tickets.{given_in, started_in, end_in, finished_in}
 use Rattle.atomic_table.specs.Seated.{TableId}
 use Rattle.share_ledger.specs.Values.{OwnerValue, TicketValue, IsWaiting}
 use Rattle.realm_core.specs.declared.forking.Forked.{Forked}

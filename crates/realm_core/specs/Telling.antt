@@ -1,6 +1,6 @@
 -- What the keeper of a realm's list is told of a call, and what that leaves under the lock.
 use Rattle.std.specs.Prelude.{◌≡◌, Bool, [], ◌∷◌, ◌++◌, if◌then◌else◌}
-use Rattle.realm_steps.specs.declared.steps.RealmStep.{RealmStep}
+use Rattle.share_ledger.specs.declared.steps.RealmStep.{RealmStep}
 use Rattle.share_ledger.specs.Values.{KeeperValue, OwnerValue, TicketValue}
 use Rattle.realm_core.specs.Cores.{CoreValue}
 use Rattle.realm_core.specs.Calls.{SeesMore}

@@ -1,16 +1,15 @@
 ghost use Rattle.std.specs.Prelude.{◌≡◌, is_ok, IsOk};
 ghost use Rattle.scope_rules.specs.Verdicts.{verdict};
-ghost use Rattle.realm_steps.specs.Steps.{history_of};
+ghost use Rattle.share_ledger.specs.Steps.{history_of};
 ghost use Rattle.realm_core.specs.Calls.{Does};
 ghost use Rattle.realm_core.specs.Endings.{CanEnd};
 ghost use Rattle.realm_core.specs.Telling.{Stepped};
 
 use crate::RealmName;
 use crate::state::RealmCore;
-use realm_steps::RealmStep;
 use scope_checks::Told;
 use scope_rules::{Catalog, Event, Refusal, ScopeId, Verdict};
-use share_ledger::OwnerShare;
+use share_ledger::{OwnerShare, RealmStep};
 
 /// What the end of a close is made of. The hold that ends one records the ends of several scopes, the
 /// innermost first, each by one call.

@@ -1,7 +1,7 @@
 ghost use Rattle.std.specs.Prelude.{◌≡◌, true, [], IfOk, is_ok};
 ghost use Rattle.scope_rules.specs.Replies.{base_of, recorded};
 ghost use Rattle.scope_checks.specs.Telling.{records};
-ghost use Rattle.realm_steps.specs.Steps.{step_by};
+ghost use Rattle.share_ledger.specs.Steps.{step_by};
 ghost use Rattle.share_ledger.specs.Values.{is_recorded_by};
 ghost use Rattle.realm_core.specs.Calls.{DoesOrMemory, Performed, Records, history_seen};
 ghost use Rattle.realm_core.specs.Telling.{Stepped};
@@ -10,10 +10,9 @@ use crate::RealmName;
 use crate::answers::told_noted;
 use crate::state::RealmCore;
 use crate::telling::{tell, tell_retired};
-use realm_steps::RealmStep;
 use scope_checks::{Told, records};
 use scope_rules::{Base, Cancelling, Catalog, Event, Refusal, ScopeId};
-use share_ledger::OwnerShare;
+use share_ledger::{OwnerShare, RealmStep};
 
 /// The commands with a token. Each leaves in the token all that has happened; `core` says so, and `steps`
 /// the very steps that the call has added to the realm's list: its own, or none.

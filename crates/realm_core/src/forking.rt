@@ -6,10 +6,9 @@ ghost use Rattle.realm_core.specs.Tasks.{ticket_aside, GivesTicket};
 
 use crate::RealmName;
 use crate::state::RealmCore;
-use realm_steps::RealmStep;
 use scope_checks::Told;
 use scope_rules::{Catalog, Event, ForkReply, Label, Refusal, ScopeId, TaskId};
-use share_ledger::{OwnerShare, Ticket};
+use share_ledger::{OwnerShare, RealmStep, Ticket};
 
 /// What a fork gives.
 #[derive(Drop)]

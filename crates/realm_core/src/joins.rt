@@ -6,11 +6,10 @@ use crate::RealmName;
 use crate::events::done;
 use crate::state::RealmCore;
 use crate::telling::tell;
-use realm_steps::RealmStep;
+use scope_kept::BareOutcome;
 use scope_log::ScopeLog;
-use scope_outcomes::BareOutcome;
 use scope_rules::{Catalog, Event, Outcome, Refusal, ScopeId};
-use share_ledger::OwnerShare;
+use share_ledger::{OwnerShare, RealmStep};
 
 /// What a join gives.
 #[derive(Drop)]

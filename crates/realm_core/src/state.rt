@@ -1,6 +1,6 @@
 ghost use Rattle.std.specs.Prelude.{◌≡◌, ℕ, [], List, slice_get};
-ghost use Rattle.scope_cuts.specs.CutsOf.{IsCancelOrderOf};
-ghost use Rattle.realm_steps.specs.Steps.{history_of, IsLegal};
+ghost use Rattle.scope_kept.specs.CutsOf.{IsCancelOrderOf};
+ghost use Rattle.share_ledger.specs.Steps.{history_of, IsLegal};
 ghost use Rattle.kept_realm.specs.Fits.{Fitting};
 
 use crate::RealmName;

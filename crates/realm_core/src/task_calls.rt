@@ -1,6 +1,6 @@
 ghost use Rattle.std.specs.Prelude.{◌≡◌, true, false, None, IsOk, is_ok};
 ghost use Rattle.scope_rules.specs.Scopes.{innermost};
-ghost use Rattle.realm_steps.specs.Tickets.{given_in};
+ghost use Rattle.share_ledger.specs.Tickets.{given_in};
 ghost use Rattle.share_ledger.specs.Values.{IsWaiting};
 ghost use Rattle.realm_core.specs.Calls.{TicketAdded, history_seen};
 ghost use Rattle.realm_core.specs.Telling.{TicketStepped};
@@ -9,9 +9,8 @@ ghost use Rattle.realm_core.specs.Tasks.{IsRunning, MayFinish, Finishes};
 use crate::RealmName;
 use crate::events::done;
 use crate::state::RealmCore;
-use realm_steps::RealmStep;
 use scope_rules::{Catalog, End, Event, Refusal};
-use share_ledger::{OwnerShare, Ticket};
+use share_ledger::{OwnerShare, RealmStep, Ticket};
 
 /// The calls with a ticket. The task of a ticket that is given and not started waits, whatever others did
 /// meanwhile, and that of one that is started and not finished runs. None takes memory.

@@ -1,11 +1,10 @@
 ghost use Rattle.std.specs.Prelude.{◌≡◌, true};
 ghost use Rattle.share_ledger.specs.Values.{OwnerAgrees, is_recorded_by};
-ghost use Rattle.realm_steps.specs.Steps.{step_by};
+ghost use Rattle.share_ledger.specs.Steps.{step_by};
 ghost use Rattle.realm_core.specs.Telling.{told};
 
-use realm_steps::RealmStep;
 use scope_rules::Event;
-use share_ledger::{Keeper, OwnerShare};
+use share_ledger::{Keeper, OwnerShare, RealmStep};
 
 /// Tells the keeper whether the event was recorded, and lets the token see the whole list.
 pub(crate) fn tell(keeper: &mut Keeper, share: &mut OwnerShare, event: &Event, recorded: bool)

@@ -18,12 +18,12 @@ use Rattle.scope_rules.specs.Replies.{next_scope}
 use Rattle.scope_rules.specs.Legal.{Legal}
 use Rattle.scope_rules.proofs.Owing.{count_push}
 use Rattle.cancel_marks.specs.Seats.{CellValue, SetterValue}
-use Rattle.realm_steps.specs.declared.steps.RealmStep.{RealmStep}
-use Rattle.realm_steps.specs.declared.steps.RealmStep.TheVariants.{Happened, Asked, Retirement}
-use Rattle.realm_steps.specs.declared.steps.Ask.{Ask}
-use Rattle.realm_steps.specs.declared.steps.Ask.TheVariants as ask
-use Rattle.realm_steps.specs.Steps.{advance, asked, fresh, history_of, step_by, IsLegal}
-use Rattle.realm_steps.proofs.Histories.{history-push, legal_history, beginning_legal}
+use Rattle.share_ledger.specs.declared.steps.RealmStep.{RealmStep}
+use Rattle.share_ledger.specs.declared.steps.RealmStep.TheVariants.{Happened, Asked, Retirement}
+use Rattle.share_ledger.specs.declared.steps.Ask.{Ask}
+use Rattle.share_ledger.specs.declared.steps.Ask.TheVariants as ask
+use Rattle.share_ledger.specs.Steps.{advance, asked, fresh, history_of, step_by, IsLegal}
+use Rattle.share_ledger.proofs.Histories.{history-push, legal_history, beginning_legal}
 use Rattle.std.proofs.lemmas.List.{same_from_push}
 use Rattle.scope_checks.specs.declared.told.Told.{Told}
 use Rattle.scope_checks.specs.declared.told.Told.TheVariants as told
@@ -33,10 +33,10 @@ use Rattle.realm_core.specs.Calls.{history_seen, DidPerform}
 use Rattle.realm_core.specs.Cores.{CoreValue}
 use Rattle.realm_core.specs.Telling.{stepping, Stepped}
 use Rattle.realm_core.proofs.ToldCalls.{open_told}
-use Rattle.realm_close.specs.Closes.{EndedThere, ReportedThere}
-use Rattle.realm_close.specs.Ends.{Ends, end_step}
-use Rattle.realm_close.specs.Reports.{numbers}
-use Rattle.realm_close.specs.declared.reports.CloseReport.{CloseReport}
+use Rattle.realm_core.specs.Closes.{EndedThere, ReportedThere}
+use Rattle.realm_core.specs.Ends.{Ends, end_step}
+use Rattle.realm_core.specs.Reports.{numbers}
+use Rattle.realm_core.specs.declared.reports.CloseReport.{CloseReport}
 use Rattle.realm_lock.specs.Marked.{AreMarks, AreBehind, AddsSetter, IsCellAt, MarksValue}
 use Rattle.realm_lock.proofs.CancelsGrow.{marked, mark_there, no_more, grows_by, grows_on}
 

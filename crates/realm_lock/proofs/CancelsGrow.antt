@@ -19,7 +19,7 @@ use Rattle.scope_rules.proofs.Staying.{cut_opened, cut_stays, cut_within_history
 use Rattle.cancel_marks.specs.declared.cancellation.Cancellation.{Cancellation}
 use Rattle.cancel_tree.specs.Order.{IsBefore, IsInOrder}
 use Rattle.cancel_tree.proofs.OrderLaws.{order_unique}
-use Rattle.scope_cuts.specs.CutsOf.{IsCancelOrderOf}
+use Rattle.scope_kept.specs.CutsOf.{IsCancelOrderOf}
 use Rattle.realm_lock.specs.Marked.{mark_of, CancelsGrow}
 
 -- ---- what a mark says, by the scope's cut

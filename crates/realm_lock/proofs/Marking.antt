@@ -19,9 +19,9 @@ use Rattle.scope_rules.proofs.Innermosts.{opened_after}
 use Rattle.cancel_marks.specs.declared.cancellation.Cancellation.{Cancellation}
 use Rattle.cancel_marks.specs.Seats.{CellValue, SetterValue}
 use Rattle.scope_checks.specs.Questions.{cancellation}
-use Rattle.scope_cuts.specs.CutsOf.{IsCancelOrderOf}
+use Rattle.scope_kept.specs.CutsOf.{IsCancelOrderOf}
 use Rattle.cancel_tree.proofs.OrderLaws.{order_unique}
-use Rattle.realm_steps.specs.Steps.{history_of}
+use Rattle.share_ledger.specs.Steps.{history_of}
 use Rattle.realm_core.specs.Cores.{CoreValue}
 use Rattle.realm_lock.specs.Marked.{mark_of, IsSetterOf, AreSetters, AreMarks, MarksValue, AreBehind, UsesSetter}
 use Rattle.realm_lock.proofs.CancelsGrow.{marked, mark_there, cancelled_there, order_grows}

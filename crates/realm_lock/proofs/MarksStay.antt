@@ -7,10 +7,10 @@ use Rattle.scope_rules.specs.Legal.{Legal}
 use Rattle.scope_rules.specs.Replies.{base_of}
 use Rattle.scope_rules.proofs.Innermosts.{opened_after}
 use Rattle.cancel_marks.specs.declared.cancellation.Cancellation.{Cancellation}
-use Rattle.realm_steps.specs.declared.steps.RealmStep.{RealmStep}
-use Rattle.realm_steps.specs.declared.steps.RealmStep.TheVariants.{Happened, Asked, Retirement}
-use Rattle.realm_steps.specs.Steps.{advance, asked, history_of, IsLegal}
-use Rattle.realm_steps.proofs.Histories.{history-push, legal_history, beginning_legal}
+use Rattle.share_ledger.specs.declared.steps.RealmStep.{RealmStep}
+use Rattle.share_ledger.specs.declared.steps.RealmStep.TheVariants.{Happened, Asked, Retirement}
+use Rattle.share_ledger.specs.Steps.{advance, asked, history_of, IsLegal}
+use Rattle.share_ledger.proofs.Histories.{history-push, legal_history, beginning_legal}
 use Rattle.realm_core.specs.Views.{IsMarkOf}
 use Rattle.realm_lock.specs.Marked.{mark_of}
 use Rattle.realm_lock.proofs.CancelsGrow.{marked, grows_by}

@@ -6,7 +6,7 @@ use Rattle.scope_rules.specs.declared.types.joiners.Policy.{Policy}
 use Rattle.scope_rules.specs.Checks.{Checked}
 use Rattle.scope_rules.specs.Table.{check_of}
 use Rattle.scope_rules.specs.Replies.{next_scope}
-use Rattle.realm_steps.specs.declared.steps.RealmStep.TheVariants.{Happened}
+use Rattle.share_ledger.specs.declared.steps.RealmStep.TheVariants.{Happened}
 use Rattle.share_ledger.specs.Values.{OwnerValue}
 use Rattle.realm_core.specs.Calls.{DoesOrMemory, Looked, history_seen}
 use Rattle.realm_lock.specs.Openings.{refusal_of}

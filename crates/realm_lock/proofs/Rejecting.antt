@@ -1,7 +1,7 @@
 -- A reject between two looks of a token is the last step of what the token has seen.
 use Rattle.std.proofs.Common.{◌≡◌, [], ◌∷◌, ◌++◌, ap, ◌∙◌, subst}
-use Rattle.realm_steps.specs.declared.steps.RealmStep.{RealmStep}
-use Rattle.realm_steps.specs.Steps.{IsLegal}
+use Rattle.share_ledger.specs.declared.steps.RealmStep.{RealmStep}
+use Rattle.share_ledger.specs.Steps.{IsLegal}
 use Rattle.share_ledger.specs.Values.{OwnerValue}
 use Rattle.realm_core.specs.Calls.{Added, Looked, SeesMore}
 use Rattle.realm_core.proofs.Others.{last_passes}

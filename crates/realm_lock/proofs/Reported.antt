@@ -2,13 +2,13 @@
 use Rattle.std.proofs.Common.{◌≡◌, ℕ, List, Option, Some, Result, Ok, Err, subst}
 use Rattle.std.specs.Prelude.{IfOk}
 use Rattle.scope_rules.specs.declared.types.refusals.Refusal.{Refusal}
-use Rattle.realm_steps.specs.declared.steps.RealmStep.{RealmStep}
-use Rattle.realm_steps.specs.declared.steps.Holder.TheVariants.{TokenOf}
-use Rattle.realm_steps.specs.Holders.{Agrees}
+use Rattle.share_ledger.specs.declared.steps.RealmStep.{RealmStep}
+use Rattle.share_ledger.specs.declared.steps.Holder.TheVariants.{TokenOf}
+use Rattle.share_ledger.specs.Holders.{Agrees}
 use Rattle.realm_core.proofs.Joining.{agrees_on}
 use Rattle.share_ledger.specs.Values.{OwnerValue, TicketValue}
-use Rattle.realm_close.specs.Closes.{EndsReported, MayReport}
-use Rattle.realm_close.specs.declared.reports.CloseReport.{CloseReport}
+use Rattle.realm_core.specs.Closes.{EndsReported, MayReport}
+use Rattle.realm_core.specs.declared.reports.CloseReport.{CloseReport}
 
 from_seen : (old new : OwnerValue) (xs : List RealmStep) (s : ℕ) (tickets left : List TicketValue) (result : Result CloseReport Refusal) → Agrees (TokenOf old.actor) old.seen xs → MayReport (record old { seen = xs }) new s tickets left (Some result) → IfOk result (λ report. EndsReported old new s tickets report)
 from_seen old new xs s tickets left (Ok report) agrees it = record {

@@ -13,10 +13,10 @@ use Rattle.scope_rules.specs.History.{History, moment}
 use Rattle.scope_rules.specs.Load.{over_load}
 use Rattle.scope_rules.specs.Checks.{checks, then_check}
 use Rattle.scope_rules.specs.Table.{check_of}
-use Rattle.realm_steps.specs.declared.steps.Ask.TheVariants as ask
-use Rattle.realm_steps.specs.declared.steps.RealmStep.{RealmStep}
-use Rattle.realm_steps.specs.declared.steps.RealmStep.TheVariants.{Asked}
-use Rattle.realm_steps.specs.Steps.{history_of}
+use Rattle.share_ledger.specs.declared.steps.Ask.TheVariants as ask
+use Rattle.share_ledger.specs.declared.steps.RealmStep.{RealmStep}
+use Rattle.share_ledger.specs.declared.steps.RealmStep.TheVariants.{Asked}
+use Rattle.share_ledger.specs.Steps.{history_of}
 use Rattle.scope_checks.specs.declared.told.Told.{Told}
 use Rattle.scope_checks.specs.declared.told.Told.TheVariants as told
 use Rattle.scope_checks.specs.Telling.{records}
@@ -26,8 +26,8 @@ use Rattle.realm_core.specs.Cores.{CoreValue}
 use Rattle.realm_core.specs.Telling.{Stepped}
 use Rattle.realm_core.specs.Views.{Joins}
 use Rattle.realm_core.specs.declared.joins.Joined.{Joined}
-use Rattle.realm_close.specs.Closes.{Begins, IsBegun}
-use Rattle.realm_close.proofs.Kept.{begun_asked, begun_looked}
+use Rattle.realm_core.specs.Closes.{Begins, IsBegun}
+use Rattle.realm_core.proofs.Kept.{begun_asked, begun_looked}
 use Rattle.realm_lock.specs.Waits.{HasCome, Ticks, TickRefused, Waited, began, looked, read, ticked, Stopped, WaitsToClose, StopsClosing, StaysUnclosed, ClosesAfter}
 
 -- a tick that is due is refused by the rules for the load alone

@@ -3,8 +3,8 @@ use Rattle.std.specs.Prelude.{List}
 use Rattle.scope_rules.specs.declared.types.capacity.Limits.{Limits}
 use Rattle.scope_rules.specs.Ends.{EndValue, LabelValue}
 use Rattle.scope_rules.specs.History.{History}
-use Rattle.realm_steps.specs.declared.steps.RealmStep.{RealmStep}
-use Rattle.realm_steps.specs.Steps.{history_of, IsLegal}
+use Rattle.share_ledger.specs.declared.steps.RealmStep.{RealmStep}
+use Rattle.share_ledger.specs.Steps.{history_of, IsLegal}
 use Rattle.kept_realm.specs.Fits.{Fitting}
 
 -- it is so of a history that a realm may come to: that of a legal list of steps, in which each end fits its label.

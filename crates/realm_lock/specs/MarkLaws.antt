@@ -2,8 +2,8 @@
 use Rattle.std.specs.Prelude.{◌≡◌, ℕ, List, ◌++◌}
 use Rattle.scope_rules.specs.declared.types.capacity.Limits.{Limits}
 use Rattle.scope_rules.specs.declared.types.answers.Cause.{Cause}
-use Rattle.realm_steps.specs.declared.steps.RealmStep.{RealmStep}
-use Rattle.realm_steps.specs.Steps.{history_of, IsLegal}
+use Rattle.share_ledger.specs.declared.steps.RealmStep.{RealmStep}
+use Rattle.share_ledger.specs.Steps.{history_of, IsLegal}
 use Rattle.realm_core.specs.Views.{IsMarkOf}
 
 -- what is a mark of a scope after a list of steps, and what is one after a list that goes on from that, are equal

@@ -5,15 +5,15 @@ use Rattle.scope_rules.specs.declared.types.answers.Cancelling.{Cancelling}
 use Rattle.scope_rules.specs.declared.types.refusals.Refusal.{Refusal}
 use Rattle.scope_rules.specs.declared.types.refusals.Refusal.TheVariants.{Memory, TooMany}
 use Rattle.scope_rules.specs.History.{History}
-use Rattle.realm_steps.specs.declared.steps.Ask.TheVariants.{Tick}
-use Rattle.realm_steps.specs.declared.steps.RealmStep.TheVariants.{Asked}
-use Rattle.realm_steps.specs.Steps.{history_of}
-use Rattle.scope_cuts.specs.Coming.{IsNextDeadline}
+use Rattle.share_ledger.specs.declared.steps.Ask.TheVariants.{Tick}
+use Rattle.share_ledger.specs.declared.steps.RealmStep.TheVariants.{Asked}
+use Rattle.share_ledger.specs.Steps.{history_of}
+use Rattle.scope_kept.specs.Coming.{IsNextDeadline}
 use Rattle.share_ledger.specs.Values.{OwnerValue}
 use Rattle.realm_core.specs.Calls.{SeesMore, Looked, Added, Refused, OutOfMemory, history_seen}
 use Rattle.realm_core.specs.Views.{Joins}
 use Rattle.realm_core.specs.declared.joins.Joined.{Joined}
-use Rattle.realm_close.specs.Closes.{IsBegun, Begins}
+use Rattle.realm_core.specs.Closes.{IsBegun, Begins}
 
 -- the deadline that comes next after h has come by the moment
 pub record HasCome (h : History) (now : ℕ) : Type 0 where

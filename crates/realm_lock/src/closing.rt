@@ -5,12 +5,12 @@ ghost use Rattle.scope_rules.specs.Verdicts.{verdict};
 ghost use Rattle.share_ledger.specs.Values.{TicketValue};
 ghost use Rattle.kept_realm.specs.Fits.{Fitting};
 ghost use Rattle.realm_core.specs.Calls.{SeesMore, history_seen};
-ghost use Rattle.realm_close.specs.Waiting.{IsOpenOf};
-ghost use Rattle.realm_close.specs.Closes.{IsBegun, Begins, EndsLater, ClosesBare, EndsReported, HoldsBack, ClosesWith, StaysOpen};
+ghost use Rattle.realm_core.specs.Waiting.{IsOpenOf};
+ghost use Rattle.realm_core.specs.Closes.{IsBegun, Begins, EndsLater, ClosesBare, EndsReported, HoldsBack, ClosesWith, StaysOpen};
 
 use crate::marked::MarkedCore;
 use crate::realm::Realm;
-use realm_close::CloseReport;
+use realm_core::CloseReport;
 use realm_core::RealmName;
 use scope_rules::{Cancelling, Catalog, Refusal, ScopeId, Verdict};
 use share_ledger::{OwnerShare, Ticket};

@@ -5,7 +5,7 @@ ghost use Rattle.realm_core.specs.Tasks.{ticket_aside, GivesTicket};
 
 use crate::realm::Realm;
 use realm_core::{Forked, RealmName, told_done, told_noted};
-use realm_steps::{Ask, RealmStep};
+use share_ledger::{Ask, RealmStep};
 use scope_rules::{
     Base, Binding, Cancelling, Catalog, Event, Label, Name, Refusal, ScopeId, Value,
 };

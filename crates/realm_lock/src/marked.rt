@@ -8,16 +8,16 @@ ghost use Rattle.scope_rules.specs.Checks.{scope_check};
 ghost use Rattle.scope_rules.specs.Scopes.{innermost};
 ghost use Rattle.scope_rules.specs.Replies.{base_of, fork_reply, next_scope};
 ghost use Rattle.join_rules.specs.Joiners.{policy_of};
-ghost use Rattle.realm_steps.specs.Tickets.{given_in};
-ghost use Rattle.realm_steps.specs.Steps.{history_of};
+ghost use Rattle.share_ledger.specs.Tickets.{given_in};
+ghost use Rattle.share_ledger.specs.Steps.{history_of};
 ghost use Rattle.kept_realm.specs.Fits.{Fitting};
 ghost use Rattle.share_ledger.specs.Values.{IsWaiting, TicketValue, is_recorded_by};
 ghost use Rattle.realm_core.specs.Calls.{Added, DoesOrMemory, Looked, Performed, Records, SeesMore, TicketAdded, history_seen};
 ghost use Rattle.realm_core.specs.Tasks.{GivesTicket, MayFinish, Finishes, IsRunning, ticket_aside};
 ghost use Rattle.realm_core.specs.Telling.{Shown};
 ghost use Rattle.realm_core.specs.Views.{Joins, JoinsBare};
-ghost use Rattle.realm_close.specs.Waiting.{FoundUnsettled, IsOpenOf};
-ghost use Rattle.realm_close.specs.Closes.{IsBegun, Begins, MayEnd, MayReport};
+ghost use Rattle.realm_core.specs.Waiting.{FoundUnsettled, IsOpenOf};
+ghost use Rattle.realm_core.specs.Closes.{IsBegun, Begins, MayEnd, MayReport};
 ghost use Rattle.realm_lock.specs.Cells.{GivesCell};
 ghost use Rattle.realm_lock.specs.Openings.{scope_alone, refusal_of};
 ghost use Rattle.realm_lock.specs.Waits.{HasCome, Ticks, TickRefused};
@@ -26,9 +26,9 @@ use crate::dozers::Dozers;
 use crate::setters::Setters;
 use cancel_marks::MarkCell;
 use join_rules::Joiner;
-use realm_close::{CloseReport, begin, end_if_settled, report_if_settled, unsettled};
+use realm_core::{CloseReport, begin, end_if_settled, report_if_settled, unsettled};
 use realm_core::{BareOutcome, Forked, Joined, RealmCore, RealmName, told_done};
-use realm_steps::RealmStep;
+use share_ledger::RealmStep;
 use scope_checks::checks::scope_check;
 use scope_checks::{Readings, Told, table};
 use scope_rules::{
@@ -52,7 +52,7 @@ pub(crate) struct MarkedCore<C: Catalog, N: RealmName> {
 
 impl<C: Catalog, N: RealmName> Model for MarkedCore<C, N> {
     ghost use Rattle.realm_core.specs.Cores.{CoreValue};
-    ghost use Rattle.realm_steps.specs.Steps.{history_of};
+    ghost use Rattle.share_ledger.specs.Steps.{history_of};
     ghost use Rattle.realm_lock.specs.Marked.{AreMarks};
 
     ghost Value = { CoreValue };

@@ -10,7 +10,7 @@ use crate::realm::Realm;
 use cancel_marks::{MarkCell, Seat};
 use join_rules::Joiner;
 use realm_core::RealmName;
-use realm_steps::RealmStep;
+use share_ledger::RealmStep;
 use scope_rules::{Catalog, Event, Options, Refusal, ScopeId};
 use share_ledger::OwnerShare;
 use std::sync::Wait;

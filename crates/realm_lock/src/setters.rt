@@ -1,7 +1,7 @@
 ghost use Rattle.std.specs.Prelude.{◌≡◌, ◌<◌, [], true, length, OnSome, IfOk};
 ghost use Rattle.scope_rules.specs.History.{opened_count};
 ghost use Rattle.scope_rules.specs.Cancels.{is_cancelled};
-ghost use Rattle.realm_steps.specs.Steps.{history_of};
+ghost use Rattle.share_ledger.specs.Steps.{history_of};
 ghost use Rattle.realm_lock.specs.Marked.{AddsSetter, AreBehind, AreMarks, IsCellAt, UsesSetter};
 
 use cancel_marks::{CellRoom, MarkCell, MarkSetter};

@@ -1,6 +1,6 @@
 ghost use Rattle.std.specs.Prelude.{◌≡◌, false, None, IsOk};
 ghost use Rattle.scope_rules.specs.Scopes.{innermost};
-ghost use Rattle.realm_steps.specs.Tickets.{given_in};
+ghost use Rattle.share_ledger.specs.Tickets.{given_in};
 ghost use Rattle.share_ledger.specs.Values.{IsWaiting};
 ghost use Rattle.realm_core.specs.Calls.{Added, SeesMore, TicketAdded, history_seen};
 ghost use Rattle.realm_core.specs.Tasks.{IsRunning, MayFinish};
@@ -8,7 +8,7 @@ ghost use Rattle.realm_lock.specs.Endings.{Ends};
 
 use crate::realm::Realm;
 use realm_core::RealmName;
-use realm_steps::RealmStep;
+use share_ledger::RealmStep;
 use scope_rules::{Catalog, End, Event, Refusal};
 use share_ledger::{OwnerShare, Ticket};
 use std::sync::Wait;

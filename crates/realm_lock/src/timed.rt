@@ -6,15 +6,15 @@ ghost use Rattle.scope_rules.specs.declared.types.refusals.Refusal.TheVariants.{
 ghost use Rattle.share_ledger.specs.Values.{TicketValue};
 ghost use Rattle.kept_realm.specs.Fits.{Fitting};
 ghost use Rattle.realm_core.specs.Calls.{SeesMore, history_seen};
-ghost use Rattle.realm_close.specs.Waiting.{FoundUnsettled, IsOpenOf};
-ghost use Rattle.realm_close.specs.Closes.{ClosesBare, ClosesWith, IsBegun, StaysOpen};
+ghost use Rattle.realm_core.specs.Waiting.{FoundUnsettled, IsOpenOf};
+ghost use Rattle.realm_core.specs.Closes.{ClosesBare, ClosesWith, IsBegun, StaysOpen};
 ghost use Rattle.realm_lock.specs.Waits.{ClosesAfter, HasPassed, JoinsBy, StaysUnclosed, Stopped, StopsClosing, Waited, WaitsToClose, shown_in};
 
 use crate::realm::Realm;
 use crate::sleeps::Bed;
 use cancel_marks::{Mark, MarkCell, Seat};
 use named_jobs::Clock;
-use realm_close::CloseReport;
+use realm_core::CloseReport;
 use realm_core::{Joined, RealmName};
 use scope_rules::{Catalog, Refusal, ScopeId, Verdict};
 use share_ledger::{OwnerShare, Ticket};

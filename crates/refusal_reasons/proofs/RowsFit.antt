@@ -20,8 +20,8 @@ use Rattle.scope_rules.specs.Bindings.{bindings, bound_to}
 use Rattle.scope_rules.specs.Checks.{Checked, refuse_if, checks, refuse_full, actor_check, refuse_joined, in_closing, then_check}
 use Rattle.scope_rules.specs.Table.{check_of, retire_check, reading_check, until_check, value_shown, fault_shown, checked_then}
 use Rattle.scope_rules.specs.Replies.{result_reply, fault_reply, binding_reply}
-use Rattle.script_lines.specs.declared.commands.Question.{Question}
-use Rattle.script_lines.specs.declared.commands.Question.TheVariants as question
+use Rattle.script_words.specs.declared.commands.Question.{Question}
+use Rattle.script_words.specs.declared.commands.Question.TheVariants as question
 use Rattle.refusal_reasons.specs.declared.reasons.Reason.{Reason}
 use Rattle.refusal_reasons.specs.declared.reasons.Reason.TheVariants as reason
 use Rattle.refusal_reasons.specs.declared.reasons.ActorObstacle.TheVariants as actor_is

@@ -8,8 +8,8 @@ use Rattle.scope_rules.specs.Checks.{Checked, scope_check, task_check}
 use Rattle.scope_rules.specs.History.{History}
 use Rattle.scope_rules.specs.Replies.{result_reply, fault_reply, binding_reply}
 use Rattle.scope_rules.specs.Table.{check_of, retire_check, until_check}
-use Rattle.script_lines.specs.declared.commands.Question.{Question}
-use Rattle.script_lines.specs.declared.commands.Question.TheVariants as question
+use Rattle.script_words.specs.declared.commands.Question.{Question}
+use Rattle.script_words.specs.declared.commands.Question.TheVariants as question
 use Rattle.refusal_reasons.specs.declared.reasons.Reason.{Reason}
 use Rattle.refusal_reasons.specs.declared.reasons.Reason.TheVariants as reason
 use Rattle.refusal_reasons.specs.declared.reasons.ScopeObstacle.{ScopeObstacle}

@@ -7,8 +7,8 @@ use Rattle.scope_rules.specs.declared.types.events.Event.TheVariants.{Open, Fork
 use Rattle.scope_rules.specs.History.{History}
 use Rattle.scope_rules.specs.Cancels.{is_cancelled}
 use Rattle.scope_rules.specs.Tasks.{state}
-use Rattle.script_lines.specs.declared.commands.Question.{Question}
-use Rattle.script_lines.specs.declared.commands.Question.TheVariants as question
+use Rattle.script_words.specs.declared.commands.Question.{Question}
+use Rattle.script_words.specs.declared.commands.Question.TheVariants as question
 use Rattle.refusal_reasons.specs.Obstacles.{Explained, first_reason, scope_known, task_known, waits, runs, acts, owned, task_owned, is_main, stands, not_closed, is_closing, not_joined, scope_joined, no_pending, may_join, innermost_stands, all_closed, innermost_is, has_level, bound_alike, has_pair, frees_pair, sees, load_fits, scope_fits, task_fits, is_later, shows_value, shows_fault}
 
 -- what may stand in the way of the event after h, in the order in which it is tried

@@ -24,7 +24,7 @@ use scope_checks::Readings;
 use scope_rules::types::capacity::{FORK_LOAD, OPEN_LOAD, STEP_LOAD};
 use scope_rules::types::values::MAIN;
 use scope_rules::{Actor, Event, Limits, ScopeId, TaskId};
-use script_lines::Question;
+use script_words::Question;
 
 /// Why the event is refused after the history with these events, if it is.
 pub fn event_reason<R: Readings>(

@@ -8,7 +8,7 @@ use Rattle.scope_rules.specs.History.{History, opening}
 use Rattle.scope_rules.specs.Cancels.{cause, cancelled_at, cut}
 use Rattle.scope_checks.specs.Questions.{cancellation}
 use Rattle.run_picture.specs.declared.cancels.Reached.{Reached}
-use Rattle.picture_shapes.specs.declared.spots.Spot.{Spot}
+use Rattle.run_picture.specs.declared.spots.Spot.{Spot}
 use Rattle.run_picture.specs.Cancels.{reached_at}
 use Rattle.run_picture.specs.Rows.{scope_spot}
 use Rattle.scope_rules.proofs.Earlier.{opening_within}

@@ -4,10 +4,10 @@ use Rattle.std.specs.Option.{option_and_then, option_map_or}
 use Rattle.scope_checks.specs.Questions.{cancellation}
 use Rattle.scope_rules.specs.History.{History}
 use Rattle.run_picture.specs.declared.cancels.Reached.{Reached}
-use Rattle.picture_shapes.specs.declared.marks.Mark.TheVariants.{Cancelled}
+use Rattle.run_picture.specs.declared.marks.Mark.TheVariants.{Cancelled}
 use Rattle.run_picture.specs.Rows.{scope_spot}
-use Rattle.picture_shapes.specs.Marks.{mark_text}
-use Rattle.picture_shapes.specs.Strokes.{reach_text}
+use Rattle.run_picture.specs.Marks.{mark_text}
+use Rattle.run_picture.specs.Strokes.{reach_text}
 
 -- where scope s became cancelled, in its row, and why, if it is
 unfoldable pub reached_at : History → ℕ → Option Reached

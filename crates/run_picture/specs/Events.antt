@@ -5,14 +5,14 @@ use Rattle.scope_rules.specs.declared.types.events.Event.{Event}
 use Rattle.scope_rules.specs.declared.types.events.Event.TheVariants as event
 use Rattle.scope_rules.specs.History.{History, forking, tick_of}
 use Rattle.scope_rules.specs.Tasks.{state}
-use Rattle.picture_shapes.specs.declared.spots.Spot.{Spot}
-use Rattle.picture_shapes.specs.declared.marks.Mark.{Mark}
-use Rattle.picture_shapes.specs.declared.marks.Mark.TheVariants.{Ended, Never, Joined, Closing, Closed, Moved}
-use Rattle.picture_shapes.specs.declared.strokes.Stretch.{Stretch}
-use Rattle.picture_shapes.specs.declared.strokes.Stretch.TheVariants as stretch
+use Rattle.run_picture.specs.declared.spots.Spot.{Spot}
+use Rattle.run_picture.specs.declared.marks.Mark.{Mark}
+use Rattle.run_picture.specs.declared.marks.Mark.TheVariants.{Ended, Never, Joined, Closing, Closed, Moved}
+use Rattle.run_picture.specs.declared.strokes.Stretch.{Stretch}
+use Rattle.run_picture.specs.declared.strokes.Stretch.TheVariants as stretch
 use Rattle.run_picture.specs.Rows.{row_count, scope_spot, task_spot}
-use Rattle.picture_shapes.specs.Marks.{mark_text}
-use Rattle.picture_shapes.specs.Strokes.{stretch_text, tick_text}
+use Rattle.run_picture.specs.Marks.{mark_text}
+use Rattle.run_picture.specs.Strokes.{stretch_text, tick_text}
 
 -- where the row begins of the scope or the task that the event names; an open, a fork and a cancel draw
 -- by other rules, and a tick, a bind and an unbind name none

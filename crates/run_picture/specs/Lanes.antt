@@ -5,14 +5,14 @@ use Rattle.scope_rules.specs.declared.types.records.Forking.{Forking}
 use Rattle.scope_rules.specs.declared.types.records.Opening.{Opening}
 use Rattle.scope_rules.specs.Cancels.{cancelled_before}
 use Rattle.scope_rules.specs.History.{History, opening, forking}
-use Rattle.picture_shapes.specs.declared.spots.Spot.{Spot}
-use Rattle.picture_shapes.specs.declared.marks.Mark.TheVariants.{Never}
-use Rattle.picture_shapes.specs.declared.strokes.Stretch.TheVariants as stretch
+use Rattle.run_picture.specs.declared.spots.Spot.{Spot}
+use Rattle.run_picture.specs.declared.marks.Mark.TheVariants.{Never}
+use Rattle.run_picture.specs.declared.strokes.Stretch.TheVariants as stretch
 use Rattle.run_picture.specs.Rows.{scope_spot, task_spot}
 use Rattle.run_picture.specs.Cancels.{reached_at}
-use Rattle.picture_shapes.specs.Captions.{scope_caption, task_caption}
-use Rattle.picture_shapes.specs.Marks.{mark_text}
-use Rattle.picture_shapes.specs.Strokes.{lane_text, stretch_text}
+use Rattle.run_picture.specs.Captions.{scope_caption, task_caption}
+use Rattle.run_picture.specs.Marks.{mark_text}
+use Rattle.run_picture.specs.Strokes.{lane_text, stretch_text}
 
 -- the band of scope s, from its opening on
 unfoldable pub band_text : History → ℕ → List ℕ

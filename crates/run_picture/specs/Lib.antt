@@ -5,3 +5,9 @@ pub mod Shields
 pub mod Lanes
 pub mod Events
 pub mod Picture
+pub mod Spots
+pub mod Strokes
+pub mod Marks
+pub mod Captions
+pub mod Pieces
+pub mod Frame

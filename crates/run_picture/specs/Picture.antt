@@ -4,7 +4,7 @@ use Rattle.std.specs.List.{flat_map, range_with_len}
 use Rattle.scope_rules.specs.History.{History, moment, scope_numbers, task_numbers}
 use Rattle.run_picture.specs.Cancels.{cancel_text}
 use Rattle.run_picture.specs.Events.{event_text, moment_line}
-use Rattle.picture_shapes.specs.Frame.{head_text, foot_text}
+use Rattle.run_picture.specs.Frame.{head_text, foot_text}
 use Rattle.run_picture.specs.Lanes.{scope_lane, task_lane}
 use Rattle.run_picture.specs.Rows.{row_count}
 use Rattle.run_picture.specs.Shields.{shield_text}

@@ -3,7 +3,7 @@ use Rattle.std.specs.Prelude.{ℕ, ◌||◌, Bool, Option, option_map, List, len
 use Rattle.std.specs.List.{range_with_len}
 use Rattle.scope_rules.specs.declared.types.events.Event.{Event}
 use Rattle.scope_rules.specs.History.{History, is_open, is_fork, opening, forking}
-use Rattle.picture_shapes.specs.declared.spots.Spot.{Spot}
+use Rattle.run_picture.specs.declared.spots.Spot.{Spot}
 
 -- the event begins a row: it opens a scope or forks a task
 abbrev pub begins_row : Event → Bool

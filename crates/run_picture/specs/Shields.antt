@@ -6,11 +6,11 @@ use Rattle.scope_rules.specs.Cancels.{cancelled_before}
 use Rattle.scope_rules.specs.History.{History, before, opening}
 use Rattle.scope_rules.specs.Scopes.{around, closed}
 use Rattle.run_picture.specs.declared.cancels.Reached.{Reached}
-use Rattle.picture_shapes.specs.declared.spots.Spot.{Spot}
-use Rattle.picture_shapes.specs.declared.marks.Mark.TheVariants.{Held}
+use Rattle.run_picture.specs.declared.spots.Spot.{Spot}
+use Rattle.run_picture.specs.declared.marks.Mark.TheVariants.{Held}
 use Rattle.run_picture.specs.Rows.{scope_spot}
 use Rattle.run_picture.specs.Cancels.{reached_at}
-use Rattle.picture_shapes.specs.Marks.{mark_text}
+use Rattle.run_picture.specs.Marks.{mark_text}
 
 -- scope s, which was opened so, stood at the event at place i and went on: it was opened before, and was
 -- not closed before, nor cancelled by then

@@ -5,7 +5,7 @@ ghost use Rattle.run_picture.specs.Cancels.{cancel_text, reached_at, source_row}
 ghost use Rattle.run_picture.specs.Grids.{IsGridOf};
 
 use crate::grid::{Grid, scope_spot};
-use picture_shapes::{Mark, ShownMark, ShownReach, Spot};
+use crate::{Mark, ShownMark, ShownReach, Spot};
 use scope_checks::Readings;
 use scope_checks::questions::cancellation;
 use scope_rules::{Cause, ScopeId};

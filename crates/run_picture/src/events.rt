@@ -5,7 +5,7 @@ ghost use Rattle.run_picture.specs.Events.{change_text, drawn, end_mark, event_m
 ghost use Rattle.run_picture.specs.Grids.{IsGridOf};
 
 use crate::grid::{Grid, scope_spot, task_spot};
-use picture_shapes::{Mark, ShownMark, ShownStretch, ShownTick, Spot, Stretch};
+use crate::{Mark, ShownMark, ShownStretch, ShownTick, Spot, Stretch};
 use scope_checks::Readings;
 use scope_rules::{Event, TaskId};
 use std::alloc::AllocError;

@@ -3,7 +3,7 @@ ghost use Rattle.std.specs.Prelude.{◌≡◌, ◌<◌, IfOk};
 ghost use Rattle.run_picture.specs.Grids.{IsGridOf};
 ghost use Rattle.run_picture.specs.Rows.{begins_row, scope_spot, task_spot};
 
-use picture_shapes::Spot;
+use crate::Spot;
 use scope_checks::Readings;
 use scope_rules::{Event, ScopeId, TaskId};
 use std::alloc::{AllocError, Global};

@@ -6,7 +6,7 @@ ghost use Rattle.run_picture.specs.Lanes.{band_text, cancelled_text, caption_tex
 
 use crate::cancels::{is_cancelled_before, reached_at};
 use crate::grid::{Grid, scope_spot, task_spot};
-use picture_shapes::{
+use crate::{
     Mark, ScopeCaption, ShownFork, ShownLane, ShownMark, ShownStretch, Spot, Stretch, TaskCaption,
 };
 use scope_checks::Readings;

@@ -16,15 +16,28 @@
 //!   So is one that is open then, and not cancelled itself; no cancel's mark and no line's end stands there.
 //!
 //! Marks say in words what happened, where they are pointed at; they count events from 1. Numbers are decimal,
-//! and names have no character that XML keeps for itself: what is written is XML, without more ado.
+//! and names have no character that XML keeps for itself: what is written is XML, without more ado. The colours are
+//! told apart by those who see some of them alike, in light and in the dark. A caption that is too long is cut
+//! where the columns begin.
 #![tactic(auto)]
 
 mod around;
 mod cancels;
+mod captions;
 mod events;
+mod frame;
 mod grid;
 mod lanes;
+mod marks;
 mod picture;
+mod pieces;
 mod shields;
+mod spots;
+mod strokes;
 
+pub use captions::{ScopeCaption, ShownFork, TaskCaption};
+pub use frame::{ShownFoot, ShownHead, Size};
+pub use marks::{Mark, ShownMark};
 pub use picture::picture_of;
+pub use spots::Spot;
+pub use strokes::{ShownLane, ShownReach, ShownStretch, ShownTick, Stretch};

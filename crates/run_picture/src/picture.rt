@@ -14,7 +14,7 @@ use crate::events::{append_event, append_moment};
 use crate::grid::{Grid, grid_of};
 use crate::lanes::{append_scope, append_task};
 use crate::shields::append_shield;
-use picture_shapes::{ShownFoot, ShownHead, Size};
+use crate::{ShownFoot, ShownHead, Size};
 use scope_checks::Readings;
 use scope_rules::Event;
 use std::alloc::{AllocError, Global};

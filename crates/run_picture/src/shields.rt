@@ -7,7 +7,7 @@ ghost use Rattle.run_picture.specs.Shields.{goes_on, held_off, held_text, opened
 use crate::around::{around, closed_before};
 use crate::cancels::{Reached, is_cancelled_before, reached_at};
 use crate::grid::{Grid, scope_spot};
-use picture_shapes::{Mark, ShownMark, Spot};
+use crate::{Mark, ShownMark, Spot};
 use scope_checks::Readings;
 use scope_rules::ScopeId;
 use scope_rules::types::records::Opening;

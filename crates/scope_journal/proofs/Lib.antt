@@ -1,1 +1,8 @@
 pub mod Keeping
+pub mod TrailWalks
+pub mod PlaceSteps
+pub mod LogPlaces
+pub mod EventRoom
+pub mod TrailSteps
+pub mod Trailed
+pub mod Projected

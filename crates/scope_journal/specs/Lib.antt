@@ -1,1 +1,6 @@
 pub mod JournalKeeps
+pub mod Places
+pub mod TrailTable
+pub mod TrailsOf
+pub mod TrailLaws
+pub mod Marks

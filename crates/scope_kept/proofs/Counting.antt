@@ -10,7 +10,7 @@ use Rattle.join_rules.specs.Totals.{Totals, counted}
 use Rattle.join_rules.specs.JoinerStanding.{JoinerStanding, StandsFor}
 use Rattle.join_rules.proofs.StandingLemmas.{stands-push}
 use Rattle.scope_rules.specs.declared.types.answers.CauseKind.TheVariants.{Joiner}
-use Rattle.scope_cuts.specs.CutTables.{CutTable, HasRow, HasCounted, IsCounted, account_at, cancelled}
+use Rattle.scope_kept.specs.CutTables.{CutTable, HasRow, HasCounted, IsCounted, account_at, cancelled}
 use Rattle.scope_kept.specs.Completing.{IsCompleted}
 
 -- the account, before the completion was counted

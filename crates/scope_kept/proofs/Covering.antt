@@ -21,10 +21,10 @@ use Rattle.scope_rows.specs.Agreement.{AreRowsOf}
 use Rattle.scope_rows.specs.Steps.{below_of, walk_length}
 use Rattle.scope_rows.proofs.CloseLaws.{are_below}
 use Rattle.scope_rows.proofs.MarkLaws.{covered_unclosed, unclosed_covered}
-use Rattle.scope_cuts.specs.CutTables.{CutTable, HasRow, cancelled}
-use Rattle.scope_cuts.proofs.CancelSteps.{closing_next}
-use Rattle.scope_cuts.proofs.Readings.{has_row, latest_place}
-use Rattle.scope_cuts.proofs.TableSteps.{HasStepped, at_row, changed_rows}
+use Rattle.scope_kept.specs.CutTables.{CutTable, HasRow, cancelled}
+use Rattle.scope_kept.proofs.CancelSteps.{closing_next}
+use Rattle.scope_kept.proofs.CutReadings.{has_row, latest_place}
+use Rattle.scope_kept.proofs.TableSteps.{HasStepped, at_row, changed_rows}
 use Rattle.scope_kept.specs.Closing.{CanClose, HasBegunClose}
 
 -- the walk has come past scope k, which the close covers: it goes on at `next`

@@ -30,10 +30,10 @@ use Rattle.scope_rows.proofs.Keeping.{count_same}
 use Rattle.scope_rows.proofs.Places.{scope_of_is}
 use Rattle.scope_rows.proofs.WantsMet.{can_finish, counts_are}
 use Rattle.cancel_tree.specs.Rows.{IsLatest}
-use Rattle.scope_cuts.specs.CutTables.{CutTable, HasRow, HasCounted, account_at, cancelled}
-use Rattle.scope_cuts.specs.CutsOf.{IsAccountOf, AreCutsOf}
-use Rattle.scope_cuts.proofs.FinishSteps.{finished_next}
-use Rattle.scope_cuts.proofs.Readings.{has_row}
+use Rattle.scope_kept.specs.CutTables.{CutTable, HasRow, HasCounted, account_at, cancelled}
+use Rattle.scope_kept.specs.CutsOf.{IsAccountOf, AreCutsOf}
+use Rattle.scope_kept.proofs.FinishSteps.{finished_next}
+use Rattle.scope_kept.proofs.CutReadings.{has_row}
 use Rattle.scope_kept.specs.KeptTables.{KeptTable, IsKeptOf, HasRoomForEnds, forks_in, forks_of}
 use Rattle.scope_kept.specs.Completing.{IsCompleted}
 use Rattle.scope_kept.specs.Events.{IsReadyAt}

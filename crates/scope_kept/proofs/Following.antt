@@ -6,13 +6,13 @@ use Rattle.scope_rules.specs.History.{History, followed}
 use Rattle.scope_rules.specs.Legal.{Legal, Accepts}
 use Rattle.scope_rows.specs.Agreement.{AreRowsOf}
 use Rattle.scope_rows.proofs.Keeping.{count_same}
-use Rattle.scope_cuts.specs.CutTables.{CutTable}
-use Rattle.scope_cuts.specs.CutsOf.{AreCutsOf}
-use Rattle.scope_cuts.proofs.EventSteps.{leaves_cuts, cuts_stay}
-use Rattle.scope_outcomes.specs.ForksOf.{AreForksOf, moves_forks}
-use Rattle.scope_outcomes.proofs.ForkSteps.{forks_stay}
-use Rattle.scope_envs.specs.Agreement.{AreEnvsOf, moves_envs}
-use Rattle.scope_envs.proofs.Steps.{envs_stay}
+use Rattle.scope_kept.specs.CutTables.{CutTable}
+use Rattle.scope_kept.specs.CutsOf.{AreCutsOf}
+use Rattle.scope_kept.proofs.EventSteps.{leaves_cuts, cuts_stay}
+use Rattle.scope_kept.specs.ForksOf.{AreForksOf, moves_forks}
+use Rattle.scope_kept.proofs.ForkSteps.{forks_stay}
+use Rattle.scoped_env.specs.Agreement.{AreEnvsOf, moves_envs}
+use Rattle.scoped_env.proofs.Steps.{envs_stay}
 use Rattle.scope_rows.specs.DeadlinesOf.{AreDeadlinesOf, moves_deadlines}
 use Rattle.scope_rows.proofs.DeadlineSteps.{deadlines_stay}
 use Rattle.scope_kept.specs.KeptTables.{KeptTable, IsKeptOf, AreAlike, HasRoomForEnds, forks_in, forks_of}

@@ -12,18 +12,18 @@ use Rattle.scope_rules.proofs.Nesting.{IsOpened}
 use Rattle.scope_rules.proofs.Owing.{count_push}
 use Rattle.scope_rules.proofs.PassedRows.{fork_passed}
 use Rattle.scope_rules.proofs.Pushing.{fork_number}
-use Rattle.scope_outcomes.specs.ForkTable.{HasForks}
-use Rattle.scope_outcomes.proofs.Held.{opened_has_forks}
+use Rattle.scope_kept.specs.ForkTable.{HasForks}
+use Rattle.scope_kept.proofs.Held.{opened_has_forks}
 use Rattle.join_rules.specs.JoinerStanding.{JoinerStanding, StandsFor}
 use Rattle.scope_rows.specs.Table.{RowTable}
 use Rattle.scope_rows.specs.Agreement.{AreRowsOf}
 use Rattle.scope_rows.proofs.Frames.{tallies_of}
-use Rattle.scope_cuts.specs.CutTables.{CutTable, HasRow, HasReserved, account_at}
-use Rattle.scope_cuts.specs.CutsOf.{IsToldOf, IsAccountOf, AreCutsOf}
+use Rattle.scope_kept.specs.CutTables.{CutTable, HasRow, HasReserved, account_at}
+use Rattle.scope_kept.specs.CutsOf.{IsToldOf, IsAccountOf, AreCutsOf}
 use Rattle.cancel_tree.specs.Rows as rows
-use Rattle.scope_cuts.proofs.Readings.{has_row}
-use Rattle.scope_envs.specs.EnvTable.{HasEnv}
-use Rattle.scope_envs.proofs.Held.{has_env_of_actor}
+use Rattle.scope_kept.proofs.CutReadings.{has_row}
+use Rattle.scoped_env.specs.EnvTable.{HasEnv}
+use Rattle.scoped_env.proofs.Held.{has_env_of_actor}
 use Rattle.scope_kept.specs.KeptTables.{KeptTable, HasRoomForEnds, HasRoomToFork, forks_in, forks_of, all_counts}
 use Rattle.scope_kept.specs.Events.{IsReadyFor}
 use Rattle.scope_kept.proofs.Balance.{balanced}

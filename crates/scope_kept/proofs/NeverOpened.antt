@@ -4,7 +4,7 @@ use Rattle.scope_rules.specs.History.{History, opening}
 use Rattle.scope_rules.specs.Cancels.{cut, is_cancelled}
 use Rattle.scope_rules.proofs.Nesting.{IsOpened}
 use Rattle.scope_rules.proofs.Staying.{cut_opened}
-use Rattle.scope_cuts.proofs.OpenSteps.{none_by}
+use Rattle.scope_kept.proofs.OpenSteps.{none_by}
 
 pub never : (h : History) (s : ℕ) → opening h s ≡ None → IsOpened h s → ⊥
 never h s none it = absurd (cc (it.is, none))

@@ -15,11 +15,11 @@ use Rattle.scope_rules.proofs.OneEventMore.{along}
 use Rattle.scope_rules.proofs.PassedRows.{fork_passed}
 use Rattle.scope_rows.proofs.Keeping.{count_same}
 use Rattle.scope_rows.proofs.Unopened.{next_unopened}
-use Rattle.scope_cuts.specs.CutTables.{CutTable, AreOneMore}
-use Rattle.scope_cuts.specs.CutsOf.{AreCutsOf}
-use Rattle.scope_envs.proofs.ListSteps.{get_of_push}
-use Rattle.scope_outcomes.specs.ForkTable.{ForkTable}
-use Rattle.scope_outcomes.specs.ForksOf.{AreForksOf}
+use Rattle.scope_kept.specs.CutTables.{CutTable, AreOneMore}
+use Rattle.scope_kept.specs.CutsOf.{AreCutsOf}
+use Rattle.scoped_env.proofs.ListSteps.{get_of_push}
+use Rattle.scope_kept.specs.ForkTable.{ForkTable}
+use Rattle.scope_kept.specs.ForksOf.{AreForksOf}
 use Rattle.scope_kept.specs.KeptTables.{HasRoomForEnds, forks_in, forks_of}
 
 -- an accepted fork is in an opened scope

@@ -5,10 +5,10 @@ use Rattle.scope_rows.specs.Table.{RowTable}
 use Rattle.scope_rows.specs.Agreement.{AreRowsOf}
 use Rattle.scope_rows.specs.DeadlineTable.{DeadlineTable}
 use Rattle.scope_rows.specs.DeadlinesOf.{AreDeadlinesOf}
-use Rattle.scope_outcomes.specs.ForkTable.{ForkTable}
-use Rattle.scope_outcomes.specs.ForksOf.{AreForksOf}
-use Rattle.scope_cuts.specs.CutTables.{CutTable}
-use Rattle.scope_cuts.specs.CutsOf.{AreCutsOf}
+use Rattle.scope_kept.specs.ForkTable.{ForkTable}
+use Rattle.scope_kept.specs.ForksOf.{AreForksOf}
+use Rattle.scope_kept.specs.CutTables.{CutTable}
+use Rattle.scope_kept.specs.CutsOf.{AreCutsOf}
 use Rattle.scope_kept.specs.KeptTables.{KeptTable, IsKeptOf, HasRoomForEnds}
 
 -- rows, whatever room they have

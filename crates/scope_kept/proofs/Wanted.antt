@@ -18,11 +18,11 @@ use Rattle.scope_rules.proofs.Nesting.{IsOpened, surrounding_opened}
 use Rattle.scope_rules.proofs.PassedRows.{IsActor, actor_passed, open_passed}
 use Rattle.scope_rules.proofs.Pushing.{open_number}
 use Rattle.cancel_tree.specs.Rows.{IsLatest, level_in}
-use Rattle.scope_cuts.specs.CutTables.{CutTable, HasRow}
-use Rattle.scope_cuts.specs.CutsOf.{AreCutsOf}
-use Rattle.scope_cuts.proofs.Readings.{has_row, latest_place, level_in_read}
-use Rattle.scope_envs.specs.EnvTable.{HasEnv}
-use Rattle.scope_envs.proofs.Held.{has_env_of_actor}
+use Rattle.scope_kept.specs.CutTables.{CutTable, HasRow}
+use Rattle.scope_kept.specs.CutsOf.{AreCutsOf}
+use Rattle.scope_kept.proofs.CutReadings.{has_row, latest_place, level_in_read}
+use Rattle.scoped_env.specs.EnvTable.{HasEnv}
+use Rattle.scoped_env.proofs.Held.{has_env_of_actor}
 use Rattle.scope_rows.proofs.JoinLaws.{join_passed}
 use Rattle.scope_kept.specs.KeptTables.{KeptTable}
 use Rattle.scope_kept.specs.Events.{IsReadyFor, IsReadyAt}

@@ -7,8 +7,8 @@ use Rattle.scope_rules.specs.Scopes.{innermost}
 use Rattle.scope_rules.specs.Legal.{Legal, Accepts}
 use Rattle.scope_rows.specs.Table.{RowTable}
 use Rattle.scope_rows.specs.Agreement.{AreRowsOf}
-use Rattle.scope_cuts.specs.CutTables.{CutTable}
-use Rattle.scope_cuts.specs.CutsOf.{AreCutsOf}
+use Rattle.scope_kept.specs.CutTables.{CutTable}
+use Rattle.scope_kept.specs.CutsOf.{AreCutsOf}
 
 -- rows and cuts are those of a history of this length, in which the close of scope s may begin, by the
 -- owner whose innermost scope this is

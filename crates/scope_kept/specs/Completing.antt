@@ -4,7 +4,7 @@ use Rattle.scope_rules.specs.declared.types.answers.CauseKind.TheVariants.{Joine
 use Rattle.scope_rules.specs.declared.types.values.Completion.{Completion}
 use Rattle.scope_rules.specs.Joining.{fires}
 use Rattle.join_rules.specs.JoinerStanding.{JoinerStanding, StandsFor}
-use Rattle.scope_cuts.specs.CutTables.{CutTable, HasCounted, account_at, cancelled}
+use Rattle.scope_kept.specs.CutTables.{CutTable, HasCounted, account_at, cancelled}
 
 -- the account of scope s has the completion, and where its joiner fires at it, the scope its own cancel
 pub record IsCompleted (old new : CutTable) (s : ℕ) (d : Completion) (place : ℕ) : Type 0 where

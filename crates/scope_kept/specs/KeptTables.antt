@@ -7,14 +7,14 @@ use Rattle.join_rules.specs.JoinerStanding.{JoinerStanding}
 use Rattle.scope_rules.specs.History.{History}
 use Rattle.scope_rows.specs.Table.{RowTable}
 use Rattle.scope_rows.specs.Agreement.{AreRowsOf}
-use Rattle.scope_envs.specs.EnvTable.{EnvTable}
-use Rattle.scope_outcomes.specs.ForkTable.{ForkTable}
-use Rattle.scope_outcomes.specs.ForksOf.{AreForksOf}
-use Rattle.scope_envs.specs.Agreement.{AreEnvsOf}
+use Rattle.scoped_env.specs.EnvTable.{EnvTable}
+use Rattle.scope_kept.specs.ForkTable.{ForkTable}
+use Rattle.scope_kept.specs.ForksOf.{AreForksOf}
+use Rattle.scoped_env.specs.Agreement.{AreEnvsOf}
 use Rattle.scope_rows.specs.DeadlineTable.{DeadlineTable}
 use Rattle.scope_rows.specs.DeadlinesOf.{AreDeadlinesOf}
-use Rattle.scope_cuts.specs.CutTables.{CutTable, account_at}
-use Rattle.scope_cuts.specs.CutsOf.{AreCutsOf}
+use Rattle.scope_kept.specs.CutTables.{CutTable, account_at}
+use Rattle.scope_kept.specs.CutsOf.{AreCutsOf}
 
 pub record KeptTable : Type 0 where
   pub rows : RowTable

@@ -3,3 +3,12 @@ pub mod Events
 pub mod Completing
 pub mod Closing
 pub mod Lending
+pub mod CutTables
+pub mod CutsOf
+pub mod Coming
+pub mod Lent
+pub mod CutLending
+pub mod Answers
+pub mod Bare
+pub mod ForkTable
+pub mod ForksOf

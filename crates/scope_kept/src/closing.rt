@@ -4,7 +4,7 @@ ghost use Rattle.std.specs.Prelude.{◌≡◌};
 ghost use Rattle.scope_rows.specs.Steps.{below_of};
 ghost use Rattle.scope_kept.specs.Closing.{CanClose, HasBegunClose};
 
-use scope_cuts::Cuts;
+use crate::Cuts;
 use scope_rows::Rows;
 use scope_rules::{CauseKind, ScopeId};
 

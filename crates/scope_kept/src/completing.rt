@@ -4,11 +4,11 @@ ghost use Rattle.std.specs.Prelude.{◌≡◌, ◌<◌, IfSome};
 ghost use Rattle.scope_rules.specs.declared.types.capacity.TheConstants.{TASK_LIMIT};
 ghost use Rattle.cancel_tree.specs.Rows.{IsLatest};
 ghost use Rattle.join_rules.specs.JoinerStanding.{HasRoom};
-ghost use Rattle.scope_cuts.specs.CutTables.{HasRow, account_at};
+ghost use Rattle.scope_kept.specs.CutTables.{HasRow, account_at};
 ghost use Rattle.scope_kept.specs.Completing.{IsCompleted};
 
+use crate::Cuts;
 use join_rules::StoredTest;
-use scope_cuts::Cuts;
 use scope_rules::{CauseKind, Completion, ScopeId};
 
 /// Counts the completion of the scope, for which there is room, and cancels the scope where its joiner

@@ -10,7 +10,7 @@ ghost use Rattle.scope_rules.specs.declared.types.values.Label.{Label};
 ghost use Rattle.scope_rules.specs.Legal.{Legal};
 ghost use Rattle.scope_rules.specs.Scopes.{forked_in, surrounding};
 ghost use Rattle.scope_rules.specs.Cancels.{is_cancelled};
-ghost use Rattle.scope_cuts.specs.CutTables.{HasRow};
+ghost use Rattle.scope_kept.specs.CutTables.{HasRow};
 ghost use Rattle.scope_kept.specs.Events.{IsReadyFor, IsReadyAt, HasFollowed, HasFollowedAt};
 
 use crate::closing::cancel_covered;

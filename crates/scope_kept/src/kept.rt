@@ -4,16 +4,15 @@ ghost use Rattle.scope_rules.specs.declared.types.capacity.Limits.{Limits};
 ghost use Rattle.scope_rules.specs.History.{History};
 ghost use Rattle.scope_rules.specs.Legal.{Legal};
 ghost use Rattle.scope_rules.specs.Replies.{base_of};
-ghost use Rattle.scope_cuts.specs.CutsOf.{IsCancelOrderOf};
-ghost use Rattle.scope_cuts.specs.Lent.{scopes_of};
+ghost use Rattle.scope_kept.specs.CutsOf.{IsCancelOrderOf};
+ghost use Rattle.scope_kept.specs.Lent.{scopes_of};
 ghost use Rattle.scope_kept.specs.KeptTables.{IsKeptOf};
 ghost use Rattle.scope_kept.specs.Lending.{KeepsAll};
 
-use scope_cuts::{CancelledScopes, Cuts};
-use scope_envs::Envs;
-use scope_outcomes::Forks;
+use crate::{CancelledScopes, Cuts, Forks};
 use scope_rows::{OwnDeadlines, Rows};
 use scope_rules::Base;
+use scoped_env::Envs;
 use std::alloc::{AllocError, Global};
 use std::marker::Model;
 

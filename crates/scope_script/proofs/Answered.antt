@@ -12,9 +12,9 @@ use Rattle.scope_rules.specs.Origin.{Origin}
 use Rattle.scope_rules.specs.Outcomes.{outcome}
 use Rattle.scope_rules.specs.Checks.{Checked}
 use Rattle.scope_rules.specs.Replies.{Realm, Answers, AnswersOrMemory, AnswersValue, with_event, after, after_recording, after_retiring, base_of, outcome_check}
-use Rattle.script_lines.specs.declared.commands.Command.TheVariants.{Do, Retire}
-use Rattle.script_replies.specs.declared.reply.Reply.{Reply}
-use Rattle.script_replies.specs.declared.reply.Reply.TheVariants as reply
+use Rattle.script_words.specs.declared.commands.Command.TheVariants.{Do, Retire}
+use Rattle.script_words.specs.declared.reply.Reply.{Reply}
+use Rattle.script_words.specs.declared.reply.Reply.TheVariants as reply
 use Rattle.scope_rules.specs.Table.{check_of, is_already, retire_check, answering}
 use Rattle.scope_script.specs.Replying.{replied, told_once, refused_or, told_of, told_base, is_join, reply_to, realm_after, PerformsOrStops}
 

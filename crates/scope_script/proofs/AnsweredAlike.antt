@@ -13,12 +13,12 @@ use Rattle.scope_rules.specs.Checks.{scope_check, task_check, actor_check}
 use Rattle.scope_rules.specs.Table.{is_already, until_check, reading_check, checked_then, answering, value_shown, fault_shown}
 use Rattle.scope_rules.specs.Replies.{result_reply, fault_reply, binding_reply}
 use Rattle.scope_rules.proofs.Accepted.{or_left, or_right}
-use Rattle.script_lines.specs.declared.commands.Question.{Question}
-use Rattle.script_lines.specs.declared.commands.Question.TheVariants as question
-use Rattle.script_replies.specs.declared.reply.Reply.TheVariants as reply
-use Rattle.scope_retired.specs.Folding.{is_let_go, names_let_go, Retirable, left, unretired, retired, NamesNone}
-use Rattle.scope_retired.specs.RetiringLaws.{AnswersAlike, ScopeAlike, TaskAlike}
-use Rattle.scope_retired.proofs.Alike.{answers_alike}
+use Rattle.script_words.specs.declared.commands.Question.{Question}
+use Rattle.script_words.specs.declared.commands.Question.TheVariants as question
+use Rattle.script_words.specs.declared.reply.Reply.TheVariants as reply
+use Rattle.scope_laws.specs.Folding.{is_let_go, names_let_go, Retirable, left, unretired, retired, NamesNone}
+use Rattle.scope_laws.specs.RetiringLaws.{AnswersAlike, ScopeAlike, TaskAlike}
+use Rattle.scope_laws.proofs.Alike.{answers_alike}
 use Rattle.scope_rules.proofs.Pushing.{entry_of_push}
 use Rattle.scope_script.specs.Replying.{replied, told_of, passed_reply, answer_to}
 use Rattle.scope_script.specs.Retiring.{asks_let_go}

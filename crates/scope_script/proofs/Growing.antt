@@ -2,9 +2,9 @@
 use Rattle.std.proofs.Common.{◌≡◌, ◌≢◌, ◌⊎◌, inl, inr, ℕ, ◌+◌, ◌<◌, ◌≤◌, Bool, true, false, Some, None, List, [], ◌∷◌, ◌++◌, length, refl, ap, sym, ◌∙◌, arith, length-append, nat_lt, append_assoc, append-nil}
 use Rattle.std.specs.Prelude.{if◌then◌else◌}
 use Rattle.std.proofs.lemmas.Bool.{ltb-true, ltb-false, lt-ltb, le-ltb}
-use Rattle.script_lines.specs.declared.commands.Line.TheVariants.{BadWord}
-use Rattle.script_lines.specs.declared.lines.TheConstants.{LINE_LIMIT}
-use Rattle.script_lines.specs.Lines.{line_said}
+use Rattle.script_words.specs.declared.commands.Line.TheVariants.{BadWord}
+use Rattle.script_words.specs.declared.lines.TheConstants.{LINE_LIMIT}
+use Rattle.script_words.specs.Lines.{line_said}
 use Rattle.scope_script.specs.KeptLines.{kept, grown, grown_by, said}
 
 -- a line of more bytes than it may have is a bad word

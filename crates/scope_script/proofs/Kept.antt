@@ -4,8 +4,8 @@ use Rattle.std.specs.Prelude.{if◌then◌else◌}
 use Rattle.scope_rules.specs.declared.types.capacity.Limits.{Limits}
 use Rattle.scope_rules.specs.Origin.{the_start}
 use Rattle.scope_rules.specs.Replies.{Realm, starting}
-use Rattle.script_lines.specs.declared.lines.TheConstants.{LINE_LIMIT}
-use Rattle.script_lines.specs.Lines.{line_said}
+use Rattle.script_words.specs.declared.lines.TheConstants.{LINE_LIMIT}
+use Rattle.script_words.specs.Lines.{line_said}
 use Rattle.scope_script.specs.Cutting.{ended_lines, begun_line}
 use Rattle.scope_script.specs.KeptLines.{kept}
 use Rattle.scope_script.specs.Sessions.{line_reply, realm_after_line, replies_to, realm_after_lines, cut_reply, replies_of, realm_of_script}

@@ -10,10 +10,10 @@ use Rattle.scope_rules.specs.History.{History, followed}
 use Rattle.scope_rules.specs.Outcomes.{outcome}
 use Rattle.scope_rules.specs.Checks.{Checked}
 use Rattle.scope_rules.specs.Replies.{Realm, with_event, after_retiring, base_of}
-use Rattle.script_lines.specs.declared.commands.Command.{Command}
-use Rattle.script_lines.specs.declared.commands.Command.TheVariants.{Do, Retire, Ask}
-use Rattle.script_replies.specs.declared.reply.Reply.{Reply}
-use Rattle.script_replies.specs.declared.reply.Reply.TheVariants as reply
+use Rattle.script_words.specs.declared.commands.Command.{Command}
+use Rattle.script_words.specs.declared.commands.Command.TheVariants.{Do, Retire, Ask}
+use Rattle.script_words.specs.declared.reply.Reply.{Reply}
+use Rattle.script_words.specs.declared.reply.Reply.TheVariants as reply
 use Rattle.scope_rules.specs.Table.{check_of, is_already, retire_check, answering}
 use Rattle.scope_script.specs.Replying.{replied, refused_or, told_of, told_base, is_join, reply_to, realm_after, realm_stopped, Performs, PerformsOrStops}
 

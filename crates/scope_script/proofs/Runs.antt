@@ -5,7 +5,7 @@ use Rattle.std.proofs.lemmas.List.{take-append-drop}
 use Rattle.std.proofs.lemmas.Option.{slice_get_within, get_or_from_slice_get}
 use Rattle.scope_rules.specs.Replies.{Realm}
 use Rattle.scope_rules.proofs.Prefixes.{take_at}
-use Rattle.script_lines.specs.declared.commands.Command.{Command}
+use Rattle.script_words.specs.declared.commands.Command.{Command}
 use Rattle.scope_script.specs.Replying.{realm_after, realm_stopped, realm_after_all, StopsAmong}
 
 pub realm_after_more : (realm : Realm) (xs : List Command) (x : Command) → realm_after_all realm (xs ++ x ∷ []) ≡ realm_after (realm_after_all realm xs) x

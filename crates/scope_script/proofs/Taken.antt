@@ -1,7 +1,7 @@
 -- Lines that are taken out of a piece at once leave and are answered what their bytes are.
 use Rattle.std.proofs.Common.{◌≡◌, ℕ, ◌==◌, false, Some, List, [], ◌∷◌, ◌++◌, refl, ap, sym, ◌∙◌, append_assoc, append-nil}
 use Rattle.std.proofs.lemmas.Bool.{or_parts}
-use Rattle.script_lines.specs.declared.commands.Line.{Line}
+use Rattle.script_words.specs.declared.commands.Line.{Line}
 use Rattle.scope_script.specs.declared.session.run.Mode.{Mode}
 use Rattle.scope_script.specs.Cutting.{has_feed, CutsLine}
 use Rattle.scope_script.specs.KeptLines.{grown, grown_by, said}

@@ -15,12 +15,12 @@ use Rattle.scope_rules.specs.Verdicts.{verdict}
 use Rattle.scope_rules.specs.Checks.{Checked, scope_check, task_check}
 use Rattle.scope_rules.specs.Replies.{Realm, with_event, after_retiring, next_scope, fork_reply, base_of, result_reply, fault_reply, binding_reply}
 use Rattle.scope_rules.specs.Table.{check_of, is_already, retire_check, until_check, answering}
-use Rattle.script_lines.specs.declared.commands.Command.{Command}
-use Rattle.script_lines.specs.declared.commands.Command.TheVariants.{Do, Retire, Ask}
-use Rattle.script_lines.specs.declared.commands.Question.{Question}
-use Rattle.script_lines.specs.declared.commands.Question.TheVariants as question
-use Rattle.script_replies.specs.declared.reply.Reply.{Reply}
-use Rattle.script_replies.specs.declared.reply.Reply.TheVariants as reply
+use Rattle.script_words.specs.declared.commands.Command.{Command}
+use Rattle.script_words.specs.declared.commands.Command.TheVariants.{Do, Retire, Ask}
+use Rattle.script_words.specs.declared.commands.Question.{Question}
+use Rattle.script_words.specs.declared.commands.Question.TheVariants as question
+use Rattle.script_words.specs.declared.reply.Reply.{Reply}
+use Rattle.script_words.specs.declared.reply.Reply.TheVariants as reply
 
 -- the reply to what was answered
 abbrev pub replied : {A : Type 0} → (A → Reply) → Result A Refusal → Reply

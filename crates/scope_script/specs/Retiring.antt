@@ -5,14 +5,14 @@ use Rattle.scope_rules.specs.declared.types.capacity.Limits.{Limits}
 use Rattle.scope_rules.specs.declared.types.refusals.Refusal.TheVariants as refusal
 use Rattle.scope_rules.specs.Origin.{Origin, the_start}
 use Rattle.scope_rules.specs.Replies.{Realm, starting}
-use Rattle.script_lines.specs.declared.commands.Command.{Command}
-use Rattle.script_lines.specs.declared.commands.Command.TheVariants.{Do, Retire, Ask}
-use Rattle.script_lines.specs.declared.commands.Question.{Question}
-use Rattle.script_lines.specs.declared.commands.Question.TheVariants as question
-use Rattle.script_replies.specs.declared.reply.Reply.{Reply}
-use Rattle.script_replies.specs.declared.reply.Reply.TheVariants.{Refused}
-use Rattle.script_replies.specs.ReplyText.{reply_text}
-use Rattle.scope_retired.specs.Folding.{is_let_go, names_let_go}
+use Rattle.script_words.specs.declared.commands.Command.{Command}
+use Rattle.script_words.specs.declared.commands.Command.TheVariants.{Do, Retire, Ask}
+use Rattle.script_words.specs.declared.commands.Question.{Question}
+use Rattle.script_words.specs.declared.commands.Question.TheVariants as question
+use Rattle.script_words.specs.declared.reply.Reply.{Reply}
+use Rattle.script_words.specs.declared.reply.Reply.TheVariants.{Refused}
+use Rattle.script_words.specs.ReplyText.{reply_text}
+use Rattle.scope_laws.specs.Folding.{is_let_go, names_let_go}
 use Rattle.scope_script.specs.Replying.{reply_to, realm_after}
 
 -- the question names a scope or a task that was let go

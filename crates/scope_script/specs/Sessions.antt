@@ -4,13 +4,13 @@ use Rattle.scope_rules.specs.declared.types.capacity.Limits.{Limits}
 use Rattle.scope_rules.specs.declared.types.refusals.Refusal.TheVariants.{BadWord as bad_word}
 use Rattle.scope_rules.specs.Origin.{the_start}
 use Rattle.scope_rules.specs.Replies.{Realm, starting}
-use Rattle.script_lines.specs.declared.commands.Line.{Line}
-use Rattle.script_lines.specs.declared.commands.Line.TheVariants.{Silent, BadWord, Command}
-use Rattle.script_replies.specs.declared.reply.Reply.TheVariants.{Refused}
+use Rattle.script_words.specs.declared.commands.Line.{Line}
+use Rattle.script_words.specs.declared.commands.Line.TheVariants.{Silent, BadWord, Command}
+use Rattle.script_words.specs.declared.reply.Reply.TheVariants.{Refused}
 use Rattle.scope_script.specs.declared.session.run.Mode.{Mode}
 use Rattle.scope_script.specs.declared.session.run.Mode.TheVariants.{Replies, Quiet}
-use Rattle.script_replies.specs.ReplyText.{reply_text}
-use Rattle.script_lines.specs.Lines.{line_said}
+use Rattle.script_words.specs.ReplyText.{reply_text}
+use Rattle.script_words.specs.Lines.{line_said}
 use Rattle.scope_script.specs.Replying.{reply_to, realm_after}
 use Rattle.scope_script.specs.Cutting.{ended_lines, begun_line}
 

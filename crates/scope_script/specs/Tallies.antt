@@ -3,11 +3,11 @@ use Rattle.std.specs.Prelude.{ℕ, ◌==◌, ◌+◌, Bool, true, false, List, [
 use Rattle.scope_rules.specs.declared.types.capacity.Limits.{Limits}
 use Rattle.scope_rules.specs.Origin.{the_start}
 use Rattle.scope_rules.specs.Replies.{Realm, starting}
-use Rattle.script_lines.specs.declared.commands.Line.{Line}
-use Rattle.script_lines.specs.declared.commands.Line.TheVariants.{Silent, BadWord, Command}
-use Rattle.script_lines.specs.Lines.{line_said}
-use Rattle.script_replies.specs.declared.reply.Reply.{Reply}
-use Rattle.script_replies.specs.declared.reply.Reply.TheVariants.{Refused}
+use Rattle.script_words.specs.declared.commands.Line.{Line}
+use Rattle.script_words.specs.declared.commands.Line.TheVariants.{Silent, BadWord, Command}
+use Rattle.script_words.specs.Lines.{line_said}
+use Rattle.script_words.specs.declared.reply.Reply.{Reply}
+use Rattle.script_words.specs.declared.reply.Reply.TheVariants.{Refused}
 use Rattle.scope_script.specs.declared.session.tally.Tally.{Tally}
 use Rattle.scope_script.specs.Cutting.{ended_lines, begun_line}
 use Rattle.scope_script.specs.Replying.{reply_to}

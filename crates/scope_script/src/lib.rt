@@ -1,5 +1,5 @@
-//! The script of a realm: lines of commands in, one line of reply a command out. What a line says
-//! (`script_lines`) and the line of a reply (`script_replies`) are handed on.
+//! The script of a realm: lines of commands in, one line of reply a command out. What a line says, and the line of a
+//! reply (`script_words`), are handed on.
 #![tactic(auto)]
 
 pub mod laws;
@@ -8,10 +8,8 @@ pub mod session;
 pub mod streams;
 
 pub use performing::commands::{perform, perform_all};
-pub use script_lines as reading;
-pub use script_lines::{Command, LINE_LIMIT, Line, Question, read_line};
-pub use script_replies as replies;
-pub use script_replies::{Reply, append_line};
+pub use script_words as words;
+pub use script_words::{Command, LINE_LIMIT, Line, Question, Reply, append_line, read_line};
 pub use session::cutting::first_line;
 pub use session::run::{Mode, Ran, ScriptFault, run, run_tallied, run_text};
 pub use session::tally::Tally;

@@ -14,8 +14,8 @@ use Rattle.script_jobs.specs.declared.showing.View.TheVariants as view
 use Rattle.command_line.specs.CommandLine.{Says}
 use Rattle.scopectl.specs.Naming.{CameFrom, NamesFault}
 use Rattle.scopectl.specs.Program.{AnswersPlan, DidAsSaid, DidJob, DidPart, DidPartly, DidWhole, FailedAtEnd, Made, Makes, Shows, Told, WroteLate, WrotePart, job_of, notes_wanted, tally_of}
-use Rattle.script_notes.specs.Notes.{notes_text}
-use Rattle.script_notes.specs.declared.notes.Notes.{Notes}
+use Rattle.script_jobs.specs.Notes.{notes_text}
+use Rattle.script_jobs.specs.declared.notes.Notes.{Notes}
 use Rattle.scopectl.specs.Saying.{Noted, SaidNotes, status_of}
 use Rattle.scopectl.specs.Texts.{fault_of_run}
 use Rattle.scope_script.specs.Tallies.{tally_of_script}

@@ -5,9 +5,9 @@ use Rattle.scope_rules.specs.declared.types.capacity.Limits.{Limits}
 use Rattle.scope_script.specs.Sessions.{replies_of, realm_of_script}
 use Rattle.scope_script.specs.Tallies.{no_refusals, tally_of_script}
 use Rattle.scope_script.specs.declared.session.tally.Tally.{Tally}
-use Rattle.script_notes.specs.Notes.{notes_text}
-use Rattle.script_notes.specs.declared.notes.Notes.{Notes}
-use Rattle.script_notes.specs.declared.notes.Notes.TheVariants as notes
+use Rattle.script_jobs.specs.Notes.{notes_text}
+use Rattle.script_jobs.specs.declared.notes.Notes.{Notes}
+use Rattle.script_jobs.specs.declared.notes.Notes.TheVariants as notes
 use Rattle.scopectl.specs.Saying.{Noted, SaidNotes, status_of}
 use Rattle.script_jobs.specs.Jobs.{shown_text}
 use Rattle.script_jobs.specs.declared.showing.View.{View}

@@ -1,6 +1,6 @@
 //! All that the program does.
 ghost use Rattle.std.specs.Prelude.{◌≡◌, ◌≢◌, ◌≤◌, ◌⊎◌, ◌++◌, if◌then◌else◌, ℕ, Option, None, Some, false, true, map, string_bytes};
-ghost use Rattle.script_notes.specs.declared.notes.Notes.{Notes};
+ghost use Rattle.script_jobs.specs.declared.notes.Notes.{Notes};
 ghost use Rattle.std.specs.Io.KnownBytes.{Appends};
 ghost use Rattle.scope_rules.specs.declared.types.capacity.Limits.{Limits};
 ghost use Rattle.scope_script.specs.Streams.{AppendsPart};
@@ -18,7 +18,7 @@ use realm_lock::{RealmName, Seed};
 use scope_rules::{Due, Limits};
 use scope_script::{Tally, Watched};
 use script_jobs::{NotedReplay, Rendering, View, replayed, replayed_noted, shown};
-use script_notes::Notes;
+use script_jobs::Notes;
 use std::alloc::Global;
 use std::io::{ErrorKind, Read, Write};
 use std::rt::Clock as SystemTime;

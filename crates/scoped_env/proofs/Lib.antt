@@ -1,2 +1,8 @@
 pub mod Lookups
 pub mod LastBound
+pub mod ListSteps
+pub mod Unforked
+pub mod Sights
+pub mod Held
+pub mod Steps
+pub mod Beginnings

@@ -1,3 +1,5 @@
 pub mod LastBound
 pub mod Layers
 pub mod Pairs
+pub mod EnvTable
+pub mod Agreement

@@ -1,1 +1,3 @@
 mod Runs
+mod Walked
+mod RepliesFit

@@ -7,10 +7,10 @@ use Rattle.scope_script.specs.Tallies.{tally_of_script}
 use Rattle.scope_script.specs.declared.session.tally.Tally.{Tally}
 use Rattle.scope_rules.specs.History.{History}
 use Rattle.tree_dump.specs.Tree.{dump_text}
-use Rattle.tree_text.specs.Tree.{tree_text}
+use Rattle.tree_dump.specs.TextTree.{tree_text}
 use Rattle.run_picture.specs.Picture.{picture_text}
-use Rattle.script_notes.specs.Notes.{notes_text}
-use Rattle.script_notes.specs.declared.notes.Notes.{Notes}
+use Rattle.script_jobs.specs.Notes.{notes_text}
+use Rattle.script_jobs.specs.declared.notes.Notes.{Notes}
 use Rattle.script_jobs.specs.declared.showing.View.{View}
 use Rattle.script_jobs.specs.declared.showing.View.TheVariants.{Dump, Tree, Timeline}
 

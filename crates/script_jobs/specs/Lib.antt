@@ -1,1 +1,4 @@
 pub mod Jobs
+pub mod Whys
+pub mod Notes
+pub mod Fits

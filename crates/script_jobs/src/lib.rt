@@ -1,12 +1,31 @@
 //! The jobs of the program that run a script, over any streams: its replies are written, or what it leaves is
-//! given as it is to be shown.
+//! given as it is to be shown. For a person there are notes: why each refused line was refused, and what each line
+//! was answered.
+//!
+//! A note is one line of text. N is the number of the script's line, from 1, TEXT the line as it is shown, REPLY
+//! its reply, and WHY the sentence that says why it was refused:
+//!
+//! ```text
+//! line N: TEXT: WHY             a refused line, where refusals alone are wanted
+//! line N: TEXT -> REPLY         any line with a reply, where replies alone are wanted
+//! line N: TEXT -> REPLY: WHY    a refused line, where all is wanted
+//! ```
+//!
+//! TEXT has at most 60 bytes, with `...` behind them where the line has more, and `?` in place of each byte that
+//! is not printable ASCII. A line without a reply gets no note.
 #![tactic(auto)]
 
+pub mod laws;
+mod notes;
 mod noting;
 mod replaying;
 mod showing;
+mod walk;
 mod whole;
+mod whys;
 
+pub use notes::Notes;
 pub use noting::{NotedReplay, replayed_noted};
 pub use replaying::replayed;
 pub use showing::{Rendering, View, shown};
+pub use walk::notes_of;

@@ -4,9 +4,9 @@ ghost use Rattle.scope_script.specs.Running.{RunsPartly};
 ghost use Rattle.script_jobs.specs.Jobs.{ReplayedNoted};
 
 use crate::whole::read_whole;
+use crate::{Notes, notes_of};
 use scope_rules::Limits;
 use scope_script::{Mode, ScriptFault, Tally, Watched, run_text};
-use script_notes::{Notes, notes_of};
 use std::alloc::Global;
 use std::io::{Read, Write};
 

@@ -11,8 +11,7 @@ use scope_rules::{AnyEnd, Limits};
 use scope_script::{Mode, Ran, ScriptFault, Tally, Watched, run_tallied};
 use std::alloc::{AllocError, Global};
 use std::io::{Read, Write};
-use tree_dump::dump;
-use tree_text::tree_of;
+use tree_dump::{dump, tree_of};
 
 /// How what a script leaves is shown.
 #[derive(Clone, Copy)]

@@ -6,7 +6,7 @@ use balkreyn::{
     LogEntry, Name, RealmName, Refusal, ScopeId, Seed, SystemClock, TaskCtx, Value, fail_after,
     fork, within,
 };
-use realm_rotation::{Requests, Turned, Turns, rotate};
+use balkreyn::{Requests, Turned, Turns, rotate};
 use std::alloc::Global;
 use std::process::Abort;
 use std::rt::Clock as SystemTime;

@@ -8,10 +8,10 @@ use lib.ListN.{get_elem?}
 use Rattle.scope_rules.proofs.Numbers.{list_any-push}
 use Rattle.atomic_table.proofs.Lists.{at_set, set_else}
 use Rattle.scope_rules.specs.declared.types.capacity.Limits.{Limits}
-use Rattle.realm_steps.specs.declared.steps.RealmStep.{RealmStep}
-use Rattle.realm_steps.specs.declared.steps.Holder.{Holder}
-use Rattle.realm_steps.specs.declared.steps.Holder.TheVariants.{TokenOf}
-use Rattle.realm_steps.specs.Holders.{is_own, Agrees}
+use Rattle.share_ledger.specs.declared.steps.RealmStep.{RealmStep}
+use Rattle.share_ledger.specs.declared.steps.Holder.{Holder}
+use Rattle.share_ledger.specs.declared.steps.Holder.TheVariants.{TokenOf}
+use Rattle.share_ledger.specs.Holders.{is_own, Agrees}
 use Rattle.share_ledger.specs.declared.views.Share.{Share}
 use Rattle.share_ledger.specs.declared.views.LedgerView.{LedgerView}
 use Rattle.share_ledger.specs.declared.views.LedgerView.TheVariants.{Opening, Keeping, Holding, Spent}

@@ -10,12 +10,12 @@ use Rattle.scope_rules.specs.declared.types.events.Event.TheVariants.{Fork, Star
 use Rattle.scope_rules.specs.History.{is_fork}
 use Rattle.scope_rules.specs.Tasks.{starts}
 use Rattle.scope_rules.proofs.Numbers.{list_any-push}
-use Rattle.realm_steps.specs.declared.steps.RealmStep.{RealmStep}
-use Rattle.realm_steps.specs.declared.steps.RealmStep.TheVariants.{Happened}
-use Rattle.realm_steps.specs.declared.steps.Holder.{Holder}
-use Rattle.realm_steps.specs.declared.steps.Holder.TheVariants.{TokenOf, TicketOf}
-use Rattle.realm_steps.specs.Holders.{is_own, Agrees}
-use Rattle.realm_steps.specs.Tickets.{is_event, forks, started_in}
+use Rattle.share_ledger.specs.declared.steps.RealmStep.{RealmStep}
+use Rattle.share_ledger.specs.declared.steps.RealmStep.TheVariants.{Happened}
+use Rattle.share_ledger.specs.declared.steps.Holder.{Holder}
+use Rattle.share_ledger.specs.declared.steps.Holder.TheVariants.{TokenOf, TicketOf}
+use Rattle.share_ledger.specs.Holders.{is_own, Agrees}
+use Rattle.share_ledger.specs.Tickets.{is_event, forks, started_in}
 use Rattle.share_ledger.specs.Views.{newly_named}
 use Rattle.share_ledger.specs.Rule.{same_holder, is_named, Absent, InHand}
 

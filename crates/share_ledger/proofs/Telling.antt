@@ -12,17 +12,17 @@ use Rattle.scope_rules.specs.Cancels.{is_cancelled}
 use Rattle.scope_rules.specs.Tasks.{rejects, starts}
 use Rattle.scope_rules.proofs.Numbers.{list_any-push}
 use Rattle.scope_rules.proofs.Prefixes.{option_or-none}
-use Rattle.realm_steps.specs.declared.steps.RealmStep.{RealmStep}
-use Rattle.realm_steps.specs.declared.steps.RealmStep.TheVariants.{Happened}
-use Rattle.realm_steps.specs.declared.steps.Holder.{Holder}
-use Rattle.realm_steps.specs.declared.steps.Holder.TheVariants.{TokenOf, TicketOf}
-use Rattle.realm_steps.specs.Steps.{history_of}
-use Rattle.realm_steps.specs.Holders.{is_own, Agrees}
-use Rattle.realm_steps.specs.Tickets.{Grant, is_event, forks, grant_in, rejected_in, started_in, end_of, end_in, given_in}
-use Rattle.realm_steps.specs.StepLaws.{TellsAlike}
-use Rattle.realm_steps.proofs.Histories.{tasks_forks}
-use Rattle.realm_steps.proofs.Told.{seen_tells, others_tell, grant-append, grant-fork, end_in-append}
-use Rattle.realm_steps.proofs.Waits.{grant_number}
+use Rattle.share_ledger.specs.declared.steps.RealmStep.{RealmStep}
+use Rattle.share_ledger.specs.declared.steps.RealmStep.TheVariants.{Happened}
+use Rattle.share_ledger.specs.declared.steps.Holder.{Holder}
+use Rattle.share_ledger.specs.declared.steps.Holder.TheVariants.{TokenOf, TicketOf}
+use Rattle.share_ledger.specs.Steps.{history_of}
+use Rattle.share_ledger.specs.Holders.{is_own, Agrees}
+use Rattle.share_ledger.specs.Tickets.{Grant, is_event, forks, grant_in, rejected_in, started_in, end_of, end_in, given_in}
+use Rattle.share_ledger.specs.StepLaws.{TellsAlike}
+use Rattle.share_ledger.proofs.Histories.{tasks_forks}
+use Rattle.share_ledger.proofs.Told.{seen_tells, others_tell, grant-append, grant-fork, end_in-append}
+use Rattle.share_ledger.proofs.Waits.{grant_number}
 use Rattle.share_ledger.specs.declared.views.LedgerView.{LedgerView}
 use Rattle.share_ledger.specs.Views.{holding, newly_named, IsFresh}
 use Rattle.share_ledger.specs.Rule.{same_holder, is_named, MayAppend}

@@ -2,10 +2,10 @@
 use Rattle.std.specs.Prelude.{◌≡◌, unwrap_or, List, [], ◌∷◌}
 use Rattle.std.proofs.Common.{lit≤}
 use Rattle.scope_rules.specs.declared.types.capacity.Limits.{Limits}
-use Rattle.realm_steps.specs.declared.steps.RealmStep.{RealmStep}
-use Rattle.realm_steps.specs.declared.steps.Holder.{Holder}
-use Rattle.realm_steps.specs.declared.steps.Holder.TheVariants.{TokenOf}
-use Rattle.realm_steps.specs.Holders.{Agrees}
+use Rattle.share_ledger.specs.declared.steps.RealmStep.{RealmStep}
+use Rattle.share_ledger.specs.declared.steps.Holder.{Holder}
+use Rattle.share_ledger.specs.declared.steps.Holder.TheVariants.{TokenOf}
+use Rattle.share_ledger.specs.Holders.{Agrees}
 use Rattle.share_ledger.specs.declared.views.LedgerView.{LedgerView}
 use Rattle.share_ledger.specs.declared.views.LedgerView.TheVariants.{Keeping, Holding, Spent}
 use Rattle.share_ledger.specs.Views.{keeping, holding, newly_named}

@@ -3,3 +3,7 @@ pub mod Rule
 pub mod Desks
 pub mod Values
 pub mod Names
+pub mod Steps
+pub mod Holders
+pub mod Tickets
+pub mod StepLaws

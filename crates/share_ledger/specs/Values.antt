@@ -5,11 +5,11 @@ use Rattle.scope_rules.specs.declared.types.values.Label.{Label}
 use Rattle.scope_rules.specs.declared.types.events.Event.{Event}
 use Rattle.scope_rules.specs.declared.types.events.Event.TheVariants.{Fork, Start, Finish}
 use Rattle.scope_rules.specs.Ends.{EndValue}
-use Rattle.realm_steps.specs.declared.steps.RealmStep.{RealmStep}
-use Rattle.realm_steps.specs.declared.steps.Holder.{Holder}
-use Rattle.realm_steps.specs.declared.steps.Holder.TheVariants.{TokenOf, TicketOf}
-use Rattle.realm_steps.specs.Holders.{is_of_actor, Agrees}
-use Rattle.realm_steps.specs.Tickets.{grant_in, given_in, started_in, finished_in, end_in}
+use Rattle.share_ledger.specs.declared.steps.RealmStep.{RealmStep}
+use Rattle.share_ledger.specs.declared.steps.Holder.{Holder}
+use Rattle.share_ledger.specs.declared.steps.Holder.TheVariants.{TokenOf, TicketOf}
+use Rattle.share_ledger.specs.Holders.{is_of_actor, Agrees}
+use Rattle.share_ledger.specs.Tickets.{grant_in, given_in, started_in, finished_in, end_in}
 use Rattle.atomic_table.specs.Seated.{TableId}
 use Rattle.share_ledger.specs.declared.views.LedgerView.{LedgerView}
 use Rattle.share_ledger.specs.Desks.{steps_of, view_of, IsShareOf}

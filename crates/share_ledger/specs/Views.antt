@@ -4,12 +4,12 @@ use Rattle.std.specs.List.{list_any}
 use mathlib.Core.Option as m
 use Rattle.scope_rules.specs.declared.types.capacity.Limits.{Limits}
 use Rattle.scope_rules.specs.declared.types.events.Event.TheVariants.{Fork, Start}
-use Rattle.realm_steps.specs.declared.steps.RealmStep.{RealmStep}
-use Rattle.realm_steps.specs.declared.steps.RealmStep.TheVariants.{Happened}
-use Rattle.realm_steps.specs.declared.steps.Holder.{Holder}
-use Rattle.realm_steps.specs.declared.steps.Holder.TheVariants.{TokenOf, TicketOf}
-use Rattle.realm_steps.specs.Holders.{is_own, Agrees}
-use Rattle.realm_steps.specs.Tickets.{forks}
+use Rattle.share_ledger.specs.declared.steps.RealmStep.{RealmStep}
+use Rattle.share_ledger.specs.declared.steps.RealmStep.TheVariants.{Happened}
+use Rattle.share_ledger.specs.declared.steps.Holder.{Holder}
+use Rattle.share_ledger.specs.declared.steps.Holder.TheVariants.{TokenOf, TicketOf}
+use Rattle.share_ledger.specs.Holders.{is_own, Agrees}
+use Rattle.share_ledger.specs.Tickets.{forks}
 use Rattle.atomic_table.specs.Table.{Me}
 use Rattle.share_ledger.specs.declared.views.Said.{Said}
 use Rattle.share_ledger.specs.declared.views.Said.TheVariants.{Limited, Stepped}

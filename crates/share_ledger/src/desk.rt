@@ -1,15 +1,15 @@
 //! The keeper's seat at the table, and the moves through it.
 ghost use Rattle.std.specs.Prelude.{◌≡◌, [], ◌∷◌, ◌++◌, IfOk};
-ghost use Rattle.realm_steps.specs.declared.steps.Holder.TheVariants.{TokenOf};
+ghost use Rattle.share_ledger.specs.declared.steps.Holder.TheVariants.{TokenOf};
 ghost use Rattle.share_ledger.specs.declared.views.LedgerView.TheVariants.{Opening};
 ghost use Rattle.share_ledger.specs.Views.{keeping, holding, newly_named, with_named, IsFresh};
 ghost use Rattle.share_ledger.specs.Rule.{MayAppend};
 ghost use Rattle.share_ledger.specs.Desks.{limits_of, steps_of, hand_of, holder_of, view_of, IsReady, IsShareOf, IsKnown, first_in, others_in};
 
+use crate::RealmStep;
 use crate::rule::{Append, GiveOut, HandIn, Limit, Look, NamedOnce};
 use crate::views::{LedgerView, Said};
 use atomic_table::{Badge, Seat, Table};
-use realm_steps::RealmStep;
 use scope_rules::Limits;
 use std::alloc::{AllocError, Global};
 

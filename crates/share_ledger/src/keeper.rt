@@ -1,15 +1,15 @@
 ghost use Rattle.std.specs.Prelude.{◌≡◌, [], ◌++◌, ◌∷◌, true, false, None, ◌+◌, Some};
-ghost use Rattle.realm_steps.specs.Steps.{history_of, step_by};
-ghost use Rattle.realm_steps.specs.Tickets.{given_in, started_in, end_in, finished_in};
+ghost use Rattle.share_ledger.specs.Steps.{history_of, step_by};
+ghost use Rattle.share_ledger.specs.Tickets.{given_in, started_in, end_in, finished_in};
 ghost use Rattle.scope_rules.specs.Cancels.{is_cancelled};
 ghost use Rattle.scope_rules.specs.History.{tasks};
 ghost use Rattle.share_ledger.specs.Desks.{limits_of, steps_of, IsReady};
 ghost use Rattle.share_ledger.specs.Values.{OwnerAgrees, TicketAgrees, IsWaiting, is_recorded_by};
 
+use crate::RealmStep;
 use crate::desk::Desk;
 use crate::shares::OwnerShare;
 use crate::tickets::Ticket;
-use realm_steps::RealmStep;
 use scope_rules::types::values::MAIN;
 use scope_rules::{End, Event, Label, Limits, ScopeId, TaskId};
 use std::marker::Model;

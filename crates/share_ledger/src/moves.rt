@@ -4,10 +4,10 @@ ghost use Rattle.share_ledger.specs.Views.{keeping, holding, newly_named, IsFres
 ghost use Rattle.share_ledger.specs.Rule.{MayAppend};
 ghost use Rattle.share_ledger.specs.Desks.{limits_of, steps_of, holder_of, view_of, named_by, IsReady, IsShareOf, IsKnown};
 
+use crate::RealmStep;
 use crate::desk::Desk;
 use crate::views::LedgerView;
 use atomic_table::Badge;
-use realm_steps::RealmStep;
 use std::mem;
 
 impl Desk {

@@ -1,5 +1,5 @@
 ghost use Rattle.std.specs.Prelude.{◌≡◌};
-ghost use Rattle.realm_steps.specs.declared.steps.Holder.TheVariants.{TokenOf};
+ghost use Rattle.share_ledger.specs.declared.steps.Holder.TheVariants.{TokenOf};
 ghost use Rattle.share_ledger.specs.Desks.{limits_of, steps_of, view_of, IsShareOf};
 
 use crate::views::LedgerView;
@@ -16,7 +16,7 @@ pub struct OwnerShare {
 }
 
 impl Model for OwnerShare {
-    ghost use Rattle.realm_steps.specs.declared.steps.Holder.TheVariants.{TokenOf};
+    ghost use Rattle.share_ledger.specs.declared.steps.Holder.TheVariants.{TokenOf};
     ghost use Rattle.share_ledger.specs.Desks.{limits_of, steps_of, view_of, IsShareOf};
     ghost use Rattle.share_ledger.specs.Values.{OwnerValue};
 

@@ -1,6 +1,6 @@
 ghost use Rattle.std.specs.Prelude.{◌≡◌, true, false, None, Some};
 ghost use Rattle.std.specs.List.{sum_by};
-ghost use Rattle.realm_steps.specs.Tickets.{grant_in, end_in};
+ghost use Rattle.share_ledger.specs.Tickets.{grant_in, end_in};
 ghost use Rattle.share_ledger.specs.Values.{IsTicket, IsWaiting, given_count, started_count, finished_count};
 ghost use Rattle.share_ledger.specs.Desks.{limits_of, steps_of, view_of};
 

@@ -1,4 +1,4 @@
-use realm_steps::{Holder, RealmStep};
+use crate::{Holder, RealmStep};
 use scope_rules::Limits;
 use std::collections::LinkedList;
 

@@ -3,11 +3,10 @@
 
 use crate::books::tell_lines;
 use crate::texts::lines;
-use history_script::script_of;
-use journal_laws::journal_of;
 use scope_book::BookState;
 use scope_rules::{AnyEnd, Limits};
 use scope_script::{Line, Reply, perform, read_line};
+use script_journal::{journal_of, script_of};
 use std::process::Abort;
 use std::test::Fail;
 use tree_dump::dump;

@@ -1,7 +1,7 @@
 -- What a work gives back for the ticket that it was given.
 use Rattle.std.specs.Prelude.{◌≡◌, true}
 use Rattle.atomic_table.specs.Seated.{TableId}
-use Rattle.realm_steps.specs.Tickets.{finished_in}
+use Rattle.share_ledger.specs.Tickets.{finished_in}
 use Rattle.share_ledger.specs.Values.{TicketValue}
 
 -- the last ticket is of the first one's task, which has ended in the realm of this name

@@ -1,5 +1,5 @@
 ghost use Rattle.std.specs.Prelude.{◌≡◌, true};
-ghost use Rattle.realm_steps.specs.Tickets.{finished_in};
+ghost use Rattle.share_ledger.specs.Tickets.{finished_in};
 ghost use Rattle.thread_crew.specs.Returns.{Returns};
 
 use crate::spawning::{Ready, Work};

@@ -3,3 +3,5 @@ mod Counted
 mod Floats
 mod Walked
 mod Retiring
+mod TextAnswered
+mod TextWalked

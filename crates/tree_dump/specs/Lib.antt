@@ -2,3 +2,5 @@ pub mod Objects
 pub mod Tree
 pub mod Words
 pub mod Retiring
+pub mod TextLines
+pub mod TextTree

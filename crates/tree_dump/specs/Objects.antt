@@ -4,7 +4,7 @@ use Rattle.scope_rules.specs.Names.{text_of}
 use Rattle.scope_rules.specs.Texts.{kind_word, stage_word, state_word}
 use Rattle.scope_rules.specs.declared.types.answers.Cause.{Cause}
 use Rattle.scope_rules.specs.declared.types.infos.ScopeInfo.{ScopeInfo}
-use Rattle.script_lines.specs.Spelling.{policy_word}
+use Rattle.script_words.specs.Spelling.{policy_word}
 use Rattle.serde_json.specs.Data.{Data, null, boolean, number, unsigned, string, array, object, Items, Members, member, no_members}
 use Rattle.tree_dump.specs.Words.{expiry_word, scope_stage_word}
 use Rattle.tree_dump.specs.declared.told.TaskTold.{TaskTold}

@@ -1,7 +1,7 @@
-//! The tree of a realm as JSON: which scopes are not closed, inside which, with which tasks at which
-//! stage, who was cancelled and by whom.
+//! The tree of a realm: which scopes are not closed, inside which, with which tasks at which
+//! stage, who was cancelled and by whom. `dump_of` and `dump` give it as JSON, `tree_of` as text for a terminal.
 //!
-//! The text is compact, its keys stand in the order of their bytes, and it has no float:
+//! The JSON is compact, its keys stand in the order of their bytes, and it has no float:
 //!
 //! ```text
 //! {"moment":N,"root":SCOPE or null}
@@ -15,14 +15,37 @@
 //! The root is main's outermost scope. What lies inside a scope is the next one that its owner opened
 //! and has not closed; what lies inside a task is its own outermost scope. The deadline is the scope's
 //! own one, in milliseconds, also after the join. Tasks stand in fork order.
+//!
+//! The text for a terminal has a line with the moment, and then a line for each scope that is not closed and for each
+//! of its tasks, indented by two spaces a level:
+//!
+//! ```text
+//! moment N
+//! scope S STAGE, of OWNER, joins JOINER[, joined][, deadline N[ to move on]][, shielded]
+//!     [, cancelled by CAUSE scope P], awaits N of M
+//!   task K NAME: PROGRESS
+//! ```
+//!
+//! Each is one line. STAGE is `open` or `closing`, OWNER `main` or `task K`, JOINER a joiner as a script has it.
+//! The deadline is the scope's own one, in milliseconds, also after the join. CAUSE is `a call on`, `the close of`,
+//! `the joiner of` or `the deadline of`; P is the scope whose own cancel reached this one. A scope awaits those of
+//! its tasks that wait or run. PROGRESS is `waiting` or `running`; or else `finished` or `never started`, and behind
+//! a comma what can be read of the task: `success`, `failed` or `unavailable`.
+//!
+//! The first scope is main's outermost one. Under a scope stand its tasks, in fork order; under a task its own
+//! outermost scope; and behind a scope's tasks, as deep as they, the next scope that its owner opened and has not
+//! closed. Where main has no scope that is not closed, the second line is `nothing is open`.
 #![tactic(auto)]
 
 mod book;
 pub mod laws;
 mod objects;
+mod text_lines;
+mod text_walk;
 pub mod told;
 pub mod walk;
 mod words;
 
 pub use book::dump;
+pub use text_walk::tree_of;
 pub use walk::dump_of;

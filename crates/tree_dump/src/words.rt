@@ -1,6 +1,6 @@
 //! The words of a dump that no reply has.
 ghost use Rattle.std.specs.Prelude.{◌≡◌, IfOk, string_bytes};
-ghost use Rattle.script_lines.specs.Spelling.{policy_word};
+ghost use Rattle.script_words.specs.Spelling.{policy_word};
 ghost use Rattle.tree_dump.specs.Words.{expiry_word, scope_stage_word};
 
 use scope_rules::types::infos::ScopeStage;

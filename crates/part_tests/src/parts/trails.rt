@@ -1,9 +1,9 @@
 //! Trails: the places of two scopes' events that came by turns.
 
 ghost use Rattle.std.specs.Prelude.{IfOk};
-ghost use Rattle.scope_trails.specs.TrailTable.{HasTrail};
+ghost use Rattle.scope_journal.specs.TrailTable.{HasTrail};
 
-use scope_trails::Trails;
+use scope_journal::Trails;
 use std::alloc::{AllocError, Global};
 use std::test::Fail;
 

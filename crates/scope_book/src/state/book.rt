@@ -1,7 +1,7 @@
 ghost use Rattle.std.specs.Prelude.{◌≡◌, ℕ, List, slice_get, vec_len};
 ghost use Rattle.scope_rules.specs.Origin.{the_start};
 ghost use Rattle.scope_rules.specs.Replies.{starting, base_check, AnswersOrMemory};
-ghost use Rattle.scope_cuts.specs.CutsOf.{IsCancelOrderOf};
+ghost use Rattle.scope_kept.specs.CutsOf.{IsCancelOrderOf};
 ghost use Rattle.kept_realm.specs.Fits.{Fitting};
 ghost use Rattle.scope_checks.specs.Ruled.{IsRuled};
 

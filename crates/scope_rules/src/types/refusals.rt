@@ -1,6 +1,9 @@
 ghost use Rattle.std.specs.Prelude.{◌≡◌, Some};
 ghost use Rattle.scope_rules.specs.Refusals.{refusal_number, word_of, line_of};
+ghost use Rattle.scope_rules.specs.declared.types.refusals.Refusal.TheVariants.{Memory};
 
+use std::alloc::{AllocError, AllocFailed};
+use std::error::Error;
 use std::fmt;
 
 /// Why a call was refused. A refused call changes nothing.
@@ -114,5 +117,25 @@ impl fmt::Display for Refusal {
         let number = self.number();
         let word = self.word();
         write!(f, "refused {number} {word}")
+    }
+}
+
+impl Error for Refusal {}
+
+/// So that `?` passes on that memory was refused.
+impl From<AllocError> for Refusal {
+    ghost from_gives = { λ _ r. r ≡ Memory };
+
+    fn from(_refused: AllocError) -> Refusal {
+        Refusal::Memory
+    }
+}
+
+/// The same. The value that could not be stored is dropped.
+impl<T: Drop> From<AllocFailed<T>> for Refusal {
+    ghost from_gives = { λ _ r. r ≡ Memory };
+
+    fn from(_refused: AllocFailed<T>) -> Refusal {
+        Refusal::Memory
     }
 }

@@ -6,7 +6,7 @@ ghost use Rattle.scope_script.specs.Replying.{replied, always, told_once, told_b
 
 use join_rules::Joiner;
 use scope_rules::{Base, Cancelling, Refusal, ScopeId};
-use script_replies::Reply;
+use script_words::Reply;
 
 /// The reply that a constructor makes of what was answered.
 pub(crate) fn told<T, F: FnOnce(T) -> Reply + Drop>(answer: Result<T, Refusal>, tell: F) -> Reply

@@ -2,7 +2,7 @@ ghost use Rattle.std.specs.Prelude.{◌≡◌, [], Some};
 ghost use Rattle.scope_script.specs.KeptLines.{grown_by, said, is_blank};
 
 use arrayvec::ArrayVec;
-use script_lines::{LINE_LIMIT, Line, read_line};
+use script_words::{LINE_LIMIT, Line, read_line};
 use std::marker::Model;
 
 /// The line that is begun: its bytes, or nothing but that they are more than a line may have. It

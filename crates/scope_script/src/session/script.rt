@@ -1,6 +1,6 @@
 ghost use Rattle.std.specs.Prelude.{◌≡◌, ◌++◌, ◌∷◌, [], OnOk, OnErr};
 ghost use Rattle.scope_book.specs.Books.{realm_of};
-ghost use Rattle.script_replies.specs.ReplyText.{reply_text};
+ghost use Rattle.script_words.specs.ReplyText.{reply_text};
 ghost use Rattle.scope_script.specs.Sessions.{line_reply, realm_after_line, shown};
 ghost use Rattle.scope_script.specs.ByBytes.{after_bytes, bytes_reply, end_reply, end_tally, the_beginning};
 ghost use Rattle.scope_script.specs.Tallies.{tally_after_line};
@@ -14,8 +14,8 @@ use crate::session::run::{Mode, Ran};
 use crate::session::tally::Tally;
 use scope_book::BookState;
 use scope_rules::{AnyEnd, Limits, Refusal};
-use script_lines::Line;
-use script_replies::{Reply, append_line};
+use script_words::Line;
+use script_words::{Reply, append_line};
 use std::alloc::{AllocError, Global};
 
 /// A script under way: the book that its commands are performed on, how many of its lines were refused, and

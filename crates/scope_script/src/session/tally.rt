@@ -1,7 +1,7 @@
 ghost use Rattle.std.specs.Prelude.{◌≡◌};
 ghost use Rattle.scope_script.specs.Tallies.{is_refused, no_refusals, one_more, with_bad_word, with_reply};
 
-use script_replies::Reply;
+use script_words::Reply;
 
 /// How many lines of a script were refused.
 #[derive(Clone, Copy, Debug, PartialEq, Eq)]

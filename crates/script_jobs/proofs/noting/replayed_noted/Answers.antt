@@ -3,7 +3,7 @@ use Rattle.std.proofs.Common.{◌∙◌, ap, subst, ℕ, List}
 use Rattle.std.specs.Io.KnownBytes.{Appends}
 use Rattle.scope_script.specs.Sessions.{replies_of}
 use Rattle.scope_script.specs.Tallies.{tally_of_script}
-use Rattle.script_notes.specs.Notes.{notes_text}
+use Rattle.script_jobs.specs.Notes.{notes_text}
 use Rattle.script_jobs.proofs.noting.replayed_noted.Goals as goal
 
 pub returns-in-Ok-run_text-clause-ok : goal.returns-in-Ok-run_text-clause-ok

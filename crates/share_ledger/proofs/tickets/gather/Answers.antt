@@ -1,5 +1,5 @@
 use Rattle.std.proofs.Common.{arith}
-use Rattle.realm_steps.specs.Tickets.{given_in, started_in, finished_in}
+use Rattle.share_ledger.specs.Tickets.{given_in, started_in, finished_in}
 use Rattle.share_ledger.specs.Values.{TicketValue}
 use Rattle.share_ledger.proofs.Sums.{sum_bounded, one_at_most}
 use Rattle.share_ledger.proofs.tickets.gather.Goals as goal

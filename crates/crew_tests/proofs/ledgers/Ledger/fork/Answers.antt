@@ -1,6 +1,6 @@
 use Rattle.std.proofs.Common.{refl, ap, arith}
 use Rattle.scope_rules.specs.declared.types.events.Event.TheVariants.{Fork}
-use Rattle.realm_steps.specs.Steps.{history_of}
+use Rattle.share_ledger.specs.Steps.{history_of}
 use Rattle.share_ledger.specs.Values.{OwnerValue}
 use Rattle.crew_tests.proofs.Plain.{plain_next, uncancelled}
 use Rattle.crew_tests.proofs.ledgers.Ledger.fork.Goals as goal

@@ -1,5 +1,5 @@
 use Rattle.std.proofs.Common.{ap, ◌∙◌}
-use Rattle.realm_steps.specs.Steps.{history_of}
+use Rattle.share_ledger.specs.Steps.{history_of}
 use Rattle.share_ledger.specs.Values.{KeeperValue, OwnerValue}
 use Rattle.scope_rules.specs.History.{tasks, opened_count}
 use Rattle.crew_tests.proofs.ledgers.Ledger.new.Goals as goal

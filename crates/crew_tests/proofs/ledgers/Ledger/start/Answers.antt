@@ -1,7 +1,7 @@
 use Rattle.std.proofs.Common.{refl, ap, ◌∙◌, arith}
 use Rattle.scope_rules.specs.declared.types.events.Event.TheVariants.{Start}
-use Rattle.realm_steps.specs.declared.steps.RealmStep.TheVariants.{Happened}
-use Rattle.realm_steps.specs.Tickets.{end_in}
+use Rattle.share_ledger.specs.declared.steps.RealmStep.TheVariants.{Happened}
+use Rattle.share_ledger.specs.Tickets.{end_in}
 use Rattle.share_ledger.specs.Values.{TicketValue}
 use Rattle.crew_tests.proofs.Plain.{plain_next, unended_next}
 use Rattle.crew_tests.proofs.ledgers.Ledger.start.Goals as goal

@@ -2,7 +2,7 @@ use Rattle.std.proofs.Common.{ap, subst}
 use Rattle.std.specs.Prelude.{IfOk, IfErr}
 use Rattle.share_ledger.specs.Values.{OwnerValue}
 use Rattle.realm_core.specs.Calls.{SeesMore}
-use Rattle.realm_close.specs.Closes.{Begins}
+use Rattle.realm_core.specs.Closes.{Begins}
 use Rattle.job_runner.specs.Reports.{EndsOwn, Held}
 use Rattle.job_runner.proofs.Reported.{comes_here, held_why}
 use Rattle.job_runner.proofs.contexts.TaskCtx.close_scope.Goals as goal

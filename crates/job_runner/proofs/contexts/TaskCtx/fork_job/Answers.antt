@@ -1,7 +1,7 @@
 use Rattle.std.proofs.Common.{ap}
 use Rattle.scope_rules.specs.declared.types.answers.ForkReply.TheVariants.{Thread}
 use Rattle.scope_rules.specs.declared.types.events.Event.TheVariants.{Fork}
-use Rattle.realm_steps.specs.declared.steps.RealmStep.TheVariants.{Happened}
+use Rattle.share_ledger.specs.declared.steps.RealmStep.TheVariants.{Happened}
 use Rattle.realm_core.specs.Calls.{Accepted, SeesMore}
 use Rattle.share_ledger.specs.Values.{TicketValue}
 use Rattle.job_runner.specs.Forks.{reply_there, why_alone}

@@ -1,6 +1,6 @@
 use Rattle.std.proofs.Common.{subst}
 use Rattle.scope_rules.specs.declared.types.events.Event.TheVariants.{Reject}
-use Rattle.realm_steps.specs.declared.steps.RealmStep.TheVariants.{Happened}
+use Rattle.share_ledger.specs.declared.steps.RealmStep.TheVariants.{Happened}
 use Rattle.share_ledger.specs.Values.{OwnerValue, TicketValue}
 use Rattle.realm_core.specs.Calls.{Added}
 use Rattle.job_runner.proofs.contexts.TaskCtx.start_thread.Goals as goal

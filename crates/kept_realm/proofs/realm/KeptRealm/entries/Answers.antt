@@ -5,9 +5,9 @@ use Rattle.std.specs.List.{filter_map}
 use Rattle.scope_rules.specs.Replies.{Realm}
 use Rattle.scope_rules.proofs.NewScopes.{scope_passed}
 use Rattle.scope_log.specs.Log.{entry_at}
-use Rattle.scope_trails.specs.TrailsOf.{AreTrailsOf}
-use Rattle.scope_trails.proofs.Projected.{each_said}
-use Rattle.scope_trails.proofs.Trailed.{opened_trail}
+use Rattle.scope_journal.specs.TrailsOf.{AreTrailsOf}
+use Rattle.scope_journal.proofs.Projected.{each_said}
+use Rattle.scope_journal.proofs.Trailed.{opened_trail}
 use Rattle.kept_realm.proofs.Said.{entries_made, made_small}
 use Rattle.kept_realm.proofs.realm.KeptRealm.entries.Goals as goal
 

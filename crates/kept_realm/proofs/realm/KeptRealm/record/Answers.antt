@@ -4,8 +4,8 @@ use Rattle.scope_rules.specs.Replies.{Realm}
 use Rattle.scope_rules.specs.Legal.{Accepts}
 use Rattle.scope_kept.specs.KeptTables.{IsKeptOf}
 use Rattle.scope_rows.specs.Agreement.{AreRowsOf}
-use Rattle.scope_trails.specs.TrailsOf.{AreTrailsOf}
-use Rattle.scope_trails.proofs.EventRoom.{free_room}
+use Rattle.scope_journal.specs.TrailsOf.{AreTrailsOf}
+use Rattle.scope_journal.proofs.EventRoom.{free_room}
 use Rattle.kept_realm.proofs.Ready.{ready_at}
 use Rattle.kept_realm.proofs.Told.{can_tell, free_opens_none, of_next}
 use Rattle.kept_realm.proofs.realm.KeptRealm.record.Goals as goal

@@ -6,7 +6,7 @@ use Rattle.scope_rules.specs.Load.{load, weight}
 use Rattle.scope_kept.specs.Events.{HasFollowedAt}
 use Rattle.scope_kept.specs.KeptTables.{IsKeptOf}
 use Rattle.scope_rows.specs.Agreement.{AreRowsOf}
-use Rattle.scope_trails.specs.TrailsOf.{AreTrailsOf}
+use Rattle.scope_journal.specs.TrailsOf.{AreTrailsOf}
 use Rattle.kept_realm.specs.Telling.{HasRoomFor}
 use Rattle.kept_realm.proofs.Ready.{ready_at}
 use Rattle.kept_realm.proofs.Told.{can_tell, made_room, on_ok, of_next}

@@ -1,7 +1,7 @@
 -- A realm that begins with a base has no events, and so no places of them.
 use Rattle.std.proofs.Common.{sym}
 use Rattle.scope_kept.specs.KeptTables.{IsKeptOf}
-use Rattle.scope_trails.specs.TrailsOf.{AreTrailsOf}
+use Rattle.scope_journal.specs.TrailsOf.{AreTrailsOf}
 use Rattle.kept_realm.proofs.Told.{at_base}
 use Rattle.kept_realm.proofs.realm.KeptRealm.with_base.Goals as goal
 

@@ -7,10 +7,10 @@ use Rattle.scope_rules.specs.Scopes.{outer}
 use Rattle.scope_rules.specs.Search.{earliest}
 use Rattle.scope_rules.specs.Chains.{chain_by, cut_by}
 use Rattle.scope_rules.specs.Cancels.{is_cancelled, cut, own, own_at}
-use Rattle.realm_steps.specs.declared.steps.RealmStep.{RealmStep}
-use Rattle.realm_steps.specs.declared.steps.RealmStep.TheVariants.{Happened}
-use Rattle.realm_steps.specs.Steps.{history_of}
-use Rattle.realm_steps.specs.Tickets.{finished_in, end_in}
+use Rattle.share_ledger.specs.declared.steps.RealmStep.{RealmStep}
+use Rattle.share_ledger.specs.declared.steps.RealmStep.TheVariants.{Happened}
+use Rattle.share_ledger.specs.Steps.{history_of}
+use Rattle.share_ledger.specs.Tickets.{finished_in, end_in}
 use Rattle.share_ledger.specs.Values.{KeeperValue, TicketValue}
 use Rattle.part_tests.proofs.Fresh.{first_is_next, first_is_live}
 use Rattle.part_tests.proofs.parts.shares.two_ended.Goals as goal

@@ -2,7 +2,7 @@
 use Rattle.std.proofs.Common.{ℕ, Bool, refl, sym, subst}
 use Rattle.scope_rules.specs.Replies.{recorded}
 use Rattle.scope_rules.specs.declared.types.events.Event.TheVariants.{BeginClose}
-use Rattle.realm_steps.specs.declared.steps.RealmStep.TheVariants.{Happened}
+use Rattle.share_ledger.specs.declared.steps.RealmStep.TheVariants.{Happened}
 use Rattle.realm_core.specs.Calls.{DidPerform}
 use Rattle.realm_core.specs.Telling.{Stepped}
 use Rattle.realm_core.proofs.ToldCalls.{records_surely, recorded_told}

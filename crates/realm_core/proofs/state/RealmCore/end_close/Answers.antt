@@ -1,14 +1,14 @@
 -- Where the close can end, it does, and nothing refuses it.
 use Rattle.std.proofs.Common.{◌≡◌, ℕ, refl, sym, ap, subst, ◌∙◌, List, Ok}
 use Rattle.scope_rules.specs.declared.types.events.Event.TheVariants.{EndClose}
-use Rattle.realm_steps.specs.declared.steps.RealmStep.{RealmStep}
-use Rattle.realm_steps.specs.Steps.{history_of}
-use Rattle.realm_steps.proofs.Histories.{legal_history}
+use Rattle.share_ledger.specs.declared.steps.RealmStep.{RealmStep}
+use Rattle.share_ledger.specs.Steps.{history_of}
+use Rattle.share_ledger.proofs.Histories.{legal_history}
 use Rattle.scope_checks.specs.declared.told.Told.{Told}
 use Rattle.realm_core.specs.Calls.{DidPerform}
 use Rattle.realm_core.specs.Cores.{CoreValue}
 use Rattle.realm_core.specs.Endings.{CanEnd}
-use Rattle.realm_core.proofs.Ended.{end_passes}
+use Rattle.realm_core.proofs.EndPasses.{end_passes}
 use Rattle.realm_core.proofs.Performed.{refused_surely, closed_told}
 use Rattle.realm_core.proofs.state.RealmCore.end_close.Goals as goal
 

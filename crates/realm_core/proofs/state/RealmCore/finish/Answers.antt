@@ -4,8 +4,8 @@ use Rattle.scope_rules.specs.declared.types.events.Event.TheVariants.{Finish}
 use Rattle.scope_rules.specs.History.{History}
 use Rattle.scope_rules.specs.Scopes.{innermost}
 use Rattle.scope_rules.specs.Legal.{Accepts}
-use Rattle.realm_steps.specs.declared.steps.RealmStep.TheVariants.{Happened}
-use Rattle.realm_steps.specs.declared.steps.Holder.TheVariants.{TokenOf, TicketOf}
+use Rattle.share_ledger.specs.declared.steps.RealmStep.TheVariants.{Happened}
+use Rattle.share_ledger.specs.declared.steps.Holder.TheVariants.{TokenOf, TicketOf}
 use Rattle.share_ledger.specs.Values.{TicketValue}
 use Rattle.realm_core.proofs.Steps.{looks_now, adds_now}
 use Rattle.realm_core.proofs.Performed.{answered, answers_so, refused_by, refuses_now}

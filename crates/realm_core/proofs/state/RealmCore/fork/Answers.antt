@@ -2,7 +2,7 @@
 use Rattle.std.proofs.Common.{◌≡◌, refl, ap, Ok}
 use Rattle.scope_rules.specs.declared.types.answers.ForkReply.TheVariants.{Thread, Never}
 use Rattle.scope_rules.specs.declared.types.events.Event.TheVariants.{Fork}
-use Rattle.realm_steps.specs.declared.steps.RealmStep.TheVariants.{Happened}
+use Rattle.share_ledger.specs.declared.steps.RealmStep.TheVariants.{Happened}
 use Rattle.scope_checks.specs.declared.told.Told.TheVariants.{Task}
 use Rattle.share_ledger.specs.Values.{TicketValue}
 use Rattle.realm_core.proofs.Performed.{tied_performed, performed_now, fork_told}

@@ -1,6 +1,6 @@
 use Rattle.std.proofs.Common.{refl}
 use Rattle.scope_rules.specs.declared.types.events.Event.TheVariants.{Join}
-use Rattle.realm_steps.specs.declared.steps.RealmStep.TheVariants.{Happened}
+use Rattle.share_ledger.specs.declared.steps.RealmStep.TheVariants.{Happened}
 use Rattle.realm_core.proofs.Performed.{answers_so, tied_after}
 use Rattle.realm_core.proofs.BareJoins.{joins_bare_now, outcome_passes, refused_bare_now}
 use Rattle.realm_core.proofs.state.RealmCore.join_bare.Goals as goal

@@ -1,5 +1,5 @@
 use Rattle.std.proofs.Common.{refl}
-use Rattle.realm_steps.specs.declared.steps.RealmStep.TheVariants.{Retirement}
+use Rattle.share_ledger.specs.declared.steps.RealmStep.TheVariants.{Retirement}
 use Rattle.scope_rules.specs.Replies.{base_of}
 use Rattle.realm_core.proofs.Performed.{tied_after, does_now, retired_main, retire_passing, base_seen}
 use Rattle.realm_core.proofs.state.RealmCore.retire.Goals as goal

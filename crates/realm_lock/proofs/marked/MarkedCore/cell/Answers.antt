@@ -2,7 +2,7 @@ use Rattle.std.proofs.Common.{◌≡◌, ◌-◌, Ok, arith, sym, ap, ◌∙◌,
 use Rattle.scope_rules.specs.History.{History}
 use Rattle.scope_rules.specs.Checks.{scope_check}
 use Rattle.scope_rules.specs.Replies.{Realm}
-use Rattle.realm_steps.specs.Steps.{history_of}
+use Rattle.share_ledger.specs.Steps.{history_of}
 use Rattle.realm_core.specs.Cores.{CoreValue}
 use Rattle.realm_lock.proofs.Behind.{scope_place, cell_there}
 use Rattle.realm_lock.proofs.marked.MarkedCore.cell.Goals as goal

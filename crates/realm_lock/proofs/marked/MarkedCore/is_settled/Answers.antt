@@ -1,4 +1,4 @@
-use Rattle.realm_close.proofs.Kept.{begun_looked}
+use Rattle.realm_core.proofs.Kept.{begun_looked}
 use Rattle.realm_lock.proofs.marked.MarkedCore.is_settled.Goals as goal
 
 pub returns-clause-begun : goal.returns-clause-begun

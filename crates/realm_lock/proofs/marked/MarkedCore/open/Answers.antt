@@ -7,7 +7,7 @@ use Rattle.realm_core.specs.Calls.{DidPerform}
 use Rattle.join_rules.specs.Joiners.{policy_of}
 use Rattle.realm_core.proofs.ToldCalls.{open_told}
 use Rattle.scope_checks.specs.Telling.{records}
-use Rattle.realm_steps.specs.declared.steps.RealmStep.TheVariants.{Happened}
+use Rattle.share_ledger.specs.declared.steps.RealmStep.TheVariants.{Happened}
 use Rattle.realm_core.specs.Telling.{Stepped}
 use Rattle.realm_lock.proofs.Behind.{behind_open, same_marks}
 use Rattle.realm_lock.proofs.marked.MarkedCore.open.Goals as goal

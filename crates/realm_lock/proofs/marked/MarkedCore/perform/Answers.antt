@@ -1,5 +1,5 @@
 use Rattle.scope_checks.specs.Telling.{records}
-use Rattle.realm_steps.specs.Steps.{step_by}
+use Rattle.share_ledger.specs.Steps.{step_by}
 use Rattle.realm_lock.proofs.Behind.{behind_stepped, step_keeps}
 use Rattle.realm_lock.proofs.marked.MarkedCore.perform.Goals as goal
 

@@ -5,7 +5,7 @@ use Rattle.scope_rules.specs.declared.types.joiners.Policy.{Policy}
 use Rattle.scope_rules.specs.declared.types.refusals.Refusal.{Refusal}
 use Rattle.scope_rules.specs.Table.{check_of}
 use Rattle.scope_rules.specs.Replies.{next_scope}
-use Rattle.realm_steps.specs.declared.steps.RealmStep.TheVariants.{Happened}
+use Rattle.share_ledger.specs.declared.steps.RealmStep.TheVariants.{Happened}
 use Rattle.realm_core.specs.Calls.{DoesOrMemory, history_seen}
 use Rattle.realm_lock.proofs.NoRoom.{no_room}
 use Rattle.realm_lock.proofs.marked.MarkedCore.refusal_without_room.Goals as goal

@@ -1,6 +1,6 @@
 use Rattle.std.proofs.Common.{true, [], ◌∷◌, ◌++◌, refl, ap, sym, ◌∙◌}
 use Rattle.scope_rules.specs.declared.types.events.Event.TheVariants.{Reject}
-use Rattle.realm_steps.specs.declared.steps.RealmStep.TheVariants.{Happened}
+use Rattle.share_ledger.specs.declared.steps.RealmStep.TheVariants.{Happened}
 use Rattle.realm_core.specs.Cores.{CoreValue}
 use Rattle.realm_core.specs.Telling.{stepping}
 use Rattle.realm_lock.proofs.Behind.{behind_stepped}

@@ -1,9 +1,9 @@
 use Rattle.std.proofs.Common.{Result, refl, sym, subst}
 use Rattle.std.specs.Prelude.{MatchResult}
 use Rattle.scope_rules.specs.declared.types.refusals.Refusal.{Refusal}
-use Rattle.realm_steps.specs.declared.steps.Ask.TheVariants.{Tick}
-use Rattle.realm_steps.specs.declared.steps.RealmStep.TheVariants.{Asked}
-use Rattle.realm_steps.specs.Steps.{history_of}
+use Rattle.share_ledger.specs.declared.steps.Ask.TheVariants.{Tick}
+use Rattle.share_ledger.specs.declared.steps.RealmStep.TheVariants.{Asked}
+use Rattle.share_ledger.specs.Steps.{history_of}
 use Rattle.realm_core.specs.Cores.{CoreValue}
 use Rattle.scope_checks.specs.Telling.{records}
 use Rattle.realm_lock.specs.Waits.{HasCome, Ticks, TickRefused}

@@ -1,4 +1,4 @@
-use Rattle.realm_close.specs.Closes.{ClosesWith, StaysOpen}
+use Rattle.realm_core.specs.Closes.{ClosesWith, StaysOpen}
 use Rattle.realm_lock.proofs.Waits.{ok_after, err_after}
 use Rattle.realm_lock.proofs.realm.Realm.close_by.Goals as goal
 

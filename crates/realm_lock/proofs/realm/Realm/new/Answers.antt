@@ -4,7 +4,7 @@ use Rattle.scope_rules.specs.Search.{latest}
 use Rattle.scope_rules.specs.Scopes.{innermost}
 use Rattle.share_ledger.specs.Values.{OwnerValue}
 use Rattle.realm_core.specs.Calls.{history_seen}
-use Rattle.realm_steps.specs.Steps.{history_of}
+use Rattle.share_ledger.specs.Steps.{history_of}
 use Rattle.realm_lock.proofs.realm.Realm.new.Goals as goal
 
 no_scope_yet : (a : ℕ) → innermost (history_of []) a ≡ None

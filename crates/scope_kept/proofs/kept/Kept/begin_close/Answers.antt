@@ -1,8 +1,8 @@
 use Rattle.std.proofs.Common.{refl, sym, subst, ◌∙◌}
 use Rattle.scope_rules.specs.declared.types.events.Event.TheVariants.{BeginClose}
 use Rattle.scope_rows.proofs.WantsMet.{can_begin_close}
-use Rattle.scope_envs.proofs.Steps.{envs_stay}
-use Rattle.scope_outcomes.proofs.ForkSteps.{forks_stay}
+use Rattle.scoped_env.proofs.Steps.{envs_stay}
+use Rattle.scope_kept.proofs.ForkSteps.{forks_stay}
 use Rattle.scope_rows.proofs.DeadlineSteps.{deadlines_stay}
 use Rattle.scope_kept.specs.KeptTables.{KeptTable}
 use Rattle.scope_kept.specs.Events.{IsReadyAt, HasFollowedAt}

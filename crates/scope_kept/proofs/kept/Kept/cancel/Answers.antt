@@ -1,9 +1,9 @@
 use Rattle.std.proofs.Common.{refl, ap, sym, subst, ◌∙◌}
 use Rattle.scope_rules.specs.declared.types.answers.CauseKind.TheVariants.{Call}
 use Rattle.scope_rules.specs.declared.types.events.Event.TheVariants.{Cancel}
-use Rattle.scope_cuts.specs.CutTables.{CutTable, cancelled}
-use Rattle.scope_cuts.proofs.CancelSteps.{cancelled_next}
-use Rattle.scope_cuts.proofs.Readings.{has_row}
+use Rattle.scope_kept.specs.CutTables.{CutTable, cancelled}
+use Rattle.scope_kept.proofs.CancelSteps.{cancelled_next}
+use Rattle.scope_kept.proofs.CutReadings.{has_row}
 use Rattle.scope_rows.proofs.Keeping.{rows_cancelled}
 use Rattle.scope_rows.proofs.DeadlineSteps.{deadlines_stay}
 use Rattle.scope_kept.specs.KeptTables.{KeptTable}

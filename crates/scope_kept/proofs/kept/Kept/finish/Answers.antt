@@ -3,8 +3,8 @@ use Rattle.scope_rules.specs.declared.types.events.Event.TheVariants.{Finish}
 use Rattle.scope_rules.specs.Cancels.{is_cancelled}
 use Rattle.scope_rows.specs.Table.{scope_of}
 use Rattle.scope_rows.proofs.WantsMet.{can_finish}
-use Rattle.scope_envs.proofs.Steps.{envs_stay}
-use Rattle.scope_outcomes.proofs.ForkSteps.{forks_stay}
+use Rattle.scoped_env.proofs.Steps.{envs_stay}
+use Rattle.scope_kept.proofs.ForkSteps.{forks_stay}
 use Rattle.scope_rows.proofs.DeadlineSteps.{deadlines_stay}
 use Rattle.scope_kept.specs.KeptTables.{KeptTable, IsKeptOf}
 use Rattle.scope_kept.specs.Events.{IsReadyAt, HasFollowedAt}

@@ -2,11 +2,11 @@ use Rattle.std.proofs.Common.{◌+◌, refl, ap, sym, subst, arith}
 use Rattle.scope_rules.specs.declared.types.events.Event.TheVariants.{Fork}
 use Rattle.scope_rows.proofs.Paid.{fork_place}
 use Rattle.scope_rows.proofs.WantsMet.{can_fork}
-use Rattle.scope_cuts.specs.CutTables.{HasRow}
-use Rattle.scope_cuts.specs.CutsOf.{AreCutsOf}
-use Rattle.scope_cuts.proofs.EventSteps.{cuts_stay}
-use Rattle.scope_envs.specs.Agreement.{AreEnvsOf}
-use Rattle.scope_outcomes.proofs.Held.{still_has_forks}
+use Rattle.scope_kept.specs.CutTables.{HasRow}
+use Rattle.scope_kept.specs.CutsOf.{AreCutsOf}
+use Rattle.scope_kept.proofs.EventSteps.{cuts_stay}
+use Rattle.scoped_env.specs.Agreement.{AreEnvsOf}
+use Rattle.scope_kept.proofs.Held.{still_has_forks}
 use Rattle.scope_rows.proofs.DeadlineSteps.{deadlines_stay}
 use Rattle.scope_kept.specs.KeptTables.{KeptTable, IsKeptOf, HasRoomForEnds, HasRoomToFork}
 use Rattle.scope_kept.specs.Events.{IsReadyAt, HasFollowedAt}

@@ -1,7 +1,7 @@
 use Rattle.std.proofs.Common.{refl, sym, subst, ◌∙◌}
 use Rattle.scope_rules.specs.declared.types.events.Event.TheVariants.{Open}
 use Rattle.scope_rows.proofs.WantsMet.{can_open}
-use Rattle.scope_envs.proofs.Steps.{envs_stay}
+use Rattle.scoped_env.proofs.Steps.{envs_stay}
 use Rattle.scope_kept.specs.KeptTables.{KeptTable, IsKeptOf}
 use Rattle.scope_kept.specs.Events.{IsReadyAt, HasFollowedAt}
 use Rattle.scope_kept.proofs.Following.{alike_next_at}

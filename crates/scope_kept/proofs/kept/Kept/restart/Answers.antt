@@ -2,7 +2,7 @@ use Rattle.std.proofs.Common.{◌≡◌, [], ap, sym, subst, ◌∙◌, arith}
 use Rattle.scope_rules.specs.Origin.{Origin}
 use Rattle.scope_rules.specs.History.{tasks}
 use Rattle.scope_rules.specs.Replies.{base_of}
-use Rattle.scope_envs.specs.Agreement.{AreEnvsOf}
+use Rattle.scoped_env.specs.Agreement.{AreEnvsOf}
 use Rattle.scope_kept.specs.KeptTables.{KeptTable}
 use Rattle.scope_kept.proofs.Alike.{alike}
 use Rattle.scope_kept.proofs.kept.Kept.restart.Goals as goal

@@ -1,7 +1,7 @@
 use Rattle.std.proofs.Common.{refl}
 use Rattle.join_rules.specs.Joiners.{policy_of}
 use Rattle.scope_rules.specs.declared.types.events.Event.TheVariants as event
-use Rattle.script_replies.specs.declared.reply.Reply.TheVariants as reply
+use Rattle.script_words.specs.declared.reply.Reply.TheVariants as reply
 use Rattle.scope_script.proofs.Answered.{adds}
 use Rattle.scope_script.proofs.performing.commands.open_by.Goals as goal
 

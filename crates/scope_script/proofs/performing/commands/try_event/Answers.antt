@@ -1,6 +1,6 @@
 use Rattle.std.proofs.Common.{refl}
 use Rattle.scope_rules.specs.declared.types.events.Event.TheVariants as event
-use Rattle.script_replies.specs.declared.reply.Reply.TheVariants as reply
+use Rattle.script_words.specs.declared.reply.Reply.TheVariants as reply
 use Rattle.scope_script.specs.Replying.{always}
 use Rattle.scope_script.proofs.Answered.{adds, adds_value, adds_once, without_memory}
 use Rattle.scope_script.proofs.performing.commands.try_event.Goals as goal

@@ -1,5 +1,5 @@
 use Rattle.std.proofs.Common.{◌≡◌, false, ap, sym, ◌∙◌}
-use Rattle.realm_steps.specs.Tickets.{started_in}
+use Rattle.share_ledger.specs.Tickets.{started_in}
 use Rattle.share_ledger.specs.Values.{TicketValue}
 use Rattle.share_ledger.proofs.Telling.{started_ticket, may_start}
 use Rattle.share_ledger.proofs.keeper.Keeper.start.Goals as goal

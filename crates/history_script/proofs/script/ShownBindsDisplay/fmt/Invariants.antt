@@ -1,9 +1,0 @@
--- The lines before the index were written.
-use Rattle.std.proofs.Common.{take}
-use Rattle.std.specs.Fmt.{HasWritten, IsPlainFormatter}
-use Rattle.history_script.specs.Script.{binds_text}
-use Rattle.history_script.proofs.script.ShownBindsDisplay.fmt.Given as goal
-
-abbrev pub invariant-loop-pair : goal.invariant-loop-pair
-invariant-loop-pair g l =
-    IsPlainFormatter l.fn.f → HasWritten g.W.Write.write_str_gives l.fn.f (binds_text (take l.pair-index l.self.0.now)) l.f

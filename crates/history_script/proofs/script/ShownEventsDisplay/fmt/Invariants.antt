@@ -1,9 +1,0 @@
--- The lines before the index were written.
-use Rattle.std.proofs.Common.{take}
-use Rattle.std.specs.Fmt.{HasWritten, IsPlainFormatter}
-use Rattle.history_script.specs.Script.{events_text}
-use Rattle.history_script.proofs.script.ShownEventsDisplay.fmt.Given as goal
-
-abbrev pub invariant-loop-event : goal.invariant-loop-event
-invariant-loop-event g l =
-    IsPlainFormatter l.fn.f → HasWritten g.W.Write.write_str_gives l.fn.f (events_text l.self.base.now (take l.event-index l.self.events.now)) l.f

@@ -1,8 +1,0 @@
--- The events before the index fit.
-use Rattle.std.proofs.Common.{◌≡◌, ℕ, ◌<◌, Some, slice_get}
-use Rattle.scope_rules.specs.declared.types.events.Event.{Event}
-use Rattle.journal_laws.specs.Journals.{Fits}
-use Rattle.journal_laws.proofs.fitting.events_fit.Given as goal
-
-abbrev pub invariant-loop-event : goal.invariant-loop-event
-invariant-loop-event l = (i : ℕ) (e : Event) → i < l.event-index → slice_get l.events i ≡ Some e → Fits e

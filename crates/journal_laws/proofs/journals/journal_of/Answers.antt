@@ -1,6 +1,0 @@
-use Rattle.std.proofs.Common.{string_bytes}
-use Rattle.journal_laws.proofs.Running.{text_runs}
-use Rattle.journal_laws.proofs.journals.journal_of.Goals as goal
-
-pub returns-clause-runs : goal.returns-clause-runs
-returns-clause-runs c = text_runs string_bytes c.args.realm.now c.base.result.now c.events-events.result.now c.script_of.result c.limits-legal.ensures.legal c.base.ensures c.events-events.ensures c.events_fit.ensures c.script_of.ensures

@@ -1,9 +1,0 @@
--- What was passed is settled.
-use Rattle.realm_close.proofs.Settling.{AreMet, left}
-use Rattle.realm_close.proofs.waiting.unsettled.Given as goal
-
-abbrev pub invariant-loop-next : goal.invariant-loop-next
-invariant-loop-next l = AreMet l.realm.history l.scope l.next
-
-abbrev pub decreases-loop-next : goal.decreases-loop-next
-decreases-loop-next l = left l.realm.history l.next

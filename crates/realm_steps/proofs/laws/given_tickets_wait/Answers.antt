@@ -1,5 +1,0 @@
-use Rattle.realm_steps.proofs.Waits.{given_ticket_waits}
-use Rattle.realm_steps.proofs.laws.given_tickets_wait.Goals as goal
-
-pub returns : goal.returns
-returns c = given_ticket_waits

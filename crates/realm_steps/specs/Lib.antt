@@ -1,4 +1,0 @@
-pub mod Steps
-pub mod Holders
-pub mod Tickets
-pub mod StepLaws

@@ -1,5 +1,0 @@
-pub mod CutTables
-pub mod CutsOf
-pub mod Coming
-pub mod Lent
-pub mod Lending

@@ -1,6 +1,0 @@
-pub mod ListSteps
-pub mod Unforked
-pub mod Sights
-pub mod Held
-pub mod Steps
-pub mod Beginnings

@@ -1,2 +1,0 @@
-pub mod EnvTable
-pub mod Agreement

@@ -1,0 +1,32 @@
+-- A legal history has no more events than its load pays for.
+use Rattle.std.proofs.Common.{◌+◌, ◌≤◌, [], ◌∷◌, length, arith, length-append}
+use Rattle.scope_rules.specs.declared.types.capacity.Limits.{Limits}
+use Rattle.scope_rules.specs.declared.types.events.Event.{Event}
+use Rattle.scope_rules.specs.Origin.{Origin}
+use Rattle.scope_rules.specs.History.{History, followed}
+use Rattle.scope_rules.specs.Legal.{Accepts, Legal}
+use Rattle.scope_rules.specs.Load.{load}
+use Rattle.scope_rules.specs.Owed.{missing, owed}
+use Rattle.scope_rules.proofs.OneEventMore.{along}
+use Rattle.scope_rules.proofs.Owing.{owed_event}
+use Rattle.scope_rules.proofs.Pushing.{load_push}
+use Rattle.scope_journal.specs.TrailLaws.{EventsFindRoom, FreeEventsFindRoom}
+
+-- the load pays for the base's pairs, the events, and what may still come at no cost
+record IsPaid (h : History) : Type 0 where
+  pub covered : length h.base.binds + (length h.events + owed h) ≤ load h
+
+paid_base : (b : Origin) → IsPaid (record { base = b; events = [] })
+unfolding load owed missing
+paid_base b = record { covered = omega arith }
+
+paid_more : (L : Limits) (h : History) (e : Event) → Legal L h → Accepts L h e → IsPaid h → IsPaid (followed h e)
+paid_more L h e legal ok paid = record { covered = omega (arith, paid.covered, owed_event L h e ok, load_push h e, length-append h.events (e ∷ [])) }
+
+pub events_room : EventsFindRoom
+events_room L h e t legal ok loaded are =
+    let paid = along L IsPaid paid_base (λ g x lawful passed so. paid_more L g x lawful passed so) h legal in
+    omega (arith, paid.covered, owed_event L h e ok, load_push h e, loaded, are.linked)
+
+pub free_room : FreeEventsFindRoom
+free_room h e t free are = omega (arith, are.loaded, load_push h e, free)

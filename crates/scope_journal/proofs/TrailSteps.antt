@@ -1,0 +1,210 @@
+-- How what is kept of the places of events goes on by one event.
+use Rattle.std.proofs.Common.{◌≡◌, ◌≢◌, ℕ, suc, ◌+◌, ◌<◌, ◌≤◌, Bool, true, false, Option, Some, None, List, [], ◌∷◌, ◌++◌, length, get_or, set, reverse, slice_get, refl, ap, sym, subst, ◌∙◌, arith, length-append, inl, inr}
+use Rattle.std.proofs.lemmas.Bool.{eq-eqb, ne_eqb}
+use Rattle.std.proofs.lemmas.Grind.{get_or_default_zero}
+use Rattle.std.proofs.lemmas.List.{append-nil}
+use Rattle.std.proofs.lemmas.Option.{slice_get_within, get_or_from_slice_get}
+use Rattle.scope_rules.specs.declared.types.capacity.Limits.{Limits}
+use Rattle.scope_rules.specs.declared.types.events.Event.{Event}
+use Rattle.scope_rules.specs.declared.types.events.Event.TheVariants.{Open}
+use Rattle.scope_rules.specs.declared.types.events.Options.{Options}
+use Rattle.scope_rules.specs.declared.types.joiners.Policy.{Policy}
+use Rattle.scope_rules.specs.Origin.{Origin}
+use Rattle.scope_rules.specs.History.{History, followed, scopes, is_open}
+use Rattle.scope_rules.specs.Legal.{Legal}
+use Rattle.scope_rules.specs.Load.{load}
+use Rattle.scope_rules.proofs.Owing.{count_push}
+use Rattle.scope_rows.specs.Steps.{altered}
+use Rattle.scope_rows.specs.Table.{place_of}
+use Rattle.scope_rows.proofs.Altering.{altered_length, altered_split, pushed_split, written}
+use Rattle.scope_rows.proofs.Keeping.{count_same}
+use Rattle.scope_rows.proofs.Places.{number_at, number_apart, entry_there}
+use Rattle.scope_log.specs.Log.{is_of}
+use Rattle.scope_journal.specs.Places.{scope_of_event, if_one, places_of}
+use Rattle.scope_journal.specs.TrailTable.{TrailTable, HasTrail, last_in, trail_in, trail_to, no_trails, with_open, with_last, with_event}
+use Rattle.scope_journal.specs.TrailsOf.{AreTrailsOf, IsTrailOf, HasLoadRoom}
+use Rattle.scope_journal.proofs.PlaceSteps.{is_this, event_of, places_grow, next_unplaced}
+use Rattle.scope_journal.proofs.TrailWalks.{ahead, trail_grown, trail_begins, trail_goes_on}
+
+-- ---- what is there
+
+-- the trail of a scope has the places of its events
+pub trail_there : (h : History) (t : TrailTable) (s : ℕ) → HasTrail t s → AreTrailsOf h t → trail_in t s ≡ places_of h s
+unfolding trail_in
+trail_there h t s has are = (entry_there (λ n last. IsTrailOf h n t.links last) t.before t.lasts s 0 has are.trails).places
+
+-- ---- the trail of one scope
+
+longer : (links : List ℕ) (x : ℕ) → length (links ++ x ∷ []) ≡ length links + 1
+longer links x = length-append links (x ∷ []) ∙ omega arith
+
+-- an event of another scope leaves it
+trail_stays : (h : History) (e : Event) (s : ℕ) (links : List ℕ) (x last : ℕ) → is_of h s e ≡ false → IsTrailOf h s links last → IsTrailOf (followed h e) s (links ++ x ∷ []) last
+trail_stays h e s links x last other it = record {
+  within = omega (arith, it.within, longer links x);
+  places =
+      trail_grown (suc last) links x (Some last) it.within
+      ∙ (it.places ∙ (sym (append-nil (places_of h s)) ∙ (ap (λ b. places_of h s ++ if_one b (length h.events)) (sym other) ∙ sym (places_grow h e s))));
+}
+
+-- an event of the scope goes on with it
+trail_more : (h : History) (e : Event) (s : ℕ) (links : List ℕ) (last : ℕ) → is_of h s e ≡ true → length links ≡ length h.events → IsTrailOf h s links last → IsTrailOf (followed h e) s (links ++ last ∷ []) (length links)
+trail_more h e s links last own same it = record {
+  within = omega (arith, longer links last);
+  places =
+      trail_goes_on links last it.within
+      ∙ (ap (λ ps. ps ++ length links ∷ []) it.places
+      ∙ (ap (λ n. places_of h s ++ n ∷ []) same ∙ (ap (λ b. places_of h s ++ if_one b (length h.events)) (sym own) ∙ sym (places_grow h e s))));
+}
+
+-- the first event of a scope begins it
+trail_new : (h : History) (e : Event) (s : ℕ) (links : List ℕ) → is_of h s e ≡ true → length links ≡ length h.events → places_of h s ≡ [] → IsTrailOf (followed h e) s (links ++ length links ∷ []) (length links)
+trail_new h e s links own same none = record {
+  within = omega (arith, longer links (length links));
+  places =
+      trail_begins links
+      ∙ (ap (λ n. n ∷ []) same
+      ∙ (ap (λ ps. ps ++ length h.events ∷ []) (sym none) ∙ (ap (λ b. places_of h s ++ if_one b (length h.events)) (sym own) ∙ sym (places_grow h e s))));
+}
+
+linked_more : (h : History) (e : Event) (links : List ℕ) (x : ℕ) → length links ≡ length h.events → length (links ++ x ∷ []) ≡ length (followed h e).events
+linked_more h e links x same = let events : length (h.events ++ e ∷ []) ≡ length h.events + 1 = length-append h.events (e ∷ []) ∙ omega arith in omega (arith, longer links x, events, same)
+
+-- ---- an open
+
+module _ (L : Limits) (h : History) (t : TrailTable) (a : ℕ) (policy : Policy) (options : Options) (legal : Legal L h) (are : AreTrailsOf h t) where
+  trails_opened : (i last : ℕ) → slice_get (t.lasts ++ length t.links ∷ []) i ≡ Some last → IsTrailOf (followed h (Open a policy options)) (t.before + 1 + i) (t.links ++ length t.links ∷ []) last
+  trails_opened i last at =
+      let e = Open a policy options in
+      let g = followed h e in
+      elim (pushed_split t.lasts (length t.links) i last at) [
+        | inl old ↦
+            let within = slice_get_within t.lasts i last old in
+            let apart : is_of h (t.before + 1 + i) e ≡ false = ne_eqb (scopes h + 1) (t.before + 1 + i) (λ same. absurd (omega (arith, same, within, are.numbered, are.count))) in
+            trail_stays h e (t.before + 1 + i) t.links (length t.links) last apart (are.trails i last old)
+        | inr new ↦
+            let number : scopes h + 1 ≡ t.before + 1 + i = omega (arith, new.0, are.numbered, are.count) in
+            let it = trail_new h e (scopes h + 1) t.links (eq-eqb (scopes h + 1) (scopes h + 1) refl) are.linked (next_unplaced L h legal) in
+            subst (λ s. IsTrailOf g s (t.links ++ length t.links ∷ []) last) number (subst (IsTrailOf g (scopes h + 1) (t.links ++ length t.links ∷ [])) new.1 it)
+      ]
+
+  one_opened : HasLoadRoom (followed h (Open a policy options)) t.room → AreTrailsOf (followed h (Open a policy options)) (with_open t)
+  one_opened loaded = record {
+    numbered = are.numbered;
+    linked = linked_more h (Open a policy options) t.links (length t.links) are.linked;
+    count = let pushed = count_push is_open h.events (Open a policy options) in omega (arith, longer t.lasts (length t.links), pushed, are.count);
+    trails = trails_opened;
+    loaded = loaded;
+  }
+
+-- an open begins the trail of its scope
+pub opened_agrees : (L : Limits) (h : History) (t u : TrailTable) (a : ℕ) (policy : Policy) (options : Options) → u ≡ with_open t → Legal L h → HasLoadRoom (followed h (Open a policy options)) t.room → AreTrailsOf h t → AreTrailsOf (followed h (Open a policy options)) u
+opened_agrees L h t u a policy options is legal loaded are = subst (AreTrailsOf (followed h (Open a policy options))) (sym is) (one_opened L h t a policy options legal are loaded)
+
+-- ---- another event
+
+module _ (h : History) (e : Event) (t : TrailTable) (other : is_open e ≡ false) (loaded : HasLoadRoom (followed h e) t.room) (are : AreTrailsOf h t) where
+  is_its : (scope : Option ℕ) (s : ℕ) (b : Bool) → scope_of_event h e ≡ scope → is_this scope s ≡ b → is_of h s e ≡ b
+  is_its scope s b named so = event_of h s e ∙ (ap (λ (o : Option ℕ). is_this o s) named ∙ so)
+
+  trails_told : (s : ℕ) → scope_of_event h e ≡ Some s → HasTrail t s → (i last : ℕ) → slice_get (with_event t (Some s)).lasts i ≡ Some last → IsTrailOf (followed h e) (t.before + 1 + i) (with_event t (Some s)).links last
+  trails_told s named has i last at =
+      let n = (t.before + 1) + i in
+      elim (altered_split (λ was. length t.links) t.lasts (place_of t.before s) i last at) [
+        | inl here ↦
+            let number : n ≡ s = ap (λ j. (t.before + 1) + j) here.0 ∙ number_at t.before s has.0 in
+            let was : here.1.was ≡ last_in t s = sym (get_or_from_slice_get t.lasts i here.1.was 0 here.1.at) ∙ ap (λ j. get_or t.lasts j 0) here.0 in
+            let it = trail_more h e n t.links here.1.was (is_its (Some s) n true named (eq-eqb s n (sym number))) are.linked (are.trails i here.1.was here.1.at) in
+            subst (IsTrailOf (followed h e) n (with_event t (Some s)).links) here.1.is (subst (λ x. IsTrailOf (followed h e) n (t.links ++ x ∷ []) (length t.links)) was it)
+        | inr there ↦
+            let apart : s ≢ n = λ same. number_apart t.before i s has.0 there.0 (sym same) in
+            trail_stays h e n t.links (last_in t s) last (is_its (Some s) n false named (ne_eqb s n apart)) (are.trails i last there.1)
+      ]
+
+  one_told : (scope : Option ℕ) → scope_of_event h e ≡ scope → ((s : ℕ) → scope ≡ Some s → HasTrail t s) → AreTrailsOf (followed h e) (with_event t scope)
+  one_told (Some s) named has = record {
+    numbered = are.numbered;
+    linked = linked_more h e t.links (last_in t s) are.linked;
+    count = altered_length (λ was. length t.links) t.lasts (place_of t.before s) ∙ (are.count ∙ sym (count_same is_open h e other));
+    trails = trails_told s named (has s refl);
+    loaded = loaded;
+  }
+  one_told None named has = record {
+    numbered = are.numbered;
+    linked = linked_more h e t.links (length t.links) are.linked;
+    count = are.count ∙ sym (count_same is_open h e other);
+    trails = λ i last at. trail_stays h e (t.before + 1 + i) t.links (length t.links) last (is_its None (t.before + 1 + i) false named refl) (are.trails i last at);
+    loaded = loaded;
+  }
+
+-- an event goes on with the trail of its scope, if it has one
+pub told_agrees : (h : History) (e : Event) (t u : TrailTable) (scope : Option ℕ) → u ≡ with_event t scope → ((s : ℕ) → scope ≡ Some s → HasTrail t s) → is_open e ≡ false → scope_of_event h e ≡ scope → HasLoadRoom (followed h e) t.room → AreTrailsOf h t
+    → AreTrailsOf (followed h e) u
+told_agrees h e t u scope is has other named loaded are = subst (AreTrailsOf (followed h e)) (sym is) (one_told h e t other loaded are scope named has)
+
+-- ---- room
+
+-- more room leaves the trails
+pub roomy_agrees : (h : History) (t u : TrailTable) → u.before ≡ t.before → u.links ≡ t.links → u.lasts ≡ t.lasts → t.room ≤ u.room → AreTrailsOf h t → AreTrailsOf h u
+roomy_agrees h t u before links lasts room are = record {
+  numbered = before ∙ are.numbered;
+  linked = ap length links ∙ are.linked;
+  count = ap length lasts ∙ are.count;
+  trails = λ i last at.
+      let it = are.trails i last (ap (λ xs. slice_get xs i) (sym lasts) ∙ at) in
+      subst (λ xs. IsTrailOf h (u.before + 1 + i) xs last) (sym links) (subst (λ n. IsTrailOf h (n + 1 + i) t.links last) (sym before) it);
+  loaded = omega (arith, are.loaded, room);
+}
+
+-- a realm begins with no trails
+pub begins : (before : ℕ) (b : Origin) (t : TrailTable) → t ≡ no_trails before → b.scopes ≡ before → AreTrailsOf (record { base = b; events = [] }) t
+unfolding load
+begins before b t is scopes =
+    subst (AreTrailsOf (record { base = b; events = [] })) (sym is) (record {
+      numbered = sym scopes;
+      linked = refl;
+      count = refl;
+      trails = λ i last at. absurd cc;
+      loaded = omega arith;
+    })
+
+-- ---- what the calls do
+
+-- the scope's last place, where it was read
+last_read : (t : TrailTable) (s at x : ℕ) → at ≡ place_of t.before s → at < length t.lasts → x ≡ get_or t.lasts at x → x ≡ last_in t s
+last_read t s at x place within read = read ∙ (get_or_default_zero t.lasts at x within ∙ ap (λ i. get_or t.lasts i 0) place)
+
+-- a walk begins at the scope's last place
+pub walk_begins : (v t : TrailTable) (s at x : ℕ) (ps : List ℕ) → v ≡ t → at ≡ place_of t.before s → at < length t.lasts → x ≡ get_or v.lasts at x → ps ≡ [] → ahead t.links (Some x) ++ reverse ps ≡ trail_in t s
+unfolding trail_in
+walk_begins v t s at x ps same place within read none =
+    let last = last_read t s at x place within (read ∙ ap (λ (u : TrailTable). get_or u.lasts at x) same) in
+    rw none (append-nil (ahead t.links (Some x)) ∙ ap (trail_to t.links) last)
+
+-- what is read before a change is the scope's last place
+pub last_was : (v t : TrailTable) (s at x : ℕ) → v ≡ t → at ≡ place_of t.before s → at < length t.lasts → x ≡ get_or v.lasts at x → x ≡ last_in t s
+last_was v t s at x same there within read = last_read t s at x there within (read ∙ ap (λ (u : TrailTable). get_or u.lasts at x) same)
+
+-- what is written there moves it
+pub last_moved : (v t : TrailTable) (s at x y place : ℕ) → v ≡ t → at ≡ place_of t.before s → at < length t.lasts → x ≡ get_or v.lasts at x → y ≡ place → record v { lasts = set v.lasts at y } ≡ with_last t s place
+last_moved v t s at x y place same there within read is =
+    let length_is : length v.lasts ≡ length t.lasts = ap (λ (u : TrailTable). length u.lasts) same in
+    ap (λ z. record v { lasts = set v.lasts at z }) is
+    ∙ (ap (λ lasts. record v { lasts = lasts }) (written (λ was. place) v.lasts at (place_of t.before s) x there (omega (arith, within, length_is)) read)
+    ∙ ap (λ (u : TrailTable). record u { lasts = altered (λ was. place) u.lasts (place_of t.before s) }) same)
+
+-- the link of a scope's event is put at the end, and its last place is moved
+pub told_scope : (v t : TrailTable) (s link place room : ℕ) (links : List ℕ) → v ≡ with_last t s place → place ≡ length t.links → link ≡ last_in t s → links ≡ v.links ++ link ∷ [] → room ≡ v.room
+    → record v { links = links; room = room } ≡ with_event t (Some s)
+told_scope v t s link place room links moved at was put same =
+    ap (λ ls. record v { links = ls; room = room }) put
+    ∙ (ap (λ r. record v { links = v.links ++ link ∷ []; room = r }) same
+    ∙ (ap (λ (u : TrailTable). record u { links = u.links ++ link ∷ [] }) moved
+    ∙ (ap (λ i. record (with_last t s place) { links = t.links ++ i ∷ [] }) was ∙ ap (λ i. record (with_last t s i) { links = t.links ++ last_in t s ∷ [] }) at)))
+
+-- an event of none has its own place for a link
+pub told_none : (v t : TrailTable) (link place room : ℕ) (links : List ℕ) → v ≡ t → place ≡ length t.links → link ≡ place → links ≡ v.links ++ link ∷ [] → room ≡ v.room → record v { links = links; room = room } ≡ with_event t None
+told_none v t link place room links moved at was put same =
+    ap (λ ls. record v { links = ls; room = room }) put
+    ∙ (ap (λ r. record v { links = v.links ++ link ∷ []; room = r }) same
+    ∙ (ap (λ (u : TrailTable). record u { links = u.links ++ link ∷ [] }) moved ∙ ap (λ i. record t { links = t.links ++ i ∷ [] }) (was ∙ at)))

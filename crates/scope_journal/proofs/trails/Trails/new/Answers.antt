@@ -1,0 +1,11 @@
+-- A realm begins with no trails.
+use Rattle.std.proofs.Common.{arith}
+use Rattle.std.proofs.lemmas.Grind.{common_steps}
+use Rattle.scope_journal.proofs.TrailSteps.{begins}
+use Rattle.scope_journal.proofs.trails.Trails.new.Goals as goal
+
+pub returns-clause-trails : goal.returns-clause-trails
+returns-clause-trails c = grind (arith, common_steps)
+
+pub returns-clause-agrees : goal.returns-clause-agrees
+returns-clause-agrees c = λ base scopes. begins c.args.before base _ (returns-clause-trails c) scopes

@@ -1,0 +1,11 @@
+-- What was walked, and what is ahead, is the trail.
+use Rattle.std.proofs.Common.{◌≡◌, ◌++◌, reverse}
+use Rattle.scope_journal.specs.TrailTable.{trail_in}
+use Rattle.scope_journal.proofs.TrailWalks.{bound, ahead}
+use Rattle.scope_journal.proofs.trails.Trails.places.Given as goal
+
+abbrev pub invariant-loop-next : goal.invariant-loop-next
+invariant-loop-next l = ahead l.self.links l.next ++ reverse l.places.items ≡ trail_in l.self l.scope
+
+abbrev pub decreases-loop-next : goal.decreases-loop-next
+decreases-loop-next l = bound l.next

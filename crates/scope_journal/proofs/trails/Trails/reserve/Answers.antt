@@ -1,0 +1,7 @@
+-- More room leaves the trails.
+use Rattle.std.proofs.Common.{rules}
+use Rattle.scope_journal.proofs.TrailSteps.{roomy_agrees}
+use Rattle.scope_journal.proofs.trails.Trails.reserve.Goals as goal
+
+pub returns-clause-agrees : goal.returns-clause-agrees
+returns-clause-agrees c = λ h are. roomy_agrees h c.args.self.now _ (search rules) (search rules) (search rules) (search rules) are

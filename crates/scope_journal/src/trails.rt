@@ -1,0 +1,159 @@
+ghost use Rattle.std.specs.Prelude.{◌≡◌, ℕ, ◌+◌, ◌-◌, ◌≤◌, ◌<◌, [], false, Option, Some, IfOk, OnOk, OnErr, length};
+ghost use Rattle.scope_rules.specs.Origin.{Origin};
+ghost use Rattle.scope_rules.specs.declared.types.capacity.Limits.{Limits};
+ghost use Rattle.scope_rules.specs.declared.types.events.Event.{Event};
+ghost use Rattle.scope_rules.specs.declared.types.events.Event.TheVariants.{Open};
+ghost use Rattle.scope_rules.specs.declared.types.events.Options.{Options};
+ghost use Rattle.scope_rules.specs.declared.types.joiners.Policy.{Policy};
+ghost use Rattle.scope_rules.specs.History.{History, followed, is_open};
+ghost use Rattle.scope_rules.specs.Legal.{Legal};
+ghost use Rattle.scope_rows.specs.Table.{place_of};
+ghost use Rattle.scope_journal.specs.Places.{places_of, scope_of_event};
+ghost use Rattle.scope_journal.specs.TrailTable.{HasTrail, HasEventRoom, last_in, back, trail_in, no_trails, with_open, with_last, with_event};
+ghost use Rattle.scope_journal.specs.TrailsOf.{AreTrailsOf, HasLoadRoom};
+
+use scope_rules::ScopeId;
+use std::alloc::{AllocError, Global};
+use std::marker::Model;
+use std::mem;
+
+/// The places of each scope's events in a realm's history, the first event's at 0. Beside each event
+/// stands the place of the event of the same scope before it, and for each scope the place of its last
+/// event.
+#[derive(Drop)]
+pub struct Trails {
+    // How many scopes were numbered before the first that has a trail here.
+    before: u32,
+    // The first event of a scope, and an event of none, has its own place.
+    links: Vec<u32>,
+    lasts: Vec<u32>,
+}
+
+impl Model for Trails {
+    ghost use Rattle.std.specs.Prelude.{◌-◌, vec_capacity, vec_len};
+    ghost use Rattle.scope_journal.specs.TrailTable.{TrailTable};
+
+    ghost Value = { TrailTable };
+
+    ghost view = { λ t. record { before = t.before; links = t.links.items; lasts = t.lasts.items; room = vec_capacity t.links; spare = vec_capacity t.lasts - vec_len t.lasts } };
+}
+
+impl Trails {
+    /// No events and no scopes, where so many scopes were numbered before. It takes no memory; that of
+    /// later calls comes from `alloc`.
+    pub fn new(alloc: Global, before: u32) -> Trails
+        ensures trails { result ≡ no_trails before }
+        ensures agrees { (base : Origin) → base.scopes ≡ before → AreTrailsOf (record { base = base; events = [] }) result }
+    {
+        Trails {
+            before,
+            links: Vec::new(alloc),
+            lasts: Vec::new(alloc),
+        }
+    }
+
+    /// The places of the scope's events, the earliest first, in time by how many they are.
+    ///
+    /// # Errors
+    ///
+    /// Where `alloc` refuses the memory of the list.
+    pub fn places(&self, alloc: Global, scope: ScopeId) -> Result<Vec<u32>, AllocError>
+        requires { HasTrail self.now scope }
+        ensures list { IfOk result (λ places. places.items ≡ trail_in self.now scope) }
+        ensures agrees { IfOk result (λ places. (h : History) → AreTrailsOf h self.now → places.items ≡ places_of h scope) }
+    {
+        let mut places = Vec::new(alloc);
+        let mut next = Some(self.lasts[self.place(scope)]);
+        while let Some(place) = next {
+            places.push(place)?;
+            next = self.back(place);
+        }
+        places.reverse();
+        Ok(places)
+    }
+
+    /// Makes room for a history of so much load.
+    ///
+    /// # Errors
+    ///
+    /// Where memory is refused. Then nothing has changed.
+    pub fn reserve(&mut self, load: u64) -> Result<(), AllocError>
+        ensures ok { OnOk result (load ≤ self.new.room) }
+        ensures kept { self.new ≡ record self.old { room = self.new.room } }
+        ensures agrees { (h : History) → AreTrailsOf h self.old → AreTrailsOf h self.new }
+        ensures err { OnErr result (self.new ≡ self.old) }
+    {
+        let more = (load as usize).saturating_sub(self.links.len());
+        self.links.reserve(more)
+    }
+
+    /// Makes room for one scope more.
+    ///
+    /// # Errors
+    ///
+    /// Where memory is refused. Then nothing has changed.
+    pub fn reserve_scope(&mut self) -> Result<(), AllocError>
+        ensures ok { OnOk result (1 ≤ self.new.spare) }
+        ensures kept { self.new ≡ record self.old { spare = self.new.spare } }
+        ensures agrees { (h : History) → AreTrailsOf h self.old → AreTrailsOf h self.new }
+        ensures err { OnErr result (self.new ≡ self.old) }
+    {
+        self.lasts.reserve(1)
+    }
+
+    /// Adds the event at this place, which opens the next scope, where there is room for both. It takes
+    /// no memory.
+    pub fn open(&mut self, place: u32)
+        requires place { place ≡ length self.old.links }
+        requires room { HasEventRoom self.old }
+        requires spare { 1 ≤ self.old.spare }
+        ensures kept { self.new ≡ with_open self.old }
+        ensures agrees { (L : Limits) (h : History) (actor : ℕ) (policy : Policy) (options : Options) → let g = followed h (Open actor policy options) in Legal L h → HasLoadRoom g self.old.room → AreTrailsOf h self.old → AreTrailsOf g self.new }
+    {
+        self.links.push_reserved(place);
+        self.lasts.push_reserved(place);
+    }
+
+    /// Adds the event at this place, of the scope or of none, for which there is room. It is not an open.
+    /// It takes no memory.
+    pub fn tell(&mut self, scope: Option<ScopeId>, place: u32)
+        requires place { place ≡ length self.old.links }
+        requires room { HasEventRoom self.old }
+        requires scope { (s : ℕ) → scope ≡ Some s → HasTrail self.old s }
+        ensures kept { self.new ≡ with_event self.old scope }
+        ensures agrees { (h : History) (e : Event) → is_open e ≡ false → scope_of_event h e ≡ scope → HasLoadRoom (followed h e) self.old.room → AreTrailsOf h self.old → AreTrailsOf (followed h e) self.new }
+    {
+        let link = match scope {
+            Some(scope) => self.move_last(scope, place),
+            None => place,
+        };
+        self.links.push_reserved(link);
+    }
+
+    /// Moves the scope's last place to this one, and answers the one before.
+    fn move_last(&mut self, scope: ScopeId, place: u32) -> u32
+        requires { HasTrail self.old scope }
+        ensures was { result ≡ last_in self.old scope }
+        ensures kept { self.new ≡ with_last self.old scope place }
+    {
+        let at = self.place(scope);
+        mem::replace(&mut self.lasts[at], place)
+    }
+
+    /// The place before this one on its trail, if there is one.
+    fn back(&self, place: u32) -> Option<u32>
+        ensures { result ≡ back self.now.links place }
+    {
+        let link = *self.links.get(place as usize)?;
+        if link < place { Some(link) } else { None }
+    }
+
+    /// Where the place of the scope's last event stands.
+    fn place(&self, scope: ScopeId) -> usize
+        requires { HasTrail self.now scope }
+        ensures place { result ≡ place_of self.now.before scope }
+        ensures within { result < length self.now.lasts }
+    {
+        (scope - self.before - 1) as usize
+    }
+}

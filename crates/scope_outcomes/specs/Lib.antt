@@ -1,4 +1,0 @@
-pub mod Answers
-pub mod Bare
-pub mod ForkTable
-pub mod ForksOf

@@ -1,7 +1,0 @@
-pub mod TrailWalks
-pub mod PlaceSteps
-pub mod LogPlaces
-pub mod EventRoom
-pub mod TrailSteps
-pub mod Trailed
-pub mod Projected

@@ -1,5 +1,0 @@
-use Rattle.scope_trails.proofs.LogPlaces.{entries_placed}
-use Rattle.scope_trails.proofs.laws.entries_are_at_places.Goals as goal
-
-pub returns : goal.returns
-returns c = entries_placed

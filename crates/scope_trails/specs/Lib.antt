@@ -1,5 +1,0 @@
-pub mod Places
-pub mod TrailTable
-pub mod TrailsOf
-pub mod TrailLaws
-pub mod Marks

@@ -1,0 +1,33 @@
+-- Why a line is refused.
+use Rattle.std.specs.Prelude.{ℕ, List, Option, Some, None, Ok, Err, codes}
+use Rattle.scope_rules.specs.Replies.{Realm}
+use Rattle.script_words.specs.declared.commands.Command.{Command}
+use Rattle.script_words.specs.declared.commands.Command.TheVariants.{Do, Retire, Ask}
+use Rattle.refusal_reasons.specs.Obstacles.{Explained}
+use Rattle.refusal_reasons.specs.Rows.{event_reason, retire_reason, question_reason}
+use Rattle.refusal_reasons.specs.Sentences.{sentence}
+use Rattle.bad_words.specs.Sentences.{line_fault_text}
+use Rattle.script_jobs.specs.declared.whys.Why.{Why}
+use Rattle.script_jobs.specs.declared.whys.Why.TheVariants as why
+
+-- what stands in the way of the command in the realm, if anything does
+unfoldable pub command_reason : Realm → Command → Explained
+command_reason realm (Do e) = event_reason realm.limits realm.history e
+command_reason realm (Retire actor) = retire_reason realm.history actor
+command_reason realm (Ask question) = question_reason realm.history question
+
+-- that the reason is why, where there is one
+abbrev pub why_if : Explained → Option Why
+why_if (Ok done) = None
+why_if (Err r) = Some (why.Refused r)
+
+-- why the command is refused in the realm, if it is
+abbrev pub command_why : Realm → Command → Option Why
+command_why realm c = why_if (command_reason realm c)
+
+-- the sentence that says why this line is refused
+abbrev pub why_text : List ℕ → Why → List ℕ
+why_text line (why.Refused r) = sentence r
+why_text line (why.BadWord (Some fault)) = line_fault_text line fault
+why_text line (why.BadWord None) = codes "the line is in no form"
+why_text line why.Cut = codes "the line is cut: no line feed ends it"

@@ -1,0 +1,83 @@
+//! The note of a line.
+ghost use Rattle.std.specs.Prelude.{Some};
+ghost use Rattle.script_jobs.specs.Notes.{head_text, replied_text, explained_text, note};
+
+use crate::whys::{ShownWhy, Why};
+use bad_words::ShownBytes;
+use scope_script::Reply;
+use std::fmt;
+
+/// Which notes are wanted.
+#[derive(Clone, Copy, PartialEq, Eq)]
+pub enum Notes {
+    /// Why each refused line was refused.
+    Refusals,
+    /// What each line was answered.
+    Replies,
+    /// Both.
+    All,
+}
+
+/// `line N: TEXT`.
+#[derive(Clone, Copy)]
+struct ShownHead<'a> {
+    number: usize,
+    line: &'a [u8],
+}
+
+impl fmt::Display for ShownHead<'_> {
+    ghost output = { λ h. Some (head_text h.number h.line.now) };
+
+    fn fmt<W: fmt::Write>(&self, f: &mut fmt::Formatter<W>) -> fmt::Result {
+        write!(f, "line {}: {}", self.number, ShownBytes(self.line))
+    }
+}
+
+/// The line with its reply.
+#[derive(Clone, Copy)]
+struct ShownReplied<'a> {
+    head: ShownHead<'a>,
+    reply: &'a Reply,
+}
+
+impl fmt::Display for ShownReplied<'_> {
+    ghost output = { λ r. Some (replied_text r.head.number r.head.line.now r.reply.now) };
+
+    fn fmt<W: fmt::Write>(&self, f: &mut fmt::Formatter<W>) -> fmt::Result {
+        write!(f, "{} -> {}", self.head, self.reply)
+    }
+}
+
+/// The note of the line with this number and reply, which was refused for that, if it was. It is no text
+/// where no note is wanted.
+#[derive(Clone, Copy)]
+pub(crate) struct ShownNote<'a> {
+    pub(crate) wanted: Notes,
+    pub(crate) number: usize,
+    pub(crate) line: &'a [u8],
+    pub(crate) reply: &'a Reply,
+    pub(crate) why: Option<Why>,
+}
+
+impl fmt::Display for ShownNote<'_> {
+    ghost output = { λ n. Some (note n.wanted n.number n.line.now n.reply.now n.why) };
+
+    #[tactic(auto, unfolding(crate::specs::Notes::note))]
+    fn fmt<W: fmt::Write>(&self, f: &mut fmt::Formatter<W>) -> fmt::Result {
+        let line = self.line;
+        let head = ShownHead {
+            number: self.number,
+            line,
+        };
+        let replied = ShownReplied {
+            head,
+            reply: self.reply,
+        };
+        match (self.wanted, self.why) {
+            (Notes::Refusals, None) => Ok(()),
+            (Notes::Refusals, Some(why)) => write!(f, "{head}: {}\n", ShownWhy { line, why }),
+            (Notes::All, Some(why)) => write!(f, "{replied}: {}\n", ShownWhy { line, why }),
+            (Notes::Replies, _) | (Notes::All, None) => write!(f, "{replied}\n"),
+        }
+    }
+}

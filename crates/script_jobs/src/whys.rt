@@ -1,0 +1,75 @@
+//! Why a line is refused.
+ghost use Rattle.std.specs.Prelude.{◌≡◌, Some};
+ghost use Rattle.scope_book.specs.Books.{realm_of};
+ghost use Rattle.script_jobs.specs.Whys.{command_reason, command_why, why_if, why_text};
+
+use bad_words::{ShownFault, WordFault};
+use refusal_reasons::{Reason, event_reason, question_reason, retire_reason};
+use scope_book::BookState;
+use scope_rules::AnyEnd;
+use scope_script::Command;
+use std::fmt;
+
+/// Why a line is refused.
+#[derive(Clone, Copy)]
+pub enum Why {
+    /// The reason stands in the way of its command.
+    Refused(Reason),
+    /// It is in no form, for this fault.
+    BadWord(Option<WordFault>),
+    /// No line feed ends it.
+    Cut,
+}
+
+/// That the reason is why, where there is one.
+fn why_if(reason: Result<(), Reason>) -> Option<Why>
+    ensures { result ≡ why_if reason }
+{
+    match reason {
+        Ok(()) => None,
+        Err(reason) => Some(Why::Refused(reason)),
+    }
+}
+
+/// What stands in the way of the command on the book, if anything does.
+#[tactic(auto, unfolding(crate::specs::Whys::command_reason))]
+fn command_reason(book: &BookState<AnyEnd>, command: &Command) -> Result<(), Reason>
+    ensures { result ≡ command_reason (realm_of book.now) command.now }
+{
+    let limits = book.limits();
+    let realm = book.realm();
+    let events = realm.events();
+    match command {
+        Command::Do(event) => event_reason(realm, events, &limits, event),
+        Command::Retire { actor } => retire_reason(realm, *actor),
+        Command::Ask(question) => question_reason(realm, events, question),
+    }
+}
+
+/// Why the book refuses the command, if it does.
+pub(crate) fn command_why(book: &BookState<AnyEnd>, command: &Command) -> Option<Why>
+    ensures { result ≡ command_why (realm_of book.now) command.now }
+{
+    why_if(command_reason(book, command))
+}
+
+/// Why this line was refused.
+#[derive(Clone, Copy)]
+pub(crate) struct ShownWhy<'a> {
+    pub(crate) line: &'a [u8],
+    pub(crate) why: Why,
+}
+
+impl fmt::Display for ShownWhy<'_> {
+    ghost output = { λ w. Some (why_text w.line.now w.why) };
+
+    fn fmt<W: fmt::Write>(&self, f: &mut fmt::Formatter<W>) -> fmt::Result {
+        let line = self.line;
+        match self.why {
+            Why::Refused(reason) => write!(f, "{reason}"),
+            Why::BadWord(Some(fault)) => write!(f, "{}", ShownFault { line, fault }),
+            Why::BadWord(None) => write!(f, "the line is in no form"),
+            Why::Cut => write!(f, "the line is cut: no line feed ends it"),
+        }
+    }
+}

@@ -1,0 +1,80 @@
+-- An event that is accepted is told no refusal.
+use Rattle.std.proofs.Common.{◌≡◌, ℕ, ◌==◌, ◌||◌, Bool, true, false, Option, Some, None, Ok, refl, ap, ◌∙◌, arith}
+use Rattle.std.specs.Prelude.{ok_or}
+use Rattle.std.proofs.lemmas.Bool.Decides.{nat_tests}
+use Rattle.scope_rules.specs.declared.types.capacity.Limits.{Limits}
+use Rattle.scope_rules.specs.declared.types.events.Event.{Event}
+use Rattle.scope_rules.specs.declared.types.events.Event.TheVariants as event
+use Rattle.scope_rules.specs.declared.types.outcomes.Outcome.{Outcome}
+use Rattle.scope_rules.specs.declared.types.refusals.Refusal.TheVariants.{NotJoined}
+use Rattle.scope_rules.specs.History.{History, followed, is_open}
+use Rattle.scope_rules.specs.Legal.{Accepts}
+use Rattle.scope_rules.specs.Scopes.{joined}
+use Rattle.scope_rules.specs.Checks.{checks, then_check, scope_check}
+use Rattle.scope_rules.specs.Table.{check_of}
+use Rattle.scope_rules.specs.Outcomes.{outcome}
+use Rattle.scope_rules.specs.Replies.{Realm, outcome_check}
+use Rattle.scope_rules.proofs.Accepted.{checks_at}
+use Rattle.scope_rules.proofs.Joined.{outcome_there}
+use Rattle.scope_rules.proofs.OneEventMore.{opening_same, joined_grows}
+use Rattle.script_words.specs.declared.commands.Command.TheVariants.{Do}
+use Rattle.script_words.specs.declared.reply.Reply.TheVariants as reply
+use Rattle.scope_script.specs.Replying.{replied, told_of, reply_to, realm_after}
+use Rattle.scope_script.specs.Tallies.{is_refused}
+
+-- the realm of the limits with the history
+abbrev pub ruled : Limits → History → Realm
+ruled L h = record { limits = L; history = h }
+
+pub accepted_adds : (L : Limits) (h : History) (e : Event) → Accepts L h e → realm_after (ruled L h) (Do e) ≡ ruled L (followed h e)
+unfolding realm_after
+accepted_adds L h e is = rw (is.passed, is.recorded) refl
+
+or_true : (b : Bool) → (b || true) ≡ true
+or_true true = refl
+or_true false = refl
+
+same_number : (s : ℕ) → (s == s) ≡ true
+same_number s = grind (arith, nat_tests)
+
+-- an event that opens nothing gives no scope a number
+known_behind : (h : History) (e : Event) (s : ℕ) → is_open e ≡ false → scope_check (followed h e) s ≡ scope_check h s
+unfolding scope_check
+known_behind h e s none = rw (opening_same h e s none) refl
+
+-- a join that is accepted names a scope
+joins_known : (L : Limits) (h : History) (actor scope : ℕ) → Accepts L h (event.Join actor scope) → scope_check h scope ≡ Ok tt
+unfolding check_of
+joins_known L h actor scope is = checks_at _ 1 _ is.passed refl
+
+-- behind a join that was accepted, what it gave may be asked
+may_be_asked : (L : Limits) (h : History) (actor scope : ℕ) → Accepts L h (event.Join actor scope) → outcome_check (followed h (event.Join actor scope)) scope ≡ Ok tt
+unfolding outcome_check checks then_check
+may_be_asked L h actor scope is =
+    let known = joins_known L h actor scope is in
+    let there : scope_check (followed h (event.Join actor scope)) scope ≡ Ok tt = known_behind h (event.Join actor scope) scope refl ∙ known in
+    let done : joined (followed h (event.Join actor scope)) scope ≡ true = joined_grows h (event.Join actor scope) scope ∙ (ap (λ b. joined h scope || b) (same_number scope) ∙ or_true (joined h scope)) in
+    rw (there, done) refl
+
+gave : (o : Option Outcome) → (o ≡ None → ⊥) → is_refused (replied reply.Outcome (ok_or o NotJoined)) ≡ false
+gave None some = absurd (some refl)
+gave (Some x) some = refl
+
+told_unrefused : (L : Limits) (h : History) (e : Event) → Accepts L h e → is_refused (told_of h e) ≡ false
+told_unrefused L h (event.Join actor scope) is = gave (outcome (followed h (event.Join actor scope)) scope) (outcome_there (followed h (event.Join actor scope)) scope (may_be_asked L h actor scope is))
+told_unrefused L h (event.Open actor policy options) is = refl
+told_unrefused L h (event.Fork actor scope label) is = refl
+told_unrefused L h (event.Reject task) is = refl
+told_unrefused L h (event.Start task) is = refl
+told_unrefused L h (event.Finish task end) is = refl
+told_unrefused L h (event.Cancel scope) is = refl
+told_unrefused L h (event.Move scope deadline) is = refl
+told_unrefused L h (event.Tick now) is = refl
+told_unrefused L h (event.Bind actor pair) is = refl
+told_unrefused L h (event.Unbind actor) is = refl
+told_unrefused L h (event.BeginClose actor scope) is = refl
+told_unrefused L h (event.EndClose actor scope) is = refl
+
+pub accepted_unrefused : (L : Limits) (h : History) (e : Event) → Accepts L h e → is_refused (reply_to (ruled L h) (Do e)) ≡ false
+unfolding reply_to
+accepted_unrefused L h e is = rw (is.passed, is.recorded) (told_unrefused L h e is)

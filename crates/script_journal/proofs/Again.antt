@@ -1,0 +1,30 @@
+-- The script of a history without dues is that of the history.
+use Rattle.std.proofs.Common.{◌≡◌, List, [], ◌∷◌, ◌++◌, map, ℕ, refl, sym, ap, ap₂, ◌∙◌}
+use Rattle.scope_rules.specs.declared.types.events.Event.{Event}
+use Rattle.scope_rules.specs.declared.types.events.Event.TheVariants as event
+use Rattle.scope_rules.specs.Origin.{Origin}
+use Rattle.scope_rules.specs.Replies.{Realm}
+use Rattle.scope_laws.specs.Dues.{without_due}
+use Rattle.script_journal.specs.Script.{event_line, moment_text, binds_text, events_text}
+use Rattle.scope_script.specs.Sessions.{realm_of_script}
+use Rattle.script_journal.specs.Journals.{JournalStays, JournalTellsAll}
+use Rattle.script_journal.proofs.Running.{journal_is_a_script}
+
+same_line : (base : Origin) (e : Event) → event_line base (without_due e) ≡ event_line base e
+unfolding event_line
+same_line base (event.Fork actor scope label) = refl
+same_line base _ = refl
+
+same_lines : (base : Origin) (es : List Event) → events_text base (map without_due es) ≡ events_text base es
+unfolding events_text
+same_lines base [] = refl
+same_lines base (e ∷ es) = ap₂ (λ (line lines : List ℕ). line ++ 10 ∷ [] ++ lines) (same_line base e) (same_lines base es)
+
+pub journal_stays : JournalStays
+journal_stays h = ap (λ lines. moment_text h.base.moment ++ binds_text h.base.binds ++ lines) (same_lines h.base h.events)
+
+pub journal_tells_all : JournalTellsAll
+journal_tells_all L g h g_fresh g_legal g_fits h_fresh h_legal h_fits same =
+    let first = (journal_is_a_script L g g_fresh g_legal g_fits).left in
+    let second = (journal_is_a_script L h h_fresh h_legal h_fits).left in
+    ap (λ (realm : Realm). realm.history) (sym first ∙ (ap (realm_of_script L) same ∙ second))

@@ -1,0 +1,174 @@
+-- The lines of a script: one for each event, and no line holds a line feed.
+use Rattle.std.proofs.Common.{◌≡◌, ℕ, zero, suc, ◌+◌, ◌==◌, Bool, true, false, Option, None, Some, Ok, Err, List, [], ◌∷◌, ◌++◌, length, map, refl, sym, ap, ◌∙◌, append_assoc, append-nil, arith}
+use Rattle.std.specs.Prelude.{codes}
+use Rattle.std.specs.Fmt.{decimal}
+use Rattle.std.specs.List.{flat_map}
+use Rattle.std.proofs.lemmas.Bool.Decides.{nat_tests}
+use Rattle.std.proofs.lemmas.List.{length-append, length-map}
+use Rattle.std.proofs.lemmas.List.Folds.{list_all-append}
+use Rattle.scope_rules.specs.declared.types.values.Value.{Value}
+use Rattle.scope_rules.specs.declared.types.values.Value.TheVariants.{Num, Text}
+use Rattle.scope_rules.specs.declared.types.joiners.Policy.{Policy}
+use Rattle.scope_rules.specs.declared.types.joiners.Policy.TheVariants.{All, Any, AwaitAll, AwaitOk, Until}
+use Rattle.scope_rules.specs.declared.types.joiners.Rule.TheVariants.{FailuresAtLeast, SuccessesAtLeast, SumAtLeast}
+use Rattle.scope_rules.specs.declared.types.events.Binding.{Binding}
+use Rattle.scope_rules.specs.declared.types.events.Event.{Event}
+use Rattle.scope_rules.specs.declared.types.events.Event.TheVariants as event
+use Rattle.scope_rules.specs.declared.types.events.Expiry.{Expiry}
+use Rattle.scope_rules.specs.declared.types.events.Expiry.TheVariants.{Fail, MoveOn}
+use Rattle.scope_rules.specs.History.{History}
+use Rattle.scope_rules.specs.Origin.{Origin}
+use Rattle.scope_rules.specs.Texts.{value_text}
+use Rattle.scope_log.specs.LogText.{joiner_text, limit_text, expiry_text, shield_text}
+use Rattle.script_words.specs.Printable.{is_printable}
+use Rattle.script_journal.proofs.Printable.{Shows, decimal_shows, signed_shows, name_shows}
+use Rattle.script_journal.specs.Script.{pair_text, event_line, moment_text, binds_text, events_text, script_text}
+use Rattle.scope_script.specs.Cutting.{ended_lines, begun_line}
+use Rattle.script_journal.specs.Journals.{moment_lines, NoLineIsLost}
+
+-- ---- lines are printable
+
+value_shows : (v : Value) → Shows (value_text v)
+value_shows (Num number) = signed_shows number
+value_shows (Text name) = name_shows name
+
+joiner_shows : (policy : Policy) → Shows (joiner_text policy)
+joiner_shows All = refl
+joiner_shows Any = refl
+joiner_shows AwaitAll = refl
+joiner_shows AwaitOk = refl
+joiner_shows (Until (FailuresAtLeast count)) = simp (decimal_shows)
+joiner_shows (Until (SuccessesAtLeast count)) = simp (decimal_shows)
+joiner_shows (Until (SumAtLeast sum)) = simp (signed_shows)
+
+limit_shows : (deadline : Option ℕ) → Shows (limit_text deadline)
+limit_shows None = refl
+limit_shows (Some moment) = simp (decimal_shows)
+
+expiry_shows : (expiry : Expiry) → Shows (expiry_text expiry)
+expiry_shows Fail = refl
+expiry_shows MoveOn = refl
+
+shield_shows : (shield : Bool) → Shows (shield_text shield)
+shield_shows false = refl
+shield_shows true = refl
+
+pair_shows : (pair : Binding) → Shows (pair_text pair)
+pair_shows pair = simp (list_all-append, name_shows, value_shows)
+
+line_shows : (base : Origin) (e : Event) → Shows (event_line base e)
+unfolding event_line
+line_shows base (event.Open actor policy options) = simp (list_all-append, decimal_shows, joiner_shows, limit_shows, expiry_shows, shield_shows)
+line_shows base (event.Fork actor scope label) = simp (list_all-append, decimal_shows, name_shows)
+line_shows base (event.Reject task) = simp (decimal_shows)
+line_shows base (event.Start task) = simp (decimal_shows)
+line_shows base (event.Finish task (Ok value)) = simp (list_all-append, decimal_shows, value_shows)
+line_shows base (event.Finish task (Err fault)) = simp (list_all-append, decimal_shows, name_shows)
+line_shows base (event.Cancel scope) = simp (decimal_shows)
+line_shows base (event.Move scope None) = simp (list_all-append, decimal_shows)
+line_shows base (event.Move scope (Some moment)) = simp (list_all-append, decimal_shows)
+line_shows base (event.Tick now) = simp (decimal_shows)
+line_shows base (event.Bind actor pair) = simp (list_all-append, decimal_shows, name_shows, value_shows)
+line_shows base (event.Unbind actor) = simp (decimal_shows)
+line_shows base (event.Join actor scope) = simp (list_all-append, decimal_shows)
+line_shows base (event.BeginClose actor scope) = simp (list_all-append, decimal_shows)
+line_shows base (event.EndClose actor scope) = simp (list_all-append, decimal_shows)
+
+-- ---- where lines end
+
+no_feed : (b : ℕ) → is_printable b ≡ true → (b == 10) ≡ false
+no_feed b shows = grind (arith, nat_tests)
+
+first_shows : (b : ℕ) (bs : List ℕ) → Shows (b ∷ bs) → is_printable b ≡ true
+first_shows b bs shows = grind arith
+
+others_show : (b : ℕ) (bs : List ℕ) → Shows (b ∷ bs) → Shows bs
+others_show b bs shows = grind arith
+
+-- a line feed behind a printable line ends just that line
+ended_behind : (begun line rest : List ℕ) → Shows line → ended_lines begun (line ++ 10 ∷ rest) ≡ (begun ++ line) ∷ ended_lines [] rest
+unfolding ended_lines
+ended_behind begun [] rest shows = rw (append-nil begun) refl
+ended_behind begun (b ∷ bs) rest shows =
+    rw (no_feed b (first_shows b bs shows))
+    (ended_behind (begun ++ b ∷ []) bs rest (others_show b bs shows) ∙ ap (λ line. line ∷ ended_lines [] rest) (append_assoc begun (b ∷ []) bs))
+
+begun_behind : (begun line rest : List ℕ) → Shows line → begun_line begun (line ++ 10 ∷ rest) ≡ begun_line [] rest
+unfolding begun_line
+begun_behind begun [] rest shows = refl
+begun_behind begun (b ∷ bs) rest shows = rw (no_feed b (first_shows b bs shows)) (begun_behind (begun ++ b ∷ []) bs rest (others_show b bs shows))
+
+-- lines of a list of things, each ended by a line feed
+module _ {A : Type 0} (line : A → List ℕ) (shows : (x : A) → Shows (line x)) where
+  pub ended_each : (xs : List A) (rest : List ℕ) → ended_lines [] (flat_map (λ x. line x ++ 10 ∷ []) xs ++ rest) ≡ map line xs ++ ended_lines [] rest
+  ended_each [] rest = refl
+  ended_each (x ∷ xs) rest =
+      rw (append_assoc (line x ++ 10 ∷ []) (flat_map (λ y. line y ++ 10 ∷ []) xs) rest, append_assoc (line x) (10 ∷ []) (flat_map (λ y. line y ++ 10 ∷ []) xs ++ rest))
+      (ended_behind [] (line x) (flat_map (λ y. line y ++ 10 ∷ []) xs ++ rest) (shows x) ∙ ap (λ lines. line x ∷ lines) (ended_each xs rest))
+
+  pub begun_each : (xs : List A) (rest : List ℕ) → begun_line [] (flat_map (λ x. line x ++ 10 ∷ []) xs ++ rest) ≡ begun_line [] rest
+  begun_each [] rest = refl
+  begun_each (x ∷ xs) rest =
+      rw (append_assoc (line x ++ 10 ∷ []) (flat_map (λ y. line y ++ 10 ∷ []) xs) rest, append_assoc (line x) (10 ∷ []) (flat_map (λ y. line y ++ 10 ∷ []) xs ++ rest))
+      (begun_behind [] (line x) (flat_map (λ y. line y ++ 10 ∷ []) xs ++ rest) (shows x) ∙ begun_each xs rest)
+
+-- ---- the lines of events
+
+pub ended_events : (base : Origin) (es : List Event) → ended_lines [] (events_text base es) ≡ map (event_line base) es
+unfolding events_text ended_lines
+ended_events base es = ap (ended_lines []) (sym (append-nil (events_text base es))) ∙ (ended_each (event_line base) (line_shows base) es [] ∙ append-nil (map (event_line base) es))
+
+pub begun_events : (base : Origin) (es : List Event) → begun_line [] (events_text base es) ≡ []
+unfolding events_text begun_line
+begun_events base es = ap (begun_line []) (sym (append-nil (events_text base es))) ∙ begun_each (event_line base) (line_shows base) es []
+
+-- ---- what the script begins with
+
+abbrev bind_line : Binding → List ℕ
+bind_line pair = codes "bind 0 " ++ pair_text pair
+
+bind_shows : (pair : Binding) → Shows (bind_line pair)
+bind_shows pair = simp (list_all-append, name_shows, value_shows)
+
+tick_shows : (n : ℕ) → Shows (codes "tick " ++ decimal n)
+tick_shows n = simp (decimal_shows)
+
+binds_then : (pairs : List Binding) (rest : List ℕ) → length (ended_lines [] (binds_text pairs ++ rest)) ≡ length pairs + length (ended_lines [] rest)
+unfolding binds_text
+binds_then pairs rest = ap length (ended_each bind_line bind_shows pairs rest) ∙ (length-append (map bind_line pairs) (ended_lines [] rest) ∙ ap (λ n. n + length (ended_lines [] rest)) (length-map pairs bind_line))
+
+moment_then : (moment : ℕ) (rest : List ℕ) → length (ended_lines [] (moment_text moment ++ rest)) ≡ moment_lines moment + length (ended_lines [] rest)
+moment_then zero rest = omega arith
+moment_then (suc n) rest =
+    ap (λ t. length (ended_lines [] t)) (append_assoc (codes "tick " ++ decimal (suc n)) (10 ∷ []) rest)
+    ∙ (ap length (ended_behind [] (codes "tick " ++ decimal (suc n)) rest (tick_shows (suc n))) ∙ omega arith)
+
+begun_moment : (moment : ℕ) (rest : List ℕ) → begun_line [] (moment_text moment ++ rest) ≡ begun_line [] rest
+begun_moment zero rest = refl
+begun_moment (suc n) rest =
+    ap (begun_line []) (append_assoc (codes "tick " ++ decimal (suc n)) (10 ∷ []) rest) ∙ begun_behind [] (codes "tick " ++ decimal (suc n)) rest (tick_shows (suc n))
+
+begun_binds : (pairs : List Binding) (rest : List ℕ) → begun_line [] (binds_text pairs ++ rest) ≡ begun_line [] rest
+unfolding binds_text
+begun_binds pairs rest = begun_each bind_line bind_shows pairs rest
+
+events_count : (base : Origin) (es : List Event) → length (ended_lines [] (events_text base es)) ≡ length es
+events_count base es = ap length (ended_events base es) ∙ length-map es (event_line base)
+
+module _ (h : History) where
+  in_turn : script_text h ≡ moment_text h.base.moment ++ (binds_text h.base.binds ++ events_text h.base h.events)
+  in_turn = append_assoc (moment_text h.base.moment) (binds_text h.base.binds) (events_text h.base h.events)
+
+  count : length (ended_lines [] (script_text h)) ≡ moment_lines h.base.moment + length h.base.binds + length h.events
+  count =
+      let first = moment_then h.base.moment (binds_text h.base.binds ++ events_text h.base h.events) in
+      let second = binds_then h.base.binds (events_text h.base h.events) in
+      ap (λ t. length (ended_lines [] t)) in_turn ∙ omega (arith, first, second, events_count h.base h.events)
+
+  ended : begun_line [] (script_text h) ≡ []
+  ended =
+      ap (begun_line []) in_turn
+      ∙ (begun_moment h.base.moment (binds_text h.base.binds ++ events_text h.base h.events) ∙ (begun_binds h.base.binds (events_text h.base h.events) ∙ begun_events h.base h.events))
+
+pub no_line_is_lost : NoLineIsLost
+no_line_is_lost h = (count h, ended h)

@@ -1,0 +1,53 @@
+-- What a journal leaves when it is run as a script.
+use Rattle.std.specs.Prelude.{◌≡◌, ℕ, zero, suc, ◌+◌, Some, List, [], length, slice_get}
+use Rattle.scope_rules.specs.declared.types.capacity.Limits.{Limits}
+use Rattle.scope_rules.specs.declared.types.events.Event.{Event}
+use Rattle.scope_rules.specs.History.{History}
+use Rattle.scope_rules.specs.Legal.{Legal}
+use Rattle.scope_rules.specs.Origin.{the_start}
+use Rattle.scope_laws.specs.Dues.{without_due, without_dues}
+use Rattle.script_words.specs.declared.commands.Command.TheVariants.{Do}
+use Rattle.script_words.specs.Spelling.{HasWords}
+use Rattle.script_journal.specs.Script.{script_text}
+use Rattle.scope_script.specs.Cutting.{ended_lines, begun_line}
+use Rattle.scope_script.specs.Sessions.{realm_of_script}
+use Rattle.scope_script.specs.Tallies.{no_refusals, tally_of_script}
+
+-- the numbers of the event fit their types
+abbrev pub Fits : Event → Type 0
+Fits e = HasWords (Do (without_due e))
+
+-- those of all the events do
+abbrev pub AllFit : List Event → Type 0
+AllFit es = (i : ℕ) (e : Event) → slice_get es i ≡ Some e → Fits e
+
+-- the text is a script that brings a fresh realm of these limits to the history: no line of it is refused, each line is
+-- ended, and it has a line for each event
+pub record RunsTo (L : Limits) (text : List ℕ) (h : History) : Type 0 where
+  pub left : realm_of_script L text ≡ record { limits = L; history = h }
+  pub unrefused : tally_of_script L text ≡ no_refusals
+  pub lines : length (ended_lines [] text) ≡ length h.events
+  pub ended : begun_line [] text ≡ []
+
+-- the script of a legal history that began fresh brings a fresh realm to that history again, with labels that expect
+-- no end: a script says none
+abbrev pub JournalIsAScript : Type 0
+JournalIsAScript = (L : Limits) (h : History) → h.base ≡ the_start → Legal L h → AllFit h.events → RunsTo L (script_text h) (without_dues h)
+
+-- the script of what it brings the realm to is that very script
+abbrev pub JournalStays : Type 0
+JournalStays = (h : History) → script_text (without_dues h) ≡ script_text h
+
+-- so two such histories with one script are one history, but for the ends that labels expect
+abbrev pub JournalTellsAll : Type 0
+JournalTellsAll = (L : Limits) (g h : History) → g.base ≡ the_start → Legal L g → AllFit g.events → h.base ≡ the_start → Legal L h → AllFit h.events → script_text g ≡ script_text h → without_dues g ≡ without_dues h
+
+-- how many lines the script begins with, to come to the moment that the history began with
+abbrev pub moment_lines : ℕ → ℕ
+moment_lines zero = 0
+moment_lines (suc n) = 1
+
+-- the script of any history has a line for its moment, where that is not 0, one for each pair that main began with, and
+-- one for each event, and each is ended
+abbrev pub NoLineIsLost : Type 0
+NoLineIsLost = (h : History) → (length (ended_lines [] (script_text h)) ≡ moment_lines h.base.moment + length h.base.binds + length h.events) × (begun_line [] (script_text h) ≡ [])

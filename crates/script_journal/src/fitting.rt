@@ -1,0 +1,98 @@
+//! The numbers of events fit their types, so that a script can say them.
+
+ghost use Rattle.script_words.specs.Spelling.{IsEnd, IsMoment, IsPolicy, IsSmall, IsValue};
+ghost use Rattle.script_journal.specs.Journals.{AllFit, Fits};
+
+use scope_rules::{End, Event, Policy, Rule, Value};
+
+/// A number of 32 bits.
+fn small_fits(_number: u32)
+    ensures { IsSmall _number }
+{}
+
+/// A moment, where there is one.
+fn moment_fits(moment: Option<u64>)
+    ensures { IsMoment moment }
+{
+    if let Some(_moment) = moment {}
+}
+
+/// A value.
+fn value_fits(value: Value)
+    ensures { IsValue value }
+{
+    if let Value::Num(_number) = value {}
+}
+
+/// How a task ended.
+fn end_fits(end: End)
+    ensures { IsEnd end }
+{
+    if let Ok(value) = end {
+        value_fits(value);
+    }
+}
+
+/// A joiner.
+fn policy_fits(policy: Policy)
+    ensures { IsPolicy policy }
+{
+    match policy {
+        Policy::Until(Rule::FailuresAtLeast(count) | Rule::SuccessesAtLeast(count)) => small_fits(
+            count,
+        ),
+        Policy::Until(Rule::SumAtLeast(_sum)) => {}
+        _ => {}
+    }
+}
+
+/// An event.
+#[tactic(auto, unfolding(script_words::specs::Spelling::HasWords))]
+fn event_fits(event: Event)
+    ensures { Fits event }
+{
+    match event {
+        Event::Open {
+            actor: _,
+            policy,
+            options,
+        } => {
+            policy_fits(policy);
+            moment_fits(options.deadline);
+        }
+        Event::Finish { task: _, end } => end_fits(end),
+        Event::Move { scope: _, deadline } => moment_fits(deadline),
+        Event::Bind { actor: _, binding } => value_fits(binding.value),
+        Event::Fork {
+            actor: _a,
+            scope: _s,
+            label: _l,
+        } => {}
+        Event::Reject { task: _task } => {}
+        Event::Start { task: _task } => {}
+        Event::Cancel { scope: _s } => {}
+        Event::Tick { now: _now } => {}
+        Event::Unbind { actor: _a } => {}
+        Event::Join {
+            actor: _a,
+            scope: _s,
+        } => {}
+        Event::BeginClose {
+            actor: _a,
+            scope: _s,
+        } => {}
+        Event::EndClose {
+            actor: _a,
+            scope: _s,
+        } => {}
+    }
+}
+
+/// The events of a list.
+pub(crate) fn events_fit(events: &[Event])
+    ensures { AllFit events.now }
+{
+    for event in events {
+        event_fits(*event);
+    }
+}

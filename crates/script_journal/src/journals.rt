@@ -1,0 +1,26 @@
+//! The journal of a realm.
+ghost use Rattle.std.specs.Prelude.{◌≡◌, IfOk, string_bytes};
+ghost use Rattle.scope_rules.specs.Origin.{the_start};
+ghost use Rattle.scope_laws.specs.Dues.{without_dues};
+ghost use Rattle.script_journal.specs.Script.{script_text};
+ghost use Rattle.script_journal.specs.Journals.{RunsTo};
+
+use crate::fitting::events_fit;
+use crate::script_of;
+use kept_realm::KeptRealm;
+use std::alloc::{AllocError, Global};
+
+/// The journal of the realm: what happened since its last retirement, as a script. Where the realm began fresh,
+/// the script brings a fresh realm of the same limits to the same history, with labels that expect no end.
+///
+/// # Errors
+/// Memory alone.
+pub fn journal_of(alloc: Global, realm: &KeptRealm) -> Result<String, AllocError>
+    ensures text { IfOk result (λ text. string_bytes text ≡ script_text realm.now.history) }
+    ensures runs { IfOk result (λ text. realm.now.history.base ≡ the_start → RunsTo realm.now.limits (string_bytes text) (without_dues realm.now.history)) }
+{
+    let _legal = realm.limits();
+    let events = realm.events();
+    events_fit(events);
+    script_of(alloc, realm.base(), events)
+}

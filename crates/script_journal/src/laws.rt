@@ -1,0 +1,19 @@
+//! The laws of journals. Each function does nothing: its contract is the law.
+
+ghost use Rattle.script_journal.specs.Journals.{JournalIsAScript, JournalStays, JournalTellsAll, NoLineIsLost};
+
+/// A journal is a script. Of a legal history that began fresh, within limits, the script brings a fresh realm of
+/// these limits to that history again, with labels that expect no end: a script says none. No line of it is
+/// refused, and it has a line for each event. The script of what it brings the realm to is that very script; so
+/// two histories with one script are one, but for the ends that their labels expect.
+pub fn journal_is_a_script()
+    ensures runs { JournalIsAScript }
+    ensures again { JournalStays }
+    ensures tells { JournalTellsAll }
+{}
+
+/// The script of any history has a line for the moment that it began with, where that is not 0, one for each
+/// of main's bindings then, and one for each event; and each line is ended.
+pub fn no_line_is_lost()
+    ensures { NoLineIsLost }
+{}

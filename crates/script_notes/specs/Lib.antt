@@ -1,3 +1,0 @@
-pub mod Whys
-pub mod Notes
-pub mod Fits

@@ -1,2 +1,0 @@
-mod PrintableLines
-mod PrintableText

@@ -1,0 +1,14 @@
+pub mod NameWords
+pub mod FieldCounts
+pub mod FieldSteps
+pub mod Numerals
+pub mod OpeningSteps
+pub mod Printed
+pub mod PrintedIntegers
+pub mod SpelledWords
+pub mod SpelledCommands
+pub mod JoinedFields
+pub mod PlainWords
+pub mod SpelledLines
+mod PrintableLines
+mod PrintableText

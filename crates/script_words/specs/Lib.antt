@@ -1,0 +1,13 @@
+pub mod Steps
+pub mod Fields
+pub mod Numbers
+pub mod Words
+pub mod Joiners
+pub mod Keywords
+pub mod Openings
+pub mod Forms
+pub mod Lines
+pub mod NumberLaws
+pub mod Spelling
+pub mod ReplyText
+pub mod Printable

@@ -1,0 +1,40 @@
+-- Numbers as words: decimal digits, with no needless zero in front.
+use Rattle.std.specs.Prelude.{ℕ, ◌-◌, ℤ, pos, negsuc, Bool, true, false, ◌&&◌, ◌==◌, nat_le, List, [], ◌∷◌, Option, Some, None, option_map, if◌then◌else◌}
+use Rattle.std.specs.Char.{is_ascii_digit}
+use Rattle.std.specs.List.{list_all}
+use Rattle.std.specs.Str.Parse.{digits_value}
+use Rattle.script_words.specs.Steps.{◌>>=◌}
+
+-- one digit, or a first one that is no `0`
+abbrev pub has_no_needless_zero : List ℕ → Bool
+has_no_needless_zero [] = false
+has_no_needless_zero (first ∷ []) = true
+has_no_needless_zero (first ∷ second ∷ others) = if first == 48 then false else true
+
+unfoldable pub is_numeral : List ℕ → Bool
+is_numeral word = has_no_needless_zero word && list_all is_ascii_digit word
+
+-- the number that the word says, where it is at most the limit
+unfoldable pub number_said : ℕ → List ℕ → Option ℕ
+number_said limit word =
+    if is_numeral word && nat_le (digits_value 10 word) limit then Some (digits_value 10 word) else None
+
+-- the number of a scope, a task or an actor, or a count: it has 32 bits
+abbrev pub small_said : List ℕ → Option ℕ
+small_said word = number_said 4294967295 word
+
+-- a moment: it has 64 bits
+abbrev pub moment_said : List ℕ → Option ℕ
+moment_said word = number_said 18446744073709551615 word
+
+-- the number below 0 with these digits: it is -9223372036854775808 at the least
+unfoldable pub negative_said : List ℕ → Option ℤ
+negative_said digits = do
+  magnitude ← number_said 9223372036854775808 digits
+  if magnitude == 0 then None else Some (negsuc (magnitude - 1))
+
+-- the number, at most 9223372036854775807, or one below 0 with a `-` in front
+unfoldable pub integer_said : List ℕ → Option ℤ
+integer_said [] = None
+integer_said (first ∷ others) =
+    if first == 45 then negative_said others else option_map pos (number_said 9223372036854775807 (first ∷ others))

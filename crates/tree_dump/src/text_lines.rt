@@ -1,0 +1,219 @@
+//! The lines of a tree, without their indents.
+ghost use Rattle.std.specs.Prelude.{◌≡◌, ◌+◌, ◌<◌, ◌^◌, Some};
+ghost use Rattle.tree_dump.specs.TextLines.{awaits_text, cause_text, deadline_text, head_text, indent, joined_text, kind_text, owner_text, progress_text, scope_text, shield_text, stage_text, task_text};
+
+use scope_log::ShownJoiner;
+use scope_rules::types::infos::{ScopeInfo, ScopeStage};
+use scope_rules::{Actor, Cause, CauseKind, Counts, Expiry, Name, Stage, State, TaskId};
+use std::fmt;
+
+/// Two spaces for each level.
+#[derive(Clone, Copy)]
+pub(crate) struct Indent(pub(crate) u32);
+
+impl fmt::Display for Indent {
+    ghost output = { λ i. Some (indent i.0) };
+
+    fn fmt<W: fmt::Write>(&self, f: &mut fmt::Formatter<W>) -> fmt::Result {
+        for _level in 0..self.0 {
+            write!(f, "  ")?;
+        }
+        Ok(())
+    }
+}
+
+/// `main` or `task K`.
+#[derive(Clone, Copy)]
+struct ShownOwner(Actor);
+
+impl fmt::Display for ShownOwner {
+    ghost output = { λ o. Some (owner_text o.0) };
+
+    fn fmt<W: fmt::Write>(&self, f: &mut fmt::Formatter<W>) -> fmt::Result {
+        match self.0 {
+            0 => write!(f, "main"),
+            task => write!(f, "task {task}"),
+        }
+    }
+}
+
+/// The scope's own deadline, and what the join does then, where that is not the usual.
+#[derive(Clone, Copy)]
+struct ShownDeadline {
+    deadline: Option<u64>,
+    expiry: Expiry,
+}
+
+impl fmt::Display for ShownDeadline {
+    ghost output = { λ d. Some (deadline_text d.deadline d.expiry) };
+
+    fn fmt<W: fmt::Write>(&self, f: &mut fmt::Formatter<W>) -> fmt::Result {
+        match (self.deadline, self.expiry) {
+            (None, _) => Ok(()),
+            (Some(moment), Expiry::Fail) => write!(f, ", deadline {moment}"),
+            (Some(moment), Expiry::MoveOn) => write!(f, ", deadline {moment} to move on"),
+        }
+    }
+}
+
+/// Why the scope is cancelled, where it is.
+#[derive(Clone, Copy)]
+struct ShownCause(Option<Cause>);
+
+impl fmt::Display for ShownCause {
+    ghost output = { λ c. Some (cause_text c.0) };
+
+    fn fmt<W: fmt::Write>(&self, f: &mut fmt::Formatter<W>) -> fmt::Result {
+        match self.0 {
+            None => Ok(()),
+            Some(cause) => {
+                let by = kind_text(cause.kind);
+                write!(f, ", cancelled by {by} scope {}", cause.scope)
+            }
+        }
+    }
+}
+
+/// How many of the scope's tasks wait or run, of how many.
+#[derive(Clone, Copy)]
+struct ShownCounts(Counts);
+
+impl fmt::Display for ShownCounts {
+    ghost output = { λ c. Some (awaits_text c.0) };
+
+    fn fmt<W: fmt::Write>(&self, f: &mut fmt::Formatter<W>) -> fmt::Result {
+        let counts = self.0;
+        let awaited = added(counts.waiting, counts.running);
+        let settled = added(counts.never, counts.finished);
+        write!(f, ", awaits {awaited} of {}", awaited + settled)
+    }
+}
+
+/// Which scope it is, how far it has come, whose it is, and how it is joined.
+#[derive(Clone, Copy)]
+struct ShownHead(ScopeInfo);
+
+impl fmt::Display for ShownHead {
+    ghost output = { λ h. Some (head_text h.0) };
+
+    fn fmt<W: fmt::Write>(&self, f: &mut fmt::Formatter<W>) -> fmt::Result {
+        let stage = stage_text(self.0.stage);
+        let owner = ShownOwner(self.0.owner);
+        let joiner = ShownJoiner(self.0.policy);
+        write!(
+            f,
+            "scope {} {stage}, of {owner}, joins {joiner}",
+            self.0.scope
+        )
+    }
+}
+
+/// The line of a scope.
+#[derive(Clone, Copy)]
+pub(crate) struct ShownScope {
+    pub(crate) info: ScopeInfo,
+    pub(crate) counts: Counts,
+}
+
+impl fmt::Display for ShownScope {
+    ghost output = { λ s. Some (scope_text s.info s.counts) };
+
+    fn fmt<W: fmt::Write>(&self, f: &mut fmt::Formatter<W>) -> fmt::Result {
+        let head = ShownHead(self.info);
+        let joined = joined_text(self.info.joined);
+        let deadline = ShownDeadline {
+            deadline: self.info.deadline,
+            expiry: self.info.expiry,
+        };
+        let shield = shield_text(self.info.shield);
+        let cause = ShownCause(self.info.cause);
+        let counts = ShownCounts(self.counts);
+        write!(f, "{head}{joined}{deadline}{shield}{cause}{counts}")
+    }
+}
+
+/// How far the task has come, and what can be read of it once no more comes of it.
+#[derive(Clone, Copy)]
+struct ShownProgress {
+    stage: Stage,
+    state: State,
+}
+
+impl fmt::Display for ShownProgress {
+    ghost output = { λ p. Some (progress_text p.stage p.state) };
+
+    fn fmt<W: fmt::Write>(&self, f: &mut fmt::Formatter<W>) -> fmt::Result {
+        match self.stage {
+            Stage::Waiting => write!(f, "waiting"),
+            Stage::Running => write!(f, "running"),
+            Stage::Never => write!(f, "never started, {}", self.state.word()),
+            Stage::Finished => write!(f, "finished, {}", self.state.word()),
+        }
+    }
+}
+
+/// The line of a task.
+#[derive(Clone, Copy)]
+pub(crate) struct ShownTask {
+    pub(crate) task: TaskId,
+    pub(crate) name: Name,
+    pub(crate) stage: Stage,
+    pub(crate) state: State,
+}
+
+impl fmt::Display for ShownTask {
+    ghost output = { λ t. Some (task_text t.task t.name t.stage t.state) };
+
+    fn fmt<W: fmt::Write>(&self, f: &mut fmt::Formatter<W>) -> fmt::Result {
+        let progress = ShownProgress {
+            stage: self.stage,
+            state: self.state,
+        };
+        write!(f, "task {} {}: {progress}", self.task, self.name)
+    }
+}
+
+/// So many tasks together.
+fn added(some: u32, others: u32) -> u64
+    ensures sum { result ≡ some + others }
+    ensures small { result < 2 ^ 33 }
+{
+    u64::from(some) + u64::from(others)
+}
+
+/// How far the scope has come.
+fn stage_text(stage: ScopeStage) -> &'static str
+    ensures { result.now ≡ stage_text stage }
+{
+    match stage {
+        ScopeStage::Open => "open",
+        ScopeStage::Closing => "closing",
+        ScopeStage::Closed => "closed",
+    }
+}
+
+/// Whether the scope is joined.
+fn joined_text(joined: bool) -> &'static str
+    ensures { result.now ≡ joined_text joined }
+{
+    if joined { ", joined" } else { "" }
+}
+
+/// Whether cancels from around stop short of the scope.
+fn shield_text(shield: bool) -> &'static str
+    ensures { result.now ≡ shield_text shield }
+{
+    if shield { ", shielded" } else { "" }
+}
+
+/// What made the cancel.
+fn kind_text(kind: CauseKind) -> &'static str
+    ensures { result.now ≡ kind_text kind }
+{
+    match kind {
+        CauseKind::Call => "a call on",
+        CauseKind::Close => "the close of",
+        CauseKind::Joiner => "the joiner of",
+        CauseKind::Deadline => "the deadline of",
+    }
+}

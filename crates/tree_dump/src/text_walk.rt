@@ -1,0 +1,117 @@
+//! The walk over the tree.
+ghost use Rattle.std.specs.Prelude.{◌≡◌, ◌≤◌, ◌+◌, ◌++◌, IfOk, IfSome, OnOk, string_bytes, option_and_then};
+ghost use Rattle.scope_checks.specs.Passes.{Passes};
+ghost use Rattle.scope_rules.specs.Checks.{scope_check};
+ghost use Rattle.scope_rules.specs.Nests.{info};
+ghost use Rattle.tree_dump.specs.TextTree.{nested, scope_line, task_line, tree_text};
+
+use crate::text_lines::{Indent, ShownScope, ShownTask};
+use scope_checks::{Readings, questions};
+use scope_rules::types::capacity::LEVEL_LIMIT;
+use scope_rules::types::infos::ScopeInfo;
+use scope_rules::types::values::MAIN;
+use scope_rules::{ScopeId, TaskId};
+use std::alloc::{AllocError, Global};
+
+/// What there is to say of the scope, if there is one and it was opened since the base.
+#[tactic(auto, using(crate::proofs::TextAnswered::info_ok, crate::proofs::TextAnswered::info_err, crate::proofs::TextAnswered::info_passes))]
+fn info_at<R: Readings>(readings: &R, place: Option<ScopeId>) -> Option<ScopeInfo>
+    ensures info { result ≡ option_and_then (info (R.history readings.now)) place }
+    ensures passes { IfSome result (λ i. Passes (scope_check (R.history readings.now) i.scope)) }
+{
+    match questions::info(readings, place?) {
+        Ok(info) => Some(info),
+        Err(_) => None,
+    }
+}
+
+/// Appends the line of the scope at this depth. It is refused for memory alone.
+fn append_scope_line<R: Readings>(
+    readings: &R,
+    text: &mut String,
+    depth: u32,
+    info: ScopeInfo,
+) -> Result<(), AllocError>
+    requires { Passes (scope_check (R.history readings.now) info.scope) }
+    ensures { OnOk result (string_bytes text.new ≡ string_bytes text.old ++ scope_line (R.history readings.now) depth info) }
+{
+    let counts = readings.counts(info.scope);
+    write!(text, "{}{}\n", Indent(depth), ShownScope { info, counts })
+}
+
+/// Appends the line of the task at this depth, if it was forked since the base. It is refused for memory alone.
+#[tactic(auto, using(scope_checks::proofs::Checked::task_passes), unfolding(crate::specs::TextTree::task_line, scope_rules::specs::Nests::label))]
+fn append_task_line<R: Readings>(
+    readings: &R,
+    text: &mut String,
+    depth: u32,
+    task: TaskId,
+) -> Result<(), AllocError>
+    ensures { OnOk result (string_bytes text.new ≡ string_bytes text.old ++ task_line (R.history readings.now) depth task) }
+{
+    let Some(forking) = readings.forking(task) else {
+        return Ok(());
+    };
+    let shown = ShownTask {
+        task,
+        name: forking.label.name,
+        stage: readings.stage(task),
+        state: readings.state(task),
+    };
+    write!(text, "{}{shown}\n", Indent(depth))
+}
+
+/// Appends the lines of what stands where the scope may lie, at this depth: the scope with its tasks and what
+/// lies inside, down to so many levels. It is refused for memory alone, and may then have appended some of them.
+fn append_scope<R: Readings>(
+    readings: &R,
+    text: &mut String,
+    levels: u32,
+    depth: u32,
+    place: Option<ScopeId>,
+) -> Result<(), AllocError>
+    requires { depth + (levels + levels) ≤ 64 }
+    ensures { OnOk result (string_bytes text.new ≡ string_bytes text.old ++ nested (R.history readings.now) levels depth place) }
+{
+    if levels == 0 {
+        return Ok(());
+    }
+    let Some(info) = info_at(readings, place) else {
+        return Ok(());
+    };
+    append_scope_line(readings, text, depth, info)?;
+    let within = depth + 1;
+    for index in 0..readings.tasks() as usize {
+        let Some(task) = readings.task_at(info.scope, index) else {
+            break;
+        };
+        append_task_line(readings, text, within, task)?;
+        append_scope(
+            readings,
+            text,
+            levels - 1,
+            within + 1,
+            readings.outermost(task),
+        )?;
+    }
+    append_scope(
+        readings,
+        text,
+        levels - 1,
+        within,
+        readings.inner(info.scope),
+    )
+}
+
+/// The tree of what was read, as text. It is refused for memory alone.
+#[tactic(auto, unfolding(crate::specs::TextTree::tree_text))]
+pub fn tree_of<R: Readings>(alloc: Global, readings: &R) -> Result<String, AllocError>
+    ensures { IfOk result (λ text. string_bytes text ≡ tree_text (R.history readings.now)) }
+{
+    let mut text = format!(in alloc; "moment {}\n", readings.moment())?;
+    match readings.outermost(MAIN) {
+        None => text.push_str("nothing is open\n")?,
+        root => append_scope(readings, &mut text, LEVEL_LIMIT, 0, root)?,
+    }
+    Ok(text)
+}
