@@ -10,8 +10,7 @@ ghost use Rattle.realm_core.specs.Closes.{IsBegun, Begins, EndsLater, ClosesBare
 
 use crate::marked::MarkedCore;
 use crate::realm::Realm;
-use realm_core::CloseReport;
-use realm_core::RealmName;
+use realm_core::{CloseReport, RealmName};
 use scope_rules::{Cancelling, Catalog, Refusal, ScopeId, Verdict};
 use share_ledger::{OwnerShare, Ticket};
 use std::sync::{MutexGuard, Wait};

@@ -1,15 +1,15 @@
 ghost use Rattle.std.specs.Prelude.{◌≡◌, [], IfOk};
 ghost use Rattle.scope_rules.specs.Replies.{fork_reply, base_of};
+ghost use Rattle.kept_realm.specs.Fits.{Fitting};
 ghost use Rattle.realm_core.specs.Calls.{DoesOrMemory, Records, RecordsOrMemory, history_seen};
 ghost use Rattle.realm_core.specs.Tasks.{ticket_aside, GivesTicket};
 
 use crate::realm::Realm;
 use realm_core::{Forked, RealmName, told_done, told_noted};
-use share_ledger::{Ask, RealmStep};
 use scope_rules::{
     Base, Binding, Cancelling, Catalog, Event, Label, Name, Refusal, ScopeId, Value,
 };
-use share_ledger::OwnerShare;
+use share_ledger::{Ask, OwnerShare, RealmStep};
 use std::sync::Wait;
 
 /// The commands with a token, each one hold of the lock. Where one is accepted, what the token has seen
@@ -33,6 +33,7 @@ impl<C: Catalog, N: RealmName> Realm<C, N> {
         requires named { token.old.table ≡ N.table }
         ensures answer { DoesOrMemory token.old token.new (RealmStep.Happened (Event.Fork token.old.actor scope label)) (λ h. fork_reply h scope) (ticket_aside result) }
         ensures ticket { GivesTicket token.new scope label result }
+        ensures fitting { Fitting C.fitting (history_seen token.new) }
     {
         let mut locked = self.room.locked.lock(rt);
         locked.fork(token, scope, label)
@@ -49,6 +50,7 @@ impl<C: Catalog, N: RealmName> Realm<C, N> {
     ) -> Result<(), Refusal>
         requires named { token.old.table ≡ N.table }
         ensures answer { DoesOrMemory token.old token.new (RealmStep.Happened (Event.Bind token.old.actor (record { key = key; value = value }))) (λ _. tt) result }
+        ensures fitting { Fitting C.fitting (history_seen token.new) }
     {
         let actor = token.actor();
         let binding = Binding { key, value };
@@ -62,6 +64,7 @@ impl<C: Catalog, N: RealmName> Realm<C, N> {
     pub fn unbind<R: Wait>(&self, rt: &R, token: &mut OwnerShare) -> Result<(), Refusal>
         requires named { token.old.table ≡ N.table }
         ensures answer { DoesOrMemory token.old token.new (RealmStep.Happened (Event.Unbind token.old.actor)) (λ _. tt) result }
+        ensures fitting { Fitting C.fitting (history_seen token.new) }
     {
         let actor = token.actor();
         let mut locked = self.room.locked.lock(rt);
@@ -80,6 +83,7 @@ impl<C: Catalog, N: RealmName> Realm<C, N> {
     ) -> Result<Cancelling, Refusal>
         requires named { token.old.table ≡ N.table }
         ensures answer { Records token.old token.new (Event.BeginClose token.old.actor scope) result }
+        ensures fitting { Fitting C.fitting (history_seen token.new) }
     {
         let mut locked = self.room.locked.lock(rt);
         locked.begin_close(token, scope)
@@ -96,6 +100,7 @@ impl<C: Catalog, N: RealmName> Realm<C, N> {
     ) -> Result<Cancelling, Refusal>
         requires named { token.old.table ≡ N.table }
         ensures answer { RecordsOrMemory token.old token.new (Event.Cancel scope) result }
+        ensures fitting { Fitting C.fitting (history_seen token.new) }
     {
         let mut locked = self.room.locked.lock(rt);
         told_noted(locked.perform(token, &Event::Cancel { scope }))
@@ -114,6 +119,7 @@ impl<C: Catalog, N: RealmName> Realm<C, N> {
     ) -> Result<(), Refusal>
         requires named { token.old.table ≡ N.table }
         ensures answer { DoesOrMemory token.old token.new (RealmStep.Asked token.old.actor (Ask.Move scope deadline)) (λ _. tt) result }
+        ensures fitting { Fitting C.fitting (history_seen token.new) }
     {
         let mut locked = self.room.locked.lock(rt);
         let before = locked.next_deadline();
@@ -127,6 +133,7 @@ impl<C: Catalog, N: RealmName> Realm<C, N> {
     pub fn tick<R: Wait>(&self, rt: &R, token: &mut OwnerShare, now: u64) -> Result<(), Refusal>
         requires named { token.old.table ≡ N.table }
         ensures answer { DoesOrMemory token.old token.new (RealmStep.Asked token.old.actor (Ask.Tick now)) (λ _. tt) result }
+        ensures fitting { Fitting C.fitting (history_seen token.new) }
     {
         let mut locked = self.room.locked.lock(rt);
         told_done(locked.perform(token, &Event::Tick { now }))
@@ -140,6 +147,7 @@ impl<C: Catalog, N: RealmName> Realm<C, N> {
         requires named { token.old.table ≡ N.table }
         ensures answer { DoesOrMemory token.old token.new RealmStep.Retirement base_of result }
         ensures base { IfOk result (λ base. history_seen token.new ≡ record { base = base; events = [] }) }
+        ensures fitting { Fitting C.fitting (history_seen token.new) }
     {
         let mut locked = self.room.locked.lock(rt);
         locked.retire(token)

@@ -24,6 +24,5 @@ pub use cancel_marks::{Mark, MarkCell, Seat};
 pub use kept_realm::KeptRealm;
 pub use looks::Look;
 pub use realm::Realm;
-pub use realm_core::CloseReport;
-pub use realm_core::{BareOutcome, Forked, Joined, RealmName, View};
+pub use realm_core::{BareOutcome, CloseReport, Forked, Joined, RealmName, View};
 pub use share_ledger::{OwnerShare as ActorToken, Seed, Ticket};

@@ -1,4 +1,4 @@
-ghost use Rattle.std.specs.Prelude.{◌≡◌, ◌⊎◌, false, true, None, Ok, Err, IfErr, IsOk, MatchResult, [], OnSome, length, ◌<◌};
+ghost use Rattle.std.specs.Prelude.{◌≡◌, ◌⊎◌, false, true, None, Some, Ok, Err, IfErr, IfOk, IsOk, MatchResult, [], OnSome, length, ◌<◌};
 ghost use Rattle.std.specs.List.{All};
 ghost use Rattle.scope_rules.specs.declared.types.events.Options.{Options};
 ghost use Rattle.scope_rules.specs.declared.types.joiners.Policy.{Policy};
@@ -26,15 +26,16 @@ use crate::dozers::Dozers;
 use crate::setters::Setters;
 use cancel_marks::MarkCell;
 use join_rules::Joiner;
-use realm_core::{CloseReport, begin, end_if_settled, report_if_settled, unsettled};
-use realm_core::{BareOutcome, Forked, Joined, RealmCore, RealmName, told_done};
-use share_ledger::RealmStep;
+use realm_core::{
+    BareOutcome, CloseReport, Forked, Joined, RealmCore, RealmName, begin, end_if_settled,
+    report_if_settled, told_done, unsettled,
+};
 use scope_checks::checks::scope_check;
 use scope_checks::{Readings, Told, table};
 use scope_rules::{
     Base, Cancelling, Catalog, End, Event, Label, Limits, Options, Refusal, ScopeId, Verdict,
 };
-use share_ledger::{OwnerShare, Seed, Ticket};
+use share_ledger::{OwnerShare, RealmStep, Seed, Ticket};
 use std::alloc::Global;
 use std::marker::Model;
 
@@ -107,10 +108,12 @@ impl<C: Catalog, N: RealmName> MarkedCore<C, N> {
         requires event { is_recorded_by token.old.actor event.now ≡ true }
         requires unopened { is_open event.now ≡ false }
         ensures answer { Performed token.old token.new event.now result }
+        ensures fitting { Fitting C.fitting (history_seen token.new) }
     {
         let _legal = self.core.limits();
         let result = self.core.perform(token, event);
         self.setters.catch_up(&mut self.core);
+        let _fitting = self.core.limits();
         result
     }
 
@@ -125,10 +128,12 @@ impl<C: Catalog, N: RealmName> MarkedCore<C, N> {
         requires named { token.old.table ≡ N.table }
         ensures answer { DoesOrMemory token.old token.new (RealmStep.Happened (Event.Fork token.old.actor scope label)) (λ h. fork_reply h scope) (ticket_aside result) }
         ensures ticket { GivesTicket token.new scope label result }
+        ensures fitting { Fitting C.fitting (history_seen token.new) }
     {
         let _legal = self.core.limits();
         let result = self.core.fork(token, scope, label);
         self.setters.catch_up(&mut self.core);
+        let _fitting = self.core.limits();
         result
     }
 
@@ -173,6 +178,7 @@ impl<C: Catalog, N: RealmName> MarkedCore<C, N> {
     ) -> Result<Option<u64>, Refusal>
         requires named { token.old.table ≡ N.table }
         ensures taken { MatchResult result (λ _. Looked token.old token.new ⊎ Ticks token.old token.new now) (TickRefused token.old token.new now) }
+        ensures left { IfOk result (λ left. (left ≡ Some 0) ⊎ (HasCome (history_seen token.new) now → ⊥)) }
         ensures fitting { Fitting C.fitting (history_seen token.new) }
     {
         match self.core.realm().next_deadline() {
@@ -213,10 +219,12 @@ impl<C: Catalog, N: RealmName> MarkedCore<C, N> {
     ) -> Result<Cancelling, Refusal>
         requires named { token.old.table ≡ N.table }
         ensures answer { Records token.old token.new (Event.BeginClose token.old.actor scope) result }
+        ensures fitting { Fitting C.fitting (history_seen token.new) }
     {
         let _legal = self.core.limits();
         let result = self.core.begin_close(token, scope);
         self.setters.catch_up(&mut self.core);
+        let _fitting = self.core.limits();
         result
     }
 
@@ -225,11 +233,13 @@ impl<C: Catalog, N: RealmName> MarkedCore<C, N> {
         requires named { token.old.table ≡ N.table }
         ensures answer { DoesOrMemory token.old token.new RealmStep.Retirement base_of result }
         ensures base { MatchResult result (λ base. history_seen token.new ≡ record { base = base; events = [] }) (λ _. Unit {0}) }
+        ensures fitting { Fitting C.fitting (history_seen token.new) }
     {
         let result = self.core.retire(token);
         if result.is_ok() {
             self.setters.clear();
         }
+        let _fitting = self.core.limits();
         result
     }
 
@@ -240,10 +250,12 @@ impl<C: Catalog, N: RealmName> MarkedCore<C, N> {
         requires waiting { IsWaiting ticket.old }
         ensures added { TicketAdded ticket.old ticket.new (RealmStep.Happened (Event.Reject ticket.old.task)) }
         ensures given { given_in ticket.new.task ticket.new.seen ≡ false }
+        ensures fitting { Fitting C.fitting (history_of ticket.new.seen) }
     {
         let _legal = self.core.limits();
         self.core.reject(ticket);
         self.setters.catch_up(&mut self.core);
+        let _fitting = self.core.limits();
         self.wake_if_settled(ticket.scope());
     }
 
@@ -254,12 +266,14 @@ impl<C: Catalog, N: RealmName> MarkedCore<C, N> {
         ensures added { TicketAdded ticket.old ticket.new (RealmStep.Happened (Event.Reject ticket.old.task)) }
         ensures given { given_in ticket.new.task ticket.new.seen ≡ false }
         ensures token { SeesMore token.old token.new × Added token.old token.new (RealmStep.Happened (Event.Reject ticket.old.task)) }
+        ensures fitting { Fitting C.fitting (history_of ticket.new.seen) × Fitting C.fitting (history_seen token.new) }
     {
         let _legal = self.core.limits();
         self.core.look(token);
         self.core.reject(ticket);
         self.core.look(token);
         self.setters.catch_up(&mut self.core);
+        let _fitting = self.core.limits();
         self.wake_if_settled(ticket.scope());
     }
 
@@ -271,10 +285,12 @@ impl<C: Catalog, N: RealmName> MarkedCore<C, N> {
         ensures added { TicketAdded ticket.old ticket.new (RealmStep.Happened (Event.Start ticket.old.task)) }
         ensures running { IsRunning ticket.new }
         ensures token { result ≡ record { table = N.table; limits = ticket.old.limits; actor = ticket.old.task; seen = ticket.new.seen } }
+        ensures fitting { Fitting C.fitting (history_of ticket.new.seen) }
     {
         let _legal = self.core.limits();
         let token = self.core.start(ticket);
         self.setters.catch_up(&mut self.core);
+        let _fitting = self.core.limits();
         token
     }
 
@@ -290,10 +306,12 @@ impl<C: Catalog, N: RealmName> MarkedCore<C, N> {
         requires task { MayFinish N.table C.fitting ticket.old token end }
         ensures answer { Finishes ticket.old ticket.new token end result }
         ensures sure { innermost (history_seen token) token.actor ≡ None → IsOk result }
+        ensures fitting { Fitting C.fitting (history_of ticket.new.seen) }
     {
         let _legal = self.core.limits();
         let result = self.core.finish(ticket, token, end);
         self.setters.catch_up(&mut self.core);
+        let _fitting = self.core.limits();
         self.wake_if_settled(ticket.scope());
         result
     }
@@ -427,6 +445,7 @@ impl<C: Catalog, N: RealmName> MarkedCore<C, N> {
         requires named { token.old.table ≡ N.table }
         ensures answer { DoesOrMemory token.old token.new (RealmStep.Happened (Event.Open token.old.actor (policy_of joiner) options)) next_scope (scope_alone result) }
         ensures cell { MatchResult result (λ opened. opened.1.scope ≡ opened.0) (λ back. back.1 ≡ joiner) }
+        ensures fitting { Fitting C.fitting (history_seen token.new) }
     {
         let Some(room) = self.setters.make_room(self.alloc) else {
             return Err((self.refusal_without_room(token), joiner));
@@ -441,10 +460,14 @@ impl<C: Catalog, N: RealmName> MarkedCore<C, N> {
             Ok(Told::Scope(scope)) => {
                 let cell = self.setters.add(room, scope);
                 self.setters.catch_up(&mut self.core);
+                let _fitting = self.core.limits();
                 Ok((scope, cell))
             }
             Ok(_) => unreachable!(),
-            Err(refusal) => Err((refusal, joiner)),
+            Err(refusal) => {
+                let _fitting = self.core.limits();
+                Err((refusal, joiner))
+            }
         }
     }
 
@@ -452,7 +475,8 @@ impl<C: Catalog, N: RealmName> MarkedCore<C, N> {
     /// want of memory.
     fn refusal_without_room(&mut self, token: &mut OwnerShare) -> Refusal
         requires named { token.old.table ≡ N.table }
-        ensures { (policy : Policy) (options : Options) → DoesOrMemory token.old token.new (RealmStep.Happened (Event.Open token.old.actor policy options)) next_scope (Err result) }
+        ensures answer { (policy : Policy) (options : Options) → DoesOrMemory token.old token.new (RealmStep.Happened (Event.Open token.old.actor policy options)) next_scope (Err result) }
+        ensures fitting { Fitting C.fitting (history_seen token.new) }
     {
         self.core.look(token);
         let limits = self.core.limits();

@@ -2,7 +2,8 @@ ghost use Rattle.std.specs.Prelude.{◌≡◌, IfOk, IfErr, MatchResult};
 ghost use Rattle.scope_rules.specs.Replies.{next_scope};
 ghost use Rattle.scope_book.specs.Books.{refusal_alone};
 ghost use Rattle.join_rules.specs.Joiners.{policy_of};
-ghost use Rattle.realm_core.specs.Calls.{DoesOrMemory, Reads};
+ghost use Rattle.kept_realm.specs.Fits.{Fitting};
+ghost use Rattle.realm_core.specs.Calls.{DoesOrMemory, Reads, history_seen};
 ghost use Rattle.realm_lock.specs.Openings.{scope_alone, scope_marked};
 ghost use Rattle.realm_lock.specs.Cells.{CellAnswers, IsFresh};
 
@@ -10,9 +11,8 @@ use crate::realm::Realm;
 use cancel_marks::{MarkCell, Seat};
 use join_rules::Joiner;
 use realm_core::RealmName;
-use share_ledger::RealmStep;
 use scope_rules::{Catalog, Event, Options, Refusal, ScopeId};
-use share_ledger::OwnerShare;
+use share_ledger::{OwnerShare, RealmStep};
 use std::sync::Wait;
 
 /// Scopes and their cells. The room for a scope's cell is made before the scope is opened; the cell is
@@ -31,6 +31,7 @@ impl<C: Catalog, N: RealmName> Realm<C, N> {
         requires named { token.old.table ≡ N.table }
         ensures answer { DoesOrMemory token.old token.new (RealmStep.Happened (Event.Open token.old.actor (policy_of joiner) options)) next_scope (refusal_alone result) }
         ensures handed_back { IfErr result (λ e. e.1 ≡ joiner) }
+        ensures fitting { Fitting C.fitting (history_seen token.new) }
     {
         match self.open_with_cell(rt, token, joiner, options) {
             Ok((scope, _)) => Ok(scope),
@@ -50,6 +51,7 @@ impl<C: Catalog, N: RealmName> Realm<C, N> {
         ensures answer { DoesOrMemory token.old token.new (RealmStep.Happened (Event.Open token.old.actor (policy_of joiner) options)) next_scope (scope_marked result) }
         ensures cell { IfOk result (λ opened. (opened.1.scope ≡ opened.0) × IsFresh opened.1 opened.2) }
         ensures handed_back { IfErr result (λ e. e.1 ≡ joiner) }
+        ensures fitting { Fitting C.fitting (history_seen token.new) }
     {
         match self.open_with_cell(rt, token, joiner, options) {
             Ok((scope, cell)) => {
@@ -72,6 +74,7 @@ impl<C: Catalog, N: RealmName> Realm<C, N> {
         requires named { token.old.table ≡ N.table }
         ensures answer { DoesOrMemory token.old token.new (RealmStep.Happened (Event.Open token.old.actor (policy_of joiner) options)) next_scope (scope_alone result) }
         ensures cell { MatchResult result (λ opened. opened.1.scope ≡ opened.0) (λ back. back.1 ≡ joiner) }
+        ensures fitting { Fitting C.fitting (history_seen token.new) }
     {
         let mut locked = self.room.locked.lock(rt);
         let before = locked.next_deadline();
@@ -90,10 +93,12 @@ impl<C: Catalog, N: RealmName> Realm<C, N> {
         scope: ScopeId,
     ) -> Result<(MarkCell, Seat), Refusal>
         requires named { token.old.table ≡ N.table }
-        ensures { Reads token.old token.new (λ h. CellAnswers h scope result) }
+        ensures answer { Reads token.old token.new (λ h. CellAnswers h scope result) }
+        ensures fitting { Fitting C.fitting (history_seen token.new) }
     {
         let mut locked = self.room.locked.lock(rt);
         locked.look(token);
+        let _fitting = locked.core().limits();
         let cell = locked.cell(scope)?;
         let seat = cell.seat();
         Ok((cell, seat))

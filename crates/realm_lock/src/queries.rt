@@ -5,7 +5,8 @@ ghost use Rattle.scope_rules.specs.Tasks.{state};
 ghost use Rattle.scope_rules.specs.Checks.{task_check};
 ghost use Rattle.scope_rules.specs.Table.{answering, until_check};
 ghost use Rattle.scope_rules.specs.Replies.{result_reply, fault_reply, binding_reply};
-ghost use Rattle.realm_core.specs.Calls.{Reads};
+ghost use Rattle.kept_realm.specs.Fits.{Fitting};
+ghost use Rattle.realm_core.specs.Calls.{Reads, history_seen};
 
 use crate::realm::Realm;
 use realm_core::RealmName;
@@ -15,16 +16,18 @@ use share_ledger::OwnerShare;
 use std::sync::Wait;
 
 /// The queries with a token, each one hold of the lock. Each adds nothing, and answers its definition of
-/// what the token has seen then. None takes memory.
+/// what the token has seen then; in that each end fits its task's label. None takes memory.
 impl<C: Catalog, N: RealmName> Realm<C, N> {
     /// What the token's actor sees the key bound to (JEP 506, `ScopedValue.get`). Refused where the actor
     /// is no running task or main, and where nothing is bound to the key (`NotBound`).
     pub fn get<R: Wait>(&self, rt: &R, token: &mut OwnerShare, key: &Name) -> Result<Value, Refusal>
         requires named { token.old.table ≡ N.table }
-        ensures { Reads token.old token.new (λ h. result ≡ binding_reply h token.new.actor key.now) }
+        ensures answer { Reads token.old token.new (λ h. result ≡ binding_reply h token.new.actor key.now) }
+        ensures fitting { Fitting C.fitting (history_seen token.new) }
     {
         let mut locked = self.room.locked.lock(rt);
         locked.look(token);
+        let _fitting = locked.core().limits();
         questions::binding(locked.core().realm(), token.actor(), key)
     }
 
@@ -39,10 +42,12 @@ impl<C: Catalog, N: RealmName> Realm<C, N> {
         task: TaskId,
     ) -> Result<Value, Refusal>
         requires named { token.old.table ≡ N.table }
-        ensures { Reads token.old token.new (λ h. result ≡ result_reply h token.new.actor task) }
+        ensures answer { Reads token.old token.new (λ h. result ≡ result_reply h token.new.actor task) }
+        ensures fitting { Fitting C.fitting (history_seen token.new) }
     {
         let mut locked = self.room.locked.lock(rt);
         locked.look(token);
+        let _fitting = locked.core().limits();
         questions::result(locked.core().realm(), token.actor(), task)
     }
 
@@ -55,20 +60,24 @@ impl<C: Catalog, N: RealmName> Realm<C, N> {
         task: TaskId,
     ) -> Result<Fault, Refusal>
         requires named { token.old.table ≡ N.table }
-        ensures { Reads token.old token.new (λ h. result ≡ fault_reply h token.new.actor task) }
+        ensures answer { Reads token.old token.new (λ h. result ≡ fault_reply h token.new.actor task) }
+        ensures fitting { Fitting C.fitting (history_seen token.new) }
     {
         let mut locked = self.room.locked.lock(rt);
         locked.look(token);
+        let _fitting = locked.core().limits();
         questions::fault(locked.core().realm(), token.actor(), task)
     }
 
     /// The scope that the token's actor opened last of those that it has not closed, if there is one.
     pub fn innermost<R: Wait>(&self, rt: &R, token: &mut OwnerShare) -> Option<ScopeId>
         requires named { token.old.table ≡ N.table }
-        ensures { Reads token.old token.new (λ h. result ≡ innermost h token.new.actor) }
+        ensures answer { Reads token.old token.new (λ h. result ≡ innermost h token.new.actor) }
+        ensures fitting { Fitting C.fitting (history_seen token.new) }
     {
         let mut locked = self.room.locked.lock(rt);
         locked.look(token);
+        let _fitting = locked.core().limits();
         locked.core().realm().innermost(token.actor())
     }
 
@@ -81,10 +90,12 @@ impl<C: Catalog, N: RealmName> Realm<C, N> {
         task: TaskId,
     ) -> Result<State, Refusal>
         requires named { token.old.table ≡ N.table }
-        ensures { Reads token.old token.new (λ h. result ≡ answering (task_check h task) (state h task)) }
+        ensures answer { Reads token.old token.new (λ h. result ≡ answering (task_check h task) (state h task)) }
+        ensures fitting { Fitting C.fitting (history_seen token.new) }
     {
         let mut locked = self.room.locked.lock(rt);
         locked.look(token);
+        let _fitting = locked.core().limits();
         questions::state(locked.core().realm(), task)
     }
 
@@ -98,10 +109,12 @@ impl<C: Catalog, N: RealmName> Realm<C, N> {
         scope: ScopeId,
     ) -> Result<Effective, Refusal>
         requires named { token.old.table ≡ N.table }
-        ensures { Reads token.old token.new (λ h. result ≡ answering (until_check h scope) (effective h scope)) }
+        ensures answer { Reads token.old token.new (λ h. result ≡ answering (until_check h scope) (effective h scope)) }
+        ensures fitting { Fitting C.fitting (history_seen token.new) }
     {
         let mut locked = self.room.locked.lock(rt);
         locked.look(token);
+        let _fitting = locked.core().limits();
         questions::effective_deadline(locked.core().realm(), scope)
     }
 }

@@ -1,20 +1,21 @@
-ghost use Rattle.std.specs.Prelude.{◌≡◌, false, None, IsOk};
+ghost use Rattle.std.specs.Prelude.{◌≡◌, false, None, IsOk, MatchResult};
 ghost use Rattle.scope_rules.specs.Scopes.{innermost};
 ghost use Rattle.share_ledger.specs.Tickets.{given_in};
 ghost use Rattle.share_ledger.specs.Values.{IsWaiting};
+ghost use Rattle.kept_realm.specs.Fits.{Fitting};
+ghost use Rattle.share_ledger.specs.Steps.{history_of};
 ghost use Rattle.realm_core.specs.Calls.{Added, SeesMore, TicketAdded, history_seen};
 ghost use Rattle.realm_core.specs.Tasks.{IsRunning, MayFinish};
 ghost use Rattle.realm_lock.specs.Endings.{Ends};
 
 use crate::realm::Realm;
 use realm_core::RealmName;
-use share_ledger::RealmStep;
 use scope_rules::{Catalog, End, Event, Refusal};
-use share_ledger::{OwnerShare, Ticket};
+use share_ledger::{OwnerShare, RealmStep, Ticket};
 use std::sync::Wait;
 
 /// The calls with a ticket, each one hold of the lock. None takes memory, and none can find its task at
-/// another stage than the ticket says.
+/// another stage than the ticket says. In what the ticket has seen then, each end fits its task's label.
 impl<C: Catalog, N: RealmName> Realm<C, N> {
     /// Records that no thread was had for the ticket's task.
     pub fn reject<R: Wait>(&self, rt: &R, mut ticket: Ticket) -> Ticket
@@ -22,6 +23,7 @@ impl<C: Catalog, N: RealmName> Realm<C, N> {
         requires waiting { IsWaiting ticket }
         ensures added { TicketAdded ticket result (RealmStep.Happened (Event.Reject ticket.task)) }
         ensures given { given_in result.task result.seen ≡ false }
+        ensures fitting { Fitting C.fitting (history_of result.seen) }
     {
         let mut locked = self.room.locked.lock(rt);
         locked.reject(&mut ticket);
@@ -35,6 +37,7 @@ impl<C: Catalog, N: RealmName> Realm<C, N> {
         ensures added { TicketAdded ticket result (RealmStep.Happened (Event.Reject ticket.task)) }
         ensures given { given_in result.task result.seen ≡ false }
         ensures token { SeesMore token.old token.new × Added token.old token.new (RealmStep.Happened (Event.Reject ticket.task)) }
+        ensures fitting { Fitting C.fitting (history_of result.seen) × Fitting C.fitting (history_seen token.new) }
     {
         let mut locked = self.room.locked.lock(rt);
         locked.reject_with(token, &mut ticket);
@@ -48,6 +51,7 @@ impl<C: Catalog, N: RealmName> Realm<C, N> {
         ensures added { TicketAdded ticket result.0 (RealmStep.Happened (Event.Start ticket.task)) }
         ensures running { IsRunning result.0 }
         ensures token { result.1 ≡ record { table = N.table; limits = ticket.limits; actor = ticket.task; seen = result.0.seen } }
+        ensures fitting { Fitting C.fitting (history_of result.0.seen) }
     {
         let mut locked = self.room.locked.lock(rt);
         let token = locked.start(&mut ticket);
@@ -68,6 +72,7 @@ impl<C: Catalog, N: RealmName> Realm<C, N> {
         requires task { MayFinish N.table C.fitting ticket token end }
         ensures answer { Ends ticket token end result }
         ensures sure { innermost (history_seen token) token.actor ≡ None → IsOk result }
+        ensures fitting { MatchResult result (λ ticket. Fitting C.fitting (history_of ticket.seen)) (λ back. Fitting C.fitting (history_of back.1.seen)) }
     {
         let mut locked = self.room.locked.lock(rt);
         match locked.finish(&mut ticket, token, end) {

@@ -1,23 +1,20 @@
-ghost use Rattle.std.specs.Prelude.{◌≡◌, ◌≤◌, ◌⊎◌, ℕ, None, Some, Ok, Err, IfOk, IfErr, MatchOption, MatchResult};
-ghost use Rattle.std.specs.List.{All};
+ghost use Rattle.std.specs.Prelude.{◌≡◌, None, Some, Ok, Err, IfOk, IfErr, IfSome, MatchOption, MatchResult};
 ghost use Rattle.once_cell.specs.Once.{Agrees};
 ghost use Rattle.cancel_marks.specs.Marked.{said_by};
 ghost use Rattle.scope_rules.specs.declared.types.refusals.Refusal.TheVariants.{NotReady};
-ghost use Rattle.share_ledger.specs.Values.{TicketValue};
 ghost use Rattle.kept_realm.specs.Fits.{Fitting};
 ghost use Rattle.realm_core.specs.Calls.{SeesMore, history_seen};
 ghost use Rattle.realm_core.specs.Waiting.{FoundUnsettled, IsOpenOf};
-ghost use Rattle.realm_core.specs.Closes.{ClosesBare, ClosesWith, IsBegun, StaysOpen};
-ghost use Rattle.realm_lock.specs.Waits.{ClosesAfter, HasPassed, JoinsBy, StaysUnclosed, Stopped, StopsClosing, Waited, WaitsToClose, shown_in};
+ghost use Rattle.realm_core.specs.Closes.{IsBegun};
+ghost use Rattle.realm_lock.specs.Waits.{HasCome, HasPassed, JoinsBy, StaysUnclosed, Stopped, StopsClosing, Waited, WaitsToClose, shown_in};
 
 use crate::realm::Realm;
 use crate::sleeps::Bed;
 use cancel_marks::{Mark, MarkCell, Seat};
 use named_jobs::Clock;
-use realm_core::CloseReport;
 use realm_core::{Joined, RealmName};
-use scope_rules::{Catalog, Refusal, ScopeId, Verdict};
-use share_ledger::{OwnerShare, Ticket};
+use scope_rules::{Catalog, Refusal, ScopeId};
+use share_ledger::OwnerShare;
 use std::rt::Clock as SystemTime;
 use std::sync::Wait;
 
@@ -61,51 +58,6 @@ impl<C: Catalog, N: RealmName> Realm<C, N> {
             }
         }
         unreachable!()
-    }
-
-    /// Closes the actor's scope as `close_bare` does. Where a tick is refused, the scope is closing, and
-    /// `close_bare` closes it, which takes no load.
-    pub fn close_bare_by<R: Wait + SystemTime, K: Clock>(
-        &self,
-        rt: &R,
-        token: &mut OwnerShare,
-        scope: ScopeId,
-        clock: &mut K,
-    ) -> Result<Verdict, Refusal>
-        requires named { token.old.table ≡ N.table }
-        ensures seen { SeesMore token.old token.new × Fitting C.fitting (history_seen token.new) }
-        ensures closed { IfOk result (λ how. ClosesAfter K.reads token.old clock.old clock.new scope (λ there. ClosesBare there token.new scope (Ok how))) }
-        ensures refused { IfErr result (StaysUnclosed K.reads token.old token.new clock.old clock.new scope) }
-        ensures sure { IsOpenOf (history_seen token.old) token.old.actor scope → IfErr result (StopsClosing K.reads token.old token.new clock.old clock.new scope) }
-    {
-        match self.await_close_by(rt, token, scope, clock) {
-            Ok(()) => match self.close_bare(rt, token, scope) {
-                Ok(verdict) => Ok(verdict),
-                Err(_) => unreachable!(),
-            },
-            Err(refusal) => Err(refusal),
-        }
-    }
-
-    /// The same with a report, as `close` gives it. Each refusal hands the tickets back.
-    pub fn close_by<R: Wait + SystemTime, K: Clock>(
-        &self,
-        rt: &R,
-        token: &mut OwnerShare,
-        scope: ScopeId,
-        tickets: Vec<Ticket>,
-        clock: &mut K,
-    ) -> Result<CloseReport, (Refusal, Vec<Ticket>)>
-        requires named { token.old.table ≡ N.table }
-        requires tickets { All (λ (t : TicketValue). t.table ≡ N.table) tickets.items }
-        ensures seen { SeesMore token.old token.new × Fitting C.fitting (history_seen token.new) }
-        ensures closed { IfOk result (λ report. ClosesAfter K.reads token.old clock.old clock.new scope (λ there. ClosesWith there token.new scope tickets.items report)) }
-        ensures refused { IfErr result (λ back. (StaysUnclosed K.reads token.old token.new clock.old clock.new scope back.0 × (back.1.items ≡ tickets.items)) ⊎ ClosesAfter K.reads token.old clock.old clock.new scope (λ there. StaysOpen there token.new scope tickets.items back.1.items back.0)) }
-    {
-        match self.await_close_by(rt, token, scope, clock) {
-            Ok(()) => self.close(rt, token, scope, tickets),
-            Err(refusal) => Err((refusal, tickets)),
-        }
     }
 
     /// Begins to close the actor's scope, if need be, as `begin_close` does, and waits until the close can
@@ -178,6 +130,7 @@ impl<C: Catalog, N: RealmName> Realm<C, N> {
         ensures cell { seat.new.cell ≡ cell.now }
         ensures mark { MatchOption (shown_in result) ((seat.old.known ≡ None) × (seat.new.known ≡ None)) (λ mark. (mark.seat ≡ seat.new) × (seat.new.known ≡ Some (said_by mark)) × Agrees seat.old.known (said_by mark)) }
         ensures slept { result ≡ Ok None → HasPassed until (K.reading clock.new) }
+        ensures passed_all { result ≡ Ok None → IfSome (K.reading clock.new) (λ now. HasCome (history_seen token.new) now → ⊥) }
     {
         for _ in rt.forever() {
             let now = clock.now();
@@ -210,6 +163,8 @@ impl<C: Catalog, N: RealmName> Realm<C, N> {
         ensures token { SeesMore token.old token.new }
         ensures answer { MatchResult result (λ _. Waited K.reads token.old clock.old token.new clock.new) (Stopped K.reads token.old token.new clock.old clock.new) }
         ensures slept { IfOk result (λ _. HasPassed (Some until) (K.reading clock.new)) }
+        ensures passed_all { IfOk result (λ _. IfSome (K.reading clock.new) (λ now. HasCome (history_seen token.new) now → ⊥)) }
+        ensures fitting { Fitting C.fitting (history_seen token.new) }
     {
         for _ in rt.forever() {
             let now = clock.now();

@@ -1,7 +1,7 @@
 ghost use Rattle.std.specs.Prelude.{◌≡◌, ◌≤◌, ◌⊎◌, true, ℕ, IfErr, IfOk, Ok, Some};
 ghost use Rattle.kept_realm.specs.Fits.{Fitting};
 ghost use Rattle.realm_core.specs.Calls.{Looked, history_seen};
-ghost use Rattle.realm_lock.specs.Waits.{Ticks, TickRefused};
+ghost use Rattle.realm_lock.specs.Waits.{HasCome, Ticks, TickRefused};
 
 use crate::marked::MarkedCore;
 use crate::realm::Realm;
@@ -31,6 +31,7 @@ impl<C: Catalog, N: RealmName> Realm<C, N> {
         ensures refused { IfErr result (TickRefused token.old token.new now) }
         ensures fitting { Fitting C.fitting (history_seen token.new) }
         ensures over { result ≡ Ok true → (end : ℕ) × (until ≡ Some end) × (end ≤ now) }
+        ensures passed_all { result ≡ Ok true → HasCome (history_seen token.new) now → ⊥ }
     {
         let mut locked = locked;
         let left = match locked.take_turn(token, now) {

@@ -21,7 +21,7 @@ pub mod Beginning
 pub mod Moves
 pub mod Passing
 pub mod Opens
-pub mod Kept
+pub mod CutsKept
 pub mod Coming
 mod CancelOrders
 pub mod TaskLists
@@ -31,7 +31,7 @@ pub mod Over
 pub mod Readings
 pub mod FirstCompletions
 pub mod AtJoin
-pub mod Told
+pub mod OutcomesTold
 pub mod ForkSteps
 pub mod Lists
 pub mod Held

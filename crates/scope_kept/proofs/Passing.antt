@@ -15,7 +15,7 @@ use Rattle.cancel_tree.proofs.RowLaws.{altered_length}
 use Rattle.cancel_tree.proofs.LatestLaws.{latest_cancel}
 use Rattle.join_rules.specs.JoinerStanding.{JoinerStanding}
 use Rattle.scope_kept.specs.CutTables.{AreKept, to_come}
-use Rattle.scope_kept.proofs.Kept.{tied}
+use Rattle.scope_kept.proofs.CutsKept.{tied}
 use Rattle.scope_kept.proofs.CancelSteps.{ticked}
 use Rattle.scope_kept.proofs.TableSteps.{changed_rows, at_row}
 

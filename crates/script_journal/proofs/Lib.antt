@@ -1,6 +1,6 @@
 pub mod Printable
 pub mod Words
-pub mod Lines
+pub mod PlayedLines
 pub mod Accepted
 pub mod Running
 pub mod Again

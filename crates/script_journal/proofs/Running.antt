@@ -20,7 +20,7 @@ use Rattle.scope_script.specs.Sessions.{realm_after_line, realm_after_lines, rea
 use Rattle.scope_script.specs.Tallies.{no_refusals, tally_after_line, tally_after_lines, tally_of_script, with_cut}
 use Rattle.script_journal.specs.Journals.{AllFit, RunsTo, JournalIsAScript}
 use Rattle.script_journal.proofs.Words.{line_says_event}
-use Rattle.script_journal.proofs.Lines.{ended_events, begun_events}
+use Rattle.script_journal.proofs.PlayedLines.{ended_events, begun_events}
 use Rattle.script_journal.proofs.Accepted.{ruled, accepted_adds, accepted_unrefused}
 
 -- a history that began fresh

@@ -1,6 +1,6 @@
 -- The parts decide what the join answered.
 use Rattle.std.proofs.Common.{option_map, ap, sym, ◌∙◌}
-use Rattle.scope_kept.proofs.Told.{outcome_told}
+use Rattle.scope_kept.proofs.OutcomesTold.{outcome_told}
 use Rattle.scope_kept.proofs.joined.parts_of.Goals as goal
 
 pub returns : goal.returns

@@ -1,4 +1,4 @@
-use Rattle.script_journal.proofs.Lines.{no_line_is_lost}
+use Rattle.script_journal.proofs.PlayedLines.{no_line_is_lost}
 use Rattle.script_journal.proofs.laws.no_line_is_lost.Goals as goal
 
 pub returns : goal.returns

@@ -1,6 +1,6 @@
 use Rattle.std.proofs.Common.{◌+◌, ◌<◌, ◌^◌, length, sym, subst}
 use Rattle.scope_kept.specs.CutTables.{CutTable}
-use Rattle.scope_kept.proofs.Kept.{kept_add_before, kept_refused}
+use Rattle.scope_kept.proofs.CutsKept.{kept_add_before, kept_refused}
 use Rattle.scope_kept.proofs.cuts.Cuts.add_before.Goals as goal
 
 pub invariant_of-self-in-Ok : goal.invariant_of-self-in-Ok

@@ -1,7 +1,7 @@
 use Rattle.std.proofs.Common.{◌-◌, ◌<◌, Some, sym, subst, arith}
 use Rattle.cancel_tree.specs.Rows.{IsAdded, changed, with_deadline}
 use Rattle.scope_kept.specs.CutTables.{CutTable, HasRow, AreKept}
-use Rattle.scope_kept.proofs.Kept.{kept_move}
+use Rattle.scope_kept.proofs.CutsKept.{kept_move}
 use Rattle.scope_kept.proofs.cuts.Cuts.await_deadline.Goals as goal
 
 pub invariant_of-self-2 : goal.invariant_of-self-2

@@ -1,6 +1,6 @@
 use Rattle.std.proofs.Common.{◌-◌, ◌≤◌, sym, subst, arith}
 use Rattle.scope_kept.specs.CutTables.{HasRow, AreKept}
-use Rattle.scope_kept.proofs.Kept.{kept_cancel}
+use Rattle.scope_kept.proofs.CutsKept.{kept_cancel}
 use Rattle.scope_kept.proofs.cuts.Cuts.cancel.Goals as goal
 
 pub invariant_of-self : goal.invariant_of-self

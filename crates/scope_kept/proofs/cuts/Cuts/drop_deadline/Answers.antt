@@ -1,7 +1,7 @@
 use Rattle.std.proofs.Common.{◌-◌, None, sym, subst, arith}
 use Rattle.cancel_tree.specs.Rows.{IsAdded, changed, with_deadline}
 use Rattle.scope_kept.specs.CutTables.{HasRow, AreKept}
-use Rattle.scope_kept.proofs.Kept.{kept_join}
+use Rattle.scope_kept.proofs.CutsKept.{kept_join}
 use Rattle.scope_kept.proofs.cuts.Cuts.drop_deadline.Goals as goal
 
 pub invariant_of-self : goal.invariant_of-self

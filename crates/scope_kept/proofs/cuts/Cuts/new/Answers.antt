@@ -1,4 +1,4 @@
-use Rattle.scope_kept.proofs.Kept.{kept_begun}
+use Rattle.scope_kept.proofs.CutsKept.{kept_begun}
 use Rattle.scope_kept.proofs.cuts.Cuts.new.Goals as goal
 
 pub invariant_of-result : goal.invariant_of-result
