@@ -1,14 +1,15 @@
 -- The threads that an owner makes, and the tickets of those that it joined.
-use Rattle.std.specs.Prelude.{◌≡◌, ℕ, ◌<◌, ◌≤◌, ◌+◌, List, [], ◌∷◌, ◌++◌, length}
+use Rattle.std.specs.Prelude.{◌≡◌, ℕ, ◌<◌, ◌≤◌, List, [], ◌∷◌, ◌++◌}
 use Rattle.std.specs.List.{All}
 use Rattle.std.specs.List.Sorted.{IsPermutation}
+use Rattle.atomic_table.specs.Seated.{TableId}
 use Rattle.share_ledger.specs.Values.{TicketValue}
+use Rattle.thread_crew.specs.Returns.{Returns}
 
--- the scopes of the threads that were not joined, how many these are, and the tickets that came back of others;
--- and for how many threads more there is room, for their handles and for their tickets
+-- the tickets that the works were given whose threads were not joined, and the tickets that came back of others; and
+-- for how many threads more there is room, for their handles and for their tickets
 pub record TeamValue : Type 0 where
-  pub running : List ℕ
-  pub threads : ℕ
+  pub running : List TicketValue
   pub returned : List TicketValue
   pub handles : ℕ
   pub tickets : ℕ
@@ -19,22 +20,32 @@ HasRoom t = (1 ≤ t.handles) × (1 ≤ t.tickets)
 
 -- the same threads and tickets, whatever room there is
 abbrev pub IsSameTeam : TeamValue → TeamValue → Type 0
-IsSameTeam old new = (new.running ≡ old.running) × (new.threads ≡ old.threads) × (new.returned ≡ old.returned)
+IsSameTeam old new = (new.running ≡ old.running) × (new.returned ≡ old.returned)
 
--- a thread of scope s more
-abbrev pub HasThreadMore : ℕ → TeamValue → TeamValue → Type 0
-HasThreadMore s old new = (new.running ≡ old.running ++ s ∷ []) × (new.threads ≡ old.threads + 1) × (new.returned ≡ old.returned)
+-- a thread more, whose work was given the ticket
+abbrev pub HasThreadMore : TicketValue → TeamValue → TeamValue → Type 0
+HasThreadMore first old new = (new.running ≡ old.running ++ first ∷ []) × (new.returned ≡ old.returned)
 
 -- no thread is left of scope s, or of one that was opened later
 abbrev pub AreJoined : ℕ → TeamValue → Type 0
-AreJoined s t = All (λ (of : ℕ). of < s) t.running
+AreJoined s t = All (λ (first : TicketValue). first.scope < s) t.running
 
--- the threads of scope s and of what was opened later were joined, and each gave its ticket
-pub record Joins (s : ℕ) (old new : TeamValue) : Type 0 where
+-- the last tickets are what came back for the first ones, one for one
+abbrev pub AreReturns : TableId → List TicketValue → List TicketValue → Type 0
+AreReturns name [] [] = Unit {0}
+AreReturns name [] (last ∷ lasts) = ⊥
+AreReturns name (first ∷ firsts) [] = ⊥
+AreReturns name (first ∷ firsts) (last ∷ lasts) = Returns name first last × AreReturns name firsts lasts
+
+-- just the threads of scope s, and of what was opened later, were joined, and each gave back its own ticket
+pub record Joins (name : TableId) (s : ℕ) (old new : TeamValue) : Type 0 where
   pub none : AreJoined s new
+  pub joined : List TicketValue
   pub given : List TicketValue
+  pub were : IsPermutation old.running (joined ++ new.running)
+  pub from : All (λ (first : TicketValue). s ≤ first.scope) joined
+  pub returns : AreReturns name joined given
   pub kept : new.returned ≡ old.returned ++ given
-  pub sum : new.threads + length given ≡ old.threads
 
 -- of all tickets those of scope s, and of what was opened later, and the others
 pub record ArePartedAt (s : ℕ) (all tickets others : List TicketValue) : Type 0 where

@@ -1,6 +1,6 @@
 //! The threads that one owner makes, and the tickets of those that it joined.
 
-ghost use Rattle.std.specs.Prelude.{◌≡◌, ◌<◌, ◌≤◌, ◌++◌, ℕ, [], OnOk, IfSome, MatchOption, length, map, nat_lt, slice_index_or};
+ghost use Rattle.std.specs.Prelude.{◌≡◌, ◌<◌, ◌≤◌, ◌++◌, ℕ, [], OnOk, IfSome, MatchOption, length, nat_lt, slice_index_or};
 ghost use Rattle.std.specs.List.{All, filter};
 ghost use Rattle.std.specs.List.Sorted.{IsPermutation};
 ghost use Rattle.share_ledger.specs.Values.{TicketValue};
@@ -13,11 +13,22 @@ use std::alloc::{AllocError, Global};
 use std::marker::Model;
 use std::sync::Wait;
 
-/// A thread that was made, until it is joined.
+/// A thread that was made, until it is joined. Its value is the ticket that its work was given.
 #[derive(Drop)]
 struct Thread<N: RealmName, S: Spawner<N>> {
     scope: ScopeId,
     handle: S::Handle,
+}
+
+impl<N: RealmName, S: Spawner<N>> Model for Thread<N, S> {
+    ghost use Rattle.std.specs.Prelude.{◌≡◌};
+    ghost use Rattle.share_ledger.specs.Values.{TicketValue};
+
+    ghost Value = { TicketValue };
+
+    ghost view = { λ t. S.first_of t.handle };
+
+    ghost invariant = { λ t. (S.first_of t.handle).scope ≡ t.scope };
 }
 
 /// The threads that an owner made and did not join yet, and the tickets of those that it joined, until it
@@ -29,12 +40,12 @@ pub struct Team<N: RealmName, S: Spawner<N>> {
 }
 
 impl<N: RealmName, S: Spawner<N>> Model for Team<N, S> {
-    ghost use Rattle.std.specs.Prelude.{◌-◌, ◌+◌, ◌≤◌, map, vec_len, vec_capacity};
+    ghost use Rattle.std.specs.Prelude.{◌-◌, ◌+◌, ◌≤◌, vec_len, vec_capacity};
     ghost use Rattle.thread_crew.specs.Teams.{TeamValue};
 
     ghost Value = { TeamValue };
 
-    ghost view = { λ t. record { running = map (λ x. x.scope) t.running.items; threads = vec_len t.running; returned = t.returned.items; handles = vec_capacity t.running - vec_len t.running; tickets = vec_capacity t.returned - (vec_len t.running + vec_len t.returned) } };
+    ghost view = { λ t. record { running = t.running.items; returned = t.returned.items; handles = vec_capacity t.running - vec_len t.running; tickets = vec_capacity t.returned - (vec_len t.running + vec_len t.returned) } };
 
     ghost invariant = { λ t. vec_len t.running + vec_len t.returned ≤ vec_capacity t.returned };
 }
@@ -62,15 +73,16 @@ impl<N: RealmName, S: Spawner<N>> Team<N, S> {
 
     /// Adds a thread of the scope, for which there is room.
     pub fn add(&mut self, scope: ScopeId, handle: S::Handle)
-        requires { HasRoom self.old }
-        ensures { HasThreadMore scope self.old self.new }
+        requires room { HasRoom self.old }
+        requires of { (S.first_of handle).scope ≡ scope }
+        ensures { HasThreadMore (S.first_of handle) self.old self.new }
     {
         self.running.push_reserved(Thread { scope, handle });
     }
 
     /// Joins the threads of the scope, and of what was opened later, the latest first. It takes no memory.
     pub fn join_from<R: Wait>(&mut self, rt: &R, spawner: &mut S, scope: ScopeId)
-        ensures { Joins scope self.old self.new }
+        ensures { Joins N.table scope self.old self.new }
     {
         let mut below = self.running.len();
         while let Some(place) = last_from(self.running.as_slice(), scope, below) {
@@ -129,12 +141,13 @@ fn last_from<N: RealmName, S: Spawner<N>>(
     below: usize,
 ) -> Option<usize>
     requires within { below ≤ length running.now }
-    requires none { (k : ℕ) (d : _) → below ≤ k → k < length running.now → (slice_index_or running.now k d).scope < scope }
-    ensures found { MatchOption result (All (λ (of : ℕ). of < scope) (map (λ t. t.scope) running.now)) (λ place. place < below) }
-    ensures last { IfSome result (λ place. (k : ℕ) (d : _) → place < k → k < length running.now → (slice_index_or running.now k d).scope < scope) }
+    requires none { (k : ℕ) (d : TicketValue) → below ≤ k → k < length running.now → (slice_index_or running.now k d).scope < scope }
+    ensures found { MatchOption result (All (λ (t : TicketValue). t.scope < scope) running.now) (λ place. (place < below) × ((d : TicketValue) → scope ≤ (slice_index_or running.now place d).scope)) }
+    ensures last { IfSome result (λ place. (k : ℕ) (d : TicketValue) → place < k → k < length running.now → (slice_index_or running.now k d).scope < scope) }
 {
     for place in (0..below).rev() {
-        if running[place].scope >= scope {
+        let thread = &running[place];
+        if thread.scope >= scope {
             return Some(place);
         }
     }
