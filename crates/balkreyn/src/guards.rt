@@ -9,7 +9,7 @@ ghost use Rattle.realm_core.specs.Views.{Joins, JoinsBare};
 ghost use Rattle.realm_core.specs.Closes.{ClosesBare};
 ghost use Rattle.realm_core.specs.Waiting.{IsOpenOf};
 ghost use Rattle.realm_lock.specs.Waits.{JoinsBy};
-ghost use Rattle.thread_crew.specs.Teams.{AreJoined};
+ghost use Rattle.thread_crew.specs.Teams.{AreGone};
 ghost use Rattle.job_runner.specs.Forks.{ForksJob, KeepsThread, why_alone};
 ghost use Rattle.job_runner.specs.Lists.{ListsBelow, ListsOne};
 ghost use Rattle.job_runner.specs.Reports.{ClosesHere, StaysHere};
@@ -154,7 +154,7 @@ impl Opened {
         ensures rest { (ctx.new ≡ record ctx.old { token = ctx.new.token; spawner = ctx.new.spawner; opened = ctx.new.opened; team = ctx.new.team }) × SeesMore ctx.old.token ctx.new.token }
         ensures answer { ClosesBare ctx.old.token ctx.new.token self result }
         ensures sure { IsOpenOf (history_seen ctx.old.token) ctx.old.token.actor self → IsOk result }
-        ensures left { MatchResult result (λ _. AreJoined self ctx.new.team × ListsBelow self ctx.old.opened.items ctx.new.opened.items) (λ _. (ctx.new.team ≡ ctx.old.team) × (ctx.new.opened ≡ ctx.old.opened)) }
+        ensures left { MatchResult result (λ _. AreGone self ctx.new.team × ListsBelow self ctx.old.opened.items ctx.new.opened.items) (λ _. (ctx.new.team ≡ ctx.old.team) × (ctx.new.opened ≡ ctx.old.opened)) }
     {
         let Opened { scope } = self;
         ctx.close_scope_bare(rt, scope)
@@ -173,7 +173,7 @@ impl Opened {
     ) -> Result<CloseReport, (Refusal, Opened)>
         ensures rest { (ctx.new ≡ record ctx.old { token = ctx.new.token; spawner = ctx.new.spawner; opened = ctx.new.opened; team = ctx.new.team }) × SeesMore ctx.old.token ctx.new.token }
         ensures answer { MatchResult result (λ report. ClosesHere ctx.old.token ctx.new.token self ctx.old.team report) (λ back. StaysHere ctx.old.token ctx.new.token self ctx.old.team ctx.new.team back.0) }
-        ensures left { MatchResult result (λ _. AreJoined self ctx.new.team × ListsBelow self ctx.old.opened.items ctx.new.opened.items) (λ _. ctx.new.opened ≡ ctx.old.opened) }
+        ensures left { MatchResult result (λ _. AreGone self ctx.new.team × ListsBelow self ctx.old.opened.items ctx.new.opened.items) (λ _. ctx.new.opened ≡ ctx.old.opened) }
         ensures sure { IsOpenOf (history_seen ctx.old.token) ctx.old.token.actor self → IfErr result (λ back. (back.0 ≡ NotReady) ⊎ (back.0 ≡ Memory)) }
         ensures handed_back { IfErr result (λ back. back.1 ≡ self) }
     {

@@ -44,14 +44,14 @@ pub trait Scopes {
 
 impl<C: Catalog, S: Spawner<N>, N: RealmName> Scopes for TaskCtx<C, S, N> {
     ghost use Rattle.std.specs.Prelude.{◌≡◌, MatchResult};
-    ghost use Rattle.thread_crew.specs.Teams.{AreJoined};
+    ghost use Rattle.thread_crew.specs.Teams.{AreGone};
     ghost use Rattle.job_runner.specs.Lists.{ListsBelow, ListsOne};
 
     ghost token = { λ ctx. ctx.token };
 
     ghost left_by_open = { λ old new result. (new ≡ record old { token = new.token; opened = new.opened }) × MatchResult result (λ scope. ListsOne scope old.opened.items new.opened.items) (λ _. new.opened.items ≡ old.opened.items) };
 
-    ghost left_by_close = { λ old new scope result. (new ≡ record old { token = new.token; spawner = new.spawner; opened = new.opened; team = new.team }) × MatchResult result (λ _. AreJoined scope new.team × ListsBelow scope old.opened.items new.opened.items) (λ _. (new.team ≡ old.team) × (new.opened ≡ old.opened)) };
+    ghost left_by_close = { λ old new scope result. (new ≡ record old { token = new.token; spawner = new.spawner; opened = new.opened; team = new.team }) × MatchResult result (λ _. AreGone scope new.team × ListsBelow scope old.opened.items new.opened.items) (λ _. (new.team ≡ old.team) × (new.opened ≡ old.opened)) };
 
     fn open_scope<R: Wait>(
         &mut self,

@@ -11,11 +11,12 @@ use Rattle.scope_rules.specs.Replies.{fork_reply}
 use Rattle.share_ledger.specs.declared.steps.RealmStep.TheVariants.{Happened}
 use Rattle.share_ledger.specs.Tickets.{end_in}
 use Rattle.atomic_table.specs.Seated.{TableId}
+use Rattle.named_jobs.specs.Named.{NamedValue}
 use Rattle.thread_crew.specs.Teams.{TeamValue, HasThreadMore, IsSameTeam}
 use Rattle.share_ledger.specs.Values.{OwnerValue, TicketValue, IsWaiting}
 use Rattle.realm_core.specs.Calls.{Accepted, Added, SeesMore}
 use Rattle.job_runner.specs.declared.forking.ForkRefusal.{ForkRefusal}
-use Rattle.job_runner.specs.declared.forking.ForkRefusal.TheVariants.{Before, Rejected}
+use Rattle.job_runner.specs.declared.forking.ForkRefusal.TheVariants as refused
 use Rattle.job_runner.specs.Rooms.{DoesInRoom}
 
 -- the ticket is of the realm of this name, and of a task with this label that waits for its thread
@@ -25,27 +26,47 @@ pub record IsReadyFor (name : TableId) (label : LabelValue) (ticket : TicketValu
   pub waiting : IsWaiting ticket
   pub unended : end_in ticket.task ticket.seen ≡ None
 
+-- why a fork was refused, without the job that is handed back: nothing is recorded, or the fork of this task and its
+-- reject
+pub data ForkWhy : Type 0 where
+  Before : Refusal → ForkWhy
+  Rejected : ℕ → ForkWhy
+
+abbrev pub why_of : {C J : Type 0} → ForkRefusal C J → ForkWhy
+why_of (refused.Before r job) = Before r
+why_of (refused.Rejected task job) = Rejected task
+
+-- the job that is handed back
+abbrev pub job_of : {C J : Type 0} → ForkRefusal C J → NamedValue J
+job_of (refused.Before r job) = job
+job_of (refused.Rejected task job) = job
+
+-- what was answered, without the job
+abbrev pub why_alone : {A C J : Type 0} → Result A (ForkRefusal C J) → Result A ForkWhy
+why_alone (Ok answer) = Ok answer
+why_alone (Err refusal) = Err (why_of refusal)
+
 -- the refusal by its number: a task that was rejected has one of its own
-abbrev pub refusal_of : ForkRefusal → Refusal
+abbrev pub refusal_of : ForkWhy → Refusal
 refusal_of (Before r) = r
 refusal_of (Rejected task) = refusal.Rejected
 
--- what was answered, without what a refusal hands back
-abbrev pub why_alone : {A B D : Type 0} → Result A (B × D) → Result A B
-why_alone (Ok answer) = Ok answer
-why_alone (Err back) = Err back.0
+-- the ticket of a task that was forked in scope s with this label, as the last step that the token has seen
+abbrev pub ticket_of : OwnerValue → ℕ → LabelValue → ℕ → TicketValue
+ticket_of token s label task = record { table = token.table; limits = token.limits; task = task; scope = s; label = label; seen = token.seen }
 
--- what a fork in scope s that was answered so makes of them: a thread is one more that the context has to join
-abbrev pub KeepsThread : ℕ → ForkReply → TeamValue → TeamValue → Type 0
-KeepsThread s (Thread task) old new = HasThreadMore s old new
-KeepsThread s (Never task) old new = IsSameTeam old new
+-- what a fork in scope s with this label that was answered so makes of the team, by what the token has seen then: a
+-- thread, which has the task's ticket, is one more that the context has to join
+abbrev pub KeepsThread : OwnerValue → ℕ → LabelValue → ForkReply → TeamValue → TeamValue → Type 0
+KeepsThread token s label (Thread task) old new = HasThreadMore (ticket_of token s label task) old new
+KeepsThread token s label (Never task) old new = IsSameTeam old new
 
 abbrev pub reply_there : ℕ → History → ForkReply
 reply_there scope h = fork_reply h scope
 
 -- a thread runs the job of the ticket's task, and nothing is added; or its task is rejected, as the last step that
 -- the token has seen
-abbrev pub SpawnsJob : OwnerValue → OwnerValue → TicketValue → Result ForkReply ForkRefusal → Type 0
+abbrev pub SpawnsJob : OwnerValue → OwnerValue → TicketValue → Result ForkReply ForkWhy → Type 0
 SpawnsJob old new ticket (Ok reply) = (new ≡ old) × (reply ≡ Thread ticket.task)
 SpawnsJob old new ticket (Err (Rejected task)) = (task ≡ ticket.task) × Added old new (Happened (Reject ticket.task))
 SpawnsJob old new ticket (Err (Before refusal)) = ⊥
@@ -60,7 +81,7 @@ pub record ForksRejected (old new : OwnerValue) (scope : ℕ) (label : LabelValu
 
 -- what the fork of a job did: it is recorded, and the task has a thread, or none since the scope is
 -- cancelled; or it is recorded, and the task's reject with it; or it is refused as the fork of a task is
-abbrev pub ForksJob : OwnerValue → OwnerValue → ℕ → LabelValue → Result ForkReply ForkRefusal → Type 0
+abbrev pub ForksJob : OwnerValue → OwnerValue → ℕ → LabelValue → Result ForkReply ForkWhy → Type 0
 ForksJob old new scope label (Ok reply) = Accepted old new (Happened (Fork old.actor scope label)) (reply_there scope) reply
 ForksJob old new scope label (Err (Rejected task)) = ForksRejected old new scope label task
 ForksJob old new scope label (Err (Before refusal)) = DoesInRoom old new (Happened (Fork old.actor scope label)) (reply_there scope) (Err refusal)

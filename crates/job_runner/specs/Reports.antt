@@ -35,7 +35,7 @@ pub record JoinsHere (old begun : OwnerValue) (s : ℕ) (team joined : TeamValue
   pub how : Cancelling
   pub same : begun ≡ record old { seen = begun.seen }
   pub begins : Begins old begun s (Ok how)
-  pub joins : Joins s team joined
+  pub joins : Joins old.table s team joined
 
 -- so it did, and it ended
 pub record ClosesHere (old new : OwnerValue) (s : ℕ) (team : TeamValue) (report : CloseReport) : Type 0 where

@@ -4,8 +4,8 @@ ghost use Rattle.realm_core.specs.Calls.{DoesOrMemory};
 use crate::contexts::TaskCtx;
 use named_jobs::Clock;
 use realm_lock::RealmName;
-use share_ledger::{Ask, RealmStep};
 use scope_rules::{Catalog, Refusal};
+use share_ledger::{Ask, RealmStep};
 use std::sync::Wait;
 use thread_crew::Spawner;
 

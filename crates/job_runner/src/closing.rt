@@ -1,9 +1,11 @@
-ghost use Rattle.std.specs.Prelude.{◌≡◌, IsOk, MatchResult};
+ghost use Rattle.std.specs.Prelude.{◌≡◌, ◌<◌, IsOk, MatchResult};
+ghost use Rattle.std.specs.List.{All};
+ghost use Rattle.share_ledger.specs.Values.{TicketValue};
 ghost use Rattle.realm_core.specs.Calls.{SeesMore, history_seen};
 ghost use Rattle.realm_core.specs.Waiting.{IsOpenOf};
 ghost use Rattle.realm_core.specs.Closes.{ClosesBare};
 ghost use Rattle.job_runner.specs.Lists.{ListsBelow};
-ghost use Rattle.thread_crew.specs.Teams.{AreJoined, Joins};
+ghost use Rattle.thread_crew.specs.Teams.{AreGone, Joins};
 
 use crate::contexts::TaskCtx;
 use realm_lock::RealmName;
@@ -20,7 +22,7 @@ impl<C: Catalog, S: Spawner<N>, N: RealmName> TaskCtx<C, S, N> {
         ensures rest { (self.new ≡ record self.old { token = self.new.token; spawner = self.new.spawner; opened = self.new.opened; team = self.new.team }) × SeesMore self.old.token self.new.token }
         ensures answer { ClosesBare self.old.token self.new.token scope result }
         ensures sure { IsOpenOf (history_seen self.old.token) self.old.token.actor scope → IsOk result }
-        ensures left { MatchResult result (λ _. AreJoined scope self.new.team × ListsBelow scope self.old.opened.items self.new.opened.items) (λ _. (self.new.team ≡ self.old.team) × (self.new.opened ≡ self.old.opened)) }
+        ensures left { MatchResult result (λ _. AreGone scope self.new.team × ListsBelow scope self.old.opened.items self.new.opened.items) (λ _. (self.new.team ≡ self.old.team) × (self.new.opened ≡ self.old.opened)) }
     {
         let token = &mut self.token;
         if let Err(refusal) = self.realm.lent().begin_closing(rt, &mut token.held, scope) {
@@ -36,7 +38,7 @@ impl<C: Catalog, S: Spawner<N>, N: RealmName> TaskCtx<C, S, N> {
     /// Joins the threads of the scope, and of the scopes that were opened later, the latest first.
     pub(crate) fn join_threads<R: Wait>(&mut self, rt: &R, scope: ScopeId)
         ensures rest { self.new ≡ record self.old { spawner = self.new.spawner; team = self.new.team } }
-        ensures team { Joins scope self.old.team self.new.team }
+        ensures team { Joins N.table scope self.old.team self.new.team }
     {
         self.team.join_from(rt, &mut self.spawner, scope);
     }
@@ -46,6 +48,7 @@ impl<C: Catalog, S: Spawner<N>, N: RealmName> TaskCtx<C, S, N> {
         ensures rest { self.new ≡ record self.old { opened = self.new.opened; team = self.new.team } }
         ensures opened { ListsBelow scope self.old.opened.items self.new.opened.items }
         ensures running { self.new.team.running ≡ self.old.team.running }
+        ensures returned { All (λ (t : TicketValue). t.scope < scope) self.new.team.returned }
     {
         self.opened.retain(|open| open.scope < scope);
         self.team.forget(scope);

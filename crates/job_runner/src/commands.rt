@@ -4,8 +4,8 @@ ghost use Rattle.realm_core.specs.Calls.{DoesOrMemory, RecordsOrMemory, history_
 
 use crate::contexts::TaskCtx;
 use realm_lock::RealmName;
-use share_ledger::{Ask, RealmStep};
 use scope_rules::{Base, Cancelling, Catalog, Event, Name, Refusal, ScopeId, Value};
+use share_ledger::{Ask, RealmStep};
 use std::sync::Wait;
 use thread_crew::Spawner;
 

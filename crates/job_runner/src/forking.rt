@@ -1,8 +1,8 @@
 ghost use Rattle.std.specs.Prelude.{◌≡◌, None, IfOk, IfErr, IfSome, OnSome};
 ghost use Rattle.realm_core.specs.Calls.{SeesMore};
 ghost use Rattle.realm_core.specs.Tasks.{IsNewTicket};
-ghost use Rattle.job_runner.specs.Forks.{ForksJob, KeepsThread, SpawnsJob, refusal_of, why_alone};
-ghost use Rattle.thread_crew.specs.Teams.{HasRoom, IsSameTeam};
+ghost use Rattle.job_runner.specs.Forks.{ForksJob, KeepsThread, SpawnsJob, job_of, refusal_of, why_alone, why_of};
+ghost use Rattle.thread_crew.specs.Teams.{HasRoom, HasThreadMore, IsSameTeam};
 
 use crate::contexts::TaskCtx;
 use crate::held::HeldRealm;
@@ -14,24 +14,46 @@ use scope_rules::{Catalog, ForkReply, Refusal, ScopeId, TaskId};
 use std::sync::Wait;
 use thread_crew::{Spawner, Spawns};
 
-/// Why a fork handed its job back.
-#[derive(Clone, Copy, PartialEq, Eq)]
-pub enum ForkRefusal {
+/// Why a fork was refused, with the job, which is handed back.
+#[derive(Drop)]
+pub enum ForkRefusal<C: Catalog, J: Answers> {
     /// The fork was refused, and nothing is recorded.
-    Before(Refusal),
+    Before(Refusal, NamedJob<C, J>),
     /// No thread was had for the task of this number: its fork is recorded, and its reject.
-    Rejected(TaskId),
+    Rejected(TaskId, NamedJob<C, J>),
 }
 
-impl ForkRefusal {
+impl<C: Catalog, J: Answers> ForkRefusal<C, J> {
     /// The refusal, for its number and word: a rejected task is refusal 16.
     pub fn refusal(&self) -> Refusal
-        ensures { result ≡ refusal_of self.now }
+        ensures { result ≡ refusal_of (why_of self.now) }
     {
         match self {
-            ForkRefusal::Before(refusal) => *refusal,
-            ForkRefusal::Rejected(_) => Refusal::Rejected,
+            ForkRefusal::Before(refusal, _) => *refusal,
+            ForkRefusal::Rejected(_, _) => Refusal::Rejected,
         }
+    }
+
+    /// The job, to be forked elsewhere or dropped.
+    pub fn into_job(self) -> NamedJob<C, J>
+        ensures { result ≡ job_of self }
+    {
+        match self {
+            ForkRefusal::Before(_, job) => job,
+            ForkRefusal::Rejected(_, job) => job,
+        }
+    }
+}
+
+/// So that `?` passes on the refusal. The job is dropped, uncalled.
+impl<C: Catalog, J: Answers + Drop> From<ForkRefusal<C, J>> for Refusal {
+    ghost use Rattle.std.specs.Prelude.{◌≡◌};
+    ghost use Rattle.job_runner.specs.Forks.{refusal_of, why_of};
+
+    ghost from_gives = { λ refused refusal. refusal ≡ refusal_of (why_of refused) };
+
+    fn from(refused: ForkRefusal<C, J>) -> Refusal {
+        refused.refusal()
     }
 }
 
@@ -46,16 +68,16 @@ impl<C: Catalog, S: Spawner<N>, N: RealmName> TaskCtx<C, S, N> {
         rt: &R,
         scope: ScopeId,
         job: NamedJob<C, J>,
-    ) -> Result<ForkReply, (ForkRefusal, NamedJob<C, J>)>
+    ) -> Result<ForkReply, ForkRefusal<C, J>>
     where
         S: Spawns<N, JobWork<C, N, J>>,
         ensures rest { (self.new ≡ record self.old { token = self.new.token; spawner = self.new.spawner; team = self.new.team }) × SeesMore self.old.token self.new.token }
         ensures answer { ForksJob self.old.token self.new.token scope job.label (why_alone result) }
-        ensures handed_back { IfErr result (λ e. e.1 ≡ job) }
-        ensures kept { IfOk result (λ reply. KeepsThread scope reply self.old.team self.new.team) }
+        ensures handed_back { IfErr result (λ e. job_of e ≡ job) }
+        ensures kept { IfOk result (λ reply. KeepsThread self.new.token scope job.label reply self.old.team self.new.team) }
     {
         let Some((realm, around)) = self.room_for_a_thread(scope) else {
-            return Err((ForkRefusal::Before(Refusal::Memory), job));
+            return Err(ForkRefusal::Before(Refusal::Memory, job));
         };
         let label = job.label();
         let token = &mut self.token;
@@ -70,7 +92,7 @@ impl<C: Catalog, S: Spawner<N>, N: RealmName> TaskCtx<C, S, N> {
                 self.start_thread(rt, ticket, work)
             }
             Ok(Forked::Never(task)) => Ok(ForkReply::Never(task)),
-            Err(refusal) => Err((ForkRefusal::Before(refusal), job)),
+            Err(refusal) => Err(ForkRefusal::Before(refusal, job)),
         }
     }
 
@@ -80,7 +102,7 @@ impl<C: Catalog, S: Spawner<N>, N: RealmName> TaskCtx<C, S, N> {
         rt: &R,
         ticket: Ticket,
         work: JobWork<C, N, J>,
-    ) -> Result<ForkReply, (ForkRefusal, NamedJob<C, J>)>
+    ) -> Result<ForkReply, ForkRefusal<C, J>>
     where
         S: Spawns<N, JobWork<C, N, J>>,
         requires room { HasRoom self.old.team }
@@ -88,8 +110,8 @@ impl<C: Catalog, S: Spawner<N>, N: RealmName> TaskCtx<C, S, N> {
         requires fresh { IsNewTicket self.old.token ticket.scope work.job.label ticket }
         ensures rest { (self.new ≡ record self.old { token = self.new.token; spawner = self.new.spawner; team = self.new.team }) × SeesMore self.old.token self.new.token }
         ensures answer { SpawnsJob self.old.token self.new.token ticket (why_alone result) }
-        ensures handed_back { IfErr result (λ e. e.1 ≡ work.job) }
-        ensures kept { IfOk result (λ reply. KeepsThread ticket.scope reply self.old.team self.new.team) }
+        ensures handed_back { IfErr result (λ e. job_of e ≡ work.job) }
+        ensures kept { IfOk result (λ _. HasThreadMore ticket self.old.team self.new.team) }
     {
         let (task, scope) = (ticket.task(), ticket.scope());
         match self.spawner.spawn(rt, ticket, work) {
@@ -101,7 +123,7 @@ impl<C: Catalog, S: Spawner<N>, N: RealmName> TaskCtx<C, S, N> {
                 let token = &mut self.token;
                 let _rejected = self.realm.lent().reject_with(rt, &mut token.held, ticket);
                 let JobWork { job, .. } = work;
-                Err((ForkRefusal::Rejected(task), job))
+                Err(ForkRefusal::Rejected(task, job))
             }
         }
     }

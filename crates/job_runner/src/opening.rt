@@ -8,8 +8,8 @@ use crate::contexts::{OpenScope, TaskCtx};
 use crate::markers::Marker;
 use join_rules::Joiner;
 use realm_lock::RealmName;
-use share_ledger::RealmStep;
 use scope_rules::{Catalog, Event, Options, Refusal, ScopeId};
+use share_ledger::RealmStep;
 use std::sync::Wait;
 use thread_crew::Spawner;
 

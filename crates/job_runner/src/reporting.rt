@@ -5,7 +5,7 @@ ghost use Rattle.realm_core.specs.Waiting.{IsOpenOf};
 ghost use Rattle.realm_core.specs.Closes.{IsBegun};
 ghost use Rattle.job_runner.specs.Lists.{ListsBelow};
 ghost use Rattle.job_runner.specs.Reports.{ClosesHere, EndsOwn, Held, StaysHere};
-ghost use Rattle.thread_crew.specs.Teams.{AreJoined};
+ghost use Rattle.thread_crew.specs.Teams.{AreGone};
 
 use crate::contexts::TaskCtx;
 use realm_lock::{CloseReport, RealmName};
@@ -23,7 +23,7 @@ impl<C: Catalog, S: Spawner<N>, N: RealmName> TaskCtx<C, S, N> {
     pub fn close_scope<R: Wait>(&mut self, rt: &R, scope: ScopeId) -> Result<CloseReport, Refusal>
         ensures rest { (self.new ≡ record self.old { token = self.new.token; spawner = self.new.spawner; opened = self.new.opened; team = self.new.team }) × SeesMore self.old.token self.new.token }
         ensures answer { MatchResult result (λ report. ClosesHere self.old.token self.new.token scope self.old.team report) (λ refusal. StaysHere self.old.token self.new.token scope self.old.team self.new.team refusal) }
-        ensures left { MatchResult result (λ _. AreJoined scope self.new.team × ListsBelow scope self.old.opened.items self.new.opened.items) (λ _. self.new.opened ≡ self.old.opened) }
+        ensures left { MatchResult result (λ _. AreGone scope self.new.team × ListsBelow scope self.old.opened.items self.new.opened.items) (λ _. self.new.opened ≡ self.old.opened) }
         ensures sure { IsOpenOf (history_seen self.old.token) self.old.token.actor scope → IfErr result (λ refusal. (refusal ≡ NotReady) ⊎ (refusal ≡ Memory)) }
     {
         let token = &mut self.token;

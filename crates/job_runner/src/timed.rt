@@ -8,7 +8,7 @@ ghost use Rattle.realm_lock.specs.Waits.{ClosesAfter, HasPassed, JoinsBy, StaysU
 ghost use Rattle.job_runner.specs.Lists.{KeepsOthers, ListsBelow};
 ghost use Rattle.job_runner.specs.Marks.{scope_here, seat_here, Shows};
 ghost use Rattle.job_runner.specs.Reports.{ClosesHere, StaysHere};
-ghost use Rattle.thread_crew.specs.Teams.{AreJoined};
+ghost use Rattle.thread_crew.specs.Teams.{AreGone};
 
 use crate::contexts::{OpenScope, TaskCtx};
 use crate::markers::Marker;
@@ -55,7 +55,7 @@ impl<C: Catalog, S: Spawner<N>, N: RealmName> TaskCtx<C, S, N> {
         ensures closed { IfOk result (λ how. ClosesAfter K.reads self.old.token clock.old clock.new scope (λ there. ClosesBare there self.new.token scope (Ok how))) }
         ensures refused { IfErr result (StaysUnclosed K.reads self.old.token self.new.token clock.old clock.new scope) }
         ensures sure { IsOpenOf (history_seen self.old.token) self.old.token.actor scope → IfErr result (StopsClosing K.reads self.old.token self.new.token clock.old clock.new scope) }
-        ensures left { MatchResult result (λ _. AreJoined scope self.new.team × ListsBelow scope self.old.opened.items self.new.opened.items) (λ _. (self.new.team ≡ self.old.team) × (self.new.opened ≡ self.old.opened)) }
+        ensures left { MatchResult result (λ _. AreGone scope self.new.team × ListsBelow scope self.old.opened.items self.new.opened.items) (λ _. (self.new.team ≡ self.old.team) × (self.new.opened ≡ self.old.opened)) }
     {
         let token = &mut self.token;
         match self
@@ -81,7 +81,7 @@ impl<C: Catalog, S: Spawner<N>, N: RealmName> TaskCtx<C, S, N> {
         ensures rest { (self.new ≡ record self.old { token = self.new.token; spawner = self.new.spawner; opened = self.new.opened; team = self.new.team }) × SeesMore self.old.token self.new.token }
         ensures closed { IfOk result (λ report. ClosesAfter K.reads self.old.token clock.old clock.new scope (λ there. ClosesHere there self.new.token scope self.old.team report)) }
         ensures refused { IfErr result (λ refusal. (StaysUnclosed K.reads self.old.token self.new.token clock.old clock.new scope refusal × (self.new.team ≡ self.old.team)) ⊎ ClosesAfter K.reads self.old.token clock.old clock.new scope (λ there. StaysHere there self.new.token scope self.old.team self.new.team refusal)) }
-        ensures left { MatchResult result (λ _. AreJoined scope self.new.team × ListsBelow scope self.old.opened.items self.new.opened.items) (λ _. self.new.opened ≡ self.old.opened) }
+        ensures left { MatchResult result (λ _. AreGone scope self.new.team × ListsBelow scope self.old.opened.items self.new.opened.items) (λ _. self.new.opened ≡ self.old.opened) }
     {
         let token = &mut self.token;
         match self

@@ -21,9 +21,7 @@ ghost use Rattle.kept_realm.specs.Readings.{counts_some, opened_as_high};
 
 use crate::realm::KeptRealm;
 use scope_checks::Readings;
-use scope_kept::Cuts;
-use scoped_env::Envs;
-use scope_kept::BareOutcome;
+use scope_kept::{BareOutcome, Cuts};
 use scope_rows::{Rows, ScopeRow, TaskRow};
 use scope_rules::types::answers::{Counts, Effective, Stage, State, Verdict};
 use scope_rules::types::events::Event;
@@ -31,6 +29,7 @@ use scope_rules::types::names::Name;
 use scope_rules::types::outcomes::Outcome;
 use scope_rules::types::records::{Cut, Forking, Opening};
 use scope_rules::types::values::{Actor, ScopeId, TaskId, Value};
+use scoped_env::Envs;
 use std::alloc::{AllocError, Global};
 
 /// The parts, as those of the realm's history, which is legal.

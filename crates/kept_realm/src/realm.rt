@@ -12,10 +12,9 @@ ghost use Rattle.scope_checks.specs.Ruled.{IsRuled};
 use crate::telling::{make_room, scope_of_event, tell};
 use join_rules::StoredTest;
 use scope_checks::Readings;
-use scope_journal::{Journal, weight};
+use scope_journal::{Journal, Trails, weight};
 use scope_kept::{CancelledScopes, Kept, follow};
 use scope_rules::{Base, Event, Limits, Refusal};
-use scope_journal::Trails;
 use std::alloc::{AllocError, Global};
 use std::marker::Model;
 

@@ -7,9 +7,9 @@ ghost use Rattle.scope_journal.specs.Places.{scope_of_task, scope_of_event};
 ghost use Rattle.scope_journal.specs.TrailsOf.{AreTrailsOf};
 ghost use Rattle.kept_realm.specs.Telling.{HasRoomFor, CanBeTold, HasTold};
 
+use scope_journal::Trails;
 use scope_rows::Rows;
 use scope_rules::{Event, ScopeId, TaskId};
-use scope_journal::Trails;
 use std::alloc::AllocError;
 
 /// Whether the event opens a scope.

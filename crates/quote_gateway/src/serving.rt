@@ -14,8 +14,8 @@ use crate::requests::{answer_joined, close_scope, fork_all, join_and_answer, ope
 use job_runner::{Answers, Clock, JobWork, NamedJob, TaskCtx, pulse};
 use quote_plan::{Answer, Plan};
 use realm_lock::RealmName;
-use share_ledger::{Ask, RealmStep};
 use scope_rules::{Due, Expiry, Options, Refusal, ScopeId, TaskId};
+use share_ledger::{Ask, RealmStep};
 use std::alloc::Global;
 use std::rt::Clock as SystemTime;
 use std::sync::Wait;

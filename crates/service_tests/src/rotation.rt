@@ -3,10 +3,9 @@ ghost use Rattle.std.specs.Prelude.{◌≡◌};
 
 use balkreyn::{
     Answers, AnyEnd, Brand, CloseReport, CrewRuntime, End, Fault, Forks, Handle, Job, Joiner,
-    LogEntry, Name, RealmName, Refusal, ScopeId, Seed, SystemClock, TaskCtx, Value, fail_after,
-    fork, within,
+    LogEntry, Name, RealmName, Refusal, Requests, ScopeId, Seed, SystemClock, TaskCtx, Turned,
+    Turns, Value, fail_after, fork, rotate, within,
 };
-use balkreyn::{Requests, Turned, Turns, rotate};
 use std::alloc::Global;
 use std::process::Abort;
 use std::rt::Clock as SystemTime;

@@ -30,6 +30,10 @@ HasThreadMore first old new = (new.running ≡ old.running ++ first ∷ []) × (
 abbrev pub AreJoined : ℕ → TeamValue → Type 0
 AreJoined s t = All (λ (first : TicketValue). first.scope < s) t.running
 
+-- nor a ticket of one that was joined
+abbrev pub AreGone : ℕ → TeamValue → Type 0
+AreGone s t = AreJoined s t × All (λ (last : TicketValue). last.scope < s) t.returned
+
 -- the last tickets are what came back for the first ones, one for one
 abbrev pub AreReturns : TableId → List TicketValue → List TicketValue → Type 0
 AreReturns name [] [] = Unit {0}

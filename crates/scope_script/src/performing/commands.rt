@@ -8,8 +8,7 @@ use crate::performing::answers::{done, opened, recorded, retired, told};
 use join_rules::{Joiner, UntilTest};
 use scope_book::BookState;
 use scope_rules::{Actor, AnyEnd, Event, Options, Policy, Refusal, ScopeId};
-use script_words::{Command, Question};
-use script_words::Reply;
+use script_words::{Command, Question, Reply};
 use std::alloc::AllocError;
 
 /// What the book answers to the command; want of memory is `Refused(Memory)` here.

@@ -14,8 +14,7 @@ use crate::session::run::{Mode, Ran};
 use crate::session::tally::Tally;
 use scope_book::BookState;
 use scope_rules::{AnyEnd, Limits, Refusal};
-use script_words::Line;
-use script_words::{Reply, append_line};
+use script_words::{Line, Reply, append_line};
 use std::alloc::{AllocError, Global};
 
 /// A script under way: the book that its commands are performed on, how many of its lines were refused, and
