@@ -10,8 +10,7 @@ use Rattle.scope_rules.specs.Ends.{LabelValue}
 use Rattle.scope_rules.specs.Replies.{result_reply}
 use Rattle.share_ledger.specs.Values.{OwnerValue}
 use Rattle.realm_core.specs.Calls.{Reads}
-use Rattle.job_runner.specs.declared.forking.ForkRefusal.{ForkRefusal}
-use Rattle.job_runner.specs.Forks.{ForksJob, refusal_of}
+use Rattle.job_runner.specs.Forks.{ForkWhy, ForksJob, refusal_of}
 
 -- a job with a result of its own type, under its name
 pub record NamedValue (J : Type 0) : Type 0 where
@@ -34,7 +33,7 @@ label_of name = record { name = name; due = None }
 
 -- such a job's fork is refused, for this
 pub record IsRefusedInto (old new : OwnerValue) (scope : ℕ) (name : Name) (refusal : Refusal) : Type 0 where
-  pub why : ForkRefusal
+  pub why : ForkWhy
   pub forks : ForksJob old new scope (label_of name) (Err why)
   pub numbered : refusal ≡ refusal_of why
 

@@ -2,7 +2,7 @@
 ghost use Rattle.std.specs.Prelude.{◌≡◌, IfOk};
 ghost use Rattle.realm_core.specs.Calls.{SeesMore};
 ghost use Rattle.job_runner.specs.Forks.{KeepsThread};
-ghost use Rattle.balkreyn.specs.Slots.{ForksUnder};
+ghost use Rattle.balkreyn.specs.Slots.{ForksUnder, label_of};
 
 use crate::aliases::Forks;
 use job_runner::{Answers, NamedJob, TaskCtx};
@@ -23,11 +23,11 @@ pub fn fork<J: Answers + Drop, S: Forks<AnyEnd, N, J>, N: RealmName, R: Wait>(
 ) -> Result<ForkReply, Refusal>
     ensures rest { (ctx.new ≡ record ctx.old { token = ctx.new.token; spawner = ctx.new.spawner; team = ctx.new.team }) × SeesMore ctx.old.token ctx.new.token }
     ensures answer { ForksUnder ctx.old.token ctx.new.token scope name result }
-    ensures kept { IfOk result (λ reply. KeepsThread scope reply ctx.old.team ctx.new.team) }
+    ensures kept { IfOk result (λ reply. KeepsThread ctx.new.token scope (label_of name) reply ctx.old.team ctx.new.team) }
 {
     let label = Label { name, due: None };
     match ctx.fork_job(rt, scope, NamedJob::new(label, job)) {
         Ok(reply) => Ok(reply),
-        Err((why, _job)) => Err(why.refusal()),
+        Err(refused) => Err(refused.refusal()),
     }
 }

@@ -10,7 +10,7 @@ ghost use Rattle.realm_core.specs.Closes.{ClosesBare};
 ghost use Rattle.realm_core.specs.Waiting.{IsOpenOf};
 ghost use Rattle.realm_lock.specs.Waits.{JoinsBy};
 ghost use Rattle.thread_crew.specs.Teams.{AreGone};
-ghost use Rattle.job_runner.specs.Forks.{ForksJob, KeepsThread, why_alone};
+ghost use Rattle.job_runner.specs.Forks.{ForksJob, KeepsThread, job_of, why_alone};
 ghost use Rattle.job_runner.specs.Lists.{ListsBelow, ListsOne};
 ghost use Rattle.job_runner.specs.Reports.{ClosesHere, StaysHere};
 ghost use Rattle.job_runner.specs.Rooms.{DoesInRoom};
@@ -79,11 +79,11 @@ impl Opened {
         rt: &R,
         ctx: &mut TaskCtx<C, S, N>,
         job: NamedJob<C, J>,
-    ) -> Result<ForkReply, (ForkRefusal, NamedJob<C, J>)>
+    ) -> Result<ForkReply, ForkRefusal<C, J>>
         ensures rest { (ctx.new ≡ record ctx.old { token = ctx.new.token; spawner = ctx.new.spawner; team = ctx.new.team }) × SeesMore ctx.old.token ctx.new.token }
         ensures answer { ForksJob ctx.old.token ctx.new.token self.now job.label (why_alone result) }
-        ensures handed_back { IfErr result (λ e. e.1 ≡ job) }
-        ensures kept { IfOk result (λ reply. KeepsThread self.now reply ctx.old.team ctx.new.team) }
+        ensures handed_back { IfErr result (λ e. job_of e ≡ job) }
+        ensures kept { IfOk result (λ reply. KeepsThread ctx.new.token self.now job.label reply ctx.old.team ctx.new.team) }
     {
         ctx.fork_job(rt, self.scope, job)
     }

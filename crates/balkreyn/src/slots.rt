@@ -3,7 +3,7 @@ ghost use Rattle.std.specs.Prelude.{◌≡◌, IfOk, MatchResult};
 ghost use Rattle.scope_rules.specs.declared.types.refusals.Refusal.TheVariants.{Memory};
 ghost use Rattle.realm_core.specs.Calls.{SeesMore};
 ghost use Rattle.job_runner.specs.Forks.{KeepsThread};
-ghost use Rattle.balkreyn.specs.Slots.{ForksInto, Takes, task_of};
+ghost use Rattle.balkreyn.specs.Slots.{ForksInto, Takes, label_of, task_of};
 
 use crate::jobs::{Typed, Yields};
 use crate::places::Place;
@@ -94,13 +94,13 @@ pub fn fork_into<
 ) -> Result<Slot<J>, Refusal>
     ensures rest { (ctx.new ≡ record ctx.old { token = ctx.new.token; spawner = ctx.new.spawner; team = ctx.new.team }) × SeesMore ctx.old.token ctx.new.token }
     ensures answer { ForksInto ctx.old.token ctx.new.token scope promise result }
-    ensures kept { IfOk result (λ slot. KeepsThread scope slot.reply ctx.old.team ctx.new.team) }
+    ensures kept { IfOk result (λ slot. KeepsThread ctx.new.token scope (label_of promise) slot.reply ctx.old.team ctx.new.team) }
 {
     let Promise { name, place } = promise;
     let label = Label { name, due: None };
     match ctx.fork_job(rt, scope, NamedJob::new(label, work)) {
         Ok(reply) => Ok(Slot { name, reply, place }),
-        Err((why, _job)) => Err(why.refusal()),
+        Err(refused) => Err(refused.refusal()),
     }
 }
 

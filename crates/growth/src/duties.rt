@@ -205,16 +205,13 @@ pub fn fork<N: RealmName, S: Spawns<N, JobWork<AnyEnd, N, Worker>>, R: Wait>(
     let job = NamedJob::new(duty.label(board), Worker { duty, board: share });
     let reply = match ctx.fork_job(rt, scope, job) {
         Ok(reply) => reply,
-        Err((why, job)) => {
-            match why {
-                ForkRefusal::Rejected(_) => board.refusals.note(Call::Thread),
-                ForkRefusal::Before(Refusal::Memory) => board.refusals.note(Call::ForkJob),
-                ForkRefusal::Before(refusal) => return Err(refusal),
+        Err(refused) => {
+            match &refused {
+                ForkRefusal::Rejected(_, _) => board.refusals.note(Call::Thread),
+                ForkRefusal::Before(Refusal::Memory, _) => board.refusals.note(Call::ForkJob),
+                ForkRefusal::Before(refusal, _) => return Err(*refusal),
             }
-            match ctx.fork_job(rt, scope, job) {
-                Ok(reply) => reply,
-                Err((why, _)) => return Err(why.refusal()),
-            }
+            ctx.fork_job(rt, scope, refused.into_job())?
         }
     };
     if let ForkReply::Thread(_) = reply {

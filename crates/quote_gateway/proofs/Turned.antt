@@ -17,9 +17,7 @@ use Rattle.share_ledger.specs.Values.{OwnerValue}
 use Rattle.realm_core.specs.Calls.{Refused, OutOfMemory, DidOrMemory, DoesOrMemory, SeesMore, HasLooked, history_seen, step_check}
 use Rattle.realm_core.specs.Views.{Joins}
 use Rattle.realm_core.specs.declared.joins.Joined.{Joined}
-use Rattle.job_runner.specs.declared.forking.ForkRefusal.{ForkRefusal}
-use Rattle.job_runner.specs.declared.forking.ForkRefusal.TheVariants.{Before, Rejected}
-use Rattle.job_runner.specs.Forks.{ForksJob, ForksRejected, refusal_of}
+use Rattle.job_runner.specs.Forks.{ForkWhy, Before, Rejected, ForksJob, ForksRejected, refusal_of}
 use Rattle.job_runner.specs.Rooms.{DoesInRoom}
 use Rattle.job_runner.proofs.Ended.{found_before}
 use Rattle.quote_plan.specs.Plans.{PlanValue}
@@ -106,7 +104,7 @@ forked_then_rejected old new s its task it =
     (added_inside mid.limits mid.actor mid.seen new.seen (Happened (Reject task)) it.rejected refl)
 
 -- it opens and closes nothing
-pub fork_keeps : (old new : OwnerValue) (s : ℕ) (its : LabelValue) (result : Result ForkReply ForkRefusal) → IsOpenHere old s → ForksJob old new s its result → KeepsScopes old new
+pub fork_keeps : (old new : OwnerValue) (s : ℕ) (its : LabelValue) (result : Result ForkReply ForkWhy) → IsOpenHere old s → ForksJob old new s its result → KeepsScopes old new
 fork_keeps old new s its (Ok reply) here it = added_inside old.limits old.actor old.seen new.seen (Happened (Fork old.actor s its)) it.adds refl
 fork_keeps old new s its (Err (Rejected task)) here it = forked_then_rejected old new s its task it
 fork_keeps old new s its (Err (Before refusal)) here it =
@@ -133,7 +131,7 @@ rejected_there old new s its task here it =
       never = rejected_last mid new task it.rejected;
     }
 
-pub fork_refused : (old new : OwnerValue) (s : ℕ) (its : LabelValue) (refused : ForkRefusal) (why : GatewayFault) → IsOpenHere old s → ForksJob old new s its (Err refused) → IsOfCall why → (refusal_of refused ≡ Memory → why ≡ fault.Memory) → IsTurnedDown (ForkTurnedDown old new s (its ∷ [])) why
+pub fork_refused : (old new : OwnerValue) (s : ℕ) (its : LabelValue) (refused : ForkWhy) (why : GatewayFault) → IsOpenHere old s → ForksJob old new s its (Err refused) → IsOfCall why → (refusal_of refused ≡ Memory → why ≡ fault.Memory) → IsTurnedDown (ForkTurnedDown old new s (its ∷ [])) why
 fork_refused old new s its (Before refusal) why here it call memory =
     turned_down _ refusal why call memory (λ other. elim it [
       | inl did ↦ inl (its, one_of_one its, refused_or_memory old new (Happened (Fork old.actor s its)) refusal did.0 did.1 other)

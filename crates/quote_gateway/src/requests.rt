@@ -92,7 +92,7 @@ fn fork<N: RealmName, J: Answers + Drop, S: Spawns<N, JobWork<Due, N, J>>, R: Wa
 {
     match ctx.fork_job(rt, scope, job) {
         Ok(reply) => Ok(task_in(reply)),
-        Err((why, _job)) => Err(GatewayFault::of_refusal(why.refusal())),
+        Err(refused) => Err(GatewayFault::of_refusal(refused.refusal())),
     }
 }
 

@@ -132,9 +132,7 @@ fn ask_both<R: Wait + SystemTime + Copy, N: RealmName, S: Forks<AnyEnd, N, Ask<R
         name: asks.0.shop,
         due: None,
     };
-    if let Err((why, _job)) = scope.fork(rt, ctx, NamedJob::new(label, asks.0)) {
-        return Err(why.refusal());
-    }
+    scope.fork(rt, ctx, NamedJob::new(label, asks.0))?;
     fork(rt, ctx, scope.number(), asks.1.shop, asks.1)?;
     let joined = scope.join_by(rt, ctx, clock)?;
     Ok(sum_in(&joined.outcome))

@@ -2,7 +2,7 @@
 use super::deeds::{
     bind_and_unbind, grow, leave_two, look, meet_shielded, open_all, wait_for, wait_until,
 };
-use job_runner::{Answers, ForkRefusal, Job, JobWork, NamedJob, TaskCtx};
+use job_runner::{Answers, Job, JobWork, NamedJob, TaskCtx};
 use join_rules::Joiner;
 use realm_lock::RealmName;
 use scope_rules::{
@@ -162,21 +162,19 @@ pub fn named(board: &Shared, duty: Duty) -> Option<NamedJob<AnyEnd, TestJob>> {
     Some(NamedJob::new(board.label, job))
 }
 
-/// Forks a job in the scope, and gives its task, or why it was handed back.
+/// Forks a job in the scope, and gives its task.
 pub fn fork<N: RealmName, S: Spawns<N, JobWork<AnyEnd, N, TestJob>>, R: Wait>(
     rt: &R,
     ctx: &mut TaskCtx<AnyEnd, S, N>,
     scope: ScopeId,
     board: &Shared,
     duty: Duty,
-) -> Result<TaskId, ForkRefusal> {
+) -> Result<TaskId, Refusal> {
     let Some(job) = named(board, duty) else {
-        return Err(ForkRefusal::Before(Refusal::Memory));
+        return Err(Refusal::Memory);
     };
-    match ctx.fork_job(rt, scope, job) {
-        Ok(ForkReply::Thread(task)) => Ok(task),
-        Ok(ForkReply::Never(task)) => Ok(task),
-        Err((why, _)) => Err(why),
+    match ctx.fork_job(rt, scope, job)? {
+        ForkReply::Thread(task) | ForkReply::Never(task) => Ok(task),
     }
 }
 

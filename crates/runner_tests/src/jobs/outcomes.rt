@@ -2,7 +2,7 @@
 use super::deeds::wait_for;
 use super::duties::{Duty, Shared, TestJob, fork, number_of};
 use super::logs::{ends_after_cancel, order_of_ends, starts_and_ends};
-use job_runner::{ForkRefusal, JobWork, SetClock, TaskCtx, pulse};
+use job_runner::{JobWork, SetClock, TaskCtx, pulse};
 use join_rules::Joiner;
 use realm_lock::{BareOutcome, RealmName};
 use scope_rules::{AnyEnd, Fault, Options, Outcome, Refusal, State, TaskValue, Value};
@@ -132,9 +132,7 @@ pub fn nth_is_refused<N: RealmName, S: Spawns<N, JobWork<AnyEnd, N, TestJob>>, R
     };
     for task in 1..4u32 {
         let forked = fork(rt, ctx, scope, board, Duty::Plain(i64::from(task)));
-        assert!(rt;
-            forked.err() == (u64::from(task) == nth).then_some(ForkRefusal::Rejected(task))
-        );
+        assert!(rt; forked.err() == (u64::from(task) == nth).then_some(Refusal::Rejected));
     }
     let joined = ctx.join(rt, scope)?;
     let Outcome::All(values) = &joined.outcome else {

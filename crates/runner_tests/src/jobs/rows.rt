@@ -172,11 +172,12 @@ fn second_thread_is_refused<
         return Err("no fork")?;
     };
     let job = named(board, Duty::Plain(2)).ok_or("memory")?;
-    let Err((why, job)) = ctx.fork_job(rt, scope, job) else {
+    let Err(refused) = ctx.fork_job(rt, scope, job) else {
         return Err("the second thread was not refused")?;
     };
-    assert!(rt; why == ForkRefusal::Rejected(2) && why.refusal() == Refusal::Rejected);
-    assert!(rt; matches!(job.into_job().duty, Duty::Plain(2)));
+    assert!(rt; matches!(&refused, ForkRefusal::Rejected(2, _)));
+    assert!(rt; refused.refusal() == Refusal::Rejected);
+    assert!(rt; matches!(refused.into_job().into_job().duty, Duty::Plain(2)));
     let joined = ctx.join(rt, scope)?;
     assert!(rt;
         match &joined.outcome {

@@ -76,11 +76,11 @@ pub fn little_room<N: RealmName, S: Spawns<N, JobWork<AnyEnd, N, TestJob>>, R: W
         assert!(rt; fork(rt, ctx, scope, board, Duty::Opens).is_ok());
     }
     let third = named(board, Duty::Plain(3)).ok_or("memory")?;
-    let Err((why, third)) = ctx.fork_job(rt, scope, third) else {
+    let Err(refused) = ctx.fork_job(rt, scope, third) else {
         return Err("there was room for a third task")?;
     };
-    assert!(rt; why == ForkRefusal::Before(Refusal::TooMany));
-    assert!(rt; matches!(third.into_job().duty, Duty::Plain(3)));
+    assert!(rt; matches!(&refused, ForkRefusal::Before(Refusal::TooMany, _)));
+    assert!(rt; matches!(refused.into_job().into_job().duty, Duty::Plain(3)));
     assert!(rt; ctx.cancel(rt, scope).err() == Some(Refusal::TooMany));
     ctx.join(rt, scope)?;
     let too_many = i64::from(Refusal::TooMany.number());
