@@ -89,7 +89,8 @@ impl MarkCell {
 
     /// Sleeps until it is woken here, or for no reason. The lock of the guard is given up meanwhile and
     /// taken again, so a call under that lock that wakes is not missed. What lies under the lock may be
-    /// other then, and the sleeper looks anew. That it returns is not promised.
+    /// other then, and the sleeper looks anew. That it returns is not promised. No clause says more of a sleep or
+    /// a wake: a lock's contents are known by their invariant alone, and who sleeps is seen by no contract.
     pub fn sleep<'a, R: Wait, T>(&self, rt: &R, held: MutexGuard<'a, T>) -> MutexGuard<'a, T> {
         self.shared.woken.wait(rt, held)
     }

@@ -12,6 +12,9 @@ impl<C: Catalog, S: Spawner<N>, N: RealmName> TaskCtx<C, S, N> {
     /// wait for these jobs anyway, as before a join that waits for all, that spares two threads' wakes for
     /// each. A job that is run so and waits for what the caller does next, or for a job that is forked
     /// later, waits for ever.
+    ///
+    /// No clause says which jobs ran: they are those that `Recalls::recall` gives, which are of that scope alone,
+    /// and what they did is for the join to say.
     pub fn help<J, R>(&self, rt: &R, scope: ScopeId) -> bool
     where
         J: Job<C, S, N> + Drop,

@@ -1,4 +1,4 @@
-ghost use Rattle.std.specs.Prelude.{◌≡◌, IfErr};
+ghost use Rattle.std.specs.Prelude.{◌≡◌, IfErr, IfSome};
 
 use crate::orders::OfScope;
 use crate::staff::{Answer, Lack, Next, SharedTray, Staff, Wish};
@@ -130,7 +130,9 @@ impl<O: Drop> Office<O> {
 
 impl<O: Drop + OfScope> Office<O> {
     /// Takes the last order of the scope that no thread has taken, if there is one.
-    pub(crate) fn recall<R: Wait>(&self, rt: &R, scope: ScopeId) -> Option<O> {
+    pub(crate) fn recall<R: Wait>(&self, rt: &R, scope: ScopeId) -> Option<O>
+        ensures { IfSome result (λ order. O.scope_of order ≡ scope) }
+    {
         self.staff.lock(rt).recall(scope)
     }
 }

@@ -34,8 +34,14 @@ pub(crate) type WayBack<N> = Arc<Tray<Finished<N>>, Global>;
 
 /// What lies in the queue of a crew: which scope its task is of.
 pub(crate) trait OfScope {
+    ghost use Rattle.std.specs.Prelude.{ℕ, ◌≡◌};
+
     /// The scope.
-    fn scope(&self) -> ScopeId;
+    ghost scope_of: { Self → ℕ };
+
+    /// The scope.
+    fn scope(&self) -> ScopeId
+        ensures { result ≡ Self.scope_of self.now };
 }
 
 /// What a thread of a crew is given: a work, its ticket, and where the ticket is put once the work has
@@ -88,7 +94,8 @@ impl<N: RealmName, W: Ready> Order<N, W> {
     }
 
     /// Runs the work in the caller's own thread, by the spawner that it is lent, and puts the ticket where the
-    /// join of its handle finds it. Gives the spawner back.
+    /// join of its handle finds it. Gives the spawner back. No clause says more: what lies under a lock is seen
+    /// by none, and the join says that the ticket has ended.
     pub fn run_here<S, R: Wait>(self, rt: &R, spawner: S) -> S
     where
         W: Work<N, S> + Drop,
@@ -100,6 +107,8 @@ impl<N: RealmName, W: Ready> Order<N, W> {
 }
 
 impl<N: RealmName, W: Ready> OfScope for Order<N, W> {
+    ghost scope_of = { λ order. order.ticket.scope };
+
     fn scope(&self) -> ScopeId {
         self.ticket.scope()
     }

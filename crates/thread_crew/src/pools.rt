@@ -20,7 +20,8 @@ pub struct Crew<N: RealmName, W: Ready + Work<N, OsThreads<N, W>>> {
 
 impl<N: RealmName, W: Ready + Work<N, OsThreads<N, W>>> Crew<N, W> {
     /// A crew with no thread yet but the one that makes the others. So many of its threads may rest;
-    /// where none may, each work has a thread of its own. Refused where memory or that thread is.
+    /// where none may, each work has a thread of its own. Refused where memory or that thread is. No clause says
+    /// more of a crew: its threads and works lie under its lock, where no contract sees them; tests count them.
     pub fn open<R: CrewRuntime>(
         rt: &R,
         alloc: Global,

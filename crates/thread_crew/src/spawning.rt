@@ -1,4 +1,4 @@
-ghost use Rattle.std.specs.Prelude.{◌≡◌, MatchResult};
+ghost use Rattle.std.specs.Prelude.{◌≡◌, IfSome, MatchResult};
 ghost use Rattle.thread_crew.specs.Returns.{Returns};
 
 use crate::orders::Order;
@@ -65,5 +65,6 @@ pub trait Recalls<N: RealmName, W: Ready>: Spawns<N, W> + Drop {
 
     /// A work of a task of the scope that no thread has taken, if there is one, the one that was forked last.
     /// No thread takes it from then on.
-    fn recall<R: Wait>(&self, rt: &R, scope: ScopeId) -> Option<Order<N, W>>;
+    fn recall<R: Wait>(&self, rt: &R, scope: ScopeId) -> Option<Order<N, W>>
+        ensures { IfSome result (λ order. order.ticket.scope ≡ scope) };
 }

@@ -1,4 +1,4 @@
-ghost use Rattle.std.specs.Prelude.{◌≡◌, IfErr};
+ghost use Rattle.std.specs.Prelude.{◌≡◌, IfErr, IfSome};
 
 use crate::orders::OfScope;
 use crate::trays::Tray;
@@ -151,10 +151,13 @@ impl<O: Drop> Staff<O> {
 /// What an owner does with it that helps.
 impl<O: Drop + OfScope> Staff<O> {
     /// Takes the last order of the scope out of the queue, if there is one.
-    pub(crate) fn recall(&mut self, scope: ScopeId) -> Option<O> {
+    pub(crate) fn recall(&mut self, scope: ScopeId) -> Option<O>
+        ensures { IfSome result (λ order. O.scope_of order ≡ scope) }
+    {
         for place in (0..self.queue.len()).rev() {
-            if is_of(self.queue.get(place), scope) {
-                return self.queue.remove(place);
+            match self.queue.get(place) {
+                Some(order) if order.scope() == scope => return self.queue.remove(place),
+                _ => {}
             }
         }
         None
@@ -237,13 +240,5 @@ impl<O: Drop> Staff<O> {
     /// The number of a thread that ended and is to be joined.
     pub(crate) fn next_ended(&mut self) -> Option<usize> {
         self.ended.pop()
-    }
-}
-
-/// Whether there is an order, and it is of the scope.
-fn is_of<O: OfScope>(order: Option<&O>, scope: ScopeId) -> bool {
-    match order {
-        Some(order) => order.scope() == scope,
-        None => false,
     }
 }
