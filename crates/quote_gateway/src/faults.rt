@@ -3,20 +3,26 @@ ghost use Rattle.quote_gateway.specs.Requests.{IsOfCall, fault_of};
 
 use quote_plan::NoAnswer;
 use scope_rules::Refusal;
+use thiserror::Error;
 
 /// Why a request has no answer.
-#[derive(Clone, Copy, Debug, PartialEq, Eq)]
+#[derive(Clone, Copy, Debug, PartialEq, Eq, Error)]
 pub enum GatewayFault {
     /// The labels of the jobs are not those of the plan's offers, in order, one each.
+    #[error("the jobs are not those of the plan")]
     Strange,
     /// Memory was refused.
+    #[error("memory was refused")]
     Memory,
     /// A thread was refused, or a call for another cause than memory, as where the jobs used up the limits
     /// of the realm.
+    #[error("a thread or a call was refused")]
     Rejected,
     /// The scope of the jobs was cancelled, or its time ran out.
+    #[error("the request was cancelled")]
     Cancelled,
     /// The answer would rest on an end that is not the offer's.
+    #[error("an end is not the offer's")]
     Lost,
 }
 

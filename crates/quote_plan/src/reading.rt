@@ -15,14 +15,17 @@ use indexmap::IndexMap;
 use scope_rules::Name;
 use std::alloc::{AllocError, Global};
 use std::marker::Model;
+use thiserror::Error;
 
 /// Why a plan was not read.
-#[derive(Clone, Copy, Debug, PartialEq, Eq)]
+#[derive(Clone, Copy, Debug, PartialEq, Eq, Error)]
 pub enum PlanFault {
     /// This line is the first bad one, counted from 1, for this cause; where no line says a mode and none
     /// is bad, it is the line after the last.
+    #[error("plan line {line}: {why}")]
     Word { line: usize, why: PlanWhy },
     /// Memory was refused.
+    #[error("memory was refused")]
     Memory,
 }
 

@@ -8,6 +8,7 @@ ghost use Rattle.quote_plan.specs.PlanWhys.{why_of_bytes, why_of_price, why_of_f
 use crate::lines::{is_made_by_runtime, price};
 use scope_rules::Fault;
 use script_words::{LINE_LIMIT, just_one, just_two, name, next_field};
+use std::fmt;
 
 /// Why a line may not stand where it stands in a plan. The causes after `ModeWanted` come only where a mode
 /// was said before.
@@ -69,6 +70,18 @@ impl PlanWhy {
             PlanWhy::RuntimeFault => "that fault is made by the runtime alone",
             PlanWhy::NoForm => "neither mode MODE, offer NAME PRICE nor offer NAME fail FAULT",
         }
+    }
+}
+
+/// The cause in words.
+impl fmt::Display for PlanWhy {
+    ghost use Rattle.std.specs.Prelude.{Some};
+    ghost use Rattle.quote_plan.specs.PlanWhys.{words_of};
+
+    ghost output = { λ w. Some (words_of w) };
+
+    fn fmt<W: fmt::Write>(&self, f: &mut fmt::Formatter<W>) -> fmt::Result {
+        write!(f, "{}", self.words())
     }
 }
 

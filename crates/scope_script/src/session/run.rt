@@ -15,6 +15,7 @@ use scope_book::BookState;
 use scope_rules::{AnyEnd, Limits};
 use std::alloc::Global;
 use std::io::{Read, Write};
+use thiserror::Error;
 
 /// How many bytes are read at a time, and for how many of reply there is room from the beginning.
 pub const PIECE: usize = 32_768;
@@ -29,13 +30,16 @@ pub enum Mode {
 }
 
 /// Why a run ended before its script did.
-#[derive(Clone, Copy, Debug, PartialEq, Eq)]
+#[derive(Clone, Copy, Debug, PartialEq, Eq, Error)]
 pub enum ScriptFault {
     /// The reader failed, or was given up, since 2^64 - 1 reads were asked of it.
+    #[error("the reader failed")]
     Read,
     /// The writer failed.
+    #[error("the writer failed")]
     Write,
     /// Memory was refused.
+    #[error("memory was refused")]
     Memory,
 }
 

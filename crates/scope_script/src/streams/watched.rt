@@ -3,6 +3,7 @@ ghost use Rattle.std.specs.Io.KnownBytes.{Appends, Consumes, IsAtEnd, Keeps};
 ghost use Rattle.scope_script.specs.Streams.{AppendsPart};
 
 use std::io::{Read, Write};
+use thiserror::Error;
 
 /// A stream that remembers whether a call of it has failed, and how many reads were asked of it. A
 /// write that takes no byte of a piece that has some counts as failed.
@@ -14,7 +15,8 @@ pub struct Watched<T: Drop> {
 }
 
 /// A call of the stream failed.
-#[derive(Clone, Copy)]
+#[derive(Clone, Copy, Debug, Error)]
+#[error("the stream failed")]
 pub struct StreamFailed;
 
 impl<T: Drop> Watched<T> {
