@@ -236,10 +236,10 @@ impl<C: Catalog, N: RealmName> MarkedCore<C, N> {
         ensures fitting { Fitting C.fitting (history_seen token.new) }
     {
         let result = self.core.retire(token);
+        let _fitting = self.core.limits();
         if result.is_ok() {
             self.setters.clear();
         }
-        let _fitting = self.core.limits();
         result
     }
 

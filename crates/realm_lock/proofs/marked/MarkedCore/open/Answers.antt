@@ -25,7 +25,7 @@ returns-in-Ok-Scope-clause-answer g c =
     (c.in-Ok-Scope.ensures.answer.0, open_told old new old.actor policy c.args.options c.in-Ok-Scope.scope (subst R c.in-Ok-Scope.field-0-is did))
 
 pub returns-in_default-clause-answer : goal.returns-in_default-clause-answer
-returns-in_default-clause-answer g c = c.refusal_without_room.ensures (policy_of c.args.joiner) c.args.options
+returns-in_default-clause-answer g c = c.refusal_without_room.ensures.answer (policy_of c.args.joiner) c.args.options
 
 pub catch_up-requires : goal.catch_up-requires
 catch_up-requires g c =

@@ -10,8 +10,8 @@ use Rattle.realm_core.specs.Calls.{DoesOrMemory, history_seen}
 use Rattle.realm_lock.proofs.NoRoom.{no_room}
 use Rattle.realm_lock.proofs.marked.MarkedCore.refusal_without_room.Goals as goal
 
-pub returns : goal.returns
-returns g c = λ policy options.
+pub returns-clause-answer : goal.returns-clause-answer
+returns-clause-answer g c = λ policy options.
     let old = c.args.token.now in
     let new = c.look.new.share in
     let row : (p : Policy) (o : Options) → c.open_row.result ≡ check_of new.limits (history_seen new) (Open new.actor p o) = λ p o.
