@@ -9,7 +9,8 @@ use Rattle.share_ledger.specs.declared.steps.RealmStep.TheVariants.{Happened}
 use Rattle.share_ledger.specs.Values.{OwnerValue, TicketValue}
 use Rattle.realm_core.specs.Calls.{Accepted, SeesMore}
 use Rattle.thread_crew.specs.Teams.{TeamValue, HasThreadMore, IsSameTeam}
-use Rattle.job_runner.specs.Forks.{ForkWhy, Before, Rejected, SpawnsJob, ForksJob, KeepsThread, reply_there, ticket_of}
+use Rattle.job_runner.specs.declared.forking.ForkRefusal.{ForkRefusal}
+use Rattle.job_runner.specs.Forks.{ForkWhy, Before, Rejected, SpawnsJob, ForksJob, KeepsThread, reply_there, ticket_of, why_alone}
 
 -- the fork is recorded; the thread that was asked for runs the job, or the task is rejected
 pub forked_job : (old mid new : OwnerValue) (scope : ℕ) (label : LabelValue) (ticket : TicketValue) (answer : Result ForkReply ForkWhy) → SeesMore old mid → Accepted old mid (Happened (Fork old.actor scope label)) (reply_there scope) (Thread ticket.task) → SpawnsJob mid new ticket answer → ForksJob old new scope label answer
@@ -23,6 +24,7 @@ forked_job old mid new scope label ticket (Err (Rejected task)) sees accepted sa
 forked_job old mid new scope label ticket (Err (Before refusal)) sees accepted said = absurd said
 
 -- after room was made, a thread that is kept is one more, and has the task's ticket
-pub keeps_thread : {E : Type 0} (token : OwnerValue) (s : ℕ) (label : LabelValue) (ticket : TicketValue) (old mid new : TeamValue) (result : Result ForkReply E) → ticket ≡ ticket_of token s label ticket.task → IsSameTeam old mid → IfOk result (λ reply. (reply ≡ Thread ticket.task) × HasThreadMore ticket mid new) → IfOk result (λ reply. KeepsThread token s label reply old new)
-keeps_thread token s label ticket old mid new (Ok reply) is same kept = rw kept.0 (kept.1.0 ∙ (ap (λ xs. xs ++ ticket ∷ []) same.0 ∙ ap (λ t. old.running ++ t ∷ []) is), kept.1.1 ∙ same.1)
-keeps_thread token s label ticket old mid new (Err e) is same kept = tt
+pub keeps_thread : {C J : Type 0} (mid new : OwnerValue) (s : ℕ) (label : LabelValue) (ticket : TicketValue) (was roomy is : TeamValue) (result : Result ForkReply (ForkRefusal C J)) → ticket ≡ ticket_of mid s label ticket.task → IsSameTeam was roomy → SpawnsJob mid new ticket (why_alone result) → IfOk result (λ _. HasThreadMore ticket roomy is) → IfOk result (λ reply. KeepsThread new s label reply was is)
+keeps_thread mid new s label ticket was roomy is (Ok reply) fresh same said kept =
+    rw (said.1, said.0) (kept.0 ∙ (ap (λ xs. xs ++ ticket ∷ []) same.0 ∙ ap (λ t. was.running ++ t ∷ []) fresh), kept.1 ∙ same.1)
+keeps_thread mid new s label ticket was roomy is (Err e) fresh same said kept = tt

@@ -1,4 +1,6 @@
-ghost use Rattle.std.specs.Prelude.{◌≡◌, ◌⊎◌, IfOk, IfErr, MatchResult};
+ghost use Rattle.std.specs.Prelude.{◌≡◌, ◌<◌, ◌⊎◌, IfOk, IfErr, MatchResult};
+ghost use Rattle.std.specs.List.{All};
+ghost use Rattle.share_ledger.specs.Values.{TicketValue};
 ghost use Rattle.scope_rules.specs.declared.types.refusals.Refusal.TheVariants.{Memory, NotReady};
 ghost use Rattle.realm_core.specs.Calls.{SeesMore, history_seen};
 ghost use Rattle.realm_core.specs.Waiting.{IsOpenOf};
@@ -15,8 +17,8 @@ use thread_crew::Spawner;
 
 impl<C: Catalog, S: Spawner<N>, N: RealmName> TaskCtx<C, S, N> {
     /// Closes the actor's scope as `close_scope_bare` does, with a report of it and of what was closed
-    /// inside it (JEP 505, `close`). The tickets of the joined threads show that each has one start and
-    /// one finish there. Refused as `Realm::close` is: once it has begun only where memory is refused for
+    /// inside it (JEP 505, `close`). The tickets that the joined threads gave back, each its own, show that each
+    /// task has one start and one finish there. Refused as `Realm::close` is: once it has begun only where memory is refused for
     /// the report (`Memory`), or where the tickets are not those of the scopes (`NotReady`), which no run
     /// meets. Then the scope is closing, its threads are joined, and their tickets are kept for the next
     /// call.
@@ -40,6 +42,7 @@ impl<C: Catalog, S: Spawner<N>, N: RealmName> TaskCtx<C, S, N> {
         ensures rest { (self.new ≡ record self.old { token = self.new.token; opened = self.new.opened; team = self.new.team }) × SeesMore self.old.token self.new.token }
         ensures running { self.new.team.running ≡ self.old.team.running }
         ensures listed { MatchResult result (λ _. ListsBelow scope self.old.opened.items self.new.opened.items) (λ _. self.new.opened ≡ self.old.opened) }
+        ensures gone { IfOk result (λ _. All (λ (t : TicketValue). t.scope < scope) self.new.team.returned) }
         ensures closed { IfOk result (λ report. EndsOwn scope self.old.team.returned self.old.token self.new.token report) }
         ensures refused { IfErr result (λ refusal. Held scope self.old.team.returned self.new.team.returned self.old.token self.new.token refusal) }
     {

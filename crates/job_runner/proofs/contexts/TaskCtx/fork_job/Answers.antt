@@ -3,7 +3,6 @@ use Rattle.scope_rules.specs.declared.types.answers.ForkReply.TheVariants.{Threa
 use Rattle.scope_rules.specs.declared.types.events.Event.TheVariants.{Fork}
 use Rattle.share_ledger.specs.declared.steps.RealmStep.TheVariants.{Happened}
 use Rattle.realm_core.specs.Calls.{Accepted, SeesMore}
-use Rattle.share_ledger.specs.Values.{TicketValue}
 use Rattle.job_runner.specs.Forks.{reply_there, why_alone}
 use Rattle.job_runner.proofs.Forked.{forked_job, keeps_thread}
 use Rattle.job_runner.proofs.contexts.TaskCtx.fork_job.Goals as goal
@@ -22,7 +21,7 @@ returns-in-Ok-Thread-clause-answer g c =
 pub returns-in-Ok-Thread-clause-kept : goal.returns-in-Ok-Thread-clause-kept
 returns-in-Ok-Thread-clause-kept g c =
     let fresh = rw c.in-Ok-Thread.field-0-is at c.in-Ok-Thread.ensures.ticket in
-    keeps_thread c.in-Ok-Thread.ticket.scope c.args.scope c.args.self.now.team c.room_for_a_thread.new.self.team c.start_thread.new.self.team c.start_thread.result (ap (λ (t : TicketValue). t.scope) fresh.is) c.room_for_a_thread.ensures.team c.start_thread.ensures.kept
+    keeps_thread c.fork.new.token c.start_thread.new.self.token c.args.scope c.args.job.label c.in-Ok-Thread.ticket c.args.self.now.team c.room_for_a_thread.new.self.team c.start_thread.new.self.team c.start_thread.result (rw (← c.label-label.ensures) fresh.is) c.room_for_a_thread.ensures.team c.start_thread.ensures.answer c.start_thread.ensures.kept
 
 pub returns-in-Ok-Never-clause-answer : goal.returns-in-Ok-Never-clause-answer
 returns-in-Ok-Never-clause-answer g c =
