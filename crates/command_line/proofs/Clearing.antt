@@ -1,5 +1,5 @@
 -- Words that say a command meet no fault.
-use Rattle.std.proofs.Common.{◌≡◌, ◌∙◌, ◌==◌, ◌&&◌, ◌||◌, ◌≤◌, ℕ, Bool, cond, not, true, false, true≢false, refl, sym, ap, subst, arith, List, [], ◌∷◌, ◌++◌, Option, Some, None, is_some, codes, leb-true}
+use Rattle.std.proofs.Common.{◌≡◌, ◌∙◌, ◌==◌, ◌&&◌, ◌||◌, ◌≤◌, ℕ, Bool, cond, not, true, false, true≢false, refl, sym, ap, subst, arith, List, [], ◌∷◌, ◌++◌, Option, Some, None, is_some, codes, leb-true, length, eqb-true}
 use Rattle.std.specs.Prelude.{option_and_then, option_map, unwrap_or}
 use Rattle.std.specs.Option.{option_map_or}
 use Rattle.std.specs.List.{AllByRecursion, list_all}
@@ -8,37 +8,46 @@ use Rattle.std.proofs.lemmas.Bool.{ne_eqb}
 use Rattle.std.proofs.lemmas.Slice.Eq.{bytes_eq-Decides}
 use Rattle.clap.proofs.WalkLemmas.{both}
 use Rattle.clap.specs.Faults.{built_fault, check_fault, default_fault, defaults_fault, entered_fault, fault_of, given_default_fault, settle_fault, walk_fault}
+use Rattle.clap.specs.Kinds.{Kinds}
 use Rattle.clap.specs.Simple.{entered}
 use Rattle.clap.specs.Walk.{Row, Rule, Text, Walk, finished, has_row, is_empty, nothing_held, settled, walk, walk_from, walked, with_default}
 use Rattle.command_line.specs.Application.{scopectl}
-use Rattle.command_line.specs.CommandLine.{Given, Said, command_said, command_word, given_to, is_among, job_named, limit_names, said_by, said_with, text_given, time_names}
+use Rattle.command_line.specs.CommandLine.{Given, Said, ScriptSaid, command_said, command_word, given_to, is_among, job_named, job_said, limit_names, quote, text_given, time_names}
 use Rattle.command_line.specs.Settings.{NameAndMillis, Numbers, deadline_by, delay_by, delay_said, greatest_of, if_given, is_digit, is_plain, name_of, numbers_by, plain_number, setting_number}
 use Rattle.command_line.specs.declared.lines.Job.{Job}
 use Rattle.command_line.specs.declared.lines.Job.TheVariants.{Replay, Dump, Tree, Timeline, Quote}
 use Rattle.command_line.specs.declared.settings.Setting.{Setting}
 use Rattle.command_line.specs.declared.settings.Setting.TheVariants.{Scopes, Tasks, Load, Deadline, After}
-use Rattle.command_line.proofs.Built.{built_app, built_command, built_top, command_names, has_option, job_has_none, job_rules, top_rules, words_fault}
+use Rattle.command_line.proofs.Built.{built_app, built_command, built_top, command_names, has_option, is_quiet, job_quiet, of_each, job_rules, top_rules, words_fault}
 use Rattle.command_line.proofs.Delays.{delay_is_no_flag}
 use Rattle.command_line.proofs.Passing.{NoFlags, is_no_flag, or_else-both, passes}
 use Rattle.command_line.proofs.TopLevel.{entered_is, fault_is, stopped_at, stops}
 
 -- ---- defaults
 
-any_or_true : (b d : Bool) → d ≡ true → (b || d) ≡ true
-any_or_true true d e = refl
-any_or_true false d e = e
+no_kinds : (kinds : Kinds) → is_empty kinds ≡ true → kinds ≡ []
+no_kinds [] e = refl
+no_kinds (k ∷ ks) e =
+    let bad : length (k ∷ ks) ≡ 0 = eqb-true (length (k ∷ ks)) 0 e in
+    absurd (omega arith)
 
-defaults_clear : (rules : List Rule) (rows : List Row) → list_all (λ a. is_empty a.defaults) rules ≡ true → defaults_fault rows rules ≡ []
+-- a rule whose default meets no fault
+quiet_clear : (has none : Bool) (kinds : Kinds) → (none || is_empty kinds) ≡ true → cond (has || none) [] kinds ≡ []
+quiet_clear true none kinds e = refl
+quiet_clear false true kinds e = refl
+quiet_clear false false kinds e = no_kinds kinds e
+
+defaults_clear : (rules : List Rule) (rows : List Row) → list_all is_quiet rules ≡ true → defaults_fault rows rules ≡ []
 unfolding defaults_fault
 defaults_clear [] rows e = refl
 defaults_clear (a ∷ rules) rows e =
-    let parts = both (is_empty a.defaults) (list_all (λ a. is_empty a.defaults) rules) e in
-    let none : default_fault rows a ≡ [] = ap (λ b. cond b [] (given_default_fault a a.defaults)) (any_or_true (has_row a.id rows) (is_empty a.defaults) parts.0) in
+    let parts = both (is_quiet a) (list_all is_quiet rules) e in
+    let none : default_fault rows a ≡ [] = quiet_clear (has_row a.id rows) (is_empty a.defaults) (given_default_fault a a.defaults) parts.0 in
     or_else-both _ _ none (defaults_clear rules (with_default rows a) parts.1)
 
-top_has_none : list_all (λ a. is_empty a.defaults) top_rules ≡ true
+top_quiet : list_all is_quiet top_rules ≡ true
 unfolding top_rules
-top_has_none = refl
+top_quiet = refl
 
 -- ---- the checks at the end
 
@@ -84,14 +93,14 @@ built_clear job rest e =
     let checks : check_fault built_top (finished top_rules w.held) (is_some (entered built_app w.stopped)) ≡ [] =
     subst (λ (w : Walk). check_fault built_top (finished top_rules w.held) (is_some (entered built_app w.stopped)) ≡ []) (sym (stops job rest)) (met_checks job _ rest) in
     or_else-both _ _ (top_walk job rest)
-    (or_else-both _ _ entered_clear (or_else-both _ _ settle_clear (or_else-both _ _ (defaults_clear top_rules (settled top_rules w.held).rows top_has_none) checks)))
+    (or_else-both _ _ entered_clear (or_else-both _ _ settle_clear (or_else-both _ _ (defaults_clear top_rules (settled top_rules w.held).rows top_quiet) checks)))
 
 given_clear : (job : Job) (rest : List Text) (final : Given) → given_to job rest ≡ Some final → NoFlags job final → words_fault job rest ≡ []
 given_clear job rest final said flagless =
     let passed = passes job rest [] final [] None (refl, refl) said flagless in
     let end = (walk (job_rules job) [] nothing_held rest).held in
     or_else-both _ _ passed.0 (or_else-both _ _ passed.1
-    (or_else-both _ _ (defaults_clear (job_rules job) (settled (job_rules job) end).rows (job_has_none job)) (job_checks job (finished (job_rules job) end))))
+    (or_else-both _ _ (defaults_clear (job_rules job) (settled (job_rules job) end).rows (job_quiet job)) (job_checks job (finished (job_rules job) end))))
 
 -- ---- a text of an option that says something is no flag
 
@@ -145,29 +154,22 @@ module _ (numbers : Numbers) where
   limits_have (Some n) None c e = absurd (cc)
   limits_have (Some n) (Some m) c e = (some n refl, some m refl, load_has n m c e)
 
-module _ (job : Job) (said : Said) where
-  after_has : (numbers : Numbers) (deadline : Option ℕ) (c : Option (Option NameAndMillis)) → option_map (λ after. said_with job numbers deadline after) c ≡ Some said
-      → HasSome (Option NameAndMillis) c
-  after_has numbers deadline (Some after) e = some after refl
-  after_has numbers deadline None e = absurd (cc)
+module _ (said : Said) where
+  -- a job that runs a script has its limits
+  script_has : (strict : Bool) (f : ScriptSaid → Said) (a : Option Numbers) → option_map f (option_map (λ numbers. record { numbers = numbers; strict = strict }) a) ≡ Some said → HasSome Numbers a
+  script_has strict f None e = absurd (cc)
+  script_has strict f (Some numbers) e = some numbers refl
 
-  all_have : (a : Option Numbers) (b : Option (Option ℕ)) (c : Option (Option NameAndMillis))
-      → option_and_then (λ numbers. option_and_then (λ deadline. option_map (λ after. said_with job numbers deadline after) c) b) a ≡ Some said
-      → HasSome Numbers a × HasSome (Option ℕ) b × HasSome (Option NameAndMillis) c
-  all_have None b c e = absurd (cc)
-  all_have (Some n) None c e = absurd (cc)
-  all_have (Some n) (Some d) c e = (some n refl, some d refl, after_has n d c e)
+  after_has : (deadline : Option ℕ) (c : Option (Option NameAndMillis)) → option_map (λ after. quote deadline after) c ≡ Some said → HasSome (Option NameAndMillis) c
+  after_has deadline None e = absurd (cc)
+  after_has deadline (Some after) e = some after refl
+
+  times_have : (b : Option (Option ℕ)) (c : Option (Option NameAndMillis)) → option_and_then (λ deadline. option_map (λ after. quote deadline after) c) b ≡ Some said
+      → HasSome (Option ℕ) b × HasSome (Option NameAndMillis) c
+  times_have None c e = absurd (cc)
+  times_have (Some d) c e = (some d refl, after_has d c e)
 
 -- ---- the options of a job have no flags for texts
-
--- what holds of each of some names holds of a name among them
-of_each : (P : Text → Type 0) (names : List Text) → AllByRecursion P names → (name : Text) → is_among names name ≡ true → P name
-of_each P [] all name own = absurd (true≢false (sym own))
-of_each P (known ∷ names) all name own = go (of_each P names all.1 name) (bytes_eq known name) refl own
-  where
-    go : (is_among names name ≡ true → P name) → (b : Bool) → bytes_eq known name ≡ b → (b || is_among names name) ≡ true → P name
-    go later true same own = subst P ((bytes_eq-Decides known name).0 same) all.0
-    go later false other own = later own
 
 module _ (given : Text → Option Text) where
   limits_flagless : HasSome Numbers (numbers_by (λ s. given (name_of s))) → (name : Text) → is_among limit_names name ≡ true → Flagless (given name)
@@ -184,26 +186,26 @@ module _ (given : Text → Option Text) where
         (given_flagless NameAndMillis delay_said delay_is_no_flag _ after, tt),
       )
 
-no_flags : (job : Job) (final : Given) (said : Said) → said_by job (text_given final) ≡ Some said → NoFlags job final
+no_flags : (job : Job) (final : Given) (said : Said) → job_said job final ≡ Some said → NoFlags job final
 unfolding NoFlags
-no_flags job final said e name text own is = go job own
+no_flags job final said e name text own is = go job e own
   where
-    have : HasSome Numbers (numbers_by (λ s. text_given final (name_of s))) × HasSome (Option ℕ) (deadline_by (text_given final (name_of Deadline))) × HasSome (Option NameAndMillis) (delay_by (text_given final (name_of After)))
-    have = all_have job said _ _ _ e
+    limits : HasSome Numbers (numbers_by (λ s. text_given final (name_of s))) → is_among limit_names name ≡ true → is_no_flag text ≡ true
+    limits has own = limits_flagless (text_given final) has name own text is
 
-    go : (job : Job) → has_option job name ≡ true → is_no_flag text ≡ true
-    go Replay own = limits_flagless (text_given final) have.0 name own text is
-    go Dump own = limits_flagless (text_given final) have.0 name own text is
-    go Tree own = limits_flagless (text_given final) have.0 name own text is
-    go Timeline own = limits_flagless (text_given final) have.0 name own text is
-    go Quote own = times_flagless (text_given final) have.1 have.2 name own text is
+    go : (job : Job) → job_said job final ≡ Some said → has_option job name ≡ true → is_no_flag text ≡ true
+    go Replay e own = limits (script_has said _ _ _ e) own
+    go Dump e own = limits (script_has said _ _ _ e) own
+    go Tree e own = limits (script_has said _ _ _ e) own
+    go Timeline e own = limits (script_has said _ _ _ e) own
+    go Quote e own = let have = times_have said _ _ e in times_flagless (text_given final) have.0 have.1 name own text is
 
 -- ---- words that say a command
 
-words_clear : (job : Job) (rest : List Text) (said : Said) → option_and_then (λ given. said_by job (text_given given)) (given_to job rest) ≡ Some said → words_fault job rest ≡ []
+words_clear : (job : Job) (rest : List Text) (said : Said) → option_and_then (λ given. job_said job given) (given_to job rest) ≡ Some said → words_fault job rest ≡ []
 words_clear job rest said e = go (given_to job rest) refl e
   where
-    go : (o : Option Given) → given_to job rest ≡ o → option_and_then (λ given. said_by job (text_given given)) o ≡ Some said → words_fault job rest ≡ []
+    go : (o : Option Given) → given_to job rest ≡ o → option_and_then (λ given. job_said job given) o ≡ Some said → words_fault job rest ≡ []
     go None is e = absurd (cc)
     go (Some final) is e = given_clear job rest final is (no_flags job final said e)
 
@@ -229,7 +231,7 @@ said_clear [] said e = absurd (cc)
 said_clear (program ∷ []) said e = absurd (cc)
 said_clear (program ∷ word ∷ rest) said e = go (job_named word) refl e
   where
-    go : (o : Option Job) → job_named word ≡ o → option_and_then (λ job. option_and_then (λ given. said_by job (text_given given)) (given_to job rest)) o ≡ Some said
+    go : (o : Option Job) → job_named word ≡ o → option_and_then (λ job. option_and_then (λ given. job_said job given) (given_to job rest)) o ≡ Some said
         → fault_of scopectl (program ∷ word ∷ rest) ≡ []
     go None is e = absurd (cc)
     go (Some job) is e =

@@ -10,7 +10,7 @@ use Rattle.scope_rules.specs.NameText.{begins_with_letter, is_letter, is_name}
 use Rattle.command_line.specs.Settings.{NameAndMillis, delay_said, greatest_of, is_equals, plain_number}
 use Rattle.command_line.specs.declared.settings.Setting.TheVariants.{After}
 use Rattle.command_line.proofs.Passing.{is_no_flag}
-use Rattle.command_line.proofs.TopLevel.{same_either}
+use Rattle.command_line.proofs.Built.{same_either}
 
 -- ---- a text that says a delay begins with a letter
 

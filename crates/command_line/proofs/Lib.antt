@@ -2,7 +2,7 @@ mod Answering
 mod Built
 mod Clearing
 mod Delays
-mod Flagging
+mod Flagged
 mod HelpWords
 mod Hinting
 mod Levels

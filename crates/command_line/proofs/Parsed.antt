@@ -1,5 +1,5 @@
 -- What a parse that went well says.
-use Rattle.std.proofs.Common.{◌≡◌, ◌∙◌, ℕ, refl, ap, ap₂, sym, true, List, [], Option, Some, None, is_some}
+use Rattle.std.proofs.Common.{◌≡◌, ◌∙◌, Bool, ap, ap₂, sym, true, List, [], Some, is_some}
 use Rattle.std.specs.Prelude.{option_map, unwrap_or}
 use Rattle.clap.proofs.WalkLemmas.{both}
 use Rattle.clap.specs.Faults.{fault_of, is_simple_and_free}
@@ -8,20 +8,20 @@ use Rattle.clap.specs.Matches.{first_value, found_of, subcommand_name_of}
 use Rattle.clap.specs.Walk.{Row, Text, rows_of}
 use Rattle.clap.specs.declared.parser.matches.ArgMatches.{ArgMatches}
 use Rattle.command_line.specs.Application.{scopectl}
-use Rattle.command_line.specs.CommandLine.{command_said, command_word, job_named, said_by, said_with}
-use Rattle.command_line.specs.Settings.{NameAndMillis, Numbers, deadline_by, delay_by, name_of, numbers_by}
-use Rattle.command_line.specs.declared.lines.Job.{Job}
-use Rattle.command_line.specs.declared.settings.Setting.TheVariants.{Deadline, After}
+use Rattle.command_line.specs.CommandLine.{command_said, command_word, job_named, said_by}
+use Rattle.command_line.specs.Parsing.{TellsFlags}
+use Rattle.command_line.specs.Settings.{name_of}
+use Rattle.command_line.specs.declared.settings.Flag.{Flag}
 use Rattle.command_line.proofs.Answering.{name_in_rows}
 use Rattle.command_line.proofs.Built.{is_simple_app}
-use Rattle.command_line.proofs.TopLevel.{IsRead, named_is, read, texts_said}
-use Rattle.command_line.proofs.Walking.{rows_given}
+use Rattle.command_line.proofs.TopLevel.{IsRead, flags_are, has_given, named_is, read, texts_said}
+use Rattle.command_line.proofs.Flagged.{rows_filled}
 
 -- the words meet no fault, and the parse found the job and the options that they say
 pub record Parsed (words : List Text) (matches : ArgMatches) : Type 0 where
   pub clear : fault_of scopectl words ≡ []
   pub got : IsRead words
-  pub found : subcommand_rows_of matches ≡ Some (command_word got.job, rows_given got.given)
+  pub found : subcommand_rows_of matches ≡ Some (command_word got.job, rows_filled got.job got.given)
 
 pub simple : (app : App) → app ≡ scopectl → is_simple_and_free app ≡ true
 simple app is = ap is_simple_and_free is ∙ is_simple_app
@@ -49,25 +49,17 @@ module _ (words : List Text) (matches : ArgMatches) (p : Parsed words matches) w
   pub job_is : (word : Text) → Some word ≡ subcommand_name_of matches → job_named word ≡ Some p.got.job
   job_is word named = ap job_named (ap (λ o. unwrap_or o word) (named ∙ name_is)) ∙ named_is p.got.job
 
-  -- what its options say
-  pub said_is : (options : ArgMatches) → Some (rows_of (found_of options)) ≡ option_map (λ (r : Text × List Row). r.1) (subcommand_rows_of matches)
-      → said_by p.got.job (λ name. first_value (found_of options) name) ≡ command_said words
-  said_is options rows =
-      texts_said words (found_of options) p.got (ap (λ o. unwrap_or o []) (rows ∙ ap (option_map (λ (r : Text × List Row). r.1)) p.found))
+  module _ (options : ArgMatches) (rows : Some (rows_of (found_of options)) ≡ option_map (λ (r : Text × List Row). r.1) (subcommand_rows_of matches)) where
+    pub filled : rows_of (found_of options) ≡ rows_filled p.got.job p.got.given
+    filled = ap (λ o. unwrap_or o []) (rows ∙ ap (option_map (λ (r : Text × List Row). r.1)) p.found)
 
--- ---- what is said of a job by its parts
+    -- which of its options without a text were given
+    abbrev pub has_said : Flag → Bool
+    has_said = has_given words (found_of options) p.got filled
 
-module _ (job : Job) (given : Text → Option Text) where
-  pub no_numbers : numbers_by (λ s. given (name_of s)) ≡ None → said_by job given ≡ None
-  no_numbers none = rw none refl
+    pub flags_said : TellsFlags p.got.job (found_of options) has_said
+    flags_said = flags_are words (found_of options) p.got filled
 
-  module _ (numbers : Numbers) (limits : numbers_by (λ s. given (name_of s)) ≡ Some numbers) where
-    pub no_deadline : deadline_by (given (name_of Deadline)) ≡ None → said_by job given ≡ None
-    no_deadline none = rw (limits, none) refl
-
-    module _ (deadline : Option ℕ) (time : deadline_by (given (name_of Deadline)) ≡ Some deadline) where
-      pub no_delay : delay_by (given (name_of After)) ≡ None → said_by job given ≡ None
-      no_delay none = rw (limits, time, none) refl
-
-      pub all_said : (after : Option NameAndMillis) → delay_by (given (name_of After)) ≡ Some after → said_by job given ≡ Some (said_with job numbers deadline after)
-      all_said after delay = rw (limits, time, delay) refl
+    -- what its options say
+    pub said_is : said_by p.got.job (λ setting. first_value (found_of options) (name_of setting)) has_said ≡ command_said words
+    said_is = texts_said words (found_of options) p.got filled

@@ -6,11 +6,11 @@ use Rattle.std.proofs.lemmas.Slice.Eq.{bytes_eq-Decides}
 use Rattle.clap.specs.Lexer.{long_of}
 use Rattle.clap.specs.Faults.{long_fault, option_fault, react_fault, settle_fault, turn_fault, use_fault, walk_fault}
 use Rattle.clap.specs.Walk.{Held, Row, Rule, Text, Walk, after_step, arg_by_long, idle, option, plain_word, settled, takes_values, walked}
-use Rattle.command_line.specs.CommandLine.{Given, is_given, option_names, options_said, with_option}
+use Rattle.command_line.specs.CommandLine.{Given, flag_names, is_given, option_names, options_said, with_option}
 use Rattle.command_line.specs.declared.lines.Job.{Job}
-use Rattle.command_line.proofs.Built.{built_command, built_option, finds_id, has_option, job_level, job_rules}
+use Rattle.command_line.proofs.Built.{built_command, built_option, finds_id, flag_no_option, has_flag, has_option, job_level, job_rules}
 use Rattle.command_line.proofs.Levels.{at, dashes, dashes_end, holding, long_clear, nothing_past_dashes, or_else-nil, past_dashes, value_walked}
-use Rattle.command_line.proofs.Walking.{Comes, ends, fresh_use, gives, more, opens, rows_given, turn, used_once, with_fresh}
+use Rattle.command_line.proofs.Walking.{Comes, ends, flags, fresh_use, gives, more, opens, rows_given, turn, used_once, with_fresh}
 
 -- the walk's end
 abbrev pub end_of : Job → Walk → List Text → Held
@@ -18,7 +18,7 @@ end_of job w words = (fold (walked (job_rules job) []) w words).held
 
 -- the options that are given, and then those of the job that the words give
 abbrev pub said_after : Job → Given → List Text → Option Given
-said_after job given words = options_said (option_names job) given words
+said_after job given words = options_said job given words
 
 -- the words are such that the walk over them, where it meets no fault, leaves what they say
 abbrev Reads : Job → List Text → Type 0
@@ -67,11 +67,11 @@ module _ (job : Job) (name : Text) (own : has_option job name ≡ true) (g : Giv
           absurd (no_flag (arg_by_long (job_rules job) p.0) p.1 (long_clear (built_command job) [] (job_level job) (rows_given g) (Some (name, [])) (option name) text refl apart clear p is))
 
   -- once it has its text it comes to one more option that is given
-  text_comes : (text : Text) → Comes job (with_option (option_names job) g name text) (holding (rows_given g) (Some (name, text ∷ [])))
+  text_comes : (text : Text) → Comes job (with_option (option_names job) g name (Some text)) (holding (rows_given g) (Some (name, text ∷ [])))
   text_comes text e =
       let asked : use_fault false (built_option name) (text ∷ []) (rows_given g) ≡ [] = rw (finds_id job name own) at e in
-      let fresh = fresh_use name text g (rows_given g) refl asked in
-      (more g name text, with_fresh job name text g own fresh, rw (finds_id job name own) (used_once name text g fresh))
+      let fresh = fresh_use name g (rows_given g) refl text asked in
+      (more g name (Some text), with_fresh (option_names job) name (Some text) g own fresh, rw (finds_id job name own) (used_once name text g fresh))
 
 -- ---- words
 
@@ -91,19 +91,30 @@ module _ (job : Job) (word : Text) where
   ends_said g e = rw e refl
 
   last_said : (name text : Text) (g : Given) → has_option job name ≡ true → bytes_eq word dashes ≡ false → long_of word ≡ Some (name, Some text) → is_given g name ≡ false
-      → said_after job g (word ∷ []) ≡ Some (more g name text)
+      → said_after job g (word ∷ []) ≡ Some (more g name (Some text))
   unfolding options_said
-  last_said name text g own apart long fresh = rw (apart, long) (ap (option_and_then (λ (g : Given). Some g)) (with_fresh job name text g own fresh))
+  last_said name text g own apart long fresh = rw (apart, long) (with_fresh (option_names job) name (Some text) g own fresh)
+
+  last_flag : (name : Text) (g : Given) → has_flag job name ≡ true → bytes_eq word dashes ≡ false → long_of word ≡ Some (name, None) → is_given g name ≡ false
+      → said_after job g (word ∷ []) ≡ Some (more g name None)
+  unfolding options_said
+  last_flag name g own apart long fresh = rw (apart, long) (with_fresh (flag_names job) name None g own fresh)
 
   attached_said : (name text after : Text) (rest : List Text) (g : Given) → has_option job name ≡ true → long_of word ≡ Some (name, Some text) → is_given g name ≡ false
-      → said_after job g (word ∷ after ∷ rest) ≡ said_after job (more g name text) (after ∷ rest)
+      → said_after job g (word ∷ after ∷ rest) ≡ said_after job (more g name (Some text)) (after ∷ rest)
   unfolding options_said
-  attached_said name text after rest g own long fresh = rw long (ap (option_and_then (λ (g : Given). said_after job g (after ∷ rest))) (with_fresh job name text g own fresh))
+  attached_said name text after rest g own long fresh = rw long (ap (option_and_then (λ (g : Given). said_after job g (after ∷ rest))) (with_fresh (option_names job) name (Some text) g own fresh))
 
-  apart_said : (name after : Text) (rest : List Text) (g : Given) → long_of word ≡ Some (name, None)
-      → said_after job g (word ∷ after ∷ rest) ≡ option_and_then (λ g. said_after job g rest) (with_option (option_names job) g name after)
+  flag_said : (name after : Text) (rest : List Text) (g : Given) → has_flag job name ≡ true → long_of word ≡ Some (name, None) → is_given g name ≡ false
+      → said_after job g (word ∷ after ∷ rest) ≡ said_after job (more g name None) (after ∷ rest)
   unfolding options_said
-  apart_said name after rest g long = rw long refl
+  flag_said name after rest g own long fresh =
+      rw (long, flag_no_option job name own) (ap (option_and_then (λ (g : Given). said_after job g (after ∷ rest))) (with_fresh (flag_names job) name None g own fresh))
+
+  apart_said : (name after : Text) (rest : List Text) (g : Given) → has_option job name ≡ true → long_of word ≡ Some (name, None)
+      → said_after job g (word ∷ after ∷ rest) ≡ option_and_then (λ g. said_after job g rest) (with_option (option_names job) g name (Some after))
+  unfolding options_said
+  apart_said name after rest g own long = rw (long, own) refl
 
   reads_last : Reads job (word ∷ [])
   unfolding walk_fault
@@ -118,8 +129,13 @@ module _ (job : Job) (word : Text) where
               ap (λ (w : Walk). (settled (job_rules job) w.held).rows) is ∙ got.2,
             )
         | gives name text g own apart long given fresh is ↦ (
-          more g name text,
+          more g name (Some text),
           ap (option_and_then (λ g. said_after job g (word ∷ []))) given ∙ last_said name text g own apart long fresh,
+          ap (λ (w : Walk). (settled (job_rules job) w.held).rows) is,
+        )
+        | flags name g own apart long given fresh is ↦ (
+          more g name None,
+          ap (option_and_then (λ g. said_after job g (word ∷ []))) given ∙ last_flag name g own apart long fresh,
           ap (λ (w : Walk). (settled (job_rules job) w.held).rows) is,
         )
         | opens name g own apart long given is ↦ absurd (lacks_text job name own g (subst (λ (w : Walk). settle_fault (job_rules job) false w.held ≡ []) is settles))
@@ -129,7 +145,7 @@ module _ (job : Job) (word : Text) where
     -- the option waits, and the next word is its text
     reads_apart : (name : Text) (g : Given) → has_option job name ≡ true → walk_fault (built_command job) [] (at (waiting_for name g) (option name)) (after ∷ rest) ≡ []
         → settle_fault (job_rules job) false (end_of job (at (waiting_for name g) (option name)) (after ∷ rest)) ≡ []
-        → (final : Given) × (option_and_then (λ g. said_after job g rest) (with_option (option_names job) g name after) ≡ Some final)
+        → (final : Given) × (option_and_then (λ g. said_after job g rest) (with_option (option_names job) g name (Some after)) ≡ Some final)
         × ((settled (job_rules job) (end_of job (at (waiting_for name g) (option name)) (after ∷ rest))).rows ≡ rows_given final)
     unfolding walk_fault
     reads_apart name g own clear settles = go (bytes_eq after dashes) refl
@@ -144,7 +160,7 @@ module _ (job : Job) (word : Text) where
         no_text (word ∷ rest) clear settles = nothing_past_dashes (built_command job) [] (job_level job) (waiting_for name g) (option name) word (or_else-nil _ _ clear).0
 
         go : (b : Bool) → bytes_eq after dashes ≡ b
-            → (final : Given) × (option_and_then (λ g. said_after job g rest) (with_option (option_names job) g name after) ≡ Some final)
+            → (final : Given) × (option_and_then (λ g. said_after job g rest) (with_option (option_names job) g name (Some after)) ≡ Some final)
             × ((settled (job_rules job) (end_of job (at (waiting_for name g) (option name)) (after ∷ rest))).rows ≡ rows_given final)
         go true e =
             let is = dashes_end (built_command job) [] (job_level job) (rows_given g) (Some (name, [])) (option name) after refl e in
@@ -152,10 +168,18 @@ module _ (job : Job) (word : Text) where
             (subst (λ (w : Walk). settle_fault (job_rules job) false (end_of job w rest) ≡ []) is settles))
         go false e =
             let is = text_taken job name own g after e parts.0 in
-            let read = rest_reads (with_option (option_names job) g name after) (rows_given g) (Some (name, after ∷ [])) (text_comes job name own g after)
+            let read = rest_reads (with_option (option_names job) g name (Some after)) (rows_given g) (Some (name, after ∷ [])) (text_comes job name own g after)
             (subst (λ (w : Walk). walk_fault (built_command job) [] w rest ≡ []) is parts.1)
             (subst (λ (w : Walk). settle_fault (job_rules job) false (end_of job w rest) ≡ []) is settles) in
             (read.0, read.1, ap (λ (w : Walk). (settled (job_rules job) (end_of job w rest)).rows) is ∙ read.2)
+
+    -- the word gave an option, and the walk goes on
+    reads_on : (g : Given) {w : Walk} → w ≡ at (holding (rows_given g) None) idle → walk_fault (built_command job) [] w (after ∷ rest) ≡ [] → settle_fault (job_rules job) false (end_of job w (after ∷ rest)) ≡ []
+        → (final : Given) × (said_after job g (after ∷ rest) ≡ Some final) × ((settled (job_rules job) (end_of job w (after ∷ rest))).rows ≡ rows_given final)
+    reads_on g {w} is clear settles =
+        let read = next_reads (Some g) (rows_given g) None (λ _. (g, refl, refl)) (subst (λ (w : Walk). walk_fault (built_command job) [] w (after ∷ rest) ≡ []) is clear)
+        (subst (λ (w : Walk). settle_fault (job_rules job) false (end_of job w (after ∷ rest)) ≡ []) is settles) in
+        (read.0, read.1, ap (λ (w : Walk). (settled (job_rules job) (end_of job w (after ∷ rest))).rows) is ∙ read.2)
 
     reads_more : Reads job (word ∷ after ∷ rest)
     unfolding walk_fault
@@ -166,18 +190,22 @@ module _ (job : Job) (word : Text) where
               let past = subst (λ (w : Walk). walk_fault (built_command job) [] w (after ∷ rest) ≡ []) (ended rows pending e) parts.1 in
               absurd (nothing_past_dashes (built_command job) [] (job_level job) (holding rows pending) idle after (or_else-nil _ _ past).0)
           | gives name text g own apart long given fresh is ↦
-              let read = next_reads (Some (more g name text)) (rows_given (more g name text)) None (λ _. (more g name text, refl, refl))
-              (subst (λ (w : Walk). walk_fault (built_command job) [] w (after ∷ rest) ≡ []) is parts.1)
-              (subst (λ (w : Walk). settle_fault (job_rules job) false (end_of job w (after ∷ rest)) ≡ []) is settles) in (
+              let read = reads_on (more g name (Some text)) is parts.1 settles in (
                 read.0,
                 ap (option_and_then (λ g. said_after job g (word ∷ after ∷ rest))) given ∙ attached_said name text after rest g own long fresh ∙ read.1,
-                ap (λ (w : Walk). (settled (job_rules job) (end_of job w (after ∷ rest))).rows) is ∙ read.2,
+                read.2,
+              )
+          | flags name g own apart long given fresh is ↦
+              let read = reads_on (more g name None) is parts.1 settles in (
+                read.0,
+                ap (option_and_then (λ g. said_after job g (word ∷ after ∷ rest))) given ∙ flag_said name after rest g own long fresh ∙ read.1,
+                read.2,
               )
           | opens name g own apart long given is ↦
               let read = reads_apart name g own (subst (λ (w : Walk). walk_fault (built_command job) [] w (after ∷ rest) ≡ []) is parts.1)
               (subst (λ (w : Walk). settle_fault (job_rules job) false (end_of job w (after ∷ rest)) ≡ []) is settles) in (
                 read.0,
-                ap (option_and_then (λ g. said_after job g (word ∷ after ∷ rest))) given ∙ apart_said name after rest g long ∙ read.1,
+                ap (option_and_then (λ g. said_after job g (word ∷ after ∷ rest))) given ∙ apart_said name after rest g own long ∙ read.1,
                 ap (λ (w : Walk). (settled (job_rules job) (end_of job w (after ∷ rest))).rows) is ∙ read.2,
               )
         ]

@@ -1,25 +1,29 @@
 -- From the program's words to the words after that of a job.
-use Rattle.std.proofs.Common.{◌≡◌, ◌∙◌, ◌||◌, Bool, cond, true, false, refl, sym, ap, subst, arith, List, [], ◌∷◌, ◌++◌, length, drop, Option, Some, None, is_some, append-nil, append_assoc, codes, eqb-true}
-use Rattle.std.specs.Prelude.{find, fold, option_and_then, option_map, slice_get}
-use Rattle.std.specs.List.{list_all}
+use Rattle.std.proofs.Common.{◌≡◌, ◌∙◌, ◌||◌, Bool, cond, true, false, refl, sym, ap, subst, List, [], ◌∷◌, ◌++◌, drop, Option, Some, None, is_some, append-nil, append_assoc, codes}
+use Rattle.std.specs.Prelude.{fold, option_and_then, slice_get}
 use Rattle.std.specs.Str.{bytes_eq}
 use Rattle.std.proofs.lemmas.Slice.Eq.{bytes_eq-Decides}
-use Rattle.clap.proofs.WalkLemmas.{both, find-map, first_value-rows}
+use Rattle.clap.proofs.WalkLemmas.{first_value-rows}
 use Rattle.clap.specs.Matches.{first_value}
 use Rattle.clap.specs.declared.parser.matches.Found.{Found}
 use Rattle.clap.specs.Lexer.{long_of}
 use Rattle.clap.specs.Kinds.{Kinds}
 use Rattle.clap.specs.Faults.{built_fault, check_fault, defaults_fault, entered_fault, fault_of, long_fault, settle_fault, turn_fault, use_fault, walk_fault}
 use Rattle.clap.specs.Simple.{App, argument_words, entered, names_of, subcommand_of}
-use Rattle.clap.specs.Walk.{Held, Row, Rule, Text, Walk, arg_by_long, default_rows, finished, first_of, has_row, idle, is_empty, nothing_held, reading_by, rows_of, settled, stop_after, subcommand_met, walk, walk_from, walked, with_default}
+use Rattle.clap.specs.Walk.{Held, Row, Text, Walk, arg_by_long, finished, first_of, idle, one_of, nothing_held, rows_of, settled, stop_after, subcommand_met, walk, walk_from, walked, with_default}
 use Rattle.command_line.specs.Application.{scopectl}
-use Rattle.command_line.specs.CommandLine.{Given, command_said, command_word, given_to, job_named, said_by, text_given}
+use Rattle.command_line.specs.CommandLine.{Given, command_said, command_word, given_to, is_given, job_named, job_said, said_by, text_given}
+use Rattle.command_line.specs.Parsing.{TellsFlags}
+use Rattle.command_line.specs.Settings.{flag_name, name_of}
+use Rattle.command_line.specs.declared.settings.Flag.{Flag}
+use Rattle.command_line.specs.declared.settings.Setting.{Setting}
+use Rattle.command_line.specs.declared.settings.Setting.TheVariants.{Scopes, Tasks, Load, Deadline, After}
+use Rattle.command_line.proofs.Flagged.{AreFit, flag_filled, one_text-rows, rows_filled, said_fit, text_filled, text_row}
 use Rattle.command_line.specs.declared.lines.Job.{Job}
 use Rattle.command_line.specs.declared.lines.Job.TheVariants.{Replay, Dump, Tree, Timeline, Quote}
-use Rattle.command_line.proofs.Built.{asks_help, asks_version, built_app, built_help, built_top, built_version, command_names, is_built, job_has_none, job_rules, top_level, top_rules, words_fault}
+use Rattle.command_line.proofs.Built.{asks_help, asks_version, built_app, built_help, built_top, built_version, command_names, has_flag, is_built, job_rules, top_level, top_rules, words_fault}
 use Rattle.command_line.proofs.Levels.{at, dashes, dashes_end, holding, long_clear, no_value, nothing_past_dashes, or_else-nil, past_dashes}
 use Rattle.command_line.proofs.Saying.{reads}
-use Rattle.command_line.proofs.Walking.{row_given, rows_given}
 
 no_binary : scopectl.top.no_binary_name ≡ false
 unfolding scopectl
@@ -128,31 +132,13 @@ words_clear job rest e =
     let below : entered_fault built_app (walk top_rules command_names nothing_held (command_word job ∷ rest)).stopped ≡ [] = (or_else-nil _ _ all.1).0 in
     sym (entered_is job rest) ∙ subst (λ (w : Walk). entered_fault built_app w.stopped ≡ []) (stops job rest) below
 
-pub same_either : {A : Type 0} (b : Bool) (x : A) → cond b x x ≡ x
-same_either true x = refl
-same_either false x = refl
-
-no_default : (a : Rule) (rows : List Row) → is_empty a.defaults ≡ true → with_default rows a ≡ rows
-no_default a rows e = go a.defaults e
-  where
-    go : (ds : List Text) → is_empty ds ≡ true → cond (has_row a.id rows) rows (default_rows a.id (reading_by a) ds rows) ≡ rows
-    go [] e = same_either (has_row a.id rows) rows
-    go (d ∷ ds) e =
-        let bad : length (d ∷ ds) ≡ 0 = eqb-true (length (d ∷ ds)) 0 e in
-        absurd (omega arith)
-
-no_defaults : (rules : List Rule) (rows : List Row) → list_all (λ a. is_empty a.defaults) rules ≡ true → fold with_default rows rules ≡ rows
-no_defaults [] rows e = refl
-no_defaults (a ∷ rules) rows e =
-    let parts = both (is_empty a.defaults) (list_all (λ a. is_empty a.defaults) rules) e in
-    ap (λ r. fold with_default r rules) (no_default a rows parts.0) ∙ no_defaults rules rows parts.1
-
 -- the job, and what it was given, where the words meet no fault
 pub record IsRead (words : List Text) : Type 0 where
   pub job : Job
   pub given : Given
-  pub rows : subcommand_of scopectl words ≡ Some (command_word job, rows_given given)
-  pub said : command_said words ≡ said_by job (text_given given)
+  pub fit : AreFit job given
+  pub rows : subcommand_of scopectl words ≡ Some (command_word job, rows_filled job given)
+  pub said : command_said words ≡ job_said job given
 
 pub named_is : (job : Job) → job_named (command_word job) ≡ Some job
 unfolding job_named
@@ -173,20 +159,20 @@ rows_entered Tree rest = refl
 rows_entered Timeline rest = refl
 rows_entered Quote rest = refl
 
-said_at : (program : Text) (job : Job) (rest : List Text) → command_said (program ∷ command_word job ∷ rest) ≡ option_and_then (λ given. said_by job (text_given given)) (given_to job rest)
+said_at : (program : Text) (job : Job) (rest : List Text) → command_said (program ∷ command_word job ∷ rest) ≡ option_and_then (λ given. job_said job given) (given_to job rest)
 unfolding command_said
-said_at program job rest = ap (option_and_then (λ j. option_and_then (λ given. said_by j (text_given given)) (given_to j rest))) (named_is job)
+said_at program job rest = ap (option_and_then (λ j. option_and_then (λ given. job_said j given) (given_to j rest))) (named_is job)
 
 -- what the words after a job's word give, where they meet no fault, and the rows of it
 abbrev IsGiven : Job → List Text → Type 0
-IsGiven job rest = (given : Given) × (given_to job rest ≡ Some given) × (rows_left job rest ≡ rows_given given)
+IsGiven job rest = (given : Given) × (given_to job rest ≡ Some given) × (rows_left job rest ≡ rows_filled job given)
 
 given_is : (job : Job) (rest : List Text) → words_fault job rest ≡ [] → IsGiven job rest
 given_is job rest e =
     let parts = or_else-nil _ _ e in
     let settles = or_else-nil _ _ parts.1 in
     let read = reads job rest (Some []) [] None (λ _. ([], refl, refl)) parts.0 settles.0 in
-    (read.0, read.1, no_defaults (job_rules job) _ (job_has_none job) ∙ read.2)
+    (read.0, read.1, ap (λ (rows : List Row). fold with_default rows (job_rules job)) read.2)
 
 read_command : (program : Text) (job : Job) (rest : List Text) → words_fault job rest ≡ [] → IsRead (program ∷ command_word job ∷ rest)
 read_command program job rest e =
@@ -194,9 +180,10 @@ read_command program job rest e =
     record {
       job = job;
       given = got.0;
+      fit = said_fit job rest got.0 got.1;
       rows = subcommand_is (program ∷ command_word job ∷ rest) ∙ ap (λ (w : Walk). entered built_app w.stopped) (stops job rest)
           ∙ rows_entered job rest ∙ ap (λ r. Some (command_word job, r)) got.2;
-      said = said_at program job rest ∙ ap (option_and_then (λ given. said_by job (text_given given))) got.1;
+      said = said_at program job rest ∙ ap (option_and_then (λ given. job_said job given)) got.1;
     }
 
 read_after : (program word : Text) (rest : List Text) → built_fault built_app nothing_held (word ∷ rest) ≡ [] → IsRead (program ∷ word ∷ rest)
@@ -221,18 +208,36 @@ read [] e = absurd (none_met [] refl (sym (fault_is []) ∙ e))
 read (program ∷ []) e = absurd (none_met [] refl (sym (fault_is (program ∷ [])) ∙ e))
 read (program ∷ word ∷ rest) e = read_after program word rest (sym (fault_is (program ∷ word ∷ rest)) ∙ e)
 
--- the text of an option, by the rows
-text_in_rows : (given : Given) (name : Text) → first_of name (rows_given given) ≡ text_given given name
-text_in_rows given name = ap (option_and_then (λ (r : Row). slice_get r.values 0)) (sym (find-map (λ r. bytes_eq r.id name) row_given given)) ∙ go (find (λ o. bytes_eq o.0 name) given)
-  where
-    go : (o : Option (Text × Text)) → option_and_then (λ (r : Row). slice_get r.values 0) (option_map row_given o) ≡ option_map (λ p. p.1) o
-    go None = refl
-    go (Some p) = refl
+-- no option with a text is one without
+each_job : (P : Job → Type 0) → P Replay → P Dump → P Tree → P Timeline → P Quote → (job : Job) → P job
+each_job P a b c d e Replay = a
+each_job P a b c d e Dump = b
+each_job P a b c d e Tree = c
+each_job P a b c d e Timeline = d
+each_job P a b c d e Quote = e
 
-module _ (words : List Text) (found : Found) (got : IsRead words) (same : rows_of found ≡ rows_given got.given) where
-  text_is : (name : Text) → first_value found name ≡ text_given got.given name
-  text_is name = first_value-rows found name ∙ ap (first_of name) same ∙ text_in_rows got.given name
+setting_no_flag : (setting : Setting) (job : Job) → has_flag job (name_of setting) ≡ false
+setting_no_flag Scopes = each_job (λ job. has_flag job (name_of Scopes) ≡ false) refl refl refl refl refl
+setting_no_flag Tasks = each_job (λ job. has_flag job (name_of Tasks) ≡ false) refl refl refl refl refl
+setting_no_flag Load = each_job (λ job. has_flag job (name_of Load) ≡ false) refl refl refl refl refl
+setting_no_flag Deadline = each_job (λ job. has_flag job (name_of Deadline) ≡ false) refl refl refl refl refl
+setting_no_flag After = each_job (λ job. has_flag job (name_of After) ≡ false) refl refl refl refl refl
 
-  -- what the texts of the rows say is what the words say
-  pub texts_said : said_by got.job (λ name. first_value found name) ≡ command_said words
-  texts_said = ap (said_by got.job) (λ i name. text_is name i) ∙ sym got.said
+module _ (words : List Text) (found : Found) (got : IsRead words) (same : rows_of found ≡ rows_filled got.job got.given) where
+  text_is : (setting : Setting) → first_value found (name_of setting) ≡ text_given got.given (name_of setting)
+  text_is setting =
+      let name = name_of setting in
+      let apart = setting_no_flag setting got.job in
+      first_value-rows found name ∙ ap (first_of name) same ∙ ap (option_and_then (λ (r : Row). slice_get r.values 0)) (text_filled got.job got.given name apart)
+      ∙ text_row got.job name apart got.given got.fit
+
+  -- whether an option without a text was given
+  abbrev pub has_given : Flag → Bool
+  has_given flag = is_given got.given (flag_name flag)
+
+  pub flags_are : TellsFlags got.job found has_given
+  flags_are flag own = one_text-rows found (flag_name flag) ∙ ap (one_of (flag_name flag)) same ∙ flag_filled got.job got.given (flag_name flag) own got.fit
+
+  -- what the rows say is what the words say
+  pub texts_said : said_by got.job (λ setting. first_value found (name_of setting)) has_given ≡ command_said words
+  texts_said = ap (λ (given : Setting → Option Text). said_by got.job given has_given) (λ i setting. text_is setting i) ∙ sym got.said

@@ -5,9 +5,13 @@ use Rattle.std.specs.List.{list_any}
 use Rattle.std.specs.Str.{bytes_eq}
 use Rattle.clap.specs.Lexer.{long_of}
 use Rattle.command_line.specs.HelpWord.{turned}
-use Rattle.command_line.specs.Flags.{is_explained, is_strict, is_traced}
-use Rattle.command_line.specs.Settings.{NameAndMillis, Numbers, deadline_by, delay_by, delay_of, name_of, numbers_by, numbers_of}
+use Rattle.command_line.specs.Settings.{NameAndMillis, Numbers, deadline_by, delay_by, delay_of, flag_name, name_of, numbers_by, numbers_of}
 use Rattle.command_line.specs.declared.lines.CommandLine.{CommandLine}
+use Rattle.command_line.specs.declared.lines.CommandLine.TheVariants as line
+use Rattle.command_line.specs.declared.settings.ScriptOptions.{ScriptOptions}
+use Rattle.command_line.specs.declared.settings.Flag.{Flag}
+use Rattle.command_line.specs.declared.settings.Flag.TheVariants.{Strict, Explain, Trace}
+use Rattle.command_line.specs.declared.settings.Setting.{Setting}
 use Rattle.command_line.specs.declared.lines.Job.{Job}
 use Rattle.command_line.specs.declared.lines.Job.TheVariants.{Replay, Dump, Tree, Timeline, Quote}
 use Rattle.command_line.specs.declared.settings.Setting.TheVariants.{Scopes, Tasks, Load, Deadline, After}
@@ -38,7 +42,7 @@ limit_names = name_of Scopes ∷ name_of Tasks ∷ name_of Load ∷ []
 abbrev pub time_names : List (List ℕ)
 time_names = name_of Deadline ∷ name_of After ∷ []
 
--- the names of the options that a job has
+-- the names of the options with a text that a job has
 abbrev pub option_names : Job → List (List ℕ)
 option_names Replay = limit_names
 option_names Dump = limit_names
@@ -46,11 +50,20 @@ option_names Tree = limit_names
 option_names Timeline = limit_names
 option_names Quote = time_names
 
+-- the names of the options without a text that a job has: each that runs a script may be strict, and a replay can be
+-- explained and traced
+abbrev pub flag_names : Job → List (List ℕ)
+flag_names Replay = flag_name Strict ∷ flag_name Explain ∷ flag_name Trace ∷ []
+flag_names Dump = flag_name Strict ∷ []
+flag_names Tree = flag_name Strict ∷ []
+flag_names Timeline = flag_name Strict ∷ []
+flag_names Quote = []
+
 -- ---- options
 
--- the name and the text of each option that was given, in order
+-- the name of each option that was given, in order, and its text, if it has one
 abbrev pub Given : Type 0
-Given = List (List ℕ × List ℕ)
+Given = List (List ℕ × Option (List ℕ))
 
 abbrev pub is_among : List (List ℕ) → List ℕ → Bool
 is_among names name = list_any (λ known. bytes_eq known name) names
@@ -60,75 +73,95 @@ is_given given name = list_any (λ option. bytes_eq option.0 name) given
 
 -- the text that an option was given with
 abbrev pub text_given : Given → List ℕ → Option (List ℕ)
-text_given given name = option_map (λ option. option.1) (find (λ option. bytes_eq option.0 name) given)
+text_given given name = option_and_then (λ option. option.1) (find (λ option. bytes_eq option.0 name) given)
 
 -- one more option is given: its name is one of these, and was not given before
-abbrev pub with_option : List (List ℕ) → Given → List ℕ → List ℕ → Option Given
+abbrev pub with_option : List (List ℕ) → Given → List ℕ → Option (List ℕ) → Option Given
 with_option names given name text =
     if is_among names name && not (is_given given name) then Some (given ++ (name, text) ∷ []) else None
 
--- `--name=text`, which stands in one word, gives an option; what `next` says comes after it
-abbrev pub attached : List (List ℕ) → (Given → Option Given) → Given → List ℕ → Option (List ℕ)
-    → Option Given
-attached names next given name (Some text) = option_and_then next (with_option names given name text)
-attached names next given name None = None
+-- one word gives an option alone: `--name=text` one with a text, and `--name` one without
+abbrev pub given_alone : Job → Given → List ℕ → Option (List ℕ) → Option Given
+given_alone job given name (Some text) = with_option (option_names job) given name (Some text)
+given_alone job given name None = with_option (flag_names job) given name None
 
--- the same, or `--name` with its text in the word after it
-abbrev pub attached_or_apart : List (List ℕ) → (Given → Option Given) → (Given → Option Given)
-    → Given → List ℕ → List ℕ → Option (List ℕ) → Option Given
-attached_or_apart names next past given after name (Some text) =
-    option_and_then next (with_option names given name text)
-attached_or_apart names next past given after name None =
-    option_and_then past (with_option names given name after)
+-- the same, and what `next` says comes after it; or `--name` gives one with its text in the word after it, and what
+-- `past` says comes after that
+abbrev pub given_first : Job → (next past : Given → Option Given) → Given → (after name : List ℕ) → Option (List ℕ) → Option Given
+given_first job next past given after name (Some text) =
+    option_and_then next (given_alone job given name (Some text))
+given_first job next past given after name None =
+    if is_among (option_names job) name
+    then option_and_then past (with_option (option_names job) given name (Some after))
+    else option_and_then next (given_alone job given name None)
 
--- the options that are given, and then those that the words give, if these are options of such names, each
--- given once, and no more; `--` may stand last
-unfoldable pub options_said : List (List ℕ) → Given → List (List ℕ) → Option Given
-options_said names given [] = Some given
-options_said names given (word ∷ []) = if bytes_eq word (codes "--") then Some given
-    else option_and_then (λ long. attached names (λ g. Some g) given long.0 long.1) (long_of word)
-options_said names given (word ∷ after ∷ rest) = option_and_then (λ long.
-    attached_or_apart names (λ g. options_said names g (after ∷ rest)) (λ g. options_said names g rest)
+-- the options that are given, and then those that the words give, if these are options of the job, each given once, and
+-- no more; `--` may stand last
+unfoldable pub options_said : Job → Given → List (List ℕ) → Option Given
+options_said job given [] = Some given
+options_said job given (word ∷ []) = if bytes_eq word (codes "--") then Some given
+    else option_and_then (λ long. given_alone job given long.0 long.1) (long_of word)
+options_said job given (word ∷ after ∷ rest) = option_and_then (λ long.
+    given_first job (λ g. options_said job g (after ∷ rest)) (λ g. options_said job g rest)
     given after long.0 long.1) (long_of word)
 
 -- the options that the words after a job's word give, if they are options of the job and no more
 abbrev pub given_to : Job → List (List ℕ) → Option Given
-given_to job words = options_said (option_names job) [] words
+given_to job words = options_said job [] words
 
 -- ---- commands
 
--- a job, the numbers of its limits, and of a quote the deadline and the delay of an offer's job, if there
--- are such
-pub record Said : Type 0 where
-  pub job : Job
+-- how a script is run: the numbers of its realm's limits, and whether it is strict
+pub record ScriptSaid : Type 0 where
   pub numbers : Numbers
-  pub deadline : Option ℕ
-  pub after : Option NameAndMillis
+  pub strict : Bool
 
-abbrev pub said_with : Job → Numbers → Option ℕ → Option NameAndMillis → Said
-said_with job numbers deadline after =
-    record { job = job; numbers = numbers; deadline = deadline; after = after }
+-- a job, and what its options say
+pub data Said : Type 0 where
+  replay : ScriptSaid → (explain trace : Bool) → Said
+  dump : ScriptSaid → Said
+  tree : ScriptSaid → Said
+  timeline : ScriptSaid → Said
+  quote : (deadline : Option ℕ) (after : Option NameAndMillis) → Said
 
--- what is said of a job by options that were given with these texts
-abbrev pub said_by : Job → (List ℕ → Option (List ℕ)) → Option Said
-said_by job given = option_and_then (λ numbers. option_and_then (λ deadline. option_map (λ after.
-    said_with job numbers deadline after) (delay_by (given (name_of After)))) (deadline_by (given (name_of Deadline)))) (numbers_by (λ setting. given (name_of setting)))
+abbrev pub script_by : (Setting → Option (List ℕ)) → (strict : Bool) → Option ScriptSaid
+script_by given strict =
+    option_map (λ numbers. record { numbers = numbers; strict = strict }) (numbers_by given)
+
+abbrev pub quote_by : (Setting → Option (List ℕ)) → Option Said
+quote_by given = option_and_then (λ deadline. option_map (λ after. quote deadline after) (delay_by (given After))) (deadline_by (given Deadline))
+
+-- what is said of a job by the texts of its options, and by those options without a text that were given
+abbrev pub said_by : Job → (Setting → Option (List ℕ)) → (Flag → Bool) → Option Said
+said_by Replay given has = option_map (λ script. replay script (has Explain) (has Trace)) (script_by given (has Strict))
+said_by Dump given has = option_map (λ script. dump script) (script_by given (has Strict))
+said_by Tree given has = option_map (λ script. tree script) (script_by given (has Strict))
+said_by Timeline given has = option_map (λ script. timeline script) (script_by given (has Strict))
+said_by Quote given has = quote_by given
+
+-- what is said of a job by the options that were given
+abbrev pub job_said : Job → Given → Option Said
+job_said job given = said_by job (λ setting. text_given given (name_of setting)) (λ flag. is_given given (flag_name flag))
 
 -- the program's name, the word of a job and its options
 unfoldable pub command_said : List (List ℕ) → Option Said
 command_said (program ∷ command ∷ options) = option_and_then (λ job. option_and_then (λ given.
-    said_by job (text_given given)) (given_to job options)) (job_named command)
+    job_said job given) (given_to job options)) (job_named command)
 command_said _ = None
 
-abbrev pub said_of : CommandLine → Said
-said_of command = said_with command.job (numbers_of command.limits) command.deadline (option_map delay_of command.after)
+abbrev pub script_of : ScriptOptions → ScriptSaid
+script_of options = record { numbers = numbers_of options.limits; strict = options.strict }
 
--- the words say the command, as they are read, and have the options without a text that it has
-pub record Says (words : List (List ℕ)) (command : CommandLine) : Type 0 where
-  pub said : command_said (turned words) ≡ Some (said_of command)
-  pub strict : command.strict ≡ is_strict words
-  pub explain : command.explain ≡ is_explained words
-  pub trace : command.trace ≡ is_traced words
+abbrev pub said_of : CommandLine → Said
+said_of (line.Replay script explain trace) = replay (script_of script) explain trace
+said_of (line.Dump script) = dump (script_of script)
+said_of (line.Tree script) = tree (script_of script)
+said_of (line.Timeline script) = timeline (script_of script)
+said_of (line.Quote deadline after) = quote deadline (option_map delay_of after)
+
+-- the words say the command, as they are read
+abbrev pub Says : List (List ℕ) → CommandLine → Type 0
+Says words command = command_said (turned words) ≡ Some (said_of command)
 
 -- the words say no command, as they are read
 abbrev pub SaysNone : List (List ℕ) → Type 0

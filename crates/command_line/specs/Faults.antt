@@ -1,5 +1,5 @@
 -- Which fault a command line gets.
-use Rattle.std.specs.Prelude.{◌≡◌, ◌≢◌, ⊤, ℕ, List, [], ◌∷◌}
+use Rattle.std.specs.Prelude.{◌≡◌, ◌≢◌, ⊤, ℕ, List, [], ◌∷◌, codes, string_bytes}
 use Rattle.clap.specs.Faults.{fault_of}
 use Rattle.clap.specs.declared.error.kind.ErrorKind.{ErrorKind}
 use Rattle.clap.specs.declared.error.kind.ErrorKind.TheVariants as kind
@@ -40,3 +40,10 @@ abbrev pub IsUsageOrMemory : LineFault → Type 0
 IsUsageOrMemory (Usage text) = ⊤
 IsUsageOrMemory Memory = ⊤
 IsUsageOrMemory _ = ⊥
+
+-- what a fault is shown as
+abbrev pub fault_text : LineFault → List ℕ
+fault_text Help = codes "help is asked for"
+fault_text Version = codes "the version is asked for"
+fault_text (Usage text) = string_bytes text
+fault_text Memory = codes "memory was refused"

@@ -5,7 +5,7 @@ use Rattle.std.specs.List.{before_first, list_any}
 use Rattle.std.specs.Option.{option_map_or}
 use Rattle.std.specs.Str.{bytes_eq}
 use Rattle.clap.specs.Lexer.{strip_byte}
-use Rattle.command_line.specs.CommandLine.{is_among, job_named, limit_names}
+use Rattle.command_line.specs.CommandLine.{flag_names, is_among, job_named, limit_names}
 use Rattle.command_line.specs.Settings.{is_equals}
 use Rattle.command_line.specs.declared.hints.TheConstants.{REPLAY_INPUT, DUMP_INPUT, TREE_INPUT, TIMELINE_INPUT, QUOTE_INPUT, QUOTE_OPTIONS}
 use Rattle.command_line.specs.declared.lines.Job.{Job}
@@ -18,15 +18,6 @@ abbrev pub is_dashed : List ℕ → Bool
 is_dashed (first ∷ second ∷ rest) = first == 45
 is_dashed _ = false
 
--- an option with no `=`, whose text may stand in the word after it
-abbrev pub may_take : List ℕ → Bool
-may_take word = is_dashed word && not (list_any is_equals word)
-
--- behind the word `before` a word that is not an option, and not the text of one; behind `--` any word
-abbrev pub is_stray : (before word : List ℕ) → Bool
-is_stray before word =
-    bytes_eq before (codes "--") || (not (is_dashed word) && not (may_take before))
-
 -- the name in `--name` or `--name=text`
 abbrev pub long_name : List ℕ → Option (List ℕ)
 long_name word = option_map (before_first is_equals) (option_and_then (strip_byte 45) (strip_byte 45 word))
@@ -34,6 +25,19 @@ long_name word = option_map (before_first is_equals) (option_and_then (strip_byt
 -- an option that sets a limit
 abbrev pub sets_limit : List ℕ → Bool
 sets_limit word = option_map_or (is_among limit_names) (long_name word) false
+
+-- an option of the job that has no text
+abbrev pub is_flag : Job → List ℕ → Bool
+is_flag job word = option_map_or (is_among (flag_names job)) (long_name word) false
+
+-- an option with no `=`, whose text may stand in the word after it
+abbrev pub may_take : Job → List ℕ → Bool
+may_take job word = is_dashed word && (not (list_any is_equals word) && not (is_flag job word))
+
+-- behind the word `before` a word that is not an option, and not the text of one; behind `--` any word
+abbrev pub is_stray : Job → (before word : List ℕ) → Bool
+is_stray job before word =
+    bytes_eq before (codes "--") || (not (is_dashed word) && not (may_take job before))
 
 -- ---- hints
 
@@ -52,7 +56,7 @@ option_hint _ word = None
 
 -- the hint at one word of a job's line, behind the word `before`
 abbrev pub hint_at : Job → (before word : List ℕ) → Option (List ℕ)
-hint_at job before word = if is_stray before word then Some (input_hint job) else option_hint job word
+hint_at job before word = if is_stray job before word then Some (input_hint job) else option_hint job word
 
 abbrev pub or_hint : Option (List ℕ) → Option (List ℕ) → Option (List ℕ)
 or_hint (Some hint) other = Some hint

@@ -1,8 +1,8 @@
 pub mod Application
 pub mod CommandLine
 pub mod Faults
-pub mod Flags
 pub mod HelpWord
 pub mod Hints
+pub mod Parsing
 pub mod Settings
 pub mod Texts

@@ -1,5 +1,5 @@
 -- The options of a job, and what they say.
-use Rattle.std.specs.Prelude.{ℕ, Bool, List, [], ◌∷◌, Option, Some, None, ◌&&◌, ◌==◌, not, false, nat_le, codes, if◌then◌else◌}
+use Rattle.std.specs.Prelude.{ℕ, Bool, List, [], ◌∷◌, Option, Some, None, ◌&&◌, ◌==◌, not, true, false, nat_le, codes, if◌then◌else◌}
 use Rattle.std.specs.Prelude.{option_map, option_and_then}
 use Rattle.std.specs.List.{after_first, before_first, list_all}
 use Rattle.std.specs.Option.{option_map_or}
@@ -9,6 +9,8 @@ use Rattle.scope_rules.specs.Names.{text_of}
 use Rattle.scope_rules.specs.declared.types.capacity.Limits.{Limits}
 use Rattle.scope_rules.specs.declared.types.capacity.TheConstants.{SCOPE_LIMIT, TASK_LIMIT, LOAD_LIMIT}
 use Rattle.command_line.specs.declared.settings.Delay.{Delay}
+use Rattle.command_line.specs.declared.settings.Flag.{Flag}
+use Rattle.command_line.specs.declared.settings.Flag.TheVariants.{Strict, Explain, Trace}
 use Rattle.command_line.specs.declared.settings.Setting.{Setting}
 use Rattle.command_line.specs.declared.settings.Setting.TheVariants.{Scopes, Tasks, Load, Deadline, After}
 use Rattle.command_line.specs.declared.settings.TheConstants.{DAY_MILLIS}
@@ -20,6 +22,17 @@ name_of Tasks = codes "tasks"
 name_of Load = codes "load"
 name_of Deadline = codes "deadline"
 name_of After = codes "after"
+
+-- the name of an option that has no text, without its hyphens
+abbrev pub flag_name : Flag → List ℕ
+flag_name Strict = codes "strict"
+flag_name Explain = codes "explain"
+flag_name Trace = codes "trace"
+
+-- the text by which `clap` says whether such an option was given
+abbrev pub bool_text : Bool → List ℕ
+bool_text true = codes "true"
+bool_text false = codes "false"
 
 -- the greatest number that an option can say
 abbrev pub greatest_of : Setting → ℕ

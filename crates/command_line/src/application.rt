@@ -1,16 +1,16 @@
 //! The application as `clap` knows it: its commands and their options. Help and the version are texts of
 //! our own (`help`).
-ghost use Rattle.std.specs.Prelude.{◌≡◌, IfOk, false};
+ghost use Rattle.std.specs.Prelude.{◌≡◌, ◌∷◌, [], IfOk, false};
 ghost use Rattle.clap.specs.Words.{app_of, rule_of, with_subcommand};
 ghost use Rattle.clap.specs.declared.builder.command.Command.TheViews.{out-Command as fields_of};
-ghost use Rattle.command_line.specs.Application.{command_of, option_rule, scopectl, with_options};
+ghost use Rattle.command_line.specs.Application.{command_of, flag_rule, option_rule, scopectl, with_flags, with_options};
 ghost use Rattle.command_line.specs.CommandLine.{limit_names, time_names};
-ghost use Rattle.command_line.specs.Settings.{name_of};
+ghost use Rattle.command_line.specs.Settings.{flag_name, name_of};
 
 use crate::help;
 use crate::lines::Job;
-use crate::settings::Setting;
-use clap::{Arg, Command};
+use crate::settings::{Flag, Setting};
+use clap::{Arg, ArgAction, Command};
 use std::alloc::{AllocError, Global};
 
 /// The program with its commands.
@@ -47,19 +47,30 @@ fn command<'a>(alloc: Global, job: Job) -> Result<Command<'a>, AllocError>
     let word: &'a str = job.word();
     let bare = Command::new(alloc, word);
     match job {
-        Job::Replay | Job::Dump | Job::Tree | Job::Timeline => with_limits(alloc, bare),
+        Job::Replay => with_notes(alloc, with_limits(alloc, bare)?),
+        Job::Dump | Job::Tree | Job::Timeline => with_limits(alloc, bare),
         Job::Quote => with_times(alloc, bare),
     }
 }
 
-// The command with the options that set the limits of a realm.
+// The command with the options of a script: those that set the limits of its realm, and `--strict`.
 fn with_limits<'a>(alloc: Global, bare: Command<'a>) -> Result<Command<'a>, AllocError>
-    ensures app { IfOk result (λ command. app_of command ≡ with_options (app_of bare.entry) limit_names) }
+    ensures app { IfOk result (λ command. app_of command ≡ with_flags (with_options (app_of bare.entry) limit_names) (flag_name Flag.Strict ∷ [])) }
     ensures local { IfOk result (λ command. (fields_of command).has_globals ≡ (fields_of bare.entry).has_globals) }
 {
     bare.arg(option(alloc, Setting::Scopes))?
         .arg(option(alloc, Setting::Tasks))?
-        .arg(option(alloc, Setting::Load))
+        .arg(option(alloc, Setting::Load))?
+        .arg(flag(alloc, Flag::Strict))
+}
+
+// The command with the options that ask for notes on the lines of a script.
+fn with_notes<'a>(alloc: Global, bare: Command<'a>) -> Result<Command<'a>, AllocError>
+    ensures app { IfOk result (λ command. app_of command ≡ with_flags (app_of bare.entry) (flag_name Flag.Explain ∷ flag_name Flag.Trace ∷ [])) }
+    ensures local { IfOk result (λ command. (fields_of command).has_globals ≡ (fields_of bare.entry).has_globals) }
+{
+    bare.arg(flag(alloc, Flag::Explain))?
+        .arg(flag(alloc, Flag::Trace))
 }
 
 // The command with the options that say the times of a quote.
@@ -79,4 +90,13 @@ fn option<'a>(alloc: Global, setting: Setting) -> Arg<'a>
     let name: &'a str = setting.name();
     let value: &'a str = setting.value_name();
     Arg::new(alloc, name).long(name).value_name(value)
+}
+
+// The option `--NAME`, which has no text.
+fn flag<'a>(alloc: Global, flag: Flag) -> Arg<'a>
+    ensures rule { rule_of result ≡ flag_rule (flag_name flag) }
+    ensures local { result.global ≡ false }
+{
+    let name: &'a str = flag.name();
+    Arg::new(alloc, name).long(name).action(ArgAction::SetTrue)
 }

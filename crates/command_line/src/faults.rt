@@ -1,15 +1,16 @@
 //! Why a command line gives no command.
-ghost use Rattle.std.specs.Prelude.{◌≡◌};
+ghost use Rattle.std.specs.Prelude.{◌≡◌, Some};
 ghost use Rattle.clap.specs.Words.{kind_of};
-ghost use Rattle.command_line.specs.Faults.{TellsKind};
+ghost use Rattle.command_line.specs.Faults.{TellsKind, fault_text};
 ghost use Rattle.command_line.specs.declared.faults.LineFault.TheVariants.{Memory};
 
 use clap::Error;
 use clap::error::ErrorKind;
 use std::alloc::{AllocError, Global};
+use std::fmt;
 
 /// Why a command line gives no command. A text has its last line's end.
-#[derive(Drop)]
+#[derive(Debug, Drop)]
 pub enum LineFault {
     /// The words ask for help.
     Help,
@@ -45,6 +46,22 @@ fn usage_text(alloc: Global, error: &Error, hint: Option<&str>) -> Result<String
         None => format!(in alloc; "{error}"),
     }
 }
+
+/// What standard error is to have, or what was asked for or refused.
+impl fmt::Display for LineFault {
+    ghost output = { λ fault. Some (fault_text fault) };
+
+    fn fmt<W: fmt::Write>(&self, f: &mut fmt::Formatter<W>) -> fmt::Result {
+        match self {
+            LineFault::Help => f.write_str("help is asked for"),
+            LineFault::Version => f.write_str("the version is asked for"),
+            LineFault::Usage(text) => f.write_str(text),
+            LineFault::Memory => f.write_str("memory was refused"),
+        }
+    }
+}
+
+impl std::error::Error for LineFault {}
 
 impl From<AllocError> for LineFault {
     ghost from_gives = { λ _ fault. fault ≡ Memory };

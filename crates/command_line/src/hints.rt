@@ -2,11 +2,12 @@
 ghost use Rattle.std.specs.Prelude.{◌≡◌, option_map, map};
 ghost use Rattle.std.specs.List.{before_first};
 ghost use Rattle.clap.specs.Lexer.{strip_byte};
-ghost use Rattle.command_line.specs.Hints.{hint_at, hint_behind, hint_for, input_hint, is_dashed, is_stray, long_name, may_take, option_hint, sets_limit};
+ghost use Rattle.command_line.specs.Hints.{hint_at, hint_behind, hint_for, input_hint, is_dashed, is_flag, is_stray, long_name, may_take, option_hint, sets_limit};
+ghost use Rattle.command_line.specs.CommandLine.{flag_names, is_among};
 ghost use Rattle.command_line.specs.Settings.{is_equals};
 
 use crate::lines::Job;
-use crate::settings::Setting;
+use crate::settings::{Flag, Setting};
 
 /// Where the script of a replay comes from.
 pub const REPLAY_INPUT: &str =
@@ -58,7 +59,7 @@ fn hint_behind(job: Job, command: &str, words: &[&str]) -> Option<&'static str>
 fn hint_at(job: Job, before: &str, word: &str) -> Option<&'static str>
     ensures { option_map (λ hint. hint.now) result ≡ hint_at job before.now word.now }
 {
-    if is_stray(before, word) {
+    if is_stray(job, before, word) {
         Some(input_hint(job))
     } else {
         option_hint(job, word)
@@ -90,17 +91,17 @@ fn option_hint(job: Job, word: &str) -> Option<&'static str>
 
 // Whether the word is not an option, and not the text of one, behind the word `before`. Behind `--` no
 // word is one.
-fn is_stray(before: &str, word: &str) -> bool
-    ensures { result ≡ is_stray before.now word.now }
+fn is_stray(job: Job, before: &str, word: &str) -> bool
+    ensures { result ≡ is_stray job before.now word.now }
 {
-    before == "--" || (!is_dashed(word) && !may_take(before))
+    before == "--" || (!is_dashed(word) && !may_take(job, before))
 }
 
 // Whether the word is an option with no `=`, whose text may stand in the word after it.
-fn may_take(word: &str) -> bool
-    ensures { result ≡ may_take word.now }
+fn may_take(job: Job, word: &str) -> bool
+    ensures { result ≡ may_take job word.now }
 {
-    is_dashed(word) && !word.as_bytes().contains(&b'=')
+    is_dashed(word) && !word.as_bytes().contains(&b'=') && !is_flag(job, word)
 }
 
 // Whether the word is a hyphen and more: an option, or `--`.
@@ -108,6 +109,31 @@ fn is_dashed(word: &str) -> bool
     ensures { result ≡ is_dashed word.now }
 {
     matches!(word.as_bytes(), [b'-', _, ..])
+}
+
+// Whether the word is an option of the job that has no text.
+fn is_flag(job: Job, word: &str) -> bool
+    ensures { result ≡ is_flag job word.now }
+{
+    match long_name(word) {
+        Some(name) => has_flag(job, name),
+        None => false,
+    }
+}
+
+// Whether the job has an option of this name that has no text.
+fn has_flag(job: Job, name: &str) -> bool
+    ensures { result ≡ is_among (flag_names job) name.now }
+{
+    match job {
+        Job::Replay => {
+            name == Flag::Strict.name()
+                || name == Flag::Explain.name()
+                || name == Flag::Trace.name()
+        }
+        Job::Dump | Job::Tree | Job::Timeline => name == Flag::Strict.name(),
+        Job::Quote => false,
+    }
 }
 
 // Whether the word is an option that sets a limit.

@@ -14,13 +14,12 @@
 //! milliseconds, up to a day's. The text NAME=MS is split at its first `=`, and NAME is a name as an offer of
 //! a plan has one. Each option stands once at most, as `--scopes N` or `--scopes=N`, and `--` may stand last.
 //! Help, of the program and of each command, and the version are texts of this crate: `clap` only says that
-//! the words ask for them. `help COMMAND` asks for what `COMMAND --help` asks for. Behind what `clap` says of
-//! words that it does not understand may stand a hint.
+//! the words ask for them. `help COMMAND` asks for what `COMMAND --help` asks for, and `help help` for what
+//! `--help` does. Behind what `clap` says of words that it does not understand may stand a hint.
 #![tactic(auto)]
 
 mod application;
 mod faults;
-mod flags;
 mod help;
 mod help_word;
 mod hints;
@@ -30,4 +29,4 @@ mod settings;
 pub use faults::LineFault;
 pub use help::{VERSION_LINE, help_of};
 pub use lines::{CommandLine, Job, line};
-pub use settings::Delay;
+pub use settings::{Delay, ScriptOptions};

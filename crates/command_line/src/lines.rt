@@ -1,50 +1,53 @@
 //! From the program's words to the command that they say.
-ghost use Rattle.std.specs.Prelude.{◌≡◌, ◌⊎◌, IfOk, IfErr, map};
-ghost use Rattle.command_line.specs.CommandLine.{Says, SaysNone, command_word, job_named};
-ghost use Rattle.command_line.specs.Faults.{Answers};
+ghost use Rattle.std.specs.Prelude.{◌≡◌, ◌⊎◌, Bool, IfOk, IfErr, Some, None, map};
+ghost use Rattle.clap.specs.Words.{first_value, found_of};
+ghost use Rattle.command_line.specs.CommandLine.{Says, SaysNone, command_word, job_named, said_by, said_of};
+ghost use Rattle.command_line.specs.Faults.{Answers, IsUsageOrMemory};
 ghost use Rattle.command_line.specs.HelpWord.{turned};
-ghost use Rattle.command_line.specs.Flags.{is_explained, is_strict, is_traced};
+ghost use Rattle.command_line.specs.Parsing.{TellsFlags};
+ghost use Rattle.command_line.specs.Settings.{name_of};
 
 use crate::faults::LineFault;
-use crate::flags::{Flag, taken};
 use crate::help_word::{has_help_word, turned};
 use crate::hints::hint_for;
-use crate::settings::Delay;
+use crate::settings::{Delay, Flag, ScriptOptions};
 use crate::{application, settings};
-use scope_rules::Limits;
+use clap::ArgMatches;
 use std::alloc::Global;
 
 /// What a command line tells the program to do.
 #[derive(Clone, Copy)]
-pub struct CommandLine {
-    pub job: Job,
-    /// The limits of the realm that the job runs in: the greatest where it is a plan's.
-    pub limits: Limits,
-    /// After how many milliseconds a plan is answered by what is there, if it is; else, and of a script,
-    /// none.
-    pub deadline: Option<u32>,
-    /// Which job of a plan is to take time, if one is; of a script none.
-    pub after: Option<Delay>,
-    /// Whether the status is to tell that lines of the script were refused; of a plan it is not.
-    pub strict: bool,
-    /// Whether it is to be said why lines of a replay were refused.
-    pub explain: bool,
-    /// Whether each line of a replay is to be said with its reply.
-    pub trace: bool,
+pub enum CommandLine {
+    /// Replays the script on standard input, and writes the replies.
+    Replay {
+        script: ScriptOptions,
+        /// Whether it is to be said why lines were refused.
+        explain: bool,
+        /// Whether each line is to be said with its reply.
+        trace: bool,
+    },
+    /// Runs the script on standard input without replies, and writes the tree of what it leaves as JSON.
+    Dump(ScriptOptions),
+    /// Does the same, and writes the tree as text for a terminal.
+    Tree(ScriptOptions),
+    /// Does the same, and writes a picture of the run.
+    Timeline(ScriptOptions),
+    /// Serves the plan on standard input, and writes the answer.
+    Quote {
+        /// After how many milliseconds the plan is answered by what is there, if it is.
+        deadline: Option<u32>,
+        /// Which job of the plan is to take time, if one is.
+        after: Option<Delay>,
+    },
 }
 
-/// The kinds of work.
+/// The jobs, each of which has a word.
 #[derive(Clone, Copy)]
 pub enum Job {
-    /// Replays the script on standard input, and writes the replies.
     Replay,
-    /// Runs the script on standard input without replies, and writes the tree of what it leaves as JSON.
     Dump,
-    /// Does the same, and writes the tree as text for a terminal.
     Tree,
-    /// Does the same, and writes a picture of the run.
     Timeline,
-    /// Serves the plan on standard input, and writes the answer.
     Quote,
 }
 
@@ -97,46 +100,18 @@ pub fn line<'a>(alloc: Global, words: &'a [&'a str]) -> Result<CommandLine, Line
 {
     if has_help_word(words) {
         let read = turned(alloc, words)?;
-        return command(alloc, words, &read, Flags::NONE);
+        return command(alloc, words, &read);
     }
-    let (strict, loose) = taken(alloc, Flag::Strict, words)?;
-    let (explain, plain) = taken(alloc, Flag::Explain, &loose)?;
-    let (trace, read) = taken(alloc, Flag::Trace, &plain)?;
-    let flags = Flags {
-        strict,
-        explain,
-        trace,
-    };
-    command(alloc, words, &read, flags)
+    command(alloc, words, words)
 }
 
-// Which options without a text stand in the words.
-#[derive(Clone, Copy)]
-struct Flags {
-    strict: bool,
-    explain: bool,
-    trace: bool,
-}
-
-impl Flags {
-    const NONE: Flags = Flags {
-        strict: false,
-        explain: false,
-        trace: false,
-    };
-}
-
-// The command that the words say, which are read as `read` and have these flags.
+// The command that the words say, which are read as `read`.
 fn command<'a>(
     alloc: Global,
     words: &'a [&'a str],
     read: &'a [&'a str],
-    flags: Flags,
 ) -> Result<CommandLine, LineFault>
     requires read { map (λ word. word.now) read.now ≡ turned (map (λ word. word.now) words.now) }
-    requires strict { flags.strict ≡ is_strict (map (λ word. word.now) words.now) }
-    requires explain { flags.explain ≡ is_explained (map (λ word. word.now) words.now) }
-    requires trace { flags.trace ≡ is_traced (map (λ word. word.now) words.now) }
     ensures said { IfOk result (Says (map (λ word. word.now) words.entry.now)) }
     ensures refused { IfErr result (λ fault. (fault ≡ LineFault.Memory)
         ⊎ SaysNone (map (λ word. word.now) words.entry.now)) }
@@ -153,16 +128,35 @@ fn command<'a>(
     let Some(job) = Job::named(word) else {
         unreachable!()
     };
-    let limits = settings::limits(alloc, options)?;
-    let deadline = settings::deadline(alloc, options)?;
-    let after = settings::after(alloc, options)?;
-    Ok(CommandLine {
-        job,
-        limits,
-        deadline,
-        after,
-        strict: flags.strict,
-        explain: flags.explain,
-        trace: flags.trace,
-    })
+    said(alloc, job, options)
+}
+
+// What the options of the job say.
+fn said(alloc: Global, job: Job, options: &ArgMatches<'_>) -> Result<CommandLine, LineFault>
+    ensures said { (has : Flag → Bool) → TellsFlags job (found_of options.now) has → IfOk result (λ command.
+        said_by job (λ setting. first_value (found_of options.now) (name_of setting)) has ≡ Some (said_of command)) }
+    ensures refused { (has : Flag → Bool) → IfErr result (λ fault. (fault ≡ LineFault.Memory)
+        ⊎ (said_by job (λ setting. first_value (found_of options.now) (name_of setting)) has ≡ None)) }
+    ensures told { IfErr result IsUsageOrMemory }
+{
+    match job {
+        Job::Replay => {
+            let script = settings::script(alloc, options)?;
+            let explain = settings::is_set(options, Flag::Explain);
+            let trace = settings::is_set(options, Flag::Trace);
+            Ok(CommandLine::Replay {
+                script,
+                explain,
+                trace,
+            })
+        }
+        Job::Dump => Ok(CommandLine::Dump(settings::script(alloc, options)?)),
+        Job::Tree => Ok(CommandLine::Tree(settings::script(alloc, options)?)),
+        Job::Timeline => Ok(CommandLine::Timeline(settings::script(alloc, options)?)),
+        Job::Quote => {
+            let deadline = settings::deadline(alloc, options)?;
+            let after = settings::after(alloc, options)?;
+            Ok(CommandLine::Quote { deadline, after })
+        }
+    }
 }

@@ -1,9 +1,10 @@
 //! The options of a job, and what they say.
-ghost use Rattle.std.specs.Prelude.{◌≡◌, ◌≤◌, ◌⊎◌, IfOk, IfErr, IfSome, Some, None, option_map};
+ghost use Rattle.std.specs.Prelude.{◌≡◌, ◌≤◌, ◌⊎◌, Bool, IfOk, IfErr, IfSome, Some, None, option_map};
 ghost use Rattle.std.specs.List.{list_all};
-ghost use Rattle.clap.specs.Words.{first_value, found_of};
+ghost use Rattle.clap.specs.Words.{first_value, found_of, one_text};
+ghost use Rattle.command_line.specs.CommandLine.{script_by, script_of};
 ghost use Rattle.command_line.specs.Faults.{IsUsageOrMemory};
-ghost use Rattle.command_line.specs.Settings.{greatest_of, is_digit, is_plain, name_of, setting_number, numbers_by, numbers_of, plain_number, deadline_by, delay_by, delay_of, delay_said};
+ghost use Rattle.command_line.specs.Settings.{bool_text, flag_name, greatest_of, is_digit, is_plain, name_of, setting_number, numbers_by, numbers_of, plain_number, deadline_by, delay_by, delay_of, delay_said};
 
 use crate::faults::LineFault;
 use clap::ArgMatches;
@@ -78,6 +79,39 @@ impl Setting {
     }
 }
 
+/// An option of a job that has no text.
+#[derive(Clone, Copy)]
+pub enum Flag {
+    /// The status is to tell that lines were refused.
+    Strict,
+    /// It is to be said why lines were refused.
+    Explain,
+    /// Each reply is to be said with its line.
+    Trace,
+}
+
+impl Flag {
+    /// The option's name, without its hyphens.
+    pub fn name(self) -> &'static str
+        ensures { result.now ≡ flag_name self }
+    {
+        match self {
+            Flag::Strict => "strict",
+            Flag::Explain => "explain",
+            Flag::Trace => "trace",
+        }
+    }
+}
+
+/// How a script is run.
+#[derive(Clone, Copy)]
+pub struct ScriptOptions {
+    /// The limits of its realm.
+    pub limits: Limits,
+    /// Whether the status is to tell that lines were refused.
+    pub strict: bool,
+}
+
 /// A job of a plan's offer that is to take time.
 #[derive(Clone, Copy)]
 pub struct Delay {
@@ -87,11 +121,34 @@ pub struct Delay {
     pub millis: u32,
 }
 
+/// How the options of a job say that its script is run, where `--strict` is such an option.
+///
+/// # Errors
+/// `Usage` where a number is none or too great, `Memory` where memory was refused.
+pub fn script(alloc: Global, matches: &ArgMatches<'_>) -> Result<ScriptOptions, LineFault>
+    ensures said { (strict : Bool) → one_text (found_of matches.now) (flag_name Flag.Strict) ≡ Some (bool_text strict) → IfOk result (λ options.
+        script_by (λ setting. first_value (found_of matches.now) (name_of setting)) strict ≡ Some (script_of options)) }
+    ensures refused { (strict : Bool) → IfErr result (λ fault. (fault ≡ LineFault.Memory)
+        ⊎ (script_by (λ setting. first_value (found_of matches.now) (name_of setting)) strict ≡ None)) }
+    ensures told { IfErr result IsUsageOrMemory }
+{
+    let limits = limits(alloc, matches)?;
+    let strict = is_set(matches, Flag::Strict);
+    Ok(ScriptOptions { limits, strict })
+}
+
+/// Whether the option was given, which is one of the job's: `clap` has a text for either case.
+pub fn is_set(matches: &ArgMatches<'_>, flag: Flag) -> bool
+    ensures { (set : Bool) → one_text (found_of matches.now) (flag_name flag) ≡ Some (bool_text set) → result ≡ set }
+{
+    matches.get_flag(flag.name())
+}
+
 /// The limits that the options of a job say, each the greatest where its option is not given.
 ///
 /// # Errors
 /// `Usage` where a number is none or too great, `Memory` where memory was refused.
-pub fn limits(alloc: Global, matches: &ArgMatches<'_>) -> Result<Limits, LineFault>
+fn limits(alloc: Global, matches: &ArgMatches<'_>) -> Result<Limits, LineFault>
     ensures said { IfOk result (λ limits. numbers_by (λ setting.
         first_value (found_of matches.now) (name_of setting)) ≡ Some (numbers_of limits)) }
     ensures refused { IfErr result (λ fault. (fault ≡ LineFault.Memory) ⊎ (numbers_by (λ setting.

@@ -1,0 +1,35 @@
+use Rattle.std.proofs.Common.{◌≡◌, ◌∙◌, ap, refl, sym, [], ◌∷◌, List, ℕ}
+use Rattle.std.proofs.lemmas.Result.{IfOk-weaker}
+use Rattle.clap.specs.Words.{App, app_of, new_app}
+use Rattle.command_line.specs.Application.{command_of, with_flags, with_options}
+use Rattle.command_line.specs.CommandLine.{command_word, flag_names, limit_names, time_names}
+use Rattle.command_line.specs.Settings.{flag_name}
+use Rattle.command_line.specs.declared.lines.Job.TheVariants.{Quote, Replay}
+use Rattle.command_line.specs.declared.settings.Flag.TheVariants.{Strict, Explain, Trace}
+use Rattle.command_line.proofs.application.command.Goals as goal
+
+abbrev notes : List (List ℕ)
+notes = flag_name Explain ∷ flag_name Trace ∷ []
+
+abbrev limited : App → App
+limited bare = with_flags (with_options bare limit_names) (flag_name Strict ∷ [])
+
+joined : (bare : App) → with_flags (limited bare) notes ≡ with_flags (with_options bare limit_names) (flag_names Replay)
+unfolding with_flags
+joined bare = refl
+
+timed : (bare : App) → with_options bare time_names ≡ with_flags (with_options bare time_names) (flag_names Quote)
+unfolding with_flags
+timed bare = refl
+
+pub returns-in_ok-with_limits-in-Replay-clause-app : goal.returns-in_ok-with_limits-in-Replay-clause-app
+returns-in_ok-with_limits-in-Replay-clause-app c =
+    let base : app_of c.new-bare.result ≡ new_app (command_word Replay) = c.new-bare.ensures.app ∙ ap new_app (c.word-word.ensures ∙ ap command_word c.in-Replay.is) in
+    let is = ap (λ (a : App). with_flags a notes) (c.in_ok-with_limits-in-Replay.ensures.app ∙ ap limited base) ∙ joined (new_app (command_word Replay)) ∙ sym (ap command_of c.in-Replay.is) in
+    IfOk-weaker c.with_notes.result _ _ (λ command h. h ∙ is) c.with_notes.ensures.app
+
+pub returns-in-Quote-clause-app : goal.returns-in-Quote-clause-app
+returns-in-Quote-clause-app c =
+    let base : app_of c.new-bare.result ≡ new_app (command_word Quote) = c.new-bare.ensures.app ∙ ap new_app (c.word-word.ensures ∙ ap command_word c.in-Quote.is) in
+    let is = ap (λ (a : App). with_options a time_names) base ∙ timed (new_app (command_word Quote)) ∙ sym (ap command_of c.in-Quote.is) in
+    IfOk-weaker c.with_times.result _ _ (λ command h. h ∙ is) c.with_times.ensures.app
