@@ -2,10 +2,10 @@
 
 use super::parts::{BOOK_SIGN, JOURNAL_END, JOURNAL_SIGN, Part, SIGN, part_of};
 use crate::said::Said;
-use script_journal::script_of;
 use scope_book::BookState;
 use scope_rules::{AnyEnd, Limits, Refusal, ScopeId};
 use scope_script::{Command, Reply, perform};
+use script_journal::script_of;
 use std::alloc::Global;
 use tree_dump::dump;
 
