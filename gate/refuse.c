@@ -1,8 +1,9 @@
 /* Stands before the system's allocator, put there by the loader (LD_PRELOAD), and refuses requests for memory, as
-   the word REFUSE says: `N` the N-th request alone, `N+` that one and all behind it, `/N` one in N, by numbers that
-   look random. They are counted from the program's beginning, over all its threads. Each refusal writes a byte to the
-   descriptor 9. */
+   the word REFUSE says: `N` the N-th request alone, `N-M` that one and all up to the M-th, `N+` that one and all
+   behind it, `/N` one in N, by numbers that look random. They are counted from the program's beginning, over all its
+   threads. Each refusal writes a byte to the descriptor 9. */
 #include <errno.h>
+#include <limits.h>
 #include <stdatomic.h>
 #include <stdlib.h>
 #include <unistd.h>
@@ -11,7 +12,7 @@ extern void *__libc_malloc(size_t size);
 extern void *__libc_realloc(void *old, size_t size);
 
 static long first;
-static int and_all_behind;
+static long last;
 static int at_random;
 static atomic_long requests;
 
@@ -24,7 +25,7 @@ __attribute__((constructor)) static void read_orders(void)
         return;
     at_random = *orders == '/';
     first = strtol(orders + at_random, &rest, 10);
-    and_all_behind = *rest == '+';
+    last = *rest == '+' ? LONG_MAX : *rest == '-' ? strtol(rest + 1, NULL, 10) : first;
     atomic_store(&requests, 0);
 }
 
@@ -34,7 +35,7 @@ static int is_chosen(long number)
         return 0;
     if (at_random)
         return ((unsigned long)number * 0x9E3779B97F4A7C15ul >> 33) % (unsigned long)first == 0;
-    return and_all_behind ? number >= first : number == first;
+    return number >= first && number <= last;
 }
 
 static int is_refused(void)

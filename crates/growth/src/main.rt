@@ -6,6 +6,8 @@
 //!     growth book FILE      the script FILE on a book
 //!     growth realm FILE     the same on a realm under its lock
 //!     growth parts          the parts below a book, each call that takes memory
+//!     growth expire         deadlines that pass, refused as often as it takes
+//!     growth spent          what the parts, a cell and tickets do without memory, once it is used up
 //!     growth marks          marks of a realm
 //!     growth tickets        a close with its ticket
 //!     growth jobs           jobs on threads
@@ -28,6 +30,7 @@ mod reports;
 mod roaming;
 mod said;
 mod scripts;
+mod spent;
 mod stress;
 mod tickets;
 mod waits;
@@ -45,7 +48,7 @@ use thread_crew::CrewRuntime;
 
 /// What the words say, the first of them the program's name.
 const WORDS: &str =
-    "growth book FILE | realm FILE | parts | marks | tickets | jobs | stress N SEED | plain FILE.. | told FILE.. | calls FILE..";
+    "growth book FILE | realm FILE | parts | expire | spent | marks | tickets | jobs | stress N SEED | plain FILE.. | told FILE.. | calls FILE..";
 
 /// The status where something was otherwise than without a refusal.
 const WRONG: u8 = 1;
@@ -99,6 +102,8 @@ fn play<R: CrewRuntime + SystemTime + Files + AllocGlobal + Print + Eprint>(
     match word(words, 1) {
         "book" | "realm" => play_script(rt, words, refusals),
         "parts" => parts::play(alloc, refusals),
+        "expire" => parts::expire(alloc, refusals),
+        "spent" => spent::play::<Brand, R>(rt, alloc, Seed::new(alloc).ok()?),
         "marks" => marks::play::<Brand, R>(rt, alloc, Seed::new(alloc).ok()?, refusals),
         "tickets" => {
             let seed = Seed::new(alloc).ok()?;

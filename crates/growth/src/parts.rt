@@ -44,6 +44,42 @@ fn is_passed(deadlines: &mut Deadlines, refusals: &Refusals) -> bool {
     }
 }
 
+/// Three deadlines, as where nothing has passed.
+fn are_three(deadlines: &Deadlines) -> bool {
+    let moments = (deadlines.get(1), deadlines.get(2), deadlines.get(3));
+    moments == (Some(100), Some(200), Some(300)) && deadlines.earliest() == Some((100, 1))
+}
+
+/// Two of the three pass at 200. Where memory is refused, all three are there still, and the call is made again.
+fn pass_again(deadlines: &mut Deadlines, refusals: &Refusals) -> bool {
+    let passed = match deadlines.expire(200) {
+        Err(_) => {
+            refusals.note(Call::Expire);
+            if !are_three(deadlines) {
+                return false;
+            }
+            deadlines.expire(200)
+        }
+        passed => passed,
+    };
+    let are_two = match passed {
+        Ok(passed) => passed.as_slice() == [1, 2].as_slice(),
+        Err(_) => false,
+    };
+    are_two && deadlines.get(1).is_none() && deadlines.earliest() == Some((300, 3))
+}
+
+/// Deadlines that pass: false where they are otherwise than without a refusal. None where memory was refused before.
+pub fn expire(alloc: Global, refusals: &Refusals) -> Option<bool> {
+    let mut deadlines = Deadlines::new(alloc);
+    for scope in 1..4u32 {
+        deadlines
+            .set(scope, u64::from(scope).saturating_mul(100))
+            .ok()?;
+    }
+    Some(pass_again(&mut deadlines, refusals))
+}
+
 /// Two scopes, one in the other.
 fn grow(alloc: Global, refusals: &Refusals) -> bool {
     let mut tree = Tree::new(alloc);

@@ -1,5 +1,6 @@
 //! Which calls of a scenario were refused memory.
 
+use std::alloc::Global;
 use std::sync::atomic::{AtomicU64, Ordering};
 
 /// The calls that take memory, and so may be refused it.
@@ -97,6 +98,16 @@ impl Refusals {
 /// The call's bit.
 fn bit_of(call: Call) -> u64 {
     1u64.wrapping_shl(call as u32)
+}
+
+/// Asks for memory until it is refused, a million times at most: where all requests from some place on are to
+/// be refused, that place is passed then.
+pub fn use_up(alloc: Global) {
+    for _ in 0..1_000_000u32 {
+        if Box::new(alloc, 0u64).is_err() {
+            return;
+        }
+    }
 }
 
 /// The call's answer. Where memory is refused, that is noted, and the call is made again.

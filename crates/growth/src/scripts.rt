@@ -1,7 +1,7 @@
 //! Scripts, on a book and on a realm under its lock.
 ghost use Rattle.std.specs.Prelude.{◌≡◌};
 
-use crate::refusals::{Call, Refusals, again};
+use crate::refusals::{Call, Refusals, again, use_up};
 use crate::said::Said;
 use realm_hands::{Hands, driven};
 use realm_lock::{ActorToken, Realm, RealmName, Seed};
@@ -17,16 +17,6 @@ const NO_MORE: &str = "# no more memory";
 
 /// The first scope that is not asked about after each line.
 const SEEN: ScopeId = 10;
-
-/// Asks for memory until it is refused, a million times at most: where all requests from some place on are to
-/// be refused, that place is passed then.
-fn use_up(alloc: Global) {
-    for _ in 0..1_000_000u32 {
-        if Box::new(alloc, 0u64).is_err() {
-            return;
-        }
-    }
-}
 
 /// The call that the command means, where that takes memory.
 fn call_of(command: Command) -> Call {

@@ -11,7 +11,7 @@ use std::alloc::Global;
 use std::sync::Wait;
 
 /// Opens a scope and forks a task there, which runs and ends: the scope, and the ticket.
-fn one_ended<N: RealmName, R: Wait>(
+pub fn one_ended<N: RealmName, R: Wait>(
     rt: &R,
     realm: &Realm<AnyEnd, N>,
     main: &mut ActorToken,
