@@ -1,4 +1,7 @@
 //! What two owners hand to each other.
+ghost use Rattle.std.specs.Prelude.{◌≡◌, ◌⊎◌, ◌↔◌, ◌<◌, IsTrue, IsFalse};
+ghost use Rattle.balkreyn.specs.Turns.{other_side};
+ghost use Rattle.balkreyn.specs.declared.baton.Place.TheVariants as place;
 
 use crate::intake::Intake;
 use crate::requests::Side;
@@ -6,7 +9,9 @@ use std::sync::{Condvar, Mutex, MutexGuard, Wait};
 
 impl Side {
     /// The other one.
-    pub(crate) fn other(self) -> Side {
+    pub(crate) fn other(self) -> Side
+        ensures { result ≡ other_side self }
+    {
         match self {
             Side::First => Side::Second,
             Side::Second => Side::First,
@@ -35,8 +40,34 @@ struct Between {
     is_over: bool,
 }
 
+impl Between {
+    /// The owner of this side may take the baton.
+    fn is_for(&self, side: Side) -> bool
+        ensures { IsTrue result ↔ ((self.now.place ≡ place.Free) ⊎ (self.now.place ≡ place.For side)) }
+    {
+        match self.place {
+            Place::Free => true,
+            Place::For(its) => its == side,
+            Place::Taken => false,
+        }
+    }
+
+    /// The owner of this side lets the baton go: for the other owner, if that waits or `only` it may have it
+    /// next, and else for whoever comes first.
+    fn pass(&mut self, side: Side, only: bool)
+        ensures rest { self.new ≡ record self.old { place = self.new.place } }
+        ensures wanted { IsTrue only ⊎ (0 < self.old.waiting) → self.new.place ≡ place.For (other_side side) }
+        ensures else_free { IsFalse only × (self.old.waiting ≡ 0) → self.new.place ≡ place.Free }
+    {
+        self.place = if only || self.waiting > 0 {
+            Place::For(side.other())
+        } else {
+            Place::Free
+        };
+    }
+}
+
 /// What one of two owners has at a time: whoever has it takes requests.
-#[derive(Drop)]
 pub(crate) struct Baton<Q: Drop, J: Drop> {
     intake: Mutex<Intake<Q, J>>,
     between: Mutex<Between>,
@@ -62,8 +93,7 @@ impl<Q: Drop, J: Drop> Baton<Q, J> {
         let mut between = self.between.lock(rt);
         between.waiting = between.waiting.saturating_add(1);
         for _ in rt.forever() {
-            let may = matches!(between.place, Place::Free) || between.place == Place::For(side);
-            if between.is_over || may {
+            if between.is_over || between.is_for(side) {
                 between.waiting = between.waiting.saturating_sub(1);
                 between.place = Place::Taken;
                 return !between.is_over;
@@ -91,12 +121,7 @@ impl<Q: Drop, J: Drop> Baton<Q, J> {
     /// Lets go the baton, which the owner of this side had: for the other owner, if that waits or `only` it may
     /// have it next, and else for whoever comes first.
     pub(crate) fn pass<R: Wait>(&self, rt: &R, side: Side, only: bool) {
-        let mut between = self.between.lock(rt);
-        between.place = if only || between.waiting > 0 {
-            Place::For(side.other())
-        } else {
-            Place::Free
-        };
+        self.between.lock(rt).pass(side, only);
         self.changed.notify_all();
     }
 
@@ -108,7 +133,11 @@ impl<Q: Drop, J: Drop> Baton<Q, J> {
 
     /// What requests were taken from.
     pub(crate) fn into_intake(self) -> Intake<Q, J> {
-        let Baton { intake, .. } = self;
+        let Baton {
+            intake,
+            between: _,
+            changed: _,
+        } = self;
         intake.into_inner()
     }
 }

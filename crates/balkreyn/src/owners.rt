@@ -1,7 +1,7 @@
 //! The owner of one of the two realms.
 
 use crate::baton::Baton;
-use crate::intake::{Intake, Request};
+use crate::intake::{Asked, Intake};
 use crate::requests::{Requests, Side, Turned};
 use crate::rooms::Room;
 use crate::rotation::Turns;
@@ -151,10 +151,10 @@ impl<J: Answers + Drop, Q: Drop, T: Turned> Owner<'_, J, Q, T> {
             if self.is_relieved(rt, begun) || !room.admit(self.turns.request) {
                 return Ended::HandsOn;
             }
-            let Some(request) = intake.next(clock) else {
+            let Some((asked, job)) = intake.next(clock) else {
                 return Ended::Over;
             };
-            if let Some(ended) = self.begin(rt, ctx, scope, &mut intake, request, is_empty) {
+            if let Some(ended) = self.begin(rt, ctx, scope, &mut intake, asked, job, is_empty) {
                 return ended;
             }
             begun = begun.saturating_add(1);
@@ -171,56 +171,67 @@ impl<J: Answers + Drop, Q: Drop, T: Turned> Owner<'_, J, Q, T> {
         self.baton.is_over(rt) || (is_enough && self.baton.is_awaited(rt))
     }
 
-    /// Begins the request in the scope. One for which there is no room is put back, for the other realm; the
-    /// source is told of one that can't be begun. Answers why the turn ends with that, if it does.
+    /// Begins the request in the scope. One for which there is no room is put back, for the next realm; but for
+    /// one that neither realm has room for, though nothing else is there. The source is told of one that can't be
+    /// begun. Answers why the turn ends with that, if it does.
     fn begin<R: Handle, N: RealmName, S: Forks<AnyEnd, N, J>>(
         &self,
         rt: &R,
         ctx: &mut TaskCtx<AnyEnd, S, N>,
         scope: &Opened,
         intake: &mut Intake<Q, J>,
-        request: Request<J>,
+        asked: Asked,
+        job: J,
         is_empty: bool,
     ) -> Option<Ended>
     where
         Q: Requests<J, R>,
     {
-        let Request {
-            name,
-            job,
-            too_big_for,
-        } = request;
-        let label = Label { name, due: None };
+        let label = Label {
+            name: asked.name,
+            due: None,
+        };
         match scope.fork(rt, ctx, NamedJob::new(label, job)) {
-            Ok(ForkReply::Thread(_)) => None,
+            Ok(reply @ ForkReply::Thread(_)) => {
+                asked.begun(reply);
+                None
+            }
             Ok(ForkReply::Never(_)) => {
-                intake.refuse(rt, name);
+                intake.refuse(rt, asked);
                 Some(Ended::HandsOn)
             }
             Err((ForkRefusal::Before(Refusal::TooMany), job)) => {
-                if is_empty && too_big_for == Some(self.side.other()) {
-                    intake.refuse(rt, name);
-                    return None;
-                }
-                intake.put_back(Request {
-                    name,
-                    job: job.into_job(),
-                    too_big_for: if is_empty {
-                        Some(self.side)
-                    } else {
-                        too_big_for
-                    },
-                });
-                Some(if is_empty {
-                    Ended::TooBig
-                } else {
-                    Ended::HandsOn
-                })
+                self.hand_on(rt, intake, asked, job.into_job(), is_empty)
             }
             Err(_) => {
-                intake.refuse(rt, name);
+                intake.refuse(rt, asked);
                 None
             }
         }
+    }
+
+    /// Puts back a request for which there was no room, or tells the source of one for which there never is.
+    fn hand_on<R: Handle>(
+        &self,
+        rt: &R,
+        intake: &mut Intake<Q, J>,
+        mut asked: Asked,
+        job: J,
+        is_empty: bool,
+    ) -> Option<Ended>
+    where
+        Q: Requests<J, R>,
+    {
+        if !is_empty {
+            intake.put_back(rt, asked, job);
+            return Some(Ended::HandsOn);
+        }
+        if asked.too_big_for == Some(self.side.other()) {
+            intake.refuse(rt, asked);
+            return None;
+        }
+        asked.too_big_for = Some(self.side);
+        intake.put_back(rt, asked, job);
+        Some(Ended::TooBig)
     }
 }

@@ -1,4 +1,7 @@
 //! How much of a realm's room requests take.
+ghost use Rattle.std.specs.Prelude.{◌≡◌, ◌↔◌, IsTrue, true};
+ghost use Rattle.balkreyn.specs.Rooms.{HasRoom, in_use, load_of, room_without};
+
 use crate::Limits;
 use scope_rules::types::capacity::{FORK_LOAD, OPEN_LOAD, STEP_LOAD};
 
@@ -23,7 +26,9 @@ impl Need {
     };
 
     /// The load of all this.
-    fn load(self) -> u64 {
+    fn load(self) -> u64
+        ensures { result ≡ load_of self }
+    {
         u64::from(self.scopes) * OPEN_LOAD
             + u64::from(self.tasks) * FORK_LOAD
             + u64::from(self.steps) * STEP_LOAD
@@ -41,7 +46,9 @@ pub(crate) struct Room {
 
 impl Room {
     /// The room of a realm that has just begun, or retired.
-    pub(crate) fn of(limits: Limits) -> Room {
+    pub(crate) fn of(limits: Limits) -> Room
+        ensures { result ≡ record { scopes = limits.scopes; tasks = limits.tasks; load = limits.load; is_empty = true } }
+    {
         Room {
             scopes: limits.scopes,
             tasks: limits.tasks,
@@ -51,36 +58,50 @@ impl Room {
     }
 
     /// No request was admitted since it began, or retired.
-    pub(crate) fn is_empty(&self) -> bool {
+    pub(crate) fn is_empty(&self) -> bool
+        ensures { result ≡ self.now.is_empty }
+    {
         self.is_empty
     }
 
-    /// What is left once so much is taken, if there is so much.
-    fn without(self, need: Need) -> Option<Room> {
-        Some(Room {
-            scopes: self.scopes.checked_sub(need.scopes)?,
-            tasks: self.tasks.checked_sub(need.tasks)?,
-            load: self.load.checked_sub(need.load())?,
-            is_empty: self.is_empty,
-        })
+    /// There is so much room.
+    fn has(&self, need: Need) -> bool
+        ensures { IsTrue result ↔ HasRoom self.now need }
+    {
+        need.scopes <= self.scopes && need.tasks <= self.tasks && need.load() <= self.load
     }
 
-    /// Takes the room of a turn's scope.
-    pub(crate) fn open_turn(&mut self) {
-        if let Some(left) = self.without(Need::TURN) {
-            *self = left;
+    /// Takes so much.
+    fn take(&mut self, need: Need)
+        requires { HasRoom self.old need }
+        ensures { self.new ≡ room_without self.old need }
+    {
+        self.scopes -= need.scopes;
+        self.tasks -= need.tasks;
+        self.load -= need.load();
+    }
+
+    /// Takes the room of a turn's scope, if there is so much.
+    pub(crate) fn open_turn(&mut self)
+        ensures { self.new.is_empty ≡ self.old.is_empty }
+    {
+        if self.has(Need::TURN) {
+            self.take(Need::TURN);
         }
     }
 
     /// Takes the room of a request that needs so much, if there is so much. The first is admitted in any case,
     /// since there is never more.
-    pub(crate) fn admit(&mut self, need: Need) -> bool {
+    pub(crate) fn admit(&mut self, need: Need) -> bool
+        ensures fits { HasRoom self.old need → (result ≡ true) × (self.new ≡ in_use (room_without self.old need)) }
+        ensures else_first { (HasRoom self.old need → ⊥) → (result ≡ self.old.is_empty) × (self.new ≡ in_use self.old) }
+    {
         let is_first = self.is_empty;
-        let left = self.without(need);
-        if let Some(left) = left {
-            *self = left;
-        }
         self.is_empty = false;
-        is_first || left.is_some()
+        if self.has(need) {
+            self.take(need);
+            return true;
+        }
+        is_first
     }
 }
