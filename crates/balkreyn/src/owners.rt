@@ -1,4 +1,7 @@
-//! The owner of one of the two realms.
+//! The owner of one of the two realms. Of a whole turn no clause says what was done: the source lies under a lock
+//! between turns, and what happened goes with the retirement.
+ghost use Rattle.realm_core.specs.Calls.{SeesMore};
+ghost use Rattle.balkreyn.specs.Turns.{Tries};
 
 use crate::baton::Baton;
 use crate::intake::{Asked, Intake};
@@ -186,6 +189,8 @@ impl<J: Answers + Drop, Q: Drop, T: Turned> Owner<'_, J, Q, T> {
     ) -> Option<Ended>
     where
         Q: Requests<J, R>,
+        ensures sees { SeesMore ctx.old.token ctx.new.token }
+        ensures tried { Tries ctx.old.token ctx.new.token scope.now asked.name }
     {
         let label = Label {
             name: asked.name,

@@ -12,6 +12,8 @@ use std::process::Abort;
 use std::rt::Clock as SystemTime;
 use std::sync::{Arc, Condvar, Mutex, Wait};
 use std::test::Fail;
+use std::thread;
+use std::time::Duration;
 
 /// What is opened once, and for which others wait.
 #[derive(Drop)]
@@ -87,30 +89,40 @@ enum Kind {
     Alone,
 }
 
-/// So many requests, which the gate is opened behind. The first may be one that waits for that.
+/// What requests come: of which kind, how many, and how many milliseconds apart. The first may be one that waits
+/// until the last has come.
+#[derive(Clone, Copy)]
+struct Load {
+    kind: Kind,
+    left: u32,
+    apart: u64,
+    is_first_slow: bool,
+}
+
+/// Requests that come, behind which the gate is opened.
 #[derive(Drop)]
 struct Queue {
     name: Name,
-    kind: Kind,
+    load: Load,
     gate: Arc<Gate, Global>,
-    is_first_slow: bool,
-    left: u32,
     refused: u32,
 }
 
 impl<R: Handle> Requests<Work, R> for Queue {
     fn next(&mut self, clock: SystemClock<R>) -> Option<(Name, Work)> {
-        if self.left == 0 {
+        let load = &mut self.load;
+        if load.left == 0 {
             self.gate.open(&clock.runtime());
             return None;
         }
-        self.left -= 1;
-        if self.is_first_slow {
-            self.is_first_slow = false;
+        thread::sleep(&clock.runtime(), Duration::from_millis(load.apart));
+        load.left -= 1;
+        if load.is_first_slow {
+            load.is_first_slow = false;
             let gate = Arc::try_clone(&self.gate).ok()?;
             return Some((self.name, Work::Waits(gate)));
         }
-        match self.kind {
+        match load.kind {
             Kind::Asks => Some((self.name, Work::Asks(self.name))),
             Kind::Alone => Some((self.name, Work::Shop)),
         }
@@ -121,13 +133,21 @@ impl<R: Handle> Requests<Work, R> for Queue {
     }
 }
 
-/// What was counted: the turns of each side, the tasks of their scopes that succeeded, and those that didn't.
+/// What was counted: the turns of each side, those of two requests, and the requests that succeeded, or failed.
 #[derive(Clone, Copy)]
 struct Count {
     first: u32,
     second: u32,
+    of_two: u32,
     succeeded: u32,
     failed: u32,
+}
+
+impl Count {
+    /// How many turns there were.
+    fn turns(&self) -> u32 {
+        self.first.saturating_add(self.second)
+    }
 }
 
 /// Counts by the reports of turns.
@@ -147,8 +167,10 @@ impl<K: Wait + Drop> Turned for Counted<K> {
         let Some(report) = report else {
             return;
         };
+        let mut forked = 0u32;
         for entry in report.log.entries() {
             match *entry {
+                LogEntry::Fork { .. } => forked = forked.saturating_add(1),
                 LogEntry::Finish { end: Ok(_), .. } => {
                     count.succeeded = count.succeeded.saturating_add(1);
                 }
@@ -157,6 +179,9 @@ impl<K: Wait + Drop> Turned for Counted<K> {
                 }
                 _ => {}
             }
+        }
+        if forked == 2 {
+            count.of_two = count.of_two.saturating_add(1);
         }
     }
 }
@@ -188,13 +213,11 @@ struct Outcome {
     count: Count,
 }
 
-/// Serves so many requests of this kind, of which the first may be slow.
+/// Serves these requests.
 fn played<R: CrewRuntime + SystemTime + AllocGlobal>(
     rt: &R,
     turns: Turns,
-    kind: Kind,
-    is_first_slow: bool,
-    left: u32,
+    load: Load,
 ) -> Option<Outcome> {
     let gate = Gate {
         is_open: Mutex::new(false),
@@ -202,10 +225,8 @@ fn played<R: CrewRuntime + SystemTime + AllocGlobal>(
     };
     let queue = Queue {
         name: Name::new(b"request")?,
-        kind,
+        load,
         gate: Arc::new(rt.alloc(), gate).ok()?,
-        is_first_slow,
-        left,
         refused: 0,
     };
     let counted = Counted {
@@ -213,6 +234,7 @@ fn played<R: CrewRuntime + SystemTime + AllocGlobal>(
         count: Mutex::new(Count {
             first: 0,
             second: 0,
+            of_two: 0,
             succeeded: 0,
             failed: 0,
         }),
@@ -234,6 +256,16 @@ fn played<R: CrewRuntime + SystemTime + AllocGlobal>(
     })
 }
 
+/// So many requests that each ask a shop, at once.
+const fn asking(left: u32) -> Load {
+    Load {
+        kind: Kind::Asks,
+        left,
+        apart: 0,
+        is_first_slow: false,
+    }
+}
+
 /// What a request that asks a shop needs.
 const ASKS: Need = Need {
     scopes: 1,
@@ -246,47 +278,67 @@ fn room_for_four() -> Option<Limits> {
     Limits::new(5, 8, 4 + 4 * 10)
 }
 
+/// Turns of so many requests, or of as many as there is room for, in realms with these limits.
+fn turns_of(requests: Option<u32>, limits: (Limits, Limits)) -> Turns {
+    Turns {
+        requests,
+        request: ASKS,
+        limits,
+        keep: 8,
+    }
+}
+
 #[test]
 fn a_slow_request_holds_up_no_other(rt: HostRuntime) -> Result<(), Fail> {
     let limits = room_for_four().ok_or("limits")?;
+    let load = Load {
+        is_first_slow: true,
+        ..asking(40)
+    };
     for requests in [Some(2), None] {
-        let turns = Turns {
-            requests,
-            request: ASKS,
-            limits: (limits, limits),
-            keep: 8,
-        };
-        let Outcome { queue, why, count } = played(&rt, turns, Kind::Asks, true, 40).ok_or(
-            "a realm",
-        )?;
-        assert!(rt; why.is_none() && queue.left == 0 && queue.refused == 0);
+        let turns = turns_of(requests, (limits, limits));
+        let Outcome { queue, why, count } = played(&rt, turns, load).ok_or("a realm")?;
+        assert!(rt; why.is_none() && queue.load.left == 0 && queue.refused == 0);
         assert!(rt; count.succeeded == 40 && count.failed == 0);
-        assert!(rt; count.first >= 1 && count.second >= 1 && count.first + count.second >= 11);
+        assert!(rt; count.first >= 1 && count.second >= 1 && count.turns() >= 11);
     }
+    Ok(())
+}
+
+#[test]
+fn a_realm_that_is_relieved_has_begun_just_so_many(rt: HostRuntime) -> Result<(), Fail> {
+    let load = Load {
+        apart: 10,
+        ..asking(40)
+    };
+    let turns = turns_of(Some(2), (Limits::GREATEST, Limits::GREATEST));
+    let Outcome { queue, why, count } = played(&rt, turns, load).ok_or("a realm")?;
+    assert!(rt; why.is_none() && queue.load.left == 0 && queue.refused == 0);
+    assert!(rt; count.succeeded == 40 && count.failed == 0 && count.of_two >= 2);
     Ok(())
 }
 
 #[test]
 fn a_turn_ends_where_its_realm_is_full(rt: HostRuntime) -> Result<(), Fail> {
     let limits = room_for_four().ok_or("limits")?;
+    let alone = Load {
+        kind: Kind::Alone,
+        ..asking(40)
+    };
     let one = Need {
         scopes: 0,
         tasks: 1,
         steps: 0,
     };
-    let none = Need { tasks: 0, ..one };
-    for (kind, request) in [(Kind::Asks, ASKS), (Kind::Alone, one), (Kind::Alone, none)] {
+    let none = Need { tasks: 0, ..one }; // so that the realm itself says where there is no room
+    for (load, request) in [(asking(40), ASKS), (alone, one), (alone, none)] {
         for requests in [Some(1), Some(1_000), None] {
             let turns = Turns {
-                requests,
                 request,
-                limits: (limits, limits),
-                keep: 8,
+                ..turns_of(requests, (limits, limits))
             };
-            let Outcome { queue, why, count } = played(&rt, turns, kind, false, 40).ok_or(
-                "a realm",
-            )?;
-            assert!(rt; why.is_none() && queue.left == 0 && queue.refused == 0);
+            let Outcome { queue, why, count } = played(&rt, turns, load).ok_or("a realm")?;
+            assert!(rt; why.is_none() && queue.load.left == 0 && queue.refused == 0);
             assert!(rt; count.succeeded == 40 && count.failed == 0);
         }
     }
@@ -302,16 +354,9 @@ fn what_one_realm_has_no_room_for_the_other_serves(rt: HostRuntime) -> Result<()
         ((ample, scarce), (7, 0)),
         ((scarce, scarce), (0, 7)),
     ] {
-        let turns = Turns {
-            requests: None,
-            request: ASKS,
-            limits,
-            keep: 8,
-        };
-        let Outcome { queue, why, count } = played(&rt, turns, Kind::Asks, false, 7).ok_or(
-            "a realm",
-        )?;
-        assert!(rt; why.is_none() && queue.left == 0);
+        let turns = turns_of(None, limits);
+        let Outcome { queue, why, count } = played(&rt, turns, asking(7)).ok_or("a realm")?;
+        assert!(rt; why.is_none() && queue.load.left == 0);
         assert!(rt; (count.succeeded, queue.refused) == wanted && count.failed == 0);
     }
     Ok(())
@@ -329,17 +374,12 @@ fn an_owner_that_fails_ends_the_other_and_the_source_comes_back(
         (none, scarce),
         (scarce, none),
     ] {
-        let turns = Turns {
-            requests: None,
-            request: ASKS,
-            limits,
-            keep: 8,
-        };
-        let Outcome { queue, why, count } = played(&rt, turns, Kind::Asks, false, u32::MAX).ok_or(
-            "a realm",
-        )?;
+        let turns = turns_of(None, limits);
+        let Outcome { queue, why, count } = played(&rt, turns, asking(u32::MAX)).ok_or("a realm")?;
         assert!(rt; why == Some(ServiceError::Refused(Refusal::TooMany)));
-        assert!(rt; queue.left == u32::MAX - count.succeeded - queue.refused && count.failed == 0);
+        let begun = count.succeeded.saturating_add(queue.refused);
+        assert!(rt; queue.load.left.saturating_add(begun) == u32::MAX);
+        assert!(rt; count.failed == 0);
     }
     Ok(())
 }
