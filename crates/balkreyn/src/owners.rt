@@ -154,10 +154,10 @@ impl<J: Answers + Drop, Q: Drop, T: Turned> Owner<'_, J, Q, T> {
             if self.is_relieved(rt, begun) || !room.admit(self.turns.request) {
                 return Ended::HandsOn;
             }
-            let Some((asked, job)) = intake.next(clock) else {
+            let Some(request) = intake.next(clock) else {
                 return Ended::Over;
             };
-            if let Some(ended) = self.begin(rt, ctx, scope, &mut intake, asked, job, is_empty) {
+            if let Some(ended) = self.begin(rt, ctx, scope, &mut intake, request, is_empty) {
                 return ended;
             }
             begun = begun.saturating_add(1);
@@ -183,15 +183,15 @@ impl<J: Answers + Drop, Q: Drop, T: Turned> Owner<'_, J, Q, T> {
         ctx: &mut TaskCtx<AnyEnd, S, N>,
         scope: &Opened,
         intake: &mut Intake<Q, J>,
-        asked: Asked,
-        job: J,
+        request: (Asked, J),
         is_empty: bool,
     ) -> Option<Ended>
     where
         Q: Requests<J, R>,
         ensures sees { SeesMore ctx.old.token ctx.new.token }
-        ensures tried { Tries ctx.old.token ctx.new.token scope.now asked.name }
+        ensures tried { Tries ctx.old.token ctx.new.token scope.now request.0.name }
     {
+        let (asked, job) = request;
         let label = Label {
             name: asked.name,
             due: None,
