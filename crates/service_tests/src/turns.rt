@@ -306,6 +306,19 @@ fn a_slow_request_holds_up_no_other(rt: HostRuntime) -> Result<(), Fail> {
 }
 
 #[test]
+fn who_is_not_relieved_goes_on(rt: HostRuntime) -> Result<(), Fail> {
+    let load = Load {
+        is_first_slow: true,
+        ..asking(40)
+    };
+    let turns = turns_of(Some(1), (Limits::GREATEST, Limits::GREATEST));
+    let Outcome { queue, why, count } = played(&rt, turns, load).ok_or("a realm")?;
+    assert!(rt; why.is_none() && queue.load.left == 0 && queue.refused == 0);
+    assert!(rt; count.succeeded == 40 && count.failed == 0 && count.turns() <= 4);
+    Ok(())
+}
+
+#[test]
 fn a_realm_that_is_relieved_has_begun_just_so_many(rt: HostRuntime) -> Result<(), Fail> {
     let load = Load {
         apart: 10,
