@@ -1,7 +1,7 @@
 -- What a body did that was run in a scope of its own: a scope that was opened for it, and closed behind it.
 -- Said is what was opened and closed, whichever way the body went, and what is answered. Of what the body did in
 -- between just what its own contract says; a closure without clauses has the one that is found from its code.
-use Rattle.std.specs.Prelude.{◌≡◌, ℕ, ◌⊎◌, Result, Ok, Err, IsOk}
+use Rattle.std.specs.Prelude.{◌≡◌, ℕ, ◌⊎◌, Result, Ok, Err, IsOk, IsErrAnd}
 use Rattle.std.specs.Borrow.{MutBor}
 use Rattle.std.specs.Fn.{Once}
 use Rattle.scope_rules.specs.declared.types.answers.Verdict.{Verdict}
@@ -28,39 +28,41 @@ abbrev pub Closes : {X : Type 0} → (X → OwnerValue) → (X → X → ℕ →
 Closes token leaves old new s result = ClosesBare (token old) (token new) s result × (IsOpenOf (history_seen (token old)) (token old).actor s → IsOk result) × SeesMore (token old) (token new) × leaves old new s result
 
 -- what is answered where the body found this, and the close of its scope answered that: a refused close comes
--- first, and else it is just what the body found
-abbrev pub settled : {T : Type 0} → Result T Refusal → Result Verdict Refusal → Result T Refusal
-settled found (Ok how) = found
-settled found (Err refusal) = Err refusal
+-- first, with an error that `makes` says of its refusal, and else it is just what the body found
+abbrev pub Settles : {T E : Type 0} → (Refusal → E → Type 0) → Result T E → Result Verdict Refusal → Result T E → Type 0
+Settles makes found (Ok how) result = result ≡ found
+Settles makes found (Err refusal) result = IsErrAnd result (makes refusal)
 
 -- the body was called with a context and the number of scope s, and by its own contract it may have found this
 -- then, and left that context
-pub record Ran {F X T : Type 0} (calls : Once F (MutBor X × (ℕ × Unit {0})) (Result T Refusal × (MutBor X × Unit {0}))) (body : F) (s : ℕ) (begun ended : X) (found : Result T Refusal) : Type 0 where
+pub record Ran {F X T E : Type 0} (calls : Once F (MutBor X × (ℕ × Unit {0})) (Result T E × (MutBor X × Unit {0}))) (body : F) (s : ℕ) (begun ended : X) (found : Result T E) : Type 0 where
   pub lent : MutBor X
   pub given : lent.now ≡ begun
   pub back : MutBor X
   pub left : back.now ≡ ended
   pub met : calls.post body (lent, (s, tt)) (found, (back, tt))
 
--- the open was refused, with just the refusal that is answered: nothing is opened, and nothing was done behind it
-pub record StaysOut {X T : Type 0} (opens : X → X → Result ℕ Refusal → Type 0) (old new : X) (result : Result T Refusal) : Type 0 where
+-- the open was refused, and what is answered is made of just its refusal: nothing is opened, and nothing was done
+-- behind it
+pub record StaysOut {X T E : Type 0} (opens : X → X → Result ℕ Refusal → Type 0) (makes : Refusal → E → Type 0) (old new : X) (result : Result T E) : Type 0 where
   pub refusal : Refusal
   pub refused : opens old new (Err refusal)
-  pub answers : result ≡ Err refusal
+  pub answers : IsErrAnd result (makes refusal)
 
 -- first a scope was opened, then the body ran with its number, and last a close of just this scope was done,
 -- whatever the body had found. So where the answer is Ok, both were, and it is the body's.
-pub record RunsInside {F X T : Type 0} (opens : X → X → Result ℕ Refusal → Type 0) (closes : X → X → ℕ → Result Verdict Refusal → Type 0) (calls : Once F (MutBor X × (ℕ × Unit {0})) (Result T Refusal × (MutBor X × Unit {0}))) (body : F) (old new : X) (result : Result T Refusal) : Type 0 where
+pub record RunsInside {F X T E : Type 0} (opens : X → X → Result ℕ Refusal → Type 0) (closes : X → X → ℕ → Result Verdict Refusal → Type 0) (makes : Refusal → E → Type 0) (calls : Once F (MutBor X × (ℕ × Unit {0})) (Result T E × (MutBor X × Unit {0}))) (body : F) (old new : X) (result : Result T E) : Type 0 where
   pub scope : ℕ
   pub begun : X
   pub ended : X
-  pub found : Result T Refusal
+  pub found : Result T E
   pub closed : Result Verdict Refusal
   pub opened : opens old begun (Ok scope)
   pub ran : Ran calls body scope begun ended found
   pub shut : closes ended new scope closed
-  pub answers : result ≡ settled found closed
+  pub answers : Settles makes found closed result
 
--- what was done that runs the body within a scope: one of these two, and there is no third
-abbrev pub RunsWithin : {F X T : Type 0} → (X → X → Result ℕ Refusal → Type 0) → (X → X → ℕ → Result Verdict Refusal → Type 0) → Once F (MutBor X × (ℕ × Unit {0})) (Result T Refusal × (MutBor X × Unit {0})) → F → X → X → Result T Refusal → Type 0
-RunsWithin opens closes calls body old new result = StaysOut opens old new result ⊎ RunsInside opens closes calls body old new result
+-- what was done that runs the body within a scope: one of these two, and there is no third. `makes` says what
+-- error may be made of a refusal
+abbrev pub RunsWithin : {F X T E : Type 0} → (X → X → Result ℕ Refusal → Type 0) → (X → X → ℕ → Result Verdict Refusal → Type 0) → (Refusal → E → Type 0) → Once F (MutBor X × (ℕ × Unit {0})) (Result T E × (MutBor X × Unit {0})) → F → X → X → Result T E → Type 0
+RunsWithin opens closes makes calls body old new result = StaysOut opens makes old new result ⊎ RunsInside opens closes makes calls body old new result

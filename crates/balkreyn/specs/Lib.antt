@@ -1,2 +1,4 @@
 pub mod Bodies
+pub mod Rooms
 pub mod Slots
+pub mod Turns

@@ -1,17 +1,17 @@
 //! What two owners hand to each other.
+ghost use Rattle.std.specs.Prelude.{◌≡◌, ◌⊎◌, ◌↔◌, ◌<◌, IsTrue, IsFalse};
+ghost use Rattle.balkreyn.specs.Turns.{other_side};
+ghost use Rattle.balkreyn.specs.declared.baton.Place.TheVariants as place;
 
-use std::sync::{Condvar, Mutex, Wait};
-
-/// Which of the two owners.
-#[derive(Clone, Copy, PartialEq, Eq)]
-pub(crate) enum Side {
-    First,
-    Second,
-}
+use crate::intake::Intake;
+use crate::requests::Side;
+use std::sync::{Condvar, Mutex, MutexGuard, Wait};
 
 impl Side {
     /// The other one.
-    fn other(self) -> Side {
+    pub(crate) fn other(self) -> Side
+        ensures { result ≡ other_side self }
+    {
         match self {
             Side::First => Side::Second,
             Side::Second => Side::First,
@@ -19,69 +19,125 @@ impl Side {
     }
 }
 
-/// What lies between the owners: what is handed on, whose turn it is, and whether all is over.
-#[derive(Drop)]
-struct Between<Q: Drop> {
-    handed: Option<Q>,
-    turn: Side,
-    over: bool,
+/// Where the baton is.
+#[derive(Clone, Copy, PartialEq, Eq)]
+enum Place {
+    /// Either owner may take it.
+    Free,
+    /// The owner of this side alone may take it.
+    For(Side),
+    /// An owner has it.
+    Taken,
 }
 
-/// What one of two owners has at a time, and hands to the other.
-#[derive(Drop)]
-pub(crate) struct Baton<Q: Drop> {
-    between: Mutex<Between<Q>>,
+/// What lies between the owners.
+#[derive(Clone, Copy)]
+struct Between {
+    place: Place,
+    /// How many owners have come to take it, and have not got it yet.
+    waiting: u8,
+    /// All is over.
+    is_over: bool,
+}
+
+impl Between {
+    /// The owner of this side may take the baton.
+    fn is_for(&self, side: Side) -> bool
+        ensures { IsTrue result ↔ ((self.now.place ≡ place.Free) ⊎ (self.now.place ≡ place.For side)) }
+    {
+        match self.place {
+            Place::Free => true,
+            Place::For(its) => its == side,
+            Place::Taken => false,
+        }
+    }
+
+    /// The owner of this side lets the baton go: for the other owner, if that waits or `only` it may have it
+    /// next, and else for whoever comes first.
+    fn pass(&mut self, side: Side, only: bool)
+        ensures rest { self.new ≡ record self.old { place = self.new.place } }
+        ensures wanted { IsTrue only ⊎ (0 < self.old.waiting) → self.new.place ≡ place.For (other_side side) }
+        ensures else_free { IsFalse only × (self.old.waiting ≡ 0) → self.new.place ≡ place.Free }
+    {
+        self.place = if only || self.waiting > 0 {
+            Place::For(side.other())
+        } else {
+            Place::Free
+        };
+    }
+}
+
+/// What one of two owners has at a time: whoever has it takes requests.
+pub(crate) struct Baton<Q: Drop, J: Drop> {
+    intake: Mutex<Intake<Q, J>>,
+    between: Mutex<Between>,
     changed: Condvar,
 }
 
-impl<Q: Drop> Baton<Q> {
-    /// A baton that the first owner takes first.
-    pub(crate) fn new(handed: Q) -> Baton<Q> {
+impl<Q: Drop, J: Drop> Baton<Q, J> {
+    /// A baton for the requests of this source, which either owner may take first.
+    pub(crate) fn new(source: Q) -> Baton<Q, J> {
         Baton {
+            intake: Mutex::new(Intake::new(source)),
             between: Mutex::new(Between {
-                handed: Some(handed),
-                turn: Side::First,
-                over: false,
+                place: Place::Free,
+                waiting: 0,
+                is_over: false,
             }),
             changed: Condvar::new(),
         }
     }
 
-    /// What is handed to this owner, once it is; none where all is over.
-    pub(crate) fn take<R: Wait>(&self, rt: &R, side: Side) -> Option<Q> {
+    /// Takes the baton for the owner of this side, once it may; false where all is over.
+    pub(crate) fn take<R: Wait>(&self, rt: &R, side: Side) -> bool {
         let mut between = self.between.lock(rt);
+        between.waiting = between.waiting.saturating_add(1);
         for _ in rt.forever() {
-            if between.over {
-                return None;
-            }
-            if between.turn == side
-                && let Some(handed) = between.handed.take()
-            {
-                return Some(handed);
+            if between.is_over || between.is_for(side) {
+                between.waiting = between.waiting.saturating_sub(1);
+                between.place = Place::Taken;
+                return !between.is_over;
             }
             between = self.changed.wait(rt, between);
         }
         unreachable!()
     }
 
-    /// Hands it to the other owner; or back for good, where all is over.
-    pub(crate) fn pass<R: Wait>(&self, rt: &R, side: Side, handed: Q, over: bool) {
-        let mut between = self.between.lock(rt);
-        between.handed = Some(handed);
-        between.turn = side.other();
-        between.over |= over;
+    /// The other owner has come to take the baton.
+    pub(crate) fn is_awaited<R: Wait>(&self, rt: &R) -> bool {
+        self.between.lock(rt).waiting > 0
+    }
+
+    /// All is over.
+    pub(crate) fn is_over<R: Wait>(&self, rt: &R) -> bool {
+        self.between.lock(rt).is_over
+    }
+
+    /// What the owner takes requests from that has the baton.
+    pub(crate) fn intake<R: Wait>(&self, rt: &R) -> MutexGuard<'_, Intake<Q, J>> {
+        self.intake.lock(rt)
+    }
+
+    /// Lets go the baton, which the owner of this side had: for the other owner, if that waits or `only` it may
+    /// have it next, and else for whoever comes first.
+    pub(crate) fn pass<R: Wait>(&self, rt: &R, side: Side, only: bool) {
+        self.between.lock(rt).pass(side, only);
         self.changed.notify_all();
     }
 
-    /// Says that all is over, whoever's turn it is.
+    /// Says that all is over, whoever has the baton.
     pub(crate) fn end<R: Wait>(&self, rt: &R) {
-        let mut between = self.between.lock(rt);
-        between.over = true;
+        self.between.lock(rt).is_over = true;
         self.changed.notify_all();
     }
 
-    /// What was handed on last.
-    pub(crate) fn into_handed<R: Wait>(self, rt: &R) -> Option<Q> {
-        self.between.lock(rt).handed.take()
+    /// What requests were taken from.
+    pub(crate) fn into_intake(self) -> Intake<Q, J> {
+        let Baton {
+            intake,
+            between: _,
+            changed: _,
+        } = self;
+        intake.into_inner()
     }
 }

@@ -8,14 +8,17 @@
 mod aliases;
 mod baton;
 mod by_token;
+mod errors;
 mod forks;
 mod guards;
 mod handles;
+mod intake;
 mod jobs;
 mod owners;
 mod pictures;
 mod places;
 mod requests;
+mod rooms;
 mod rotation;
 mod scoped;
 mod services;
@@ -23,6 +26,7 @@ mod slots;
 
 pub use aliases::{Forks, Handle};
 pub use by_token::ShowsByToken;
+pub use errors::{NoTime, ServiceError};
 pub use forks::fork;
 pub use guards::Opened;
 pub use handles::{By, JobBy};
@@ -36,8 +40,9 @@ pub use pictures::Shows;
 pub use realm_lock::{
     ActorToken, BareOutcome, CloseReport, Joined, Mark, Realm, RealmName, Seed, View,
 };
-pub use requests::{Requests, Turned};
-pub use rotation::{Turns, rotate};
+pub use requests::{Requests, Side, Turned};
+pub use rooms::Need;
+pub use rotation::{Stopped, Turns, rotate};
 pub use scope_log::{LogEntry, ScopeLog};
 pub use scope_rules::{
     AnyEnd, Cancelling, Catalog, Completion, Due, Effective, End, Event, Expiry, Fault, ForkReply,

@@ -1,43 +1,44 @@
-//! The owner of one of the two realms.
+//! The owner of one of the two realms. Of a whole turn no clause says what was done: the source lies under a lock
+//! between turns, and what happened goes with the retirement.
+ghost use Rattle.realm_core.specs.Calls.{SeesMore};
+ghost use Rattle.balkreyn.specs.Turns.{Tries};
 
-use crate::baton::{Baton, Side};
-use crate::requests::{Requests, Turned};
+use crate::baton::Baton;
+use crate::intake::{Asked, Intake};
+use crate::requests::{Requests, Side, Turned};
+use crate::rooms::Room;
+use crate::rotation::Turns;
 use crate::{
-    Answers, AnyEnd, Forks, Handle, Joiner, Opened, Options, Promises, RealmName, Refusal, ScopeId,
-    Service, Spawner, SystemClock, TaskCtx, fork, realm_clock,
+    Answers, AnyEnd, ForkRefusal, ForkReply, Forks, Handle, Joiner, Label, Limits, NamedJob,
+    Opened, Options, Promises, RealmName, Refusal, Service, ServiceError, Spawner, SystemClock,
+    TaskCtx, Wait, realm_clock,
 };
-use std::marker::PhantomData;
 
-/// An owner: whose turns it takes, and how many requests it begins in one.
+/// An owner: the side and the limits of its realm, and how long it has the baton.
 #[derive(Drop)]
-pub(crate) struct Owner<'a, J, Q: Drop, T> {
-    side: Side,
-    requests: u32,
-    pub(crate) baton: &'a Baton<Q>,
-    turned: &'a T,
-    jobs: PhantomData<J>,
+pub(crate) struct Owner<'a, J: Drop, Q: Drop, T> {
+    pub(crate) side: Side,
+    pub(crate) limits: Limits,
+    pub(crate) turns: Turns,
+    pub(crate) baton: &'a Baton<Q, J>,
+    pub(crate) turned: &'a T,
 }
 
-impl<'a, J, Q: Drop, T> Owner<'a, J, Q, T> {
-    /// The owner of this side, which begins so many requests in a turn, and at least one.
-    pub(crate) fn new(
-        side: Side,
-        requests: u32,
-        baton: &'a Baton<Q>,
-        turned: &'a T,
-    ) -> Owner<'a, J, Q, T> {
-        Owner {
-            side,
-            requests: requests.max(1),
-            baton,
-            turned,
-            jobs: PhantomData,
-        }
-    }
+/// Why an owner begins no more requests in a turn.
+#[derive(Clone, Copy)]
+enum Ended {
+    /// The other owner waits, or there is no room for more.
+    HandsOn,
+    /// There is no room for the next request, though nothing else was begun in the realm.
+    TooBig,
+    /// The source has no more.
+    Over,
 }
 
-impl<J, Q: Drop, T> Promises for Owner<'_, J, Q, T> {
+impl<J: Drop, Q: Drop, T> Promises for Owner<'_, J, Q, T> {
     type Answer = ();
+
+    type Error = ServiceError;
 
     ghost may_answer = { λ owner answer. Unit {0} };
 }
@@ -50,15 +51,17 @@ impl<
     S: Forks<AnyEnd, N, J>,
     R: Handle,
 > Service<S, N, R> for Owner<'_, J, Q, T> {
-    fn serve(self, rt: &R, ctx: &mut TaskCtx<AnyEnd, S, N>) -> Result<(), Refusal> {
+    fn serve(self, rt: &R, ctx: &mut TaskCtx<AnyEnd, S, N>) -> Result<(), ServiceError> {
         let clock = realm_clock(rt)?;
-        self.take_turns(rt, ctx, clock)
+        self.take_turns(rt, ctx, clock)?;
+        Ok(())
     }
 }
 
 impl<J: Answers + Drop, Q: Drop, T: Turned> Owner<'_, J, Q, T> {
-    /// Takes its turns, until all is over: opens a scope ahead, begins requests there while it is its turn,
-    /// and once they have ended closes the scope, and lets all that happened go.
+    /// Takes its turns, until all is over: opens a scope ahead, begins requests there while it has the baton,
+    /// and once they have ended closes the scope, and lets all that happened go. Where memory is refused for
+    /// that, it goes on with the room that is left, and tries again after the next turn.
     fn take_turns<R: Handle, N: RealmName, S: Forks<AnyEnd, N, J>>(
         &self,
         rt: &R,
@@ -68,17 +71,21 @@ impl<J: Answers + Drop, Q: Drop, T: Turned> Owner<'_, J, Q, T> {
     where
         Q: Requests<J, R>,
     {
+        let mut room = Room::of(self.limits);
         for _ in rt.forever() {
             let scope = Opened::at(rt, ctx, Joiner::AwaitAll, Options::PLAIN)?;
-            let more = self.take_turn(rt, ctx, scope.number(), clock);
+            room.open_turn();
+            let more = self.take_turn(rt, ctx, &scope, &mut room, clock);
             let joined = scope.join_bare(rt, ctx);
             self.end_turn(rt, ctx, scope)?;
-            if let Err(refusal) = joined {
-                return Err(refusal);
-            }
-            ctx.retire(rt)?;
+            joined?;
             if !more {
                 return Ok(());
+            }
+            match ctx.retire(rt) {
+                Ok(_base) => room = Room::of(self.limits),
+                Err(Refusal::Memory) => {}
+                Err(refusal) => return Err(refusal),
             }
         }
         unreachable!()
@@ -91,42 +98,145 @@ impl<J: Answers + Drop, Q: Drop, T: Turned> Owner<'_, J, Q, T> {
         ctx: &mut TaskCtx<AnyEnd, S, N>,
         scope: Opened,
     ) -> Result<(), Refusal> {
-        match scope.report(rt, ctx) {
-            Ok(report) => self.turned.ended(Some(report)),
+        let report = match scope.report(rt, ctx) {
+            Ok(report) => Some(report),
             Err((_refusal, back)) => {
                 back.close(rt, ctx)?;
-                self.turned.ended(None);
+                None
             }
-        }
+        };
+        self.turned.ended(self.side, report);
         Ok(())
     }
 
-    /// Waits for its turn, begins as many requests as it may, and hands the rest on. Answers whether more
-    /// may come.
+    /// Waits for the baton, begins requests while it has it, and hands it on. Answers whether more may come.
     fn take_turn<R: Handle, N: RealmName, S: Forks<AnyEnd, N, J>>(
         &self,
         rt: &R,
         ctx: &mut TaskCtx<AnyEnd, S, N>,
-        scope: ScopeId,
+        scope: &Opened,
+        room: &mut Room,
         clock: SystemClock<R>,
     ) -> bool
     where
         Q: Requests<J, R>,
     {
-        let Some(mut source) = self.baton.take(rt, self.side) else {
+        if !self.baton.take(rt, self.side) {
             return false;
-        };
-        let mut over = false;
-        for _ in 0..self.requests {
-            let Some((name, job)) = source.next(clock) else {
-                over = true;
-                break;
-            };
-            if fork(rt, ctx, scope, name, job).is_err() {
-                source.refused(name);
+        }
+        match self.begin_requests(rt, ctx, scope, room, clock) {
+            Ended::HandsOn => self.baton.pass(rt, self.side, false),
+            Ended::TooBig => self.baton.pass(rt, self.side, true),
+            Ended::Over => {
+                self.baton.end(rt);
+                return false;
             }
         }
-        self.baton.pass(rt, self.side, source, over);
-        !over
+        true
+    }
+
+    /// Begins requests in the scope, one after the other, as long as it may.
+    fn begin_requests<R: Handle, N: RealmName, S: Forks<AnyEnd, N, J>>(
+        &self,
+        rt: &R,
+        ctx: &mut TaskCtx<AnyEnd, S, N>,
+        scope: &Opened,
+        room: &mut Room,
+        clock: SystemClock<R>,
+    ) -> Ended
+    where
+        Q: Requests<J, R>,
+    {
+        let mut intake = self.baton.intake(rt);
+        let mut begun = 0u32;
+        for _ in rt.forever() {
+            let is_empty = room.is_empty();
+            if self.is_relieved(rt, begun) || !room.admit(self.turns.request) {
+                return Ended::HandsOn;
+            }
+            let Some(request) = intake.next(clock) else {
+                return Ended::Over;
+            };
+            if let Some(ended) = self.begin(rt, ctx, scope, &mut intake, request, is_empty) {
+                return ended;
+            }
+            begun = begun.saturating_add(1);
+        }
+        unreachable!()
+    }
+
+    /// All is over; or this owner has begun so many requests that it is the other's turn, which has come for it.
+    fn is_relieved<R: Wait>(&self, rt: &R, begun: u32) -> bool {
+        let is_enough = match self.turns.requests {
+            Some(requests) => begun >= requests.max(1),
+            None => false,
+        };
+        self.baton.is_over(rt) || (is_enough && self.baton.is_awaited(rt))
+    }
+
+    /// Begins the request in the scope. One for which there is no room is put back, for the next realm; but for
+    /// one that neither realm has room for, though nothing else is there. The source is told of one that can't be
+    /// begun. Answers why the turn ends with that, if it does.
+    fn begin<R: Handle, N: RealmName, S: Forks<AnyEnd, N, J>>(
+        &self,
+        rt: &R,
+        ctx: &mut TaskCtx<AnyEnd, S, N>,
+        scope: &Opened,
+        intake: &mut Intake<Q, J>,
+        request: (Asked, J),
+        is_empty: bool,
+    ) -> Option<Ended>
+    where
+        Q: Requests<J, R>,
+        ensures sees { SeesMore ctx.old.token ctx.new.token }
+        ensures tried { Tries ctx.old.token ctx.new.token scope.now request.0.name }
+    {
+        let (asked, job) = request;
+        let label = Label {
+            name: asked.name,
+            due: None,
+        };
+        match scope.fork(rt, ctx, NamedJob::new(label, job)) {
+            Ok(reply @ ForkReply::Thread(_)) => {
+                asked.begun(reply);
+                None
+            }
+            Ok(ForkReply::Never(_)) => {
+                intake.refuse(rt, asked);
+                Some(Ended::HandsOn)
+            }
+            Err(ForkRefusal::Before(Refusal::TooMany, job)) => {
+                self.hand_on(rt, intake, asked, job.into_job(), is_empty)
+            }
+            Err(_) => {
+                intake.refuse(rt, asked);
+                None
+            }
+        }
+    }
+
+    /// Puts back a request for which there was no room, or tells the source of one for which there never is.
+    fn hand_on<R: Handle>(
+        &self,
+        rt: &R,
+        intake: &mut Intake<Q, J>,
+        mut asked: Asked,
+        job: J,
+        is_empty: bool,
+    ) -> Option<Ended>
+    where
+        Q: Requests<J, R>,
+    {
+        if !is_empty {
+            intake.put_back(rt, asked, job);
+            return Some(Ended::HandsOn);
+        }
+        if asked.too_big_for == Some(self.side.other()) {
+            intake.refuse(rt, asked);
+            return None;
+        }
+        asked.too_big_for = Some(self.side);
+        intake.put_back(rt, asked, job);
+        Some(Ended::TooBig)
     }
 }

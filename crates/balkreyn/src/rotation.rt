@@ -1,11 +1,13 @@
 //! Two realms in turn.
 ghost use Rattle.std.specs.Prelude.{◌≡◌};
 
-use crate::baton::{Baton, Side};
+use crate::baton::Baton;
 use crate::owners::Owner;
-use crate::requests::{Requests, Turned};
+use crate::requests::{Requests, Side, Turned};
+use crate::rooms::Need;
+use crate::services::serve_within;
 use crate::{
-    Answers, AnyEnd, CrewRuntime, Job, JobWork, OsThreads, RealmName, Refusal, Seed, serve_on_crew,
+    Answers, AnyEnd, CrewRuntime, Job, JobWork, Limits, OsThreads, RealmName, Seed, ServiceError,
 };
 use std::alloc::Global;
 use std::rt::Clock as SystemTime;
@@ -14,20 +16,36 @@ use std::thread;
 /// How a service goes on without going idle.
 #[derive(Clone, Copy)]
 pub struct Turns {
-    /// How many requests a realm begins before it is the other's turn; 0 counts as 1.
-    /// Where each opens a scope and forks two jobs, a realm has room for some 4,000 between two retirements.
-    pub requests: u32,
+    /// How many requests a realm begins before it hands on to the other, if that is free; 0 counts as 1. With
+    /// none it hands on where it has no room for one more. As long as the other isn't free it goes on so, too.
+    pub requests: Option<u32>,
+    /// What a request needs: so many are begun between two retirements as there is room for.
+    pub request: Need,
+    /// The limits of the first realm, and of the second.
+    pub limits: (Limits, Limits),
     /// How many threads of each crew may rest.
     pub keep: usize,
 }
 
-/// Serves the requests until the source has no more: in two realms in turn, each with a crew of its own, on
-/// two owner threads. So a realm retires while the other takes requests, and a service goes on past the limits
-/// of one, until numbers run out, some 4,294 million scopes and as many tasks a realm. Gives the source back.
+/// A service that ended before its source did.
+#[derive(Drop)]
+pub struct Stopped<Q> {
+    /// For what a realm could not be made, or its owner could not go on.
+    pub why: ServiceError,
+    /// The source, with the requests that it has still.
+    pub source: Q,
+}
+
+/// Serves the requests until the source has no more, and gives it back: in two realms in turn, each with a crew
+/// of its own, on two owner threads. So a realm retires while the other takes requests, and a service goes on
+/// past the limits of one, until numbers run out, some 4,294 million scopes and as many tasks a realm. A realm
+/// hands on only to one whose requests have ended, so a slow request holds up nobody else while the other realm
+/// has room. A request for which a realm has no room goes to the next; it is refused where neither has, though
+/// nothing else is there.
 ///
 /// # Errors
-/// The refusal for which a realm could not be made, or its owner could not go on; the other owner then ends
-/// too, once what it began has ended.
+/// With the source, why a realm could not be made, or its owner could not go on; the other owner then begins no
+/// more, and ends once what it began has ended.
 pub fn rotate<
     A: RealmName + Send + Sync + 'static,
     B: RealmName + Send + Sync + 'static,
@@ -47,28 +65,37 @@ pub fn rotate<
     turns: Turns,
     source: Q,
     turned: &T,
-) -> Result<Q, Refusal>
+) -> Result<Q, Stopped<Q>>
     requires first { seeds.0 ≡ A.table }
     requires second { seeds.1 ≡ B.table }
 {
     let baton = Baton::new(source);
     let (first_seed, second_seed) = seeds;
-    let first = Owner::new(Side::First, turns.requests, &baton, turned);
-    let second = Owner::new(Side::Second, turns.requests, &baton, turned);
+    let first = Owner {
+        side: Side::First,
+        limits: turns.limits.0,
+        turns,
+        baton: &baton,
+        turned,
+    };
+    let second = Owner {
+        side: Side::Second,
+        limits: turns.limits.1,
+        ..first
+    };
     let (one, two) = thread::join(
         rt,
         move ||
             requires { first_seed ≡ A.table }
-        { own::<A, J, Q, T, R>(rt, alloc, first_seed, turns.keep, first) },
+        { own::<A, J, Q, T, R>(rt, alloc, first_seed, first) },
         move ||
             requires { second_seed ≡ B.table }
-        { own::<B, J, Q, T, R>(rt, alloc, second_seed, turns.keep, second) },
+        { own::<B, J, Q, T, R>(rt, alloc, second_seed, second) },
     );
-    one?;
-    two?;
-    match baton.into_handed(rt) {
-        Some(source) => Ok(source),
-        None => Err(Refusal::Unavailable),
+    let source = baton.into_intake().into_source(rt);
+    match one.and(two) {
+        Ok(()) => Ok(source),
+        Err(why) => Err(Stopped { why, source }),
     }
 }
 
@@ -79,11 +106,11 @@ fn own<
     Q: Requests<J, R> + Drop,
     T: Turned,
     R: CrewRuntime + SystemTime,
->(rt: &R, alloc: Global, seed: Seed, keep: usize, owner: Owner<'_, J, Q, T>) -> Result<(), Refusal>
+>(rt: &R, alloc: Global, seed: Seed, owner: Owner<'_, J, Q, T>) -> Result<(), ServiceError>
     requires { seed ≡ N.table }
 {
-    let baton = owner.baton;
-    let served = serve_on_crew::<N, J, _, R>(rt, alloc, seed, keep, owner);
+    let (baton, limits, keep) = (owner.baton, owner.limits, owner.turns.keep);
+    let served = serve_within::<N, J, _, R>(rt, alloc, seed, limits, keep, owner);
     baton.end(rt);
     served
 }

@@ -76,18 +76,18 @@ impl<C: Catalog, S: Spawner<N>, N: RealmName> Scopes for TaskCtx<C, S, N> {
 /// returns is not promised.
 ///
 /// # Errors
-/// Where the open is refused, its refusal, and the body is not called. Else the refusal of the close, if that
-/// is refused: never where the token shows the scope as its actor's and not closed when the body is done.
-/// Else what the body answered.
-pub fn within<X: Scopes, R: Wait, T: Drop, F: FnOnce(&mut X, ScopeId) -> Result<T, Refusal>>(
-    rt: &R,
-    ctx: &mut X,
-    joiner: Joiner,
-    options: Options,
-    body: F,
-) -> Result<T, Refusal>
+/// Where the open is refused, what `E` makes of its refusal, and the body is not called. Else what `E` makes of
+/// the refusal of the close, if that is refused: never where the token shows the scope as its actor's and not
+/// closed when the body is done. Else what the body answered.
+pub fn within<
+    X: Scopes,
+    R: Wait,
+    T: Drop,
+    E: From<Refusal> + Drop,
+    F: FnOnce(&mut X, ScopeId) -> Result<T, E>,
+>(rt: &R, ctx: &mut X, joiner: Joiner, options: Options, body: F) -> Result<T, E>
     requires { F.IsAlwaysCallable body }
-    ensures { RunsWithin (Opens X.token X.left_by_open (policy_of joiner) options) (Closes X.token X.left_by_close) F.FnOnce body ctx.old ctx.new result }
+    ensures { RunsWithin (Opens X.token X.left_by_open (policy_of joiner) options) (Closes X.token X.left_by_close) E.from_gives F.FnOnce body ctx.old ctx.new result }
 {
     let scope = ctx.open_scope(rt, joiner, options)?;
     let found = body(ctx, scope);

@@ -1,8 +1,8 @@
 //! A service on a crew of its own, from its opening to its end.
-ghost use Rattle.std.specs.Prelude.{◌≡◌, IfOk, MatchResult, None};
-ghost use Rattle.scope_rules.specs.declared.types.refusals.Refusal.TheVariants.{Unavailable};
+ghost use Rattle.std.specs.Prelude.{◌≡◌, IfOk, None};
 
 use crate::aliases::Handle;
+use crate::errors::NoTime;
 use job_runner::{Answers, Job, JobWork, SystemClock, TaskCtx};
 use realm_lock::{Realm, RealmName, Seed};
 use scope_rules::{AnyEnd, Limits, Refusal};
@@ -15,6 +15,9 @@ pub trait Promises {
     /// What it comes to.
     type Answer: Drop;
 
+    /// What it fails with: `Refusal`, `ServiceError`, or a type of its own.
+    type Error: From<Refusal> + Drop;
+
     /// It may come to this.
     ghost may_answer: { Self → Self.Answer → Type 0 };
 }
@@ -22,21 +25,18 @@ pub trait Promises {
 /// What a service does with main's context. One that forks jobs of type `J` asks `S: Forks<AnyEnd, N, J>`.
 pub trait Service<S: Spawner<N>, N: RealmName, R: Handle>: Promises {
     /// Serves. What is left open is closed behind it.
-    fn serve(self, rt: &R, ctx: &mut TaskCtx<AnyEnd, S, N>) -> Result<Self::Answer, Refusal>
+    fn serve(self, rt: &R, ctx: &mut TaskCtx<AnyEnd, S, N>) -> Result<Self::Answer, Self::Error>
         ensures { IfOk result (λ answer. Self.may_answer self answer) };
 }
 
 /// The system's clock for a realm that has just begun: its moments count from now. Jobs get copies of it.
 ///
 /// # Errors
-/// `Unavailable`, where the system gives no time.
-pub fn realm_clock<R: Handle>(rt: &R) -> Result<SystemClock<R>, Refusal>
-    ensures { MatchResult result (λ clock. (clock.first ≡ 0) × (clock.last ≡ None)) (λ refusal. refusal ≡ Unavailable) }
+/// `NoTime`, where the system gives none.
+pub fn realm_clock<R: Handle>(rt: &R) -> Result<SystemClock<R>, NoTime>
+    ensures { IfOk result (λ clock. (clock.first ≡ 0) × (clock.last ≡ None)) }
 {
-    match SystemClock::starting_at(*rt, 0) {
-        Some(clock) => Ok(clock),
-        None => Err(Refusal::Unavailable),
-    }
+    SystemClock::starting_at(*rt, 0).ok_or(NoTime)
 }
 
 /// Runs the service, which forks jobs of type `J`: opens a crew of which so many threads may rest, makes a
@@ -44,22 +44,42 @@ pub fn realm_clock<R: Handle>(rt: &R) -> Result<SystemClock<R>, Refusal>
 /// and closes the crew, which joins all threads. That it returns is not promised.
 ///
 /// # Errors
-/// That of the service; and before it begins `Memory`, where memory or a thread is refused.
+/// That of the service; and before it begins one of `Memory`, where memory or a thread is refused.
 pub fn serve_on_crew<
     N: RealmName + Send + Sync + 'static,
     J: Answers + Job<AnyEnd, OsThreads<N, JobWork<AnyEnd, N, J>>, N> + Send + Drop + 'static,
     V: Service<OsThreads<N, JobWork<AnyEnd, N, J>>, N, R> + Drop,
     R: CrewRuntime + SystemTime,
->(rt: &R, alloc: Global, seed: Seed, keep: usize, service: V) -> Result<V::Answer, Refusal>
+>(rt: &R, alloc: Global, seed: Seed, keep: usize, service: V) -> Result<V::Answer, V::Error>
+    requires { seed ≡ N.table }
+    ensures { IfOk result (λ answer. V.may_answer service answer) }
+{
+    serve_within::<N, J, V, R>(rt, alloc, seed, Limits::GREATEST, keep, service)
+}
+
+/// The same in a realm with these limits.
+pub(crate) fn serve_within<
+    N: RealmName + Send + Sync + 'static,
+    J: Answers + Job<AnyEnd, OsThreads<N, JobWork<AnyEnd, N, J>>, N> + Send + Drop + 'static,
+    V: Service<OsThreads<N, JobWork<AnyEnd, N, J>>, N, R> + Drop,
+    R: CrewRuntime + SystemTime,
+>(
+    rt: &R,
+    alloc: Global,
+    seed: Seed,
+    limits: Limits,
+    keep: usize,
+    service: V,
+) -> Result<V::Answer, V::Error>
     requires { seed ≡ N.table }
     ensures { IfOk result (λ answer. V.may_answer service answer) }
 {
     let Ok(crew) = Crew::<N, JobWork<AnyEnd, N, J>>::open(rt, alloc, keep) else {
-        return Err(Refusal::Memory);
+        return Err(Refusal::Memory.into());
     };
     let answer = match crew.threads() {
-        Ok(threads) => serve_over::<N, J, V, R>(rt, alloc, seed, threads, service),
-        Err(_) => Err(Refusal::Memory),
+        Ok(threads) => serve_over::<N, J, V, R>(rt, alloc, seed, limits, threads, service),
+        Err(_) => Err(Refusal::Memory.into()),
     };
     crew.close(rt);
     answer
@@ -75,13 +95,14 @@ fn serve_over<
     rt: &R,
     alloc: Global,
     seed: Seed,
+    limits: Limits,
     threads: OsThreads<N, JobWork<AnyEnd, N, J>>,
     service: V,
-) -> Result<V::Answer, Refusal>
+) -> Result<V::Answer, V::Error>
     requires { seed ≡ N.table }
     ensures { IfOk result (λ answer. V.may_answer service answer) }
 {
-    let (realm, token) = Realm::<AnyEnd, N>::new(alloc, seed, Limits::GREATEST)?;
+    let (realm, token) = Realm::<AnyEnd, N>::new(alloc, seed, limits)?;
     let mut ctx = TaskCtx::main(alloc, realm, token, threads);
     let answer = service.serve(rt, &mut ctx);
     let (_token, _threads) = ctx.leave(rt);

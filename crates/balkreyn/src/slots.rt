@@ -43,12 +43,8 @@ pub fn promised<J: Yields + Drop>(
 ) -> Result<(Typed<J>, Promise<J>), Refusal>
     ensures { MatchResult result (λ both. (both.0 ≡ record { name = name; job = job }) × (both.1 ≡ name)) (λ refusal. refusal ≡ Memory) }
 {
-    let Ok(place) = Arc::new(alloc, Place::new()) else {
-        return Err(Refusal::Memory);
-    };
-    let Ok(share) = Arc::try_clone(&place) else {
-        return Err(Refusal::Memory);
-    };
+    let place = Arc::new(alloc, Place::new())?;
+    let share = Arc::try_clone(&place)?;
     let typed = Typed {
         name,
         job,

@@ -41,12 +41,14 @@ struct First(HostRuntime);
 impl Promises for First {
     type Answer = Outcome;
 
+    type Error = ServiceError;
+
     ghost may_answer = { λ first outcome. Unit {0} };
 }
 
 impl<R: Handle, N: RealmName, S: Forks<AnyEnd, N, Ask<R>>> Service<S, N, R> for First {
     #[tactic(auto, unfolding(scope_rules::specs::NameText::is_name))]
-    fn serve(self, rt: &R, ctx: &mut TaskCtx<AnyEnd, S, N>) -> Result<Outcome, Refusal> {
+    fn serve(self, rt: &R, ctx: &mut TaskCtx<AnyEnd, S, N>) -> Result<Outcome, ServiceError> {
         let mut clock = realm_clock(rt)?;
         let (shop, options) = (Name::literal(b"shop"), fail_after(&mut clock, 2_000));
         within(rt, ctx, Joiner::Any, options, |ctx, scope| {
@@ -64,7 +66,7 @@ fn answer<N: RealmName + Send + Sync + 'static, R: CrewRuntime + std::rt::Clock>
     rt: &R,
     io: HostRuntime,
     seed: Seed,
-) -> Result<Outcome, Refusal>
+) -> Result<Outcome, ServiceError>
     requires { seed ≡ N.table }
 {
     serve_on_crew::<N, Ask<R>, _, R>(rt, io.alloc(), seed, 4, First(io))
@@ -74,6 +76,6 @@ fn main(rt: HostRuntime) -> std::io::Result<()> {
     let seed = Seed::new(rt.alloc())?;
     match answer::<Brand, _>(&rt, rt, seed) {
         Ok(outcome) => println!(rt; "{outcome}"),
-        Err(refusal) => println!(rt; "{refusal}"),
+        Err(failed) => println!(rt; "{failed}"),
     }
 }

@@ -195,6 +195,8 @@ struct Looks {
 impl Promises for Looks {
     type Answer = Found;
 
+    type Error = Refusal;
+
     ghost may_answer = { λ looks found. Unit {0} };
 }
 

@@ -9,4 +9,6 @@ mod requests;
 #[cfg(test)]
 mod rotation;
 #[cfg(test)]
+mod turns;
+#[cfg(test)]
 mod watching;

@@ -4,9 +4,9 @@ ghost use Rattle.std.specs.Prelude.{◌≡◌};
 
 use balkreyn::{
     Answers, AnyEnd, Clock, CrewRuntime, End, Fault, Forks, Handle, Job, Joiner, Label, Name,
-    NamedJob, Opened, Options, Outcome, Promises, RealmName, Refusal, ScopeId, Seed, Service,
-    Spawner, SystemClock, TaskCtx, TaskValue, Value, Verdict, fail_after, fork, realm_clock,
-    serve_on_crew, within,
+    NamedJob, NoTime, Opened, Options, Outcome, Promises, RealmName, Refusal, ScopeId, Seed,
+    Service, Spawner, SystemClock, TaskCtx, TaskValue, Value, Verdict, fail_after, fork,
+    realm_clock, serve_on_crew, within,
 };
 use std::alloc::Global;
 use std::marker::Brand;
@@ -14,6 +14,18 @@ use std::process::Abort;
 use std::rt::Clock as SystemTime;
 use std::sync::Wait;
 use std::test::Fail;
+use thiserror::Error;
+
+/// Why there is no answer.
+#[derive(Debug, Drop, Error)]
+enum Failed {
+    #[error("{0}")]
+    Refused(#[from] Refusal),
+    #[error(transparent)]
+    Time(#[from] NoTime),
+    #[error("nobody wants the price any more")]
+    Unwanted,
+}
 
 /// A job that asks one shop for its price, inside a scope of its own. The shop takes so many milliseconds.
 #[derive(Clone, Copy)]
@@ -41,12 +53,12 @@ impl<T: Wait + SystemTime + Copy, N: RealmName, S: Spawner<N>> Job<AnyEnd, S, N>
             ctx,
             Joiner::AwaitAll,
             Options::PLAIN,
-            |ctx: &mut TaskCtx<AnyEnd, S, N>, _scope: ScopeId| -> Result<i64, Refusal> {
+            |ctx: &mut TaskCtx<AnyEnd, S, N>, _scope: ScopeId| -> Result<i64, Failed> {
                 let own = clock.runtime();
                 let until = clock.now().saturating_add(takes);
                 match ctx.sleep_by(&own, &mut clock, until)? {
                     None => Ok(price),
-                    Some(_) => Err(Refusal::Unavailable), // nobody wants the price any more
+                    Some(_) => Err(Failed::Unwanted),
                 }
             },
         );
@@ -70,6 +82,8 @@ enum Form {
     GivesUp,
     /// Over a guard whose scope is closed by its number before.
     ClosedBefore,
+    /// Over `within` inside a scope that is cancelled.
+    Cancelled,
 }
 
 /// A request: how it is written, and how much time it has, in milliseconds.
@@ -223,6 +237,20 @@ fn close_twice<R: Wait, N: RealmName, S: Spawner<N>>(
     }
 }
 
+/// The scope that the outcome names of one inside a scope that is cancelled.
+fn cancel_around<R: Wait, N: RealmName, S: Spawner<N>>(
+    rt: &R,
+    ctx: &mut TaskCtx<AnyEnd, S, N>,
+) -> Result<Option<i64>, Refusal> {
+    within(rt, ctx, Joiner::AwaitAll, Options::PLAIN, |ctx, around| {
+        within(rt, ctx, Joiner::AwaitAll, Options::PLAIN, |ctx, scope| {
+            ctx.cancel(rt, around)?;
+            let outcome = ctx.join(rt, scope)?.outcome;
+            Ok(outcome.cancelled_from().map(i64::from))
+        })
+    })
+}
+
 /// Serves the request in the form that it asks for.
 fn serve<R: Wait + SystemTime + Copy, N: RealmName, S: Forks<AnyEnd, N, Ask<R>>>(
     rt: &R,
@@ -237,6 +265,7 @@ fn serve<R: Wait + SystemTime + Copy, N: RealmName, S: Forks<AnyEnd, N, Ask<R>>>
         Form::Reported => sum_reported(rt, ctx, clock, asks, request.millis),
         Form::GivesUp => close_after_giving_up(rt, ctx, asks.1),
         Form::ClosedBefore => close_twice(rt, ctx),
+        Form::Cancelled => cancel_around(rt, ctx),
     }
 }
 
@@ -251,11 +280,13 @@ struct TwoShops {
 impl Promises for TwoShops {
     type Answer = Option<i64>;
 
+    type Error = Failed;
+
     ghost may_answer = { λ shops sum. Unit {0} };
 }
 
 impl<N: RealmName, R: Handle, S: Forks<AnyEnd, N, Ask<R>>> Service<S, N, R> for TwoShops {
-    fn serve(self, rt: &R, ctx: &mut TaskCtx<AnyEnd, S, N>) -> Result<Option<i64>, Refusal> {
+    fn serve(self, rt: &R, ctx: &mut TaskCtx<AnyEnd, S, N>) -> Result<Option<i64>, Failed> {
         let mut clock = realm_clock(rt)?;
         let first = Ask {
             shop: self.shop,
@@ -268,7 +299,7 @@ impl<N: RealmName, R: Handle, S: Forks<AnyEnd, N, Ask<R>>> Service<S, N, R> for 
             takes: self.takes,
             ..first
         };
-        serve(rt, ctx, &mut clock, (first, second), self.request)
+        Ok(serve(rt, ctx, &mut clock, (first, second), self.request)?)
     }
 }
 
@@ -278,7 +309,7 @@ fn one_request<N: RealmName + Send + Sync + 'static, R: CrewRuntime + SystemTime
     alloc: Global,
     seed: Seed,
     shops: TwoShops,
-) -> Result<Option<i64>, Refusal>
+) -> Result<Option<i64>, Failed>
     requires { seed ≡ N.table }
 {
     serve_on_crew::<N, Ask<R>, _, R>(rt, alloc, seed, 4, shops)
@@ -317,7 +348,42 @@ fn a_scope_is_closed_once(rt: HostRuntime) -> Result<(), Fail> {
             },
         };
         let closed = one_request::<Brand, _>(&rt, rt.alloc(), seed, shops);
-        assert!(rt; matches!(closed, Err(Refusal::Closed)));
+        let Err(failed) = closed else {
+            return Err("it was closed twice".into());
+        };
+        assert!(rt; matches!(failed, Failed::Refused(Refusal::Closed)));
+        assert_eq!(rt;
+            format!(in rt.alloc(); "{failed}")?.as_str(),
+            "refused 3 closed"
+        );
+    }
+    Ok(())
+}
+
+#[test]
+fn an_outcome_names_the_scope_around_that_was_cancelled(rt: HostRuntime) -> Result<(), Fail> {
+    let shops = TwoShops {
+        shop: Name::new(b"shop").ok_or("a name")?,
+        takes: 0,
+        request: Request {
+            form: Form::Cancelled,
+            millis: 0,
+        },
+    };
+    let seed = Seed::new(rt.alloc())?;
+    let named = one_request::<Brand, _>(&rt, rt.alloc(), seed, shops)?;
+    assert!(rt; named == Some(1)); // the first scope of the realm, which lies around the second
+    Ok(())
+}
+
+#[test]
+fn each_fault_of_a_service_says_what_it_is(rt: HostRuntime) -> Result<(), Fail> {
+    for (failed, text) in [
+        (Failed::from(Refusal::Unavailable), "refused 13 unavailable"),
+        (Failed::from(NoTime), "the system gives no time"),
+        (Failed::Unwanted, "nobody wants the price any more"),
+    ] {
+        assert_eq!(rt; format!(in rt.alloc(); "{failed}")?.as_str(), text);
     }
     Ok(())
 }

@@ -3,9 +3,9 @@ ghost use Rattle.std.specs.Prelude.{◌≡◌};
 
 use balkreyn::{
     Answers, AnyEnd, Clock, CrewRuntime, End, Fault, Forks, Handle, Job, Joiner, Name, Options,
-    Promises, Realm, RealmName, Refusal, ScopeId, Seed, Service, Shows, ShowsByToken, Spawner,
-    SystemClock, TaskCtx, Typed, TypedJob, Value, Yields, fork, fork_into, promised, realm_clock,
-    serve_on_crew, within,
+    Promises, Realm, RealmName, Refusal, ScopeId, Seed, Service, ServiceError, Shows, ShowsByToken,
+    Spawner, SystemClock, TaskCtx, Typed, TypedJob, Value, Yields, fork, fork_into, promised,
+    realm_clock, serve_on_crew, within,
 };
 use std::alloc::Global;
 use std::marker::Brand;
@@ -109,12 +109,14 @@ struct Hangs {
 impl Promises for Hangs {
     type Answer = Seen;
 
+    type Error = ServiceError;
+
     ghost may_answer = { λ hangs seen. Unit {0} };
 }
 
 impl<N: RealmName, R: Handle, S: Forks<AnyEnd, N, Work<R, N>>> Service<S, N, R> for Hangs {
     #[tactic(auto, unfolding(scope_rules::specs::NameText::is_name))]
-    fn serve(self, rt: &R, ctx: &mut TaskCtx<AnyEnd, S, N>) -> Result<Seen, Refusal> {
+    fn serve(self, rt: &R, ctx: &mut TaskCtx<AnyEnd, S, N>) -> Result<Seen, ServiceError> {
         let clock = realm_clock(rt)?;
         let (shop, watch) = (Name::literal(b"shop"), Name::literal(b"watch"));
         let alloc = self.alloc;
@@ -130,7 +132,7 @@ impl<N: RealmName, R: Handle, S: Forks<AnyEnd, N, Work<R, N>>> Service<S, N, R> 
             let (job, promise) = promised(alloc, watch, job)?;
             let slot = fork_into(rt, ctx, scope, Work::Watch(job), promise)?;
             ctx.join(rt, scope)?;
-            slot.take(rt, ctx)
+            Ok(slot.take(rt, ctx)?)
         })
     }
 }
@@ -140,7 +142,7 @@ fn watched<N: RealmName + Send + Sync + 'static, R: CrewRuntime + SystemTime>(
     rt: &R,
     seed: Seed,
     hangs: Hangs,
-) -> Result<Seen, Refusal>
+) -> Result<Seen, ServiceError>
     requires { seed ≡ N.table }
 {
     serve_on_crew::<N, Work<R, N>, _, R>(rt, hangs.alloc, seed, 4, hangs)

@@ -1,0 +1,55 @@
+//! What a service may fail with beside a refusal.
+ghost use Rattle.std.specs.Prelude.{◌≡◌};
+ghost use Rattle.balkreyn.specs.declared.errors.ServiceError.TheVariants as failed;
+
+use scope_rules::Refusal;
+use std::error::Error;
+use std::fmt;
+
+/// The system gives no time.
+#[derive(Clone, Copy, Debug, PartialEq, Eq)]
+pub struct NoTime;
+
+impl fmt::Display for NoTime {
+    fn fmt<W: fmt::Write>(&self, f: &mut fmt::Formatter<W>) -> fmt::Result {
+        write!(f, "the system gives no time")
+    }
+}
+
+impl Error for NoTime {}
+
+/// Why a service failed that has no error of its own: `?` makes one of a refusal, and of a clock that is not had.
+#[derive(Clone, Copy, Debug, PartialEq, Eq)]
+pub enum ServiceError {
+    /// The runtime refused a call.
+    Refused(Refusal),
+    /// The system gives no time.
+    NoTime,
+}
+
+impl fmt::Display for ServiceError {
+    fn fmt<W: fmt::Write>(&self, f: &mut fmt::Formatter<W>) -> fmt::Result {
+        match self {
+            ServiceError::Refused(refusal) => write!(f, "{refusal}"),
+            ServiceError::NoTime => write!(f, "{NoTime}"),
+        }
+    }
+}
+
+impl Error for ServiceError {}
+
+impl From<Refusal> for ServiceError {
+    ghost from_gives = { λ refusal error. error ≡ failed.Refused refusal };
+
+    fn from(refusal: Refusal) -> ServiceError {
+        ServiceError::Refused(refusal)
+    }
+}
+
+impl From<NoTime> for ServiceError {
+    ghost from_gives = { λ none error. error ≡ failed.NoTime };
+
+    fn from(_none: NoTime) -> ServiceError {
+        ServiceError::NoTime
+    }
+}
