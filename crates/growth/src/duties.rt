@@ -203,22 +203,32 @@ pub fn fork<N: RealmName, S: Spawns<N, JobWork<AnyEnd, N, Worker>>, R: Wait>(
         return Err(Refusal::Memory);
     };
     let job = NamedJob::new(duty.label(board), Worker { duty, board: share });
-    let reply = match ctx.fork_job(rt, scope, job) {
-        Ok(reply) => reply,
-        Err((why, job)) => {
-            match why {
-                ForkRefusal::Rejected(_) => board.refusals.note(Call::Thread),
-                ForkRefusal::Before(Refusal::Memory) => board.refusals.note(Call::ForkJob),
-                ForkRefusal::Before(refusal) => return Err(refusal),
-            }
-            match ctx.fork_job(rt, scope, job) {
-                Ok(reply) => reply,
-                Err((why, _)) => return Err(why.refusal()),
-            }
-        }
+    let forked = match ctx.fork_job(rt, scope, job) {
+        Ok(reply) => Ok(reply),
+        Err((why, job)) => fork_again(rt, ctx, board, scope, why, job),
     };
-    if let ForkReply::Thread(_) = reply {
+    if let Ok(ForkReply::Thread(_)) = forked {
         board.forked.fetch_add(1, Ordering::SeqCst);
     }
-    Ok(reply)
+    forked
+}
+
+/// Forks the job once more, where memory or a thread was refused.
+fn fork_again<N: RealmName, S: Spawns<N, JobWork<AnyEnd, N, Worker>>, R: Wait>(
+    rt: &R,
+    ctx: &mut TaskCtx<AnyEnd, S, N>,
+    board: &Shared,
+    scope: ScopeId,
+    why: ForkRefusal,
+    job: NamedJob<AnyEnd, Worker>,
+) -> Result<ForkReply, Refusal> {
+    match why {
+        ForkRefusal::Rejected(_) => board.refusals.note(Call::Thread),
+        ForkRefusal::Before(Refusal::Memory) => board.refusals.note(Call::ForkJob),
+        ForkRefusal::Before(refusal) => return Err(refusal),
+    }
+    match ctx.fork_job(rt, scope, job) {
+        Ok(reply) => Ok(reply),
+        Err((why, _)) => Err(why.refusal()),
+    }
 }
