@@ -203,19 +203,28 @@ pub fn fork<N: RealmName, S: Spawns<N, JobWork<AnyEnd, N, Worker>>, R: Wait>(
         return Err(Refusal::Memory);
     };
     let job = NamedJob::new(duty.label(board), Worker { duty, board: share });
-    let reply = match ctx.fork_job(rt, scope, job) {
-        Ok(reply) => reply,
-        Err(refused) => {
-            match &refused {
-                ForkRefusal::Rejected(_, _) => board.refusals.note(Call::Thread),
-                ForkRefusal::Before(Refusal::Memory, _) => board.refusals.note(Call::ForkJob),
-                ForkRefusal::Before(refusal, _) => return Err(*refusal),
-            }
-            ctx.fork_job(rt, scope, refused.into_job())?
-        }
+    let forked = match ctx.fork_job(rt, scope, job) {
+        Ok(reply) => Ok(reply),
+        Err(refused) => fork_again(rt, ctx, board, scope, refused),
     };
-    if let ForkReply::Thread(_) = reply {
+    if let Ok(ForkReply::Thread(_)) = forked {
         board.forked.fetch_add(1, Ordering::SeqCst);
     }
-    Ok(reply)
+    forked
+}
+
+/// Forks the job once more, where memory or a thread was refused.
+fn fork_again<N: RealmName, S: Spawns<N, JobWork<AnyEnd, N, Worker>>, R: Wait>(
+    rt: &R,
+    ctx: &mut TaskCtx<AnyEnd, S, N>,
+    board: &Shared,
+    scope: ScopeId,
+    refused: ForkRefusal<AnyEnd, Worker>,
+) -> Result<ForkReply, Refusal> {
+    match &refused {
+        ForkRefusal::Rejected(_, _) => board.refusals.note(Call::Thread),
+        ForkRefusal::Before(Refusal::Memory, _) => board.refusals.note(Call::ForkJob),
+        ForkRefusal::Before(refusal, _) => return Err(*refusal),
+    }
+    Ok(ctx.fork_job(rt, scope, refused.into_job())?)
 }

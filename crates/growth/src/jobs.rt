@@ -18,16 +18,64 @@ const SHIELD: Options = Options {
     ..Options::PLAIN
 };
 
-/// Joins the scope.
-fn join<N: RealmName, S: Spawner<N>, R: Wait>(
+/// What a context is told, which answers whether it was done.
+#[derive(Clone, Copy)]
+enum Told {
+    /// The board's key is bound to the number.
+    Bind(i64),
+    Unbind,
+    Move(ScopeId, u64),
+    Tick(u64),
+    Cancel(ScopeId),
+    Join(ScopeId),
+}
+
+impl Told {
+    /// The call.
+    fn call(self) -> Call {
+        match self {
+            Told::Bind(_) => Call::Bind,
+            Told::Unbind => Call::Unbind,
+            Told::Move(..) => Call::Move,
+            Told::Tick(_) => Call::Tick,
+            Told::Cancel(_) => Call::Cancel,
+            Told::Join(_) => Call::Join,
+        }
+    }
+}
+
+/// Tells the context that.
+fn tell<N: RealmName, S: Spawner<N>, R: Wait>(
     rt: &R,
     ctx: &mut TaskCtx<AnyEnd, S, N>,
-    scope: ScopeId,
+    board: &Shared,
+    told: Told,
 ) -> Result<(), Refusal> {
-    match ctx.join(rt, scope) {
-        Ok(_) => Ok(()),
-        Err(refusal) => Err(refusal),
+    match told {
+        Told::Bind(number) => ctx.bind(rt, board.key, Value::Num(number)),
+        Told::Unbind => ctx.unbind(rt),
+        Told::Move(scope, deadline) => ctx.move_deadline(rt, scope, Some(deadline)),
+        Told::Tick(now) => ctx.tick(rt, now),
+        Told::Cancel(scope) => match ctx.cancel(rt, scope) {
+            Ok(_) => Ok(()),
+            Err(refusal) => Err(refusal),
+        },
+        Told::Join(scope) => match ctx.join(rt, scope) {
+            Ok(_) => Ok(()),
+            Err(refusal) => Err(refusal),
+        },
     }
+}
+
+/// Tells it that, once more where memory is refused, and checks that it was done.
+fn check_told<N: RealmName, S: Spawner<N>, R: Wait>(
+    rt: &R,
+    ctx: &mut TaskCtx<AnyEnd, S, N>,
+    board: &Shared,
+    told: Told,
+) {
+    let answer = again!(board.refusals, told.call(), tell(rt, ctx, board, told));
+    board.check(answer.is_ok());
 }
 
 /// Binds the key anew, forks a job that reads it, in a shield, and leaves the scope open.
@@ -36,19 +84,14 @@ pub fn nest<N: RealmName, S: Spawns<N, JobWork<AnyEnd, N, Worker>>, R: Wait>(
     ctx: &mut TaskCtx<AnyEnd, S, N>,
     board: &Shared,
 ) {
-    let bound = again!(
-        board.refusals,
-        Call::Bind,
-        ctx.bind(rt, board.key, Value::Num(8))
-    );
-    board.check(bound.is_ok());
+    check_told(rt, ctx, board, Told::Bind(8));
     let Ok(scope) = open(rt, ctx, board, SHIELD) else {
         return board.check(false);
     };
     let Some(task) = threaded(fork(rt, ctx, board, scope, Duty::Reads)) else {
         return board.check(false);
     };
-    board.check(again!(board.refusals, Call::Join, join(rt, ctx, scope)).is_ok());
+    check_told(rt, ctx, board, Told::Join(scope));
     board.check(ctx.result(rt, task) == Ok(Value::Num(8)));
 }
 
@@ -120,12 +163,26 @@ fn three_jobs<N: RealmName, S: Spawns<N, JobWork<AnyEnd, N, Worker>>, R: Wait>(
     let first = threaded(fork(rt, ctx, board, scope, Duty::Meets { is_first: true }))?;
     let second = threaded(fork(rt, ctx, board, scope, Duty::Meets { is_first: false }))?;
     let nests = threaded(fork(rt, ctx, board, scope, Duty::Nests))?;
-    board.check(again!(board.refusals, Call::Join, join(rt, ctx, scope)).is_ok());
+    check_told(rt, ctx, board, Told::Join(scope));
     board.check(ctx.result(rt, first) == Ok(Value::Num(1)));
     board.check(ctx.result(rt, second) == Ok(Value::Num(1)));
     board.check(ctx.fault(rt, nests).is_ok());
     board.check(again!(board.refusals, Call::View, ended(rt, ctx, scope)) == Ok(3));
     board.check(again!(board.refusals, Call::Close, close(rt, ctx, scope)) == Ok((3, 3)));
+    Some(())
+}
+
+/// Checks that the context's mark is that of the scope, and that a view by it shows its cause. None where there is no
+/// mark.
+fn check_mark<N: RealmName, S: Spawner<N>, R: Wait>(
+    rt: &R,
+    ctx: &mut TaskCtx<AnyEnd, S, N>,
+    board: &Shared,
+    scope: ScopeId,
+) -> Option<()> {
+    let mark = ctx.checkpoint()?;
+    board.check(mark.scope == scope);
+    board.check(again!(board.refusals, Call::ViewWith, is_shown(rt, ctx, &mark)) == Ok(true));
     Some(())
 }
 
@@ -136,18 +193,11 @@ fn one_cancelled<N: RealmName, S: Spawns<N, JobWork<AnyEnd, N, Worker>>, R: Wait
     board: &Shared,
 ) -> Option<()> {
     let scope = open(rt, ctx, board, Options::PLAIN).ok()?;
-    board.check(again!(
-        board.refusals,
-        Call::Move,
-        ctx.move_deadline(rt, scope, Some(9))
-    )
-    .is_ok());
-    board.check(again!(board.refusals, Call::Tick, ctx.tick(rt, 5)).is_ok());
+    check_told(rt, ctx, board, Told::Move(scope, 9));
+    check_told(rt, ctx, board, Told::Tick(5));
     board.check(ctx.checkpoint().is_none());
-    board.check(again!(board.refusals, Call::Cancel, ctx.cancel(rt, scope)).is_ok());
-    let mark = ctx.checkpoint()?;
-    board.check(mark.scope == scope);
-    board.check(again!(board.refusals, Call::ViewWith, is_shown(rt, ctx, &mark)) == Ok(true));
+    check_told(rt, ctx, board, Told::Cancel(scope));
+    check_mark(rt, ctx, board, scope)?;
     let never = fork(rt, ctx, board, scope, Duty::Reads);
     board.check(matches!(never, Ok(ForkReply::Never(_))));
     board.check(ctx.close_scope_bare(rt, scope).is_ok());
@@ -161,16 +211,11 @@ fn in_context<N: RealmName, S: Spawns<N, JobWork<AnyEnd, N, Worker>>, R: Wait>(
     ctx: &mut TaskCtx<AnyEnd, S, N>,
     board: &Shared,
 ) -> Option<bool> {
-    board.check(again!(
-        board.refusals,
-        Call::Bind,
-        ctx.bind(rt, board.key, Value::Num(7))
-    )
-    .is_ok());
+    check_told(rt, ctx, board, Told::Bind(7));
     let scope = open(rt, ctx, board, Options::PLAIN).ok()?;
     three_jobs(rt, ctx, board, scope)?;
     one_cancelled(rt, ctx, board)?;
-    board.check(again!(board.refusals, Call::Unbind, ctx.unbind(rt)).is_ok());
+    check_told(rt, ctx, board, Told::Unbind);
     board.check(ctx.unbind(rt) == Err(Refusal::NotBound));
     board.check(again!(board.refusals, Call::Retire, retire(rt, ctx)) == Ok(3));
     Some(board.counts() == (4, 4, 0))

@@ -52,6 +52,19 @@ impl Roamer {
     }
 }
 
+/// Opens a scope, where that isn't refused.
+pub fn opened<N: RealmName, S: Spawner<N>, R: Wait>(
+    rt: &R,
+    ctx: &mut TaskCtx<AnyEnd, S, N>,
+    joiner: Joiner,
+    options: Options,
+) -> Option<ScopeId> {
+    match ctx.open(rt, joiner, options) {
+        Ok(scope) => Some(scope),
+        Err(_) => None,
+    }
+}
+
 /// Opens a scope inside its latest.
 fn open_one<N: RealmName, S: Spawner<N>, R: Wait>(
     rt: &R,
@@ -74,7 +87,7 @@ fn open_one<N: RealmName, S: Spawner<N>, R: Wait>(
         ..Options::PLAIN
     };
     if roamer.open < DEEP
-        && let Ok(scope) = ctx.open(rt, roamer.joiner(), options)
+        && let Some(scope) = opened(rt, ctx, roamer.joiner(), options)
     {
         roamer.opened(scope);
     }
@@ -108,12 +121,23 @@ fn close_one<N: RealmName, S: Spawner<N>, R: Wait>(
     };
     roamer.open = roamer.open.saturating_sub(1);
     if roamer.throws.one_in(2)
-        && let Ok(report) = ctx.close_scope(rt, scope)
+        && let Some(is_right) = close_with_report(rt, ctx, scope)
     {
-        board.check(is_whole(&report.log) && report.nested.is_empty());
-        return;
+        return board.check(is_right);
     }
     board.check(ctx.close_scope_bare(rt, scope).is_ok());
+}
+
+/// Closes the scope, where there is memory for a report: whether that is as it should be.
+fn close_with_report<N: RealmName, S: Spawner<N>, R: Wait>(
+    rt: &R,
+    ctx: &mut TaskCtx<AnyEnd, S, N>,
+    scope: ScopeId,
+) -> Option<bool> {
+    match ctx.close_scope(rt, scope) {
+        Ok(report) => Some(is_whole(&report.log) && report.nested.is_empty()),
+        Err(_) => None,
+    }
 }
 
 /// Does something with its scopes' bindings, moments and marks.

@@ -9,7 +9,7 @@ use scope_book::BookState;
 use scope_rules::types::values::MAIN;
 use scope_rules::{AnyEnd, Cause, Event, Limits, Refusal, ScopeId, TaskId};
 use scope_script::{Command, Line, Reply, perform, read_line};
-use std::alloc::Global;
+use std::alloc::{AllocError, Global};
 use std::sync::Wait;
 
 /// The line that uses memory up.
@@ -131,8 +131,28 @@ fn look(book: &BookState<AnyEnd>, is_used_up: bool, refusals: &Refusals, said: &
     }
 }
 
-/// Plays the script on a book, and writes what is answered: false where a call was refused memory twice. A join that was
-/// recorded, but whose outcome had no memory, is asked for that. None where memory was refused before it began.
+/// Says what the book replied to the command; false where it was refused memory. A join that was recorded, but whose
+/// outcome had no memory, is asked for that.
+fn say_reply(
+    book: &BookState<AnyEnd>,
+    command: Command,
+    reply: &Result<Reply, AllocError>,
+    said: &mut Said,
+) -> bool {
+    let Ok(reply) = reply else {
+        return false;
+    };
+    if let Command::Do(Event::Join { scope, .. }) = command
+        && let Reply::Refused(Refusal::AlreadyJoined) = reply
+    {
+        return say_outcome(book, scope, said).is_ok();
+    }
+    said.say(reply);
+    true
+}
+
+/// Plays the script on a book, and writes what is answered: false where a call was refused memory twice. None where
+/// memory was refused before it began.
 pub fn on_a_book<R: Print>(
     rt: &R,
     alloc: Global,
@@ -156,16 +176,7 @@ pub fn on_a_book<R: Print>(
                     refusals.note(call_of(command));
                     reply = perform(&mut book, command);
                 }
-                match (reply, command) {
-                    (
-                        Ok(Reply::Refused(Refusal::AlreadyJoined)),
-                        Command::Do(Event::Join { scope, .. }),
-                    ) => {
-                        is_played = say_outcome(&book, scope, &mut said).is_ok() && is_played;
-                    }
-                    (Ok(reply), _) => said.say(&reply),
-                    (Err(_), _) => is_played = false,
-                }
+                is_played = say_reply(&book, command, &reply, &mut said) && is_played;
                 look(&book, is_used_up, refusals, &mut said);
             }
         }

@@ -10,7 +10,7 @@ use realm_lock::{Realm, RealmName, Seed};
 use scope_book::BookState;
 use scope_rules::{AnyEnd, Event, Limits, Refusal};
 use scope_script::{Command, Reply, perform};
-use std::alloc::Global;
+use std::alloc::{AllocError, Global};
 use std::marker::Brand;
 use std::rt::Clock as SystemTime;
 use std::sync::Wait;
@@ -19,9 +19,8 @@ use thread_crew::{Crew, CrewRuntime, OsThreads, RefuseNth};
 /// How deep jobs fork jobs.
 const DEPTH: u32 = 2;
 
-/// How many tasks the history starts and ends; None where a fresh book doesn't accept it, or leaves a scope open.
-fn replayed(alloc: Global, history: &[Event]) -> Option<(u64, u64)> {
-    let mut book = BookState::<AnyEnd>::new(alloc, Limits::GREATEST);
+/// How many tasks the history starts and ends.
+fn starts_and_ends(history: &[Event]) -> (u64, u64) {
     let mut starts = 0u64;
     let mut ends = 0u64;
     for event in history {
@@ -30,26 +29,33 @@ fn replayed(alloc: Global, history: &[Event]) -> Option<(u64, u64)> {
             Event::Finish { .. } => ends = ends.saturating_add(1),
             _ => {}
         }
+    }
+    (starts, ends)
+}
+
+/// Whether a fresh book accepts the history, and is left with no scope open.
+fn is_accepted(alloc: Global, history: &[Event]) -> bool {
+    let mut book = BookState::<AnyEnd>::new(alloc, Limits::GREATEST);
+    let mut are_accepted = true;
+    for event in history {
         let mut said = perform(&mut book, Command::Do(*event));
         for _ in 0..100u32 {
             if said.is_err() {
                 said = perform(&mut book, Command::Do(*event));
             }
         }
-        let said = said.ok()?;
-        if matches!(said, Reply::Already) || is_refused(event, &said) {
-            return None;
-        }
+        are_accepted = is_done(event, &said) && are_accepted;
     }
-    book.root().is_none().then_some((starts, ends))
+    are_accepted && book.root().is_none()
 }
 
-/// Whether the book refuses the event. A join whose outcome had no memory stands, and is refused when it is
-/// performed once more.
-fn is_refused(event: &Event, said: &Reply) -> bool {
+/// Whether the book has done what the event says. A join whose outcome had no memory stands, and is refused when it
+/// is performed once more.
+fn is_done(event: &Event, said: &Result<Reply, AllocError>) -> bool {
     match (event, said) {
-        (Event::Join { .. }, Reply::Refused(Refusal::AlreadyJoined)) => false,
-        (_, said) => matches!(said, Reply::Refused(_)),
+        (Event::Join { .. }, Ok(Reply::Refused(Refusal::AlreadyJoined))) => true,
+        (_, Ok(Reply::Refused(_) | Reply::Already) | Err(_)) => false,
+        (_, Ok(_)) => true,
     }
 }
 
@@ -82,7 +88,8 @@ fn in_context<N: RealmName, R: Wait + SystemTime>(
     let history = history_of(rt, ctx)?;
     let (called, forked, wrong) = board.counts();
     let is_right = called == forked && wrong == 0;
-    let is_replayed = replayed(alloc, history.as_slice()) == Some((called, called));
+    let is_replayed = starts_and_ends(history.as_slice()) == (called, called)
+        && is_accepted(alloc, history.as_slice());
     (is_right && is_replayed).then_some(history.len())
 }
 

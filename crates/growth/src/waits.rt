@@ -2,6 +2,7 @@
 ghost use Rattle.std.specs.Prelude.{◌≡◌, Some};
 
 use crate::duties::{Duty, Shared, Worker, fork};
+use crate::roaming::opened;
 use job_runner::{Clock, JobWork, TaskCtx};
 use join_rules::Joiner;
 use realm_hands::Throws;
@@ -90,7 +91,7 @@ pub fn wait_by_a_clock<
         shield: throws.one_in(3),
         ..Options::PLAIN
     };
-    let Ok(scope) = ctx.open(rt, Joiner::AwaitAll, options) else {
+    let Some(scope) = opened(rt, ctx, Joiner::AwaitAll, options) else {
         return;
     };
     for _ in 0..2u32 {

@@ -23,9 +23,7 @@ pub fn play(alloc: Global, limits: Limits, script: &str, said: &mut Said) -> boo
                 Err(_) => is_played = false,
             },
             Part::Show(most) => {
-                for scope in 0..=most {
-                    show(alloc, &book, scope, said);
-                }
+                show_scopes(alloc, &book, most, said);
                 for number in 0..=most {
                     if let Some(scope) = book.nth_cancelled(number as usize) {
                         note_cancel(&book, scope, said);
@@ -37,6 +35,13 @@ pub fn play(alloc: Global, limits: Limits, script: &str, said: &mut Said) -> boo
     }
     note_journal(alloc, &book, said);
     is_played
+}
+
+/// Notes what is to be seen of the scopes up to this one.
+fn show_scopes(alloc: Global, book: &BookState<AnyEnd>, most: ScopeId, said: &mut Said) {
+    for scope in 0..=most {
+        show(alloc, book, scope, said);
+    }
 }
 
 /// Notes what is to be seen of the scope.

@@ -1,4 +1,5 @@
 //! Jobs of several kinds, and how they are forked.
+use super::calls::open;
 use super::deeds::{
     bind_and_unbind, grow, leave_two, look, meet_shielded, open_all, wait_for, wait_until,
 };
@@ -135,7 +136,7 @@ impl<N: RealmName, S: Spawns<N, JobWork<AnyEnd, N, TestJob>>> Job<AnyEnd, S, N> 
             Duty::Looks { looks } => look(ctx, looks),
             Duty::Waits => wait_until(rt, ctx),
             Duty::LeavesOpen => {
-                let _scope = ctx.open(rt, Joiner::AwaitAll, Options::PLAIN);
+                let _scope = open(rt, ctx, Joiner::AwaitAll, Options::PLAIN);
                 5
             }
             Duty::LeavesTwo => {
@@ -144,9 +145,9 @@ impl<N: RealmName, S: Spawns<N, JobWork<AnyEnd, N, TestJob>>> Job<AnyEnd, S, N> 
             }
             Duty::Shielded => meet_shielded(rt, ctx, &board),
             Duty::OpensAll => open_all(rt, ctx),
-            Duty::Opens => match ctx.open(rt, Joiner::AwaitAll, Options::PLAIN) {
+            Duty::Opens => match open(rt, ctx, Joiner::AwaitAll, Options::PLAIN) {
                 Ok(_) => 0,
-                Err((refusal, _)) => i64::from(refusal.number()),
+                Err(refusal) => i64::from(refusal.number()),
             },
             Duty::Binds => bind_and_unbind(rt, ctx, board.key),
             Duty::Tree { depth } => grow(rt, ctx, &board, depth),
@@ -156,25 +157,53 @@ impl<N: RealmName, S: Spawns<N, JobWork<AnyEnd, N, TestJob>>> Job<AnyEnd, S, N> 
 }
 
 /// The job under the board's label. None where no share of the board is had.
-pub fn named(board: &Shared, duty: Duty) -> Option<NamedJob<AnyEnd, TestJob>> {
+fn named(board: &Shared, duty: Duty) -> Option<NamedJob<AnyEnd, TestJob>> {
     let share = Arc::try_clone(board).ok()?;
     let job = TestJob { duty, board: share };
     Some(NamedJob::new(board.label, job))
 }
 
-/// Forks a job in the scope, and gives its task.
+/// A job that its fork handed back: why, of which task, if it has a number, and what its duty is.
+#[derive(Clone, Copy)]
+pub struct Back {
+    pub refusal: Refusal,
+    pub task: Option<TaskId>,
+    pub duty: Duty,
+}
+
+/// What is to be said of the job.
+fn back_of(refused: ForkRefusal<AnyEnd, TestJob>) -> Back {
+    let refusal = refused.refusal();
+    let task = match &refused {
+        ForkRefusal::Before(_, _) => None,
+        ForkRefusal::Rejected(task, _) => Some(*task),
+    };
+    Back {
+        refusal,
+        task,
+        duty: refused.into_job().into_job().duty,
+    }
+}
+
+/// Forks a job in the scope, and gives its task, or says which was handed back.
 pub fn fork<N: RealmName, S: Spawns<N, JobWork<AnyEnd, N, TestJob>>, R: Wait>(
     rt: &R,
     ctx: &mut TaskCtx<AnyEnd, S, N>,
     scope: ScopeId,
     board: &Shared,
     duty: Duty,
-) -> Result<TaskId, Refusal> {
+) -> Result<TaskId, Back> {
     let Some(job) = named(board, duty) else {
-        return Err(Refusal::Memory);
+        return Err(Back {
+            refusal: Refusal::Memory,
+            task: None,
+            duty,
+        });
     };
-    match ctx.fork_job(rt, scope, job)? {
-        ForkReply::Thread(task) | ForkReply::Never(task) => Ok(task),
+    match ctx.fork_job(rt, scope, job) {
+        Ok(ForkReply::Thread(task)) => Ok(task),
+        Ok(ForkReply::Never(task)) => Ok(task),
+        Err(refused) => Err(back_of(refused)),
     }
 }
 

@@ -1,19 +1,20 @@
 //! Two thousand rounds of eight jobs on one realm, which retires between them: each report is right, each job
 //! was called once, and memory doesn't grow.
+use super::calls::{join, open};
 use super::duties::{Duty, Shared, TestJob, fork};
 use super::logs::{end_of, starts_and_ends};
-use super::unruly::left_open;
+use super::unruly::{left_open, retired};
 use job_runner::{JobWork, TaskCtx};
 use join_rules::Joiner;
 use realm_lock::RealmName;
 use scope_log::ScopeLog;
-use scope_rules::{AnyEnd, End, Fault, Options, ScopeId, TaskId, Value};
+use scope_rules::{AnyEnd, End, Fault, Options, Refusal, ScopeId, TaskId, Value};
 use std::fs;
 use std::process::Abort;
 use std::rt::Files;
 use std::sync::Wait;
 use std::test::Fail;
-use thread_crew::Spawns;
+use thread_crew::{Spawner, Spawns};
 
 /// How many rounds there are, and after how many memory is measured first.
 const ROUNDS: u32 = 2_000;
@@ -84,9 +85,7 @@ fn round<N: RealmName, S: Spawns<N, JobWork<AnyEnd, N, TestJob>>, R: Wait + Abor
     board: &Shared,
     faults: (Fault, Fault),
 ) -> Result<(), Fail> {
-    let Ok(scope) = ctx.open(rt, Joiner::AwaitAll, Options::PLAIN) else {
-        return Err("no scope")?;
-    };
+    let scope = open(rt, ctx, Joiner::AwaitAll, Options::PLAIN)?;
     let Ok(first) = fork(rt, ctx, scope, board, duty_at(0)) else {
         return Err("no fork")?;
     };
@@ -94,11 +93,24 @@ fn round<N: RealmName, S: Spawns<N, JobWork<AnyEnd, N, TestJob>>, R: Wait + Abor
         assert!(rt; fork(rt, ctx, scope, board, duty_at(place)).is_ok());
     }
     ctx.cancel(rt, scope)?;
-    ctx.join(rt, scope)?;
-    let report = ctx.close_scope(rt, scope)?;
-    assert!(rt; is_right(&report.log, scope, first, faults));
-    ctx.retire(rt)?;
+    join(rt, ctx, scope)?;
+    assert!(rt; closes_right(rt, ctx, scope, first, faults)?);
+    retired(rt, ctx)?;
     Ok(())
+}
+
+/// Closes the scope: whether the report is right.
+fn closes_right<N: RealmName, S: Spawner<N>, R: Wait>(
+    rt: &R,
+    ctx: &mut TaskCtx<AnyEnd, S, N>,
+    scope: ScopeId,
+    first: TaskId,
+    faults: (Fault, Fault),
+) -> Result<bool, Refusal> {
+    match ctx.close_scope(rt, scope) {
+        Ok(report) => Ok(is_right(&report.log, scope, first, faults)),
+        Err(refusal) => Err(refusal),
+    }
 }
 
 /// All rounds.

@@ -1,14 +1,14 @@
 //! Jobs that leave scopes open, and realms with room for very little.
-use super::duties::{Duty, Shared, TestJob, fork, named, number_of};
-use super::logs::{end_of, is_closed, starts_and_ends};
-use job_runner::{ForkRefusal, JobWork, TaskCtx};
+use super::calls::{close, close_bare, join, joins_to_fault, open, show};
+use super::duties::{Duty, Shared, TestJob, fork, number_of};
+use job_runner::{JobWork, TaskCtx};
 use join_rules::Joiner;
 use realm_lock::RealmName;
-use scope_rules::{AnyEnd, Fault, Name, Options, Outcome, Refusal};
+use scope_rules::{AnyEnd, Fault, Name, Options, Refusal, ScopeId, TaskId};
 use std::process::Abort;
 use std::sync::Wait;
 use std::test::Fail;
-use thread_crew::Spawns;
+use thread_crew::{Spawner, Spawns};
 
 /// The fault of a task whose job left a scope open.
 pub fn left_open() -> Result<Fault, Fail> {
@@ -22,20 +22,11 @@ pub fn one_is_left_open<N: RealmName, S: Spawns<N, JobWork<AnyEnd, N, TestJob>>,
     board: &Shared,
 ) -> Result<(), Fail> {
     let left_open = left_open()?;
-    let Ok(scope) = ctx.open(rt, Joiner::AwaitOk, Options::PLAIN) else {
-        return Err("no scope")?;
-    };
+    let scope = open(rt, ctx, Joiner::AwaitOk, Options::PLAIN)?;
     assert!(rt; fork(rt, ctx, scope, board, Duty::LeavesOpen).is_ok());
-    let joined = ctx.join(rt, scope)?;
-    assert!(rt;
-        match joined.outcome {
-            Outcome::Failed { task, fault } => task == 1 && fault == left_open,
-            _ => false
-        }
-    );
-    let inner = ctx.view(rt, 2)?;
-    assert!(rt; is_closed(&inner.log));
-    ctx.close_scope_bare(rt, scope)?;
+    assert!(rt; joins_to_fault(rt, ctx, scope)? == Some((1, left_open)));
+    assert!(rt; show(rt, ctx, 2, 1)?.is_closed);
+    close_bare(rt, ctx, scope)?;
     Ok(())
 }
 
@@ -46,19 +37,16 @@ pub fn two_are_left_open<N: RealmName, S: Spawns<N, JobWork<AnyEnd, N, TestJob>>
     board: &Shared,
 ) -> Result<(), Fail> {
     let left_open = left_open()?;
-    let Ok(scope) = ctx.open(rt, Joiner::AwaitAll, Options::PLAIN) else {
-        return Err("no scope")?;
-    };
+    let scope = open(rt, ctx, Joiner::AwaitAll, Options::PLAIN)?;
     assert!(rt; fork(rt, ctx, scope, board, Duty::LeavesTwo).is_ok());
-    ctx.join(rt, scope)?;
+    join(rt, ctx, scope)?;
     assert!(rt; ctx.fault(rt, 1).ok() == Some(left_open));
-    let middle = ctx.view(rt, 2)?;
-    assert!(rt; end_of(&middle.log, 2) == Some(Err(left_open)) && is_closed(&middle.log));
-    assert!(rt; starts_and_ends(&middle.log) == (1, 1));
-    let inner = ctx.view(rt, 3)?;
-    assert!(rt; is_closed(&inner.log));
-    let report = ctx.close_scope(rt, scope)?;
-    assert!(rt; starts_and_ends(&report.log) == (1, 1) && report.nested.is_empty());
+    let middle = show(rt, ctx, 2, 2)?;
+    assert!(rt; middle.end == Some(Err(left_open)) && middle.is_closed);
+    assert!(rt; middle.runs == (1, 1));
+    assert!(rt; show(rt, ctx, 3, 1)?.is_closed);
+    let report = close(rt, ctx, scope)?;
+    assert!(rt; report.runs == (1, 1) && report.nested == 0);
     Ok(())
 }
 
@@ -69,25 +57,21 @@ pub fn little_room<N: RealmName, S: Spawns<N, JobWork<AnyEnd, N, TestJob>>, R: W
     ctx: &mut TaskCtx<AnyEnd, S, N>,
     board: &Shared,
 ) -> Result<(), Fail> {
-    let Ok(scope) = ctx.open(rt, Joiner::AwaitAll, Options::PLAIN) else {
-        return Err("no scope")?;
-    };
+    let scope = open(rt, ctx, Joiner::AwaitAll, Options::PLAIN)?;
     for _ in 0..2u32 {
         assert!(rt; fork(rt, ctx, scope, board, Duty::Opens).is_ok());
     }
-    let third = named(board, Duty::Plain(3)).ok_or("memory")?;
-    let Err(refused) = ctx.fork_job(rt, scope, third) else {
+    let Err(third) = fork(rt, ctx, scope, board, Duty::Plain(3)) else {
         return Err("there was room for a third task")?;
     };
-    assert!(rt; matches!(&refused, ForkRefusal::Before(Refusal::TooMany, _)));
-    assert!(rt; matches!(refused.into_job().into_job().duty, Duty::Plain(3)));
+    assert!(rt; third.refusal == Refusal::TooMany && third.task.is_none());
+    assert!(rt; matches!(third.duty, Duty::Plain(3)));
     assert!(rt; ctx.cancel(rt, scope).err() == Some(Refusal::TooMany));
-    ctx.join(rt, scope)?;
+    join(rt, ctx, scope)?;
     let too_many = i64::from(Refusal::TooMany.number());
     assert_eq!(rt; number_of(rt, ctx, 1), too_many);
     assert_eq!(rt; number_of(rt, ctx, 2), too_many);
-    let report = ctx.close_scope(rt, scope)?;
-    assert!(rt; starts_and_ends(&report.log) == (2, 2));
+    assert!(rt; close(rt, ctx, scope)?.runs == (2, 2));
     Ok(())
 }
 
@@ -98,16 +82,23 @@ pub fn ten_rounds<N: RealmName, S: Spawns<N, JobWork<AnyEnd, N, TestJob>>, R: Wa
     board: &Shared,
 ) -> Result<(), Fail> {
     for round in 1..11u32 {
-        let Ok(scope) = ctx.open(rt, Joiner::All, Options::PLAIN) else {
-            return Err("no scope")?;
-        };
+        let scope = open(rt, ctx, Joiner::All, Options::PLAIN)?;
         assert!(rt; fork(rt, ctx, scope, board, Duty::Plain(i64::from(round))).is_ok());
-        ctx.join(rt, scope)?;
+        join(rt, ctx, scope)?;
         assert_eq!(rt; number_of(rt, ctx, round), i64::from(round));
-        let report = ctx.close_scope(rt, scope)?;
-        assert!(rt; starts_and_ends(&report.log) == (1, 1));
-        let base = ctx.retire(rt)?;
-        assert!(rt; base.scopes() == round && base.tasks() == round);
+        assert!(rt; close(rt, ctx, scope)?.runs == (1, 1));
+        assert!(rt; retired(rt, ctx)? == (round, round));
     }
     Ok(())
+}
+
+/// Retires the realm: how many scopes and tasks there were.
+pub fn retired<N: RealmName, S: Spawner<N>, R: Wait>(
+    rt: &R,
+    ctx: &mut TaskCtx<AnyEnd, S, N>,
+) -> Result<(ScopeId, TaskId), Refusal> {
+    match ctx.retire(rt) {
+        Ok(base) => Ok((base.scopes(), base.tasks())),
+        Err(refusal) => Err(refusal),
+    }
 }
