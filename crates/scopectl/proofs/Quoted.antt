@@ -4,7 +4,7 @@ use Rattle.std.proofs.lemmas.List.{append-nil}
 use Rattle.std.specs.Io.KnownBytes.{Consumes, IsAtEnd}
 use Rattle.std.proofs.KnownBytes.{Consumes-trans}
 use Rattle.std.specs.Prelude.{◌⊎◌, IfOk, MatchResult, OnErr}
-use Rattle.atomic_table.specs.Seated.{TableId}
+use Rattle.scope_rules.specs.declared.types.events.Options.{Options}
 use Rattle.share_ledger.specs.Values.{OwnerValue}
 use Rattle.quote_plan.specs.Allowed.{AllowedText, AllowedTextBy, PartText}
 use Rattle.quote_plan.specs.AnswerText.{answer_text}
@@ -13,12 +13,12 @@ use Rattle.quote_plan.specs.Plans.{PlanValue}
 use Rattle.quote_plan.specs.declared.answers.Answer.{Answer}
 use Rattle.quote_plan.specs.declared.reading.PlanFault.{PlanFault}
 use Rattle.quote_plan.specs.declared.reading.PlanFault.TheVariants as plan_fault
-use Rattle.quote_gateway.specs.Requests.{Fails, RestsOn, unused}
+use Rattle.quote_gateway.specs.Requests.{Fails, RestsOn}
 use Rattle.quote_gateway.specs.declared.faults.GatewayFault.{GatewayFault}
 use Rattle.quote_gateway.specs.declared.faults.GatewayFault.TheVariants as service
 use Rattle.scopectl.specs.declared.fault.ProgramFault.{ProgramFault}
 use Rattle.scopectl.specs.declared.fault.ProgramFault.TheVariants as program
-use Rattle.scopectl.specs.Naming.{CameFrom, ExpiredIn, IsBadLine, IsFaultAt, IsOfPlan, options_in}
+use Rattle.scopectl.specs.Naming.{CameFrom, IsBadLine, IsOfPlan, MayEndPlan}
 use Rattle.scopectl.specs.Program.{ReadPlan}
 use Rattle.scopectl.specs.Texts.{fault_of_plan, fault_of_service}
 
@@ -28,44 +28,42 @@ allowed_by plan deadline reading found a is allowed =
     let here = subst (λ (r : Result Answer GatewayFault). IfOk r (λ x. AllowedTextBy plan deadline reading (answer_text x))) is allowed in
     elim here [ inl whole ↦ inl whole | inr part ↦ inr part.1 ]
 
-module _ (name : TableId) (deadline : Option ℕ) (plan : PlanValue) where
-  -- for a cause of the service's
-  no_answer : (token : OwnerValue) (reading : Option ℕ) (why : GatewayFault) → token.table ≡ name → token.actor ≡ 0 → Fails (unused token) token plan (options_in deadline) (ExpiredIn deadline reading) why → IsFaultAt name deadline plan (fault_of_service why)
-  no_answer token reading service.Memory named main fails = tt
-  no_answer token reading service.Strange named main fails = absurd fails
-  no_answer token reading service.Rejected named main fails = record { token = token; named = named; main = main; reading = reading; fails = fails }
-  no_answer token reading service.Cancelled named main fails = record { token = token; named = named; main = main; reading = reading; fails = fails }
-  no_answer token reading service.Lost named main fails = record { token = token; named = named; main = main; reading = reading; fails = fails }
+-- a cause of the service's, whose jobs were the plan's, is one that may come at a plan
+may_end : (old new : OwnerValue) (plan : PlanValue) (options : Options) (Expired : Type 0) (why : GatewayFault) → Fails old new plan options Expired why → MayEndPlan (fault_of_service why)
+may_end old new plan options Expired service.Memory fails = tt
+may_end old new plan options Expired service.Strange fails = absurd fails
+may_end old new plan options Expired service.Rejected fails = tt
+may_end old new plan options Expired service.Cancelled fails = tt
+may_end old new plan options Expired service.Lost fails = tt
 
-  pub not_found : (token : OwnerValue) (reading : Option ℕ) (found : Result Answer GatewayFault) (why : GatewayFault) → found ≡ Err why → token.table ≡ name → token.actor ≡ 0
-      → MatchResult found (RestsOn (unused token) token plan (options_in deadline)) (Fails (unused token) token plan (options_in deadline) (ExpiredIn deadline reading)) → IsFaultAt name deadline plan (fault_of_service why)
-  not_found token reading found why is named main rests =
-      no_answer token reading why named main
-      (subst (λ (r : Result Answer GatewayFault). MatchResult r (RestsOn (unused token) token plan (options_in deadline)) (Fails (unused token) token plan (options_in deadline) (ExpiredIn deadline reading))) is rests)
+pub not_found : (old new : OwnerValue) (plan : PlanValue) (options : Options) (Expired : Type 0) (found : Result Answer GatewayFault) (why : GatewayFault) → found ≡ Err why
+    → MatchResult found (RestsOn old new plan options) (Fails old new plan options Expired) → MayEndPlan (fault_of_service why)
+not_found old new plan options Expired found why is rests =
+    may_end old new plan options Expired why (subst (λ (r : Result Answer GatewayFault). MatchResult r (RestsOn old new plan options) (Fails old new plan options Expired)) is rests)
 
-  -- a fault at the plan that was read is one of the quote
-  pub of_plan : (unread unread_new : Option (List ℕ)) (fault : ProgramFault) (ByReader : Type 0) → ReadPlan unread unread_new plan → IsFaultAt name deadline plan fault → CameFrom fault ByReader ⊥ (IsOfPlan name deadline unread unread_new)
-  of_plan unread unread_new program.Memory ByReader read it = tt
-  of_plan unread unread_new program.Time ByReader read it = tt
-  of_plan unread unread_new (program.PlanLine line why) ByReader read it = absurd it
-  of_plan unread unread_new program.Read ByReader read it = absurd it
-  of_plan unread unread_new program.Write ByReader read it = absurd it
-  of_plan unread unread_new program.Strange ByReader read it = absurd it
-  of_plan unread unread_new program.Rejected ByReader read it = record { plan = plan; read = read; fails = it }
-  of_plan unread unread_new program.Cancelled ByReader read it = record { plan = plan; read = read; fails = it }
-  of_plan unread unread_new program.Lost ByReader read it = record { plan = plan; read = read; fails = it }
+-- such a fault at the plan that was read is one of the plan
+pub of_plan : (plan : PlanValue) (unread unread_new : Option (List ℕ)) (fault : ProgramFault) (ByReader : Type 0) → ReadPlan unread unread_new plan → MayEndPlan fault → CameFrom fault ByReader ⊥ (IsOfPlan unread unread_new)
+of_plan plan unread unread_new program.Memory ByReader read it = tt
+of_plan plan unread unread_new program.Time ByReader read it = tt
+of_plan plan unread unread_new (program.PlanLine line why) ByReader read it = absurd it
+of_plan plan unread unread_new program.Read ByReader read it = absurd it
+of_plan plan unread unread_new program.Write ByReader read it = absurd it
+of_plan plan unread unread_new program.Strange ByReader read it = absurd it
+of_plan plan unread unread_new program.Rejected ByReader read it = record { plan = plan; read = read; may = it }
+of_plan plan unread unread_new program.Cancelled ByReader read it = record { plan = plan; read = read; may = it }
+of_plan plan unread unread_new program.Lost ByReader read it = record { plan = plan; read = read; may = it }
 
 -- a bad line is one too
-pub of_line : (name : TableId) (deadline : Option ℕ) (unread unread_new : Option (List ℕ)) (fault : ProgramFault) (ByReader : Type 0) → CameFrom fault ByReader ⊥ (IsBadLine unread unread_new) → CameFrom fault ByReader ⊥ (IsOfPlan name deadline unread unread_new)
-of_line name deadline unread unread_new program.Memory ByReader it = tt
-of_line name deadline unread unread_new program.Time ByReader it = tt
-of_line name deadline unread unread_new (program.PlanLine line why) ByReader it = it
-of_line name deadline unread unread_new program.Read ByReader it = it
-of_line name deadline unread unread_new program.Write ByReader it = absurd it
-of_line name deadline unread unread_new program.Strange ByReader it = absurd it
-of_line name deadline unread unread_new program.Rejected ByReader it = absurd it
-of_line name deadline unread unread_new program.Cancelled ByReader it = absurd it
-of_line name deadline unread unread_new program.Lost ByReader it = absurd it
+pub of_line : (unread unread_new : Option (List ℕ)) (fault : ProgramFault) (ByReader : Type 0) → CameFrom fault ByReader ⊥ (IsBadLine unread unread_new) → CameFrom fault ByReader ⊥ (IsOfPlan unread unread_new)
+of_line unread unread_new program.Memory ByReader it = tt
+of_line unread unread_new program.Time ByReader it = tt
+of_line unread unread_new (program.PlanLine line why) ByReader it = it
+of_line unread unread_new program.Read ByReader it = it
+of_line unread unread_new program.Write ByReader it = absurd it
+of_line unread unread_new program.Strange ByReader it = absurd it
+of_line unread unread_new program.Rejected ByReader it = absurd it
+of_line unread unread_new program.Cancelled ByReader it = absurd it
+of_line unread unread_new program.Lost ByReader it = absurd it
 
 pub on_err : {T E P : Type 0} (r : Result T E) → P → OnErr r P
 on_err (Ok x) it = tt

@@ -17,8 +17,8 @@ use Rattle.quote_plan.specs.Allowed.{AllowedText, PartText}
 use Rattle.quote_plan.specs.PlanReading.{SayPlan, lines_of}
 use Rattle.quote_plan.specs.Plans.{PlanValue}
 use Rattle.command_line.specs.declared.lines.CommandLine.{CommandLine}
-use Rattle.command_line.specs.declared.lines.Job.{Job}
-use Rattle.command_line.specs.declared.lines.Job.TheVariants.{Replay, Dump, Tree, Timeline, Quote}
+use Rattle.command_line.specs.declared.lines.CommandLine.TheVariants as line
+use Rattle.command_line.specs.declared.settings.ScriptOptions.{ScriptOptions}
 use Rattle.command_line.specs.CommandLine.{Says, SaysNone}
 use Rattle.command_line.specs.Faults.{IsNoRequest}
 use Rattle.command_line.specs.Texts.{AsksFor}
@@ -59,41 +59,49 @@ pub record AnswersPlan (deadline : Option ℕ) (bytes text : List ℕ) : Type 0 
   pub say_plan : SayPlan (lines_of bytes) plan
   pub says : SaysAllowed deadline plan text
 
--- the job that shows a view
-abbrev pub job_of : View → Job
-job_of view.Dump = Dump
-job_of view.Tree = Tree
-job_of view.Timeline = Timeline
+-- the command that shows a view of what a script leaves
+abbrev pub command_of : View → ScriptOptions → CommandLine
+command_of view.Dump script = line.Dump script
+command_of view.Tree script = line.Tree script
+command_of view.Timeline script = line.Timeline script
 
 -- the text is the view of the realm of these limits that the script leaves
 abbrev pub Shows : View → Limits → (bytes text : List ℕ) → Type 0
 Shows view limits bytes text = text ≡ shown_text view (realm_of_script limits bytes).history
 
--- what a job makes of the bytes that it reads: the replies to a script, in a realm of these limits; a view of
--- the realm that the script leaves; or an answer to a plan by the deadline
-abbrev pub Makes : Job → Limits → Option ℕ → (bytes text : List ℕ) → Type 0
-Makes Replay limits deadline bytes text = text ≡ replies_of limits bytes
-Makes Dump limits deadline bytes text = Shows view.Dump limits bytes text
-Makes Tree limits deadline bytes text = Shows view.Tree limits bytes text
-Makes Timeline limits deadline bytes text = Shows view.Timeline limits bytes text
-Makes Quote limits deadline bytes text = AnswersPlan deadline bytes text
+-- what a command makes of the bytes that are read: the replies to a script, in a realm of its limits; a view of the
+-- realm that the script leaves; or an answer to a plan by the deadline
+abbrev pub Makes : CommandLine → (bytes text : List ℕ) → Type 0
+Makes (line.Replay script explain trace) bytes text = text ≡ replies_of script.limits bytes
+Makes (line.Dump script) bytes text = Shows view.Dump script.limits bytes text
+Makes (line.Tree script) bytes text = Shows view.Tree script.limits bytes text
+Makes (line.Timeline script) bytes text = Shows view.Timeline script.limits bytes text
+Makes (line.Quote deadline after) bytes text = AnswersPlan deadline bytes text
 
--- the job was done: it read all bytes, and wrote exactly a text that it makes of them
-pub record DidJob (job : Job) (limits : Limits) (deadline : Option ℕ) (unread unread_new written written_new : Option (List ℕ)) : Type 0 where
+-- the command was done: all bytes were read, and exactly a text that it makes of them was written
+pub record DidJob (command : CommandLine) (unread unread_new written written_new : Option (List ℕ)) : Type 0 where
   pub bytes : List ℕ
   pub read : Consumes unread unread_new bytes
   pub all : IsAtEnd unread_new
   pub text : List ℕ
-  pub makes : Makes job limits deadline bytes text
+  pub makes : Makes command bytes text
   pub wrote : Appends written written_new text
 
--- how many lines a job refuses of the bytes that it reads: of a plan none
-abbrev pub tally_of : Job → Limits → List ℕ → Tally
-tally_of Replay limits bytes = tally_of_script limits bytes
-tally_of Dump limits bytes = tally_of_script limits bytes
-tally_of Tree limits bytes = tally_of_script limits bytes
-tally_of Timeline limits bytes = tally_of_script limits bytes
-tally_of Quote limits bytes = no_refusals
+-- how many lines a command refuses of the bytes that it reads: of a plan none
+abbrev pub tally_of : CommandLine → List ℕ → Tally
+tally_of (line.Replay script explain trace) bytes = tally_of_script script.limits bytes
+tally_of (line.Dump script) bytes = tally_of_script script.limits bytes
+tally_of (line.Tree script) bytes = tally_of_script script.limits bytes
+tally_of (line.Timeline script) bytes = tally_of_script script.limits bytes
+tally_of (line.Quote deadline after) bytes = no_refusals
+
+-- the status is to tell that lines were refused
+abbrev pub is_strict : CommandLine → Bool
+is_strict (line.Replay script explain trace) = script.strict
+is_strict (line.Dump script) = script.strict
+is_strict (line.Tree script) = script.strict
+is_strict (line.Timeline script) = script.strict
+is_strict (line.Quote deadline after) = false
 
 -- the notes that are wanted: on the lines that were refused, on each line's reply, or on both
 abbrev pub notes_wanted : (explain trace : Bool) → Option Notes
@@ -102,65 +110,66 @@ notes_wanted true false = Some notes.Refusals
 notes_wanted false true = Some notes.Replies
 notes_wanted true true = Some notes.All
 
--- what was said of the bytes that a job read: the notes that are wanted on the lines of a replay, and how many lines
--- were refused
-abbrev pub Told : Job → Option Notes → Limits → (bytes : List ℕ) (ErrorsKept : Type 0) (said said_new : Option (List ℕ)) (errors_failed : Bool) → Type 0
-Told Replay (Some wanted) limits bytes ErrorsKept said said_new errors_failed =
+-- what was said of the lines of a script: the notes that are wanted, and how many were refused
+abbrev pub ToldNotes : Option Notes → Limits → (bytes : List ℕ) (ErrorsKept : Type 0) (said said_new : Option (List ℕ)) (errors_failed : Bool) → Type 0
+ToldNotes (Some wanted) limits bytes ErrorsKept said said_new errors_failed =
     SaidNotes (notes_text wanted limits bytes) (tally_of_script limits bytes) said said_new errors_failed
-Told job wanted limits bytes ErrorsKept said said_new errors_failed =
-    Noted (tally_of job limits bytes) ErrorsKept said said_new errors_failed
+ToldNotes None limits bytes ErrorsKept said said_new errors_failed =
+    Noted (tally_of_script limits bytes) ErrorsKept said said_new errors_failed
 
--- the job was done, it was said how many lines were refused, with the notes that are wanted, and the status is as it
--- should be
-pub record DidWhole (job : Job) (limits : Limits) (deadline : Option ℕ) (strict : Bool) (wanted : Option Notes) (ErrorsKept : Type 0) (unread unread_new written written_new said said_new : Option (List ℕ)) (errors_failed : Bool) (result : ℕ) : Type 0 where
-  pub did : DidJob job limits deadline unread unread_new written written_new
-  pub noted : Told job wanted limits did.bytes ErrorsKept said said_new errors_failed
-  pub status : result ≡ status_of strict (tally_of job limits did.bytes)
+-- what was said of the bytes that were read: the notes that are wanted on the lines of a replay, and how many lines
+-- were refused
+abbrev pub Told : CommandLine → (bytes : List ℕ) (ErrorsKept : Type 0) (said said_new : Option (List ℕ)) (errors_failed : Bool) → Type 0
+Told (line.Replay script explain trace) bytes ErrorsKept said said_new errors_failed =
+    ToldNotes (notes_wanted explain trace) script.limits bytes ErrorsKept said said_new errors_failed
+Told command bytes ErrorsKept said said_new errors_failed =
+    Noted (tally_of command bytes) ErrorsKept said said_new errors_failed
 
--- all bytes were read, and the writer failed and took a beginning of a text that the job makes of them
-pub record FailedAtEnd (job : Job) (limits : Limits) (deadline : Option ℕ) (bytes : List ℕ) (unread_new written written_new : Option (List ℕ)) (failed : Bool) : Type 0 where
+-- the command was done, it was said how many lines were refused, with the notes that are wanted, and the status is as
+-- it should be
+pub record DidWhole (command : CommandLine) (ErrorsKept : Type 0) (unread unread_new written written_new said said_new : Option (List ℕ)) (errors_failed : Bool) (result : ℕ) : Type 0 where
+  pub did : DidJob command unread unread_new written written_new
+  pub noted : Told command did.bytes ErrorsKept said said_new errors_failed
+  pub status : result ≡ status_of (is_strict command) (tally_of command did.bytes)
+
+-- all bytes were read, and the writer failed and took a beginning of a text that the command makes of them
+pub record FailedAtEnd (command : CommandLine) (bytes : List ℕ) (unread_new written written_new : Option (List ℕ)) (failed : Bool) : Type 0 where
   pub all : IsAtEnd unread_new
   pub text : List ℕ
-  pub makes : Makes job limits deadline bytes text
+  pub makes : Makes command bytes text
   pub wrote : AppendsPart written written_new text
   pub writer : failed ≡ true
 
 -- nothing was written, but where all bytes were read and the writer failed
-abbrev pub WroteLate : Job → Limits → Option ℕ → (bytes : List ℕ) (unread_new written written_new : Option (List ℕ)) (failed : Bool) → Type 0
-WroteLate job limits deadline bytes unread_new written written_new failed =
-    Appends written written_new [] ⊎ FailedAtEnd job limits deadline bytes unread_new written written_new failed
+abbrev pub WroteLate : CommandLine → (bytes : List ℕ) (unread_new written written_new : Option (List ℕ)) (failed : Bool) → Type 0
+WroteLate command bytes unread_new written written_new failed =
+    Appends written written_new [] ⊎ FailedAtEnd command bytes unread_new written written_new failed
 
--- what a job wrote that a fault ended: a beginning of the replies to what it read, and else nothing
+-- what was written of a command that a fault ended: a beginning of the replies to what was read, and else nothing
 -- before all was read
-abbrev pub WrotePart : Job → Limits → Option ℕ → (bytes : List ℕ) (unread_new written written_new : Option (List ℕ)) (failed : Bool) → Type 0
-WrotePart Replay limits deadline bytes unread_new written written_new failed =
-    AppendsPart written written_new (replies_of limits bytes)
-WrotePart Dump limits deadline bytes unread_new written written_new failed =
-    WroteLate Dump limits deadline bytes unread_new written written_new failed
-WrotePart Tree limits deadline bytes unread_new written written_new failed =
-    WroteLate Tree limits deadline bytes unread_new written written_new failed
-WrotePart Timeline limits deadline bytes unread_new written written_new failed =
-    WroteLate Timeline limits deadline bytes unread_new written written_new failed
-WrotePart Quote limits deadline bytes unread_new written written_new failed =
-    WroteLate Quote limits deadline bytes unread_new written written_new failed
+abbrev pub WrotePart : CommandLine → (bytes : List ℕ) (unread_new written written_new : Option (List ℕ)) (failed : Bool) → Type 0
+WrotePart (line.Replay script explain trace) bytes unread_new written written_new failed =
+    AppendsPart written written_new (replies_of script.limits bytes)
+WrotePart command bytes unread_new written written_new failed =
+    WroteLate command bytes unread_new written written_new failed
 
--- a fault ended the job
-pub record DidPart (job : Job) (limits : Limits) (deadline : Option ℕ) (unread unread_new written written_new : Option (List ℕ)) (failed : Bool) : Type 0 where
+-- a fault ended the command
+pub record DidPart (command : CommandLine) (unread unread_new written written_new : Option (List ℕ)) (failed : Bool) : Type 0 where
   pub bytes : List ℕ
   pub read : Consumes unread unread_new bytes
-  pub wrote : WrotePart job limits deadline bytes unread_new written written_new failed
+  pub wrote : WrotePart command bytes unread_new written written_new failed
 
 -- it did all that the words say
 pub record DidAsSaid (words : List (List ℕ)) (ErrorsKept : Type 0) (unread unread_new written written_new said said_new : Option (List ℕ)) (errors_failed : Bool) (result : ℕ) : Type 0 where
   pub command : CommandLine
   pub says : Says words command
-  pub did : DidWhole command.job command.limits command.deadline command.strict (notes_wanted command.explain command.trace) ErrorsKept unread unread_new written written_new said said_new errors_failed result
+  pub did : DidWhole command ErrorsKept unread unread_new written written_new said said_new errors_failed result
 
 -- it did a part of what the words say
 pub record DidPartly (words : List (List ℕ)) (unread unread_new written written_new : Option (List ℕ)) (failed : Bool) : Type 0 where
   pub command : CommandLine
   pub said : Says words command
-  pub did : DidPart command.job command.limits command.deadline unread unread_new written written_new failed
+  pub did : DidPart command unread unread_new written written_new failed
 
 -- ---- before anything is written
 

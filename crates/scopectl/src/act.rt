@@ -1,21 +1,19 @@
 //! All that the program does.
-ghost use Rattle.std.specs.Prelude.{◌≡◌, ◌≢◌, ◌≤◌, ◌⊎◌, ◌++◌, if◌then◌else◌, ℕ, Option, None, Some, false, true, map, string_bytes};
-ghost use Rattle.script_jobs.specs.declared.notes.Notes.{Notes};
+ghost use Rattle.std.specs.Prelude.{◌≡◌, ◌≢◌, ◌≤◌, ◌⊎◌, ◌++◌, if◌then◌else◌, Bool, None, Some, false, true, map, string_bytes};
 ghost use Rattle.std.specs.Io.KnownBytes.{Appends};
-ghost use Rattle.scope_rules.specs.declared.types.capacity.Limits.{Limits};
 ghost use Rattle.scope_script.specs.Streams.{AppendsPart};
 ghost use Rattle.scopectl.specs.Naming.{IsOfPlan, NamesFault, SaysQuote};
-ghost use Rattle.scopectl.specs.Program.{DidAsSaid, DidJob, DidPart, DidPartly, DidWhole, GaveText, GaveTextPartly, IsNotUnderstood, job_of, notes_wanted};
+ghost use Rattle.scopectl.specs.Program.{DidAsSaid, DidJob, DidPart, DidPartly, DidWhole, GaveText, GaveTextPartly, IsNotUnderstood, command_of, notes_wanted};
 ghost use Rattle.scopectl.specs.Saying.{IsSaid, Noted, SaidNotes, status_of, tally_line};
 ghost use Rattle.scopectl.specs.Texts.{line_of};
 
 use crate::fault::{ProgramFault, tally_line};
 use crate::quoting::quoted;
-use command_line::{Delay, Job, LineFault, VERSION_LINE, help_of, line};
+use command_line::{CommandLine, Delay, LineFault, ScriptOptions, VERSION_LINE, help_of, line};
 use job_runner::JobWork;
 use quote_gateway::LateJob;
 use realm_lock::{RealmName, Seed};
-use scope_rules::{Due, Limits};
+use scope_rules::Due;
 use scope_script::{Tally, Watched};
 use script_jobs::{NotedReplay, Notes, Rendering, View, replayed, replayed_noted, shown};
 use std::alloc::Global;
@@ -92,44 +90,26 @@ pub fn act<
         × GaveTextPartly (map (λ word. word.now) words.now) (W.contents writer.old.inner) (W.contents writer.new.inner) writer.new.failed)
         ⊎ DidPartly (map (λ word. word.now) words.now) (R.remaining reader.old.inner) (R.remaining reader.new.inner) (W.contents writer.old.inner) (W.contents writer.new.inner) writer.new.failed) }
     ensures named { result ≡ 1 → NamesFault (E.contents errors.old.inner) (E.contents errors.new.inner) errors.new.failed ((reader.new.failed ≡ true) ⊎ (reader.new.reads ≡ u64.MAX)) (writer.new.failed ≡ true)
-        (λ fault. SaysQuote (map (λ word. word.now) words.now) (λ deadline. IsOfPlan N.table deadline (R.remaining reader.old.inner) (R.remaining reader.new.inner) fault)) }
+        (λ fault. SaysQuote (map (λ word. word.now) words.now) × IsOfPlan (R.remaining reader.old.inner) (R.remaining reader.new.inner) fault) }
     ensures not_understood { result ≡ 2 → IsNotUnderstood (map (λ word. word.now) words.now)
         × (reader.new ≡ reader.old) × (writer.new ≡ writer.old) }
 {
     match line(alloc, words) {
-        Ok(command) => match command.job {
-            Job::Replay => {
-                let (limits, strict) = (command.limits, command.strict);
-                let wanted = notes_wanted(command.explain, command.trace);
-                replay(alloc, limits, strict, wanted, reader, writer, errors)
-            }
-            Job::Dump => {
-                let (limits, strict) = (command.limits, command.strict);
-                show(alloc, limits, View::Dump, strict, reader, writer, errors)
-            }
-            Job::Tree => {
-                let (limits, strict) = (command.limits, command.strict);
-                show(alloc, limits, View::Tree, strict, reader, writer, errors)
-            }
-            Job::Timeline => {
-                let (limits, strict) = (command.limits, command.strict);
-                show(
-                    alloc,
-                    limits,
-                    View::Timeline,
-                    strict,
-                    reader,
-                    writer,
-                    errors,
-                )
-            }
-            Job::Quote => {
-                let (deadline, after) = (command.deadline, command.after);
-                quote::<N, S, T, R, W, E>(
-                    rt, alloc, seed, spawner, deadline, after, reader, writer, errors,
-                )
-            }
-        },
+        Ok(
+            CommandLine::Replay {
+                script,
+                explain,
+                trace,
+            },
+        ) => replay(alloc, script, explain, trace, reader, writer, errors),
+        Ok(CommandLine::Dump(script)) => show(alloc, script, View::Dump, reader, writer, errors),
+        Ok(CommandLine::Tree(script)) => show(alloc, script, View::Tree, reader, writer, errors),
+        Ok(CommandLine::Timeline(script)) => {
+            show(alloc, script, View::Timeline, reader, writer, errors)
+        }
+        Ok(CommandLine::Quote { deadline, after }) => quote::<N, S, T, R, W, E>(
+            rt, alloc, seed, spawner, deadline, after, reader, writer, errors,
+        ),
         Err(LineFault::Help) => tell(help_of(words), writer, errors),
         Err(LineFault::Version) => tell(VERSION_LINE, writer, errors),
         Err(LineFault::Usage(text)) => {
@@ -169,9 +149,9 @@ fn notes_wanted(explain: bool, trace: bool) -> Option<Notes>
 /// Replays the script that is read, with the notes that are wanted.
 fn replay<R: Read + Drop, W: Write + Drop, E: Write + Drop>(
     alloc: Global,
-    limits: Limits,
-    strict: bool,
-    wanted: Option<Notes>,
+    script: ScriptOptions,
+    explain: bool,
+    trace: bool,
     reader: &mut Watched<R>,
     writer: &mut Watched<W>,
     errors: &mut Watched<E>,
@@ -179,21 +159,20 @@ fn replay<R: Read + Drop, W: Write + Drop, E: Write + Drop>(
     requires reader { reader.old.failed ≡ false }
     requires writer { writer.old.failed ≡ false }
     ensures status { (result ≤ 3) × (result ≢ 2) }
-    ensures done { (deadline : Option ℕ) → result ≢ 1 → DidWhole Job.Replay limits deadline strict wanted (errors.new ≡ errors.old) (R.remaining reader.old.inner) (R.remaining reader.new.inner) (W.contents writer.old.inner) (W.contents writer.new.inner) (E.contents errors.old.inner) (E.contents errors.new.inner) errors.new.failed result }
-    ensures fault { (deadline : Option ℕ) → result ≡ 1 → DidPart Job.Replay limits deadline (R.remaining reader.old.inner) (R.remaining reader.new.inner) (W.contents writer.old.inner) (W.contents writer.new.inner) writer.new.failed }
+    ensures done { result ≢ 1 → DidWhole (CommandLine.Replay script explain trace) (errors.new ≡ errors.old) (R.remaining reader.old.inner) (R.remaining reader.new.inner) (W.contents writer.old.inner) (W.contents writer.new.inner) (E.contents errors.old.inner) (E.contents errors.new.inner) errors.new.failed result }
+    ensures fault { result ≡ 1 → DidPart (CommandLine.Replay script explain trace) (R.remaining reader.old.inner) (R.remaining reader.new.inner) (W.contents writer.old.inner) (W.contents writer.new.inner) writer.new.failed }
     ensures named { result ≡ 1 → NamesFault (E.contents errors.old.inner) (E.contents errors.new.inner) errors.new.failed ((reader.new.failed ≡ true) ⊎ (reader.new.reads ≡ u64.MAX)) (writer.new.failed ≡ true) (λ _. ⊥) }
 {
-    match wanted {
-        Some(notes) => replay_noted(alloc, limits, strict, notes, reader, writer, errors),
-        None => replay_plainly(alloc, limits, strict, reader, writer, errors),
+    match notes_wanted(explain, trace) {
+        Some(notes) => replay_noted(alloc, script, notes, reader, writer, errors),
+        None => replay_plainly(alloc, script, reader, writer, errors),
     }
 }
 
 /// Replays the script that is read.
 fn replay_plainly<R: Read + Drop, W: Write + Drop, E: Write + Drop>(
     alloc: Global,
-    limits: Limits,
-    strict: bool,
+    script: ScriptOptions,
     reader: &mut Watched<R>,
     writer: &mut Watched<W>,
     errors: &mut Watched<E>,
@@ -201,12 +180,12 @@ fn replay_plainly<R: Read + Drop, W: Write + Drop, E: Write + Drop>(
     requires reader { reader.old.failed ≡ false }
     requires writer { writer.old.failed ≡ false }
     ensures status { (result ≤ 3) × (result ≢ 2) }
-    ensures done { (deadline : Option ℕ) → result ≢ 1 → DidWhole Job.Replay limits deadline strict None (errors.new ≡ errors.old) (R.remaining reader.old.inner) (R.remaining reader.new.inner) (W.contents writer.old.inner) (W.contents writer.new.inner) (E.contents errors.old.inner) (E.contents errors.new.inner) errors.new.failed result }
-    ensures fault { (deadline : Option ℕ) → result ≡ 1 → DidPart Job.Replay limits deadline (R.remaining reader.old.inner) (R.remaining reader.new.inner) (W.contents writer.old.inner) (W.contents writer.new.inner) writer.new.failed }
+    ensures done { (explain trace : Bool) → notes_wanted explain trace ≡ None → result ≢ 1 → DidWhole (CommandLine.Replay script explain trace) (errors.new ≡ errors.old) (R.remaining reader.old.inner) (R.remaining reader.new.inner) (W.contents writer.old.inner) (W.contents writer.new.inner) (E.contents errors.old.inner) (E.contents errors.new.inner) errors.new.failed result }
+    ensures fault { (explain trace : Bool) → result ≡ 1 → DidPart (CommandLine.Replay script explain trace) (R.remaining reader.old.inner) (R.remaining reader.new.inner) (W.contents writer.old.inner) (W.contents writer.new.inner) writer.new.failed }
     ensures named { result ≡ 1 → NamesFault (E.contents errors.old.inner) (E.contents errors.new.inner) errors.new.failed ((reader.new.failed ≡ true) ⊎ (reader.new.reads ≡ u64.MAX)) (writer.new.failed ≡ true) (λ _. ⊥) }
 {
-    let fault = match replayed(alloc, limits, reader, writer) {
-        Ok(tally) => return note(strict, tally, errors),
+    let fault = match replayed(alloc, script.limits, reader, writer) {
+        Ok(tally) => return note(script.strict, tally, errors),
         Err(fault) => fault,
     };
     fail(ProgramFault::of_run(fault), errors)
@@ -215,8 +194,7 @@ fn replay_plainly<R: Read + Drop, W: Write + Drop, E: Write + Drop>(
 /// Replays the script that is read, and says the notes on its lines.
 fn replay_noted<R: Read + Drop, W: Write + Drop, E: Write + Drop>(
     alloc: Global,
-    limits: Limits,
-    strict: bool,
+    script: ScriptOptions,
     notes: Notes,
     reader: &mut Watched<R>,
     writer: &mut Watched<W>,
@@ -225,12 +203,12 @@ fn replay_noted<R: Read + Drop, W: Write + Drop, E: Write + Drop>(
     requires reader { reader.old.failed ≡ false }
     requires writer { writer.old.failed ≡ false }
     ensures status { (result ≤ 3) × (result ≢ 2) }
-    ensures done { (deadline : Option ℕ) → result ≢ 1 → DidWhole Job.Replay limits deadline strict (Some notes) (errors.new ≡ errors.old) (R.remaining reader.old.inner) (R.remaining reader.new.inner) (W.contents writer.old.inner) (W.contents writer.new.inner) (E.contents errors.old.inner) (E.contents errors.new.inner) errors.new.failed result }
-    ensures fault { (deadline : Option ℕ) → result ≡ 1 → DidPart Job.Replay limits deadline (R.remaining reader.old.inner) (R.remaining reader.new.inner) (W.contents writer.old.inner) (W.contents writer.new.inner) writer.new.failed }
+    ensures done { (explain trace : Bool) → notes_wanted explain trace ≡ Some notes → result ≢ 1 → DidWhole (CommandLine.Replay script explain trace) (errors.new ≡ errors.old) (R.remaining reader.old.inner) (R.remaining reader.new.inner) (W.contents writer.old.inner) (W.contents writer.new.inner) (E.contents errors.old.inner) (E.contents errors.new.inner) errors.new.failed result }
+    ensures fault { (explain trace : Bool) → result ≡ 1 → DidPart (CommandLine.Replay script explain trace) (R.remaining reader.old.inner) (R.remaining reader.new.inner) (W.contents writer.old.inner) (W.contents writer.new.inner) writer.new.failed }
     ensures named { result ≡ 1 → NamesFault (E.contents errors.old.inner) (E.contents errors.new.inner) errors.new.failed ((reader.new.failed ≡ true) ⊎ (reader.new.reads ≡ u64.MAX)) (writer.new.failed ≡ true) (λ _. ⊥) }
 {
-    match replayed_noted(alloc, limits, notes, reader, writer) {
-        Ok(noted) => say_notes(strict, noted, errors),
+    match replayed_noted(alloc, script.limits, notes, reader, writer) {
+        Ok(noted) => say_notes(script.strict, noted, errors),
         Err(reason) => fail(ProgramFault::of_run(reason), errors),
     }
 }
@@ -274,9 +252,8 @@ fn say_both<E: Write + Drop>(
 /// Shows the realm that the script which is read leaves.
 fn show<R: Read + Drop, W: Write + Drop, E: Write + Drop>(
     alloc: Global,
-    limits: Limits,
+    script: ScriptOptions,
     view: View,
-    strict: bool,
     reader: &mut Watched<R>,
     writer: &mut Watched<W>,
     errors: &mut Watched<E>,
@@ -284,12 +261,12 @@ fn show<R: Read + Drop, W: Write + Drop, E: Write + Drop>(
     requires reader { reader.old.failed ≡ false }
     requires writer { writer.old.failed ≡ false }
     ensures status { (result ≤ 3) × (result ≢ 2) }
-    ensures done { (deadline : Option ℕ) (wanted : Option Notes) → result ≢ 1 → DidWhole (job_of view) limits deadline strict wanted (errors.new ≡ errors.old) (R.remaining reader.old.inner) (R.remaining reader.new.inner) (W.contents writer.old.inner) (W.contents writer.new.inner) (E.contents errors.old.inner) (E.contents errors.new.inner) errors.new.failed result }
-    ensures fault { (deadline : Option ℕ) → result ≡ 1 → DidPart (job_of view) limits deadline (R.remaining reader.old.inner) (R.remaining reader.new.inner) (W.contents writer.old.inner) (W.contents writer.new.inner) writer.new.failed }
+    ensures done { result ≢ 1 → DidWhole (command_of view script) (errors.new ≡ errors.old) (R.remaining reader.old.inner) (R.remaining reader.new.inner) (W.contents writer.old.inner) (W.contents writer.new.inner) (E.contents errors.old.inner) (E.contents errors.new.inner) errors.new.failed result }
+    ensures fault { result ≡ 1 → DidPart (command_of view script) (R.remaining reader.old.inner) (R.remaining reader.new.inner) (W.contents writer.old.inner) (W.contents writer.new.inner) writer.new.failed }
     ensures named { result ≡ 1 → NamesFault (E.contents errors.old.inner) (E.contents errors.new.inner) errors.new.failed ((reader.new.failed ≡ true) ⊎ (reader.new.reads ≡ u64.MAX)) (writer.new.failed ≡ true) (λ _. ⊥) }
 {
-    match shown(alloc, limits, view, reader, writer) {
-        Ok(shown) => tell_shown(strict, &shown, writer, errors),
+    match shown(alloc, script.limits, view, reader, writer) {
+        Ok(shown) => tell_shown(script.strict, &shown, writer, errors),
         Err(cause) => fail(ProgramFault::of_run(cause), errors),
     }
 }
@@ -337,10 +314,10 @@ fn quote<
 ) -> u8
     requires named { seed ≡ N.table }
     ensures status { result ≤ 1 }
-    ensures done { (limits : Limits) → result ≡ 0 → DidJob Job.Quote limits deadline (R.remaining reader.old.inner) (R.remaining reader.new.inner) (W.contents writer.old.inner) (W.contents writer.new.inner) }
+    ensures done { result ≡ 0 → DidJob (CommandLine.Quote deadline after) (R.remaining reader.old.inner) (R.remaining reader.new.inner) (W.contents writer.old.inner) (W.contents writer.new.inner) }
     ensures silent { result ≡ 0 → errors.new ≡ errors.old }
-    ensures fault { (limits : Limits) → result ≡ 1 → DidPart Job.Quote limits deadline (R.remaining reader.old.inner) (R.remaining reader.new.inner) (W.contents writer.old.inner) (W.contents writer.new.inner) writer.new.failed }
-    ensures named { result ≡ 1 → NamesFault (E.contents errors.old.inner) (E.contents errors.new.inner) errors.new.failed ((reader.new.failed ≡ true) ⊎ (reader.new.reads ≡ u64.MAX)) (writer.new.failed ≡ true) (IsOfPlan N.table deadline (R.remaining reader.old.inner) (R.remaining reader.new.inner)) }
+    ensures fault { result ≡ 1 → DidPart (CommandLine.Quote deadline after) (R.remaining reader.old.inner) (R.remaining reader.new.inner) (W.contents writer.old.inner) (W.contents writer.new.inner) writer.new.failed }
+    ensures named { result ≡ 1 → NamesFault (E.contents errors.old.inner) (E.contents errors.new.inner) errors.new.failed ((reader.new.failed ≡ true) ⊎ (reader.new.reads ≡ u64.MAX)) (writer.new.failed ≡ true) (IsOfPlan (R.remaining reader.old.inner) (R.remaining reader.new.inner)) }
 {
     match quoted::<N, S, T, R>(rt, alloc, seed, spawner, deadline, after, reader) {
         Ok(answer) => tell(&answer, writer, errors),

@@ -7,28 +7,38 @@ use arrayvec::ArrayString;
 use itoa::Buffer;
 use quote_gateway::{GatewayFault, PlanFault, PlanWhy};
 use scope_script::{ScriptFault, Tally};
+use thiserror::Error;
 
-/// Why the program ends with status 1.
-#[derive(Clone, Copy)]
+/// Why the program ends with status 1. It is shown as on standard error, but for the program's name and the line's end.
+#[derive(Clone, Copy, Debug, Error)]
 pub enum ProgramFault {
     /// Standard input failed.
+    #[error("read")]
     Read,
     /// Standard output failed.
+    #[error("write")]
     Write,
     /// Memory was refused.
+    #[error("memory")]
     Memory,
     /// This line of the plan is the first bad one, counted from 1, for this cause; where no line says a mode
     /// and none is bad, it is the line after the last.
+    #[error("plan line {line}: bad-word: {}", .why.words())]
     PlanLine { line: usize, why: PlanWhy },
     /// The jobs weren't those of the plan.
+    #[error("strange")]
     Strange,
     /// A thread was refused, or a call for another cause than memory.
+    #[error("rejected")]
     Rejected,
     /// The scope of the jobs was cancelled.
+    #[error("cancelled")]
     Cancelled,
     /// The answer would rest on an end that is not the offer's.
+    #[error("lost")]
     Lost,
     /// The system gives no time.
+    #[error("time")]
     Time,
 }
 
@@ -70,7 +80,8 @@ impl ProgramFault {
         }
     }
 
-    /// The one line on standard error that names the fault, with its end. It takes no memory.
+    /// The one line on standard error that names the fault, with its end. It takes no memory. Its text is that of
+    /// the derive, of which no clause can speak: so it is made here once more, and a test compares the two.
     pub fn line(self) -> ArrayString<LINE_ROOM>
         ensures { result.bytes ≡ line_of self }
     {
@@ -127,4 +138,45 @@ pub fn tally_line(tally: Tally) -> ArrayString<LINE_ROOM>
     line.push_str(digits.format(tally.bad_words));
     line.push_str("\n");
     line
+}
+
+#[cfg(test)]
+mod tests {
+    use super::ProgramFault;
+    use quote_gateway::PlanWhy;
+    use std::alloc::{AllocError, Global};
+
+    const FAULTS: [ProgramFault; 10] = [
+        ProgramFault::Read,
+        ProgramFault::Write,
+        ProgramFault::Memory,
+        ProgramFault::PlanLine {
+            line: 1,
+            why: PlanWhy::ModeWanted,
+        },
+        ProgramFault::PlanLine {
+            line: 4_096,
+            why: PlanWhy::BadPrice,
+        },
+        ProgramFault::Strange,
+        ProgramFault::Rejected,
+        ProgramFault::Cancelled,
+        ProgramFault::Lost,
+        ProgramFault::Time,
+    ];
+
+    #[test]
+    fn lines_have_the_derived_texts(rt: HostRuntime) -> Result<(), AllocError> {
+        for fault in FAULTS {
+            let is_same = has_derived_text(rt.alloc(), fault)?;
+            assert!(rt; is_same, "{fault}");
+        }
+        Ok(())
+    }
+
+    /// Whether the line of the fault is the program's name, the text that the derive writes, and a line feed.
+    fn has_derived_text(alloc: Global, fault: ProgramFault) -> Result<bool, AllocError> {
+        let derived = format!(in alloc; "scopectl: {fault}\n")?;
+        Ok(fault.line().as_str() == derived.as_str())
+    }
 }

@@ -6,7 +6,7 @@ ghost use Rattle.quote_plan.specs.Plans.{labels_of};
 ghost use Rattle.quote_gateway.specs.Offers.{labels_in};
 ghost use Rattle.scopectl.specs.Program.{AllowedIn, AnswersPlan, Made, ReadPlan, SaysAllowed};
 ghost use Rattle.script_jobs.specs.Jobs.{ReadSome};
-ghost use Rattle.scopectl.specs.Naming.{CameFrom, IsBadLine, IsFaultAt, IsOfPlan};
+ghost use Rattle.scopectl.specs.Naming.{CameFrom, IsBadLine, IsOfPlan, MayEndPlan};
 
 use crate::fault::ProgramFault;
 use command_line::Delay;
@@ -49,7 +49,7 @@ pub fn quoted<
     requires named { seed ≡ N.table }
     ensures ok { IfOk result (λ text. Made (AnswersPlan deadline) (R.remaining reader.old.inner) (R.remaining reader.new.inner) (string_bytes text)) }
     ensures part { OnErr result (ReadSome (R.remaining reader.old.inner) (R.remaining reader.new.inner)) }
-    ensures came { IfErr result (λ fault. CameFrom fault ((reader.new.failed ≡ true) ⊎ (reader.new.reads ≡ u64.MAX)) ⊥ (IsOfPlan N.table deadline (R.remaining reader.old.inner) (R.remaining reader.new.inner))) }
+    ensures came { IfErr result (λ fault. CameFrom fault ((reader.new.failed ≡ true) ⊎ (reader.new.reads ≡ u64.MAX)) ⊥ (IsOfPlan (R.remaining reader.old.inner) (R.remaining reader.new.inner))) }
 {
     match read_from(alloc, reader) {
         Ok(plan) => answered::<N, S, T>(rt, alloc, seed, spawner, deadline, after, &plan),
@@ -99,7 +99,7 @@ fn answered<
 ) -> Result<String, ProgramFault>
     requires named { seed ≡ N.table }
     ensures ok { IfOk result (λ text. SaysAllowed deadline plan.now (string_bytes text)) }
-    ensures fault { IfErr result (IsFaultAt N.table deadline plan.now) }
+    ensures fault { IfErr result MayEndPlan }
 {
     let answer = match answer_to::<N, S, T>(rt, alloc, seed, spawner, deadline, after, plan) {
         Ok(answer) => answer,
@@ -127,7 +127,7 @@ fn answer_to<
 ) -> Result<Answer, ProgramFault>
     requires named { seed ≡ N.table }
     ensures ok { IfOk result (λ a. AllowedIn deadline plan.now (answer_text a)) }
-    ensures fault { IfErr result (IsFaultAt N.table deadline plan.now) }
+    ensures fault { IfErr result MayEndPlan }
 {
     let clock = SystemClock::starting_at(*rt, 0);
     let late = match late_by(after, clock) {
@@ -184,7 +184,7 @@ fn asked<
     requires named { seed ≡ N.table }
     requires labelled { labels_in jobs.items ≡ labels_of plan.now }
     ensures ok { IfOk result (λ a. AllowedText plan.now (answer_text a)) }
-    ensures fault { IfErr result (IsFaultAt N.table None plan.now) }
+    ensures fault { IfErr result MayEndPlan }
 {
     let served = match serve::<N, LateJob<T>, S, T>(rt, alloc, seed, plan, jobs, spawner) {
         Ok(served) => served,
@@ -216,7 +216,7 @@ fn asked_by<
     requires named { seed ≡ N.table }
     requires labelled { labels_in jobs.items ≡ labels_of plan.now }
     ensures ok { IfOk result (λ a. AllowedIn (Some deadline) plan.now (answer_text a)) }
-    ensures fault { IfErr result (IsFaultAt N.table (Some deadline) plan.now) }
+    ensures fault { IfErr result MayEndPlan }
 {
     let mut clock = clock;
     let by = u64::from(deadline);

@@ -1,9 +1,7 @@
 //! The threads of a plan's jobs, which there are only where the words say a quote.
 ghost use Rattle.std.specs.Prelude.{◌≡◌, ◌⊎◌, false, true, map, IfOk};
 ghost use Rattle.std.specs.String.{string_bytes};
-ghost use Rattle.atomic_table.specs.Seated.{TableId};
 ghost use Rattle.scopectl.specs.Acting.{Acts};
-ghost use Rattle.scopectl.specs.Naming.{IsOfPlan};
 
 use crate::act::{act, refuse_words};
 use command_line::Job;
@@ -34,7 +32,7 @@ pub fn act_on<T: CrewRuntime + SystemTime, R: Read + Drop, W: Write + Drop, E: W
 ) -> u8
     requires reader { reader.old.failed ≡ false }
     requires writer { writer.old.failed ≡ false }
-    ensures acts { Acts (map string_bytes owned.now) (reader.new ≡ reader.old) (writer.new ≡ writer.old) (errors.new ≡ errors.old) ((reader.new.failed ≡ true) ⊎ (reader.new.reads ≡ u64.MAX)) (R.remaining reader.old.inner) (R.remaining reader.new.inner) (W.contents writer.old.inner) (W.contents writer.new.inner) (E.contents errors.old.inner) (E.contents errors.new.inner) writer.new.failed errors.new.failed (λ deadline fault. (name : TableId) × IsOfPlan name deadline (R.remaining reader.old.inner) (R.remaining reader.new.inner) fault) result }
+    ensures acts { Acts (map string_bytes owned.now) (reader.new ≡ reader.old) (writer.new ≡ writer.old) (errors.new ≡ errors.old) ((reader.new.failed ≡ true) ⊎ (reader.new.reads ≡ u64.MAX)) (R.remaining reader.old.inner) (R.remaining reader.new.inner) (W.contents writer.old.inner) (W.contents writer.new.inner) (E.contents errors.old.inner) (E.contents errors.new.inner) writer.new.failed errors.new.failed result }
 {
     let Ok(words) = borrowed(alloc, owned) else {
         return refuse_words(ErrorKind::OutOfMemory, errors);
@@ -88,7 +86,7 @@ fn act_alone<
     requires named { seed ≡ N.table }
     requires reader { reader.old.failed ≡ false }
     requires writer { writer.old.failed ≡ false }
-    ensures acts { Acts (map (λ word. word.now) words.now) (reader.new ≡ reader.old) (writer.new ≡ writer.old) (errors.new ≡ errors.old) ((reader.new.failed ≡ true) ⊎ (reader.new.reads ≡ u64.MAX)) (R.remaining reader.old.inner) (R.remaining reader.new.inner) (W.contents writer.old.inner) (W.contents writer.new.inner) (E.contents errors.old.inner) (E.contents errors.new.inner) writer.new.failed errors.new.failed (λ deadline. IsOfPlan N.table deadline (R.remaining reader.old.inner) (R.remaining reader.new.inner)) result }
+    ensures acts { Acts (map (λ word. word.now) words.now) (reader.new ≡ reader.old) (writer.new ≡ writer.old) (errors.new ≡ errors.old) ((reader.new.failed ≡ true) ⊎ (reader.new.reads ≡ u64.MAX)) (R.remaining reader.old.inner) (R.remaining reader.new.inner) (W.contents writer.old.inner) (W.contents writer.new.inner) (E.contents errors.old.inner) (E.contents errors.new.inner) writer.new.failed errors.new.failed result }
 {
     act::<N, Nobody, T, R, W, E>(rt, alloc, seed, Nobody, words, reader, writer, errors)
 }
@@ -114,7 +112,7 @@ fn act_with_crew<
     requires named { seed ≡ N.table }
     requires reader { reader.old.failed ≡ false }
     requires writer { writer.old.failed ≡ false }
-    ensures acts { Acts (map (λ word. word.now) words.now) (reader.new ≡ reader.old) (writer.new ≡ writer.old) (errors.new ≡ errors.old) ((reader.new.failed ≡ true) ⊎ (reader.new.reads ≡ u64.MAX)) (R.remaining reader.old.inner) (R.remaining reader.new.inner) (W.contents writer.old.inner) (W.contents writer.new.inner) (E.contents errors.old.inner) (E.contents errors.new.inner) writer.new.failed errors.new.failed (λ deadline. IsOfPlan N.table deadline (R.remaining reader.old.inner) (R.remaining reader.new.inner)) result }
+    ensures acts { Acts (map (λ word. word.now) words.now) (reader.new ≡ reader.old) (writer.new ≡ writer.old) (errors.new ≡ errors.old) ((reader.new.failed ≡ true) ⊎ (reader.new.reads ≡ u64.MAX)) (R.remaining reader.old.inner) (R.remaining reader.new.inner) (W.contents writer.old.inner) (W.contents writer.new.inner) (E.contents errors.old.inner) (E.contents errors.new.inner) writer.new.failed errors.new.failed result }
 {
     let Ok(crew) = Crew::<N, JobWork<Due, N, LateJob<T>>>::open(rt, alloc, KEPT) else {
         return act_alone::<N, T, R, W, E>(rt, alloc, seed, words, reader, writer, errors);
@@ -146,7 +144,7 @@ fn act_over<
     requires named { seed ≡ N.table }
     requires reader { reader.old.failed ≡ false }
     requires writer { writer.old.failed ≡ false }
-    ensures acts { Acts (map (λ word. word.now) words.now) (reader.new ≡ reader.old) (writer.new ≡ writer.old) (errors.new ≡ errors.old) ((reader.new.failed ≡ true) ⊎ (reader.new.reads ≡ u64.MAX)) (R.remaining reader.old.inner) (R.remaining reader.new.inner) (W.contents writer.old.inner) (W.contents writer.new.inner) (E.contents errors.old.inner) (E.contents errors.new.inner) writer.new.failed errors.new.failed (λ deadline. IsOfPlan N.table deadline (R.remaining reader.old.inner) (R.remaining reader.new.inner)) result }
+    ensures acts { Acts (map (λ word. word.now) words.now) (reader.new ≡ reader.old) (writer.new ≡ writer.old) (errors.new ≡ errors.old) ((reader.new.failed ≡ true) ⊎ (reader.new.reads ≡ u64.MAX)) (R.remaining reader.old.inner) (R.remaining reader.new.inner) (W.contents writer.old.inner) (W.contents writer.new.inner) (E.contents errors.old.inner) (E.contents errors.new.inner) writer.new.failed errors.new.failed result }
 {
     match crew.threads() {
         Ok(threads) => act::<N, OsThreads<N, JobWork<Due, N, LateJob<T>>>, T, R, W, E>(

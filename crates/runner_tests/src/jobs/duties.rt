@@ -3,7 +3,7 @@ use super::calls::open;
 use super::deeds::{
     bind_and_unbind, grow, leave_two, look, meet_shielded, open_all, wait_for, wait_until,
 };
-use job_runner::{Answers, Job, JobWork, NamedJob, TaskCtx};
+use job_runner::{Answers, ForkRefusal, Job, JobWork, NamedJob, TaskCtx};
 use join_rules::Joiner;
 use realm_lock::RealmName;
 use scope_rules::{

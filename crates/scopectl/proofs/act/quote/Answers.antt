@@ -6,14 +6,14 @@ use Rattle.scopectl.proofs.Jobs.{came_weaker, quote_stopped, quote_told, quote_t
 use Rattle.scopectl.proofs.act.quote.Goals as goal
 
 pub returns-in-Ok-clause-done : goal.returns-in-Ok-clause-done
-returns-in-Ok-clause-done g c = λ limits e. quote_told limits _ _ _ _ _ _ c.in-Ok.ensures.ok (subst (Appends _ _) c.deref.ensures (c.tell.ensures.done e))
+returns-in-Ok-clause-done g c = λ e. quote_told _ _ _ _ _ _ _ c.in-Ok.ensures.ok (subst (Appends _ _) c.deref.ensures (c.tell.ensures.done e))
 
 pub returns-in-Ok-clause-fault : goal.returns-in-Ok-clause-fault
 returns-in-Ok-clause-fault g c =
-    λ limits e. quote_told_part limits _ _ _ _ _ _ _ c.in-Ok.ensures.ok (subst (AppendsPart _ _) c.deref.ensures (c.tell.ensures.fault e)) (c.tell.ensures.failed e)
+    λ e. quote_told_part _ _ _ _ _ _ _ _ c.in-Ok.ensures.ok (subst (AppendsPart _ _) c.deref.ensures (c.tell.ensures.fault e)) (c.tell.ensures.failed e)
 
 pub returns-in-Err-clause-fault : goal.returns-in-Err-clause-fault
-returns-in-Err-clause-fault g c = λ limits e. quote_stopped limits _ _ _ _ _ c.in-Err.ensures.part
+returns-in-Err-clause-fault g c = λ e. quote_stopped _ _ _ _ _ _ c.in-Err.ensures.part
 
 pub returns-in-Err-clause-named : goal.returns-in-Err-clause-named
 returns-in-Err-clause-named g c = λ e. record {

@@ -7,16 +7,16 @@ use Rattle.scopectl.proofs.act.replay_noted.Goals as goal
 
 pub returns-in-Ok-clause-done : goal.returns-in-Ok-clause-done
 returns-in-Ok-clause-done g c =
-    λ deadline e. replay_noted _ deadline _ _ _ _ _ _ _ _ _ _ _ (c.say_notes.ensures.told e) _ _ (c.say_notes.ensures.said e) c.in-Ok.ensures.ok
+    λ explain trace same e. replay_noted _ _ _ _ _ _ _ _ _ _ _ (c.say_notes.ensures.told e) explain trace _ _ same (c.say_notes.ensures.said e) c.in-Ok.ensures.ok
 
 pub returns-in-Ok-clause-fault : goal.returns-in-Ok-clause-fault
-returns-in-Ok-clause-fault g c = λ deadline e. replayed_all _ deadline _ _ _ _ _ _ c.in-Ok.ensures.ok.replay
+returns-in-Ok-clause-fault g c = λ explain trace e. replayed_all _ explain trace _ _ _ _ _ _ c.in-Ok.ensures.ok.replay
 
 pub returns-in-Ok-clause-named : goal.returns-in-Ok-clause-named
 returns-in-Ok-clause-named g c = λ e. record { fault = Memory; came = tt; line = c.say_notes.ensures.memory e }
 
 pub returns-in-Err-clause-fault : goal.returns-in-Err-clause-fault
-returns-in-Err-clause-fault g c = λ deadline e. replayed_part _ deadline _ _ _ _ _ c.in-Err.ensures.fault
+returns-in-Err-clause-fault g c = λ explain trace e. replayed_part _ explain trace _ _ _ _ _ c.in-Err.ensures.fault
 
 pub returns-in-Err-clause-named : goal.returns-in-Err-clause-named
 returns-in-Err-clause-named g c = λ e. record {

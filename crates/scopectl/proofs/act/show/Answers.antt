@@ -7,14 +7,14 @@ use Rattle.scopectl.proofs.act.show.Goals as goal
 
 pub returns-in-Ok-clause-done : goal.returns-in-Ok-clause-done
 returns-in-Ok-clause-done g c =
-    λ deadline wanted e. view_whole _ deadline _ _ _ _ _ _ _ _ _ _ _ (c.tell_shown.ensures.noted e) (c.tell_shown.ensures.told e) c.args.view wanted _ _ c.in-Ok.ensures.ok c.shown.ensures.unwritten (c.tell_shown.ensures.done e)
+    λ e. view_whole _ _ _ _ _ _ _ _ _ _ _ (c.tell_shown.ensures.told e) (c.tell_shown.ensures.noted e) c.args.view _ _ c.in-Ok.ensures.ok c.shown.ensures.unwritten (c.tell_shown.ensures.done e)
 
 pub returns-in-Ok-clause-fault : goal.returns-in-Ok-clause-fault
 returns-in-Ok-clause-fault g c =
-    λ deadline e. view_told_part c.args.view _ deadline _ _ _ _ _ _ _ (made c.args.view _ deadline _ _ _ _ c.in-Ok.ensures.ok) c.shown.ensures.unwritten (c.tell_shown.ensures.fault e) (c.tell_shown.ensures.failed e)
+    λ e. view_told_part c.args.view _ _ _ _ _ _ _ _ (made c.args.view _ _ _ _ _ c.in-Ok.ensures.ok) c.shown.ensures.unwritten (c.tell_shown.ensures.fault e) (c.tell_shown.ensures.failed e)
 
 pub returns-in-Err-clause-fault : goal.returns-in-Err-clause-fault
-returns-in-Err-clause-fault g c = λ deadline e. view_stopped c.args.view _ deadline _ _ _ _ _ c.in-Err.ensures.part c.shown.ensures.unwritten
+returns-in-Err-clause-fault g c = λ e. view_stopped c.args.view _ _ _ _ _ _ c.in-Err.ensures.part c.shown.ensures.unwritten
 
 pub returns-in-Ok-clause-named : goal.returns-in-Ok-clause-named
 returns-in-Ok-clause-named g c =
