@@ -14,6 +14,8 @@ mod doubles;
 #[cfg(test)]
 mod engine;
 #[cfg(test)]
+mod faults;
+#[cfg(test)]
 mod joins;
 #[cfg(test)]
 mod journals;
