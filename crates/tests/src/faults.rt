@@ -9,8 +9,8 @@ use std::process::Abort;
 use std::test::Fail;
 
 /// Whether the error shows this text.
-fn says<E: Error>(error: &E, text: &str) -> Result<bool, AllocError> {
-    let shown = format!(in Global; "{error}")?;
+fn says<E: Error>(alloc: Global, error: &E, text: &str) -> Result<bool, AllocError> {
+    let shown = format!(in alloc; "{error}")?;
     Ok(shown.as_str() == text)
 }
 
@@ -23,17 +23,18 @@ fn asks(refused: bool) -> Result<(), Refusal> {
 
 #[test]
 fn errors_say_what_they_are(rt: HostRuntime) -> Result<(), Fail> {
+    let alloc = rt.alloc();
     let bad = PlanFault::Word {
         line: 3,
         why: PlanWhy::TooLong,
     };
-    assert!(rt; says(&bad, "plan line 3: more than 200 bytes")?);
-    assert!(rt; says(&PlanFault::Memory, "memory was refused")?);
-    assert!(rt; says(&ScriptFault::Read, "the reader failed")?);
-    assert!(rt; says(&ScriptFault::Write, "the writer failed")?);
-    assert!(rt; says(&ScriptFault::Memory, "memory was refused")?);
-    assert!(rt; says(&StreamFailed, "the stream failed")?);
-    assert!(rt; says(&Refusal::TooMany, "refused 10 too-many")?);
+    assert!(rt; says(alloc, &bad, "plan line 3: more than 200 bytes")?);
+    assert!(rt; says(alloc, &PlanFault::Memory, "memory was refused")?);
+    assert!(rt; says(alloc, &ScriptFault::Read, "the reader failed")?);
+    assert!(rt; says(alloc, &ScriptFault::Write, "the writer failed")?);
+    assert!(rt; says(alloc, &ScriptFault::Memory, "memory was refused")?);
+    assert!(rt; says(alloc, &StreamFailed, "the stream failed")?);
+    assert!(rt; says(alloc, &Refusal::TooMany, "refused 10 too-many")?);
     assert!(rt; asks(true).err() == Some(Refusal::Memory) && asks(false).is_ok());
     Ok(())
 }
