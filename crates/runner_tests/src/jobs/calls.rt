@@ -1,5 +1,5 @@
-//! Calls of a context, each of which hands on numbers alone: so a row has nothing to drop on its many ways out,
-//! which is what makes a test dear to prove.
+//! Calls of a context, each of which hands on numbers alone, or none where it is refused: so a row has nothing to
+//! drop on its many ways out, which is what makes a test dear to prove.
 use super::logs::{end_after_cancel, end_of, is_closed, order_of_ends, starts_and_ends};
 use job_runner::TaskCtx;
 use join_rules::Joiner;
@@ -61,13 +61,13 @@ pub fn joins_to<N: RealmName, S: Spawner<N>, R: Wait>(
     ctx: &mut TaskCtx<AnyEnd, S, N>,
     scope: ScopeId,
     values: &[TaskValue],
-) -> Result<bool, Refusal> {
+) -> Option<bool> {
     match ctx.join(rt, scope) {
         Ok(joined) => match &joined.outcome {
-            Outcome::All(given) => Ok(given.as_slice() == values),
-            _ => Ok(false),
+            Outcome::All(given) => Some(given.as_slice() == values),
+            _ => Some(false),
         },
-        Err(refusal) => Err(refusal),
+        Err(_) => None,
     }
 }
 
@@ -76,13 +76,13 @@ pub fn joins_to_fault<N: RealmName, S: Spawner<N>, R: Wait>(
     rt: &R,
     ctx: &mut TaskCtx<AnyEnd, S, N>,
     scope: ScopeId,
-) -> Result<Option<(TaskId, Fault)>, Refusal> {
+) -> Option<(TaskId, Fault)> {
     match ctx.join(rt, scope) {
         Ok(joined) => match joined.outcome {
-            Outcome::Failed { task, fault } => Ok(Some((task, fault))),
-            _ => Ok(None),
+            Outcome::Failed { task, fault } => Some((task, fault)),
+            _ => None,
         },
-        Err(refusal) => Err(refusal),
+        Err(_) => None,
     }
 }
 
@@ -91,10 +91,10 @@ pub fn join<N: RealmName, S: Spawner<N>, R: Wait>(
     rt: &R,
     ctx: &mut TaskCtx<AnyEnd, S, N>,
     scope: ScopeId,
-) -> Result<(), Refusal> {
+) -> Option<()> {
     match ctx.join(rt, scope) {
-        Ok(_) => Ok(()),
-        Err(refusal) => Err(refusal),
+        Ok(_) => Some(()),
+        Err(_) => None,
     }
 }
 
@@ -103,10 +103,10 @@ pub fn close_bare<N: RealmName, S: Spawner<N>, R: Wait>(
     rt: &R,
     ctx: &mut TaskCtx<AnyEnd, S, N>,
     scope: ScopeId,
-) -> Result<(), Refusal> {
+) -> Option<()> {
     match ctx.close_scope_bare(rt, scope) {
-        Ok(_) => Ok(()),
-        Err(refusal) => Err(refusal),
+        Ok(_) => Some(()),
+        Err(_) => None,
     }
 }
 
@@ -116,16 +116,16 @@ pub fn show<N: RealmName, S: Spawner<N>, R: Wait>(
     ctx: &mut TaskCtx<AnyEnd, S, N>,
     scope: ScopeId,
     task: TaskId,
-) -> Result<Shown, Refusal> {
+) -> Option<Shown> {
     match ctx.view(rt, scope) {
-        Ok(view) => Ok(Shown {
+        Ok(view) => Some(Shown {
             order: order_of_ends(&view.log),
             runs: starts_and_ends(&view.log),
             end: end_of(&view.log, task),
             is_closed: is_closed(&view.log),
             counts: view.counts,
         }),
-        Err(refusal) => Err(refusal),
+        Err(_) => None,
     }
 }
 
@@ -134,13 +134,13 @@ pub fn close<N: RealmName, S: Spawner<N>, R: Wait>(
     rt: &R,
     ctx: &mut TaskCtx<AnyEnd, S, N>,
     scope: ScopeId,
-) -> Result<Reported, Refusal> {
+) -> Option<Reported> {
     match ctx.close_scope(rt, scope) {
-        Ok(report) => Ok(Reported {
+        Ok(report) => Some(Reported {
             runs: starts_and_ends(&report.log),
             after_cancel: end_after_cancel(&report.log),
             nested: report.nested.len(),
         }),
-        Err(refusal) => Err(refusal),
+        Err(_) => None,
     }
 }

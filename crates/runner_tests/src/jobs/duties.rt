@@ -27,6 +27,9 @@ pub const SHIELD: Options = Options {
 pub struct Board {
     flags: [AtomicU64; 2],
     called: AtomicU64,
+    /// How much was checked, and which check was the first that was wrong, or 0.
+    checks: AtomicU64,
+    wrong: AtomicU64,
     pub label: Label,
     pub key: Name,
 }
@@ -44,6 +47,8 @@ impl Board {
         let board = Board {
             flags: [AtomicU64::new(0), AtomicU64::new(0)],
             called: AtomicU64::new(0),
+            checks: AtomicU64::new(0),
+            wrong: AtomicU64::new(0),
             label,
             key: Name::new(b"user")?,
         };
@@ -53,6 +58,24 @@ impl Board {
     /// How many jobs were called.
     pub fn calls(&self) -> u64 {
         self.called.load(Ordering::SeqCst)
+    }
+
+    /// Checks that it is right.
+    pub fn check(&self, is_right: bool) {
+        let number = self.checks.fetch_add(1, Ordering::SeqCst).saturating_add(1);
+        if !is_right && self.wrong() == 0 {
+            self.wrong.store(number, Ordering::SeqCst);
+        }
+    }
+
+    /// How much was checked.
+    pub fn checks(&self) -> u64 {
+        self.checks.load(Ordering::SeqCst)
+    }
+
+    /// The number of the first check that was wrong, from 1, or 0.
+    pub fn wrong(&self) -> u64 {
+        self.wrong.load(Ordering::SeqCst)
     }
 
     fn note(&self) {

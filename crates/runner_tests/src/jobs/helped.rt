@@ -25,9 +25,9 @@ fn help_once<N: RealmName, R: Wait>(rt: &R, ctx: &mut MainCtx<N>, board: &Shared
     let scope = open(rt, ctx, Joiner::AwaitAll, Options::PLAIN).ok()?;
     let task = fork(rt, ctx, scope, board, Duty::Plain(7)).ok()?;
     let has_helped = ctx.help::<TestJob, R>(rt, scope);
-    join(rt, ctx, scope).ok()?;
+    join(rt, ctx, scope)?;
     let is_right = ctx.result(rt, task) == Ok(Value::Num(7));
-    close_bare(rt, ctx, scope).ok()?;
+    close_bare(rt, ctx, scope)?;
     if is_right { Some(has_helped) } else { None }
 }
 

@@ -11,10 +11,8 @@ use job_runner::{JobWork, TaskCtx};
 use join_rules::Joiner;
 use realm_lock::RealmName;
 use scope_rules::{AnyEnd, Limits, Options, Refusal, Value};
-use std::process::Abort;
 use std::rt::Files;
 use std::sync::Wait;
-use std::test::Fail;
 use thread_crew::Spawns;
 
 /// Which row.
@@ -71,12 +69,13 @@ impl Row {
     }
 }
 
-/// Plays the row, with jobs that share the board.
-pub fn play<
-    N: RealmName,
-    S: Spawns<N, JobWork<AnyEnd, N, TestJob>>,
-    R: Wait + Abort + Files + Alloc,
->(rt: &R, ctx: &mut TaskCtx<AnyEnd, S, N>, board: &Shared, row: Row) -> Result<(), Fail> {
+/// Plays the row, with jobs that share the board, which has what was found wrong. None where a call was refused.
+pub fn play<N: RealmName, S: Spawns<N, JobWork<AnyEnd, N, TestJob>>, R: Wait + Files + Alloc>(
+    rt: &R,
+    ctx: &mut TaskCtx<AnyEnd, S, N>,
+    board: &Shared,
+    row: Row,
+) -> Option<()> {
     match row {
         Row::Meet { looks, first } => two_meet(rt, ctx, board, looks, first),
         Row::Tree => a_tree_grows(rt, ctx, board),
@@ -96,14 +95,14 @@ pub fn play<
 }
 
 /// Two jobs look for one another.
-fn two_meet<N: RealmName, S: Spawns<N, JobWork<AnyEnd, N, TestJob>>, R: Wait + Abort>(
+fn two_meet<N: RealmName, S: Spawns<N, JobWork<AnyEnd, N, TestJob>>, R: Wait>(
     rt: &R,
     ctx: &mut TaskCtx<AnyEnd, S, N>,
     board: &Shared,
     looks: u32,
     ends: i64,
-) -> Result<(), Fail> {
-    let scope = open(rt, ctx, Joiner::All, Options::PLAIN)?;
+) -> Option<()> {
+    let scope = open(rt, ctx, Joiner::All, Options::PLAIN).ok()?;
     let one = Duty::Meets {
         is_first: true,
         looks,
@@ -112,59 +111,50 @@ fn two_meet<N: RealmName, S: Spawns<N, JobWork<AnyEnd, N, TestJob>>, R: Wait + A
         is_first: false,
         looks,
     };
-    let first = fork(rt, ctx, scope, board, one);
-    let second = fork(rt, ctx, scope, board, other);
-    let (Ok(first), Ok(second)) = (first, second) else {
-        return Err("no fork")?;
-    };
-    assert!(rt; joins_to(rt, ctx, scope, &[valued(first, ends), valued(second, 1)])?);
-    assert_eq!(rt; number_of(rt, ctx, first), ends);
-    assert_eq!(rt; number_of(rt, ctx, second), 1);
+    let first = fork(rt, ctx, scope, board, one).ok()?;
+    let second = fork(rt, ctx, scope, board, other).ok()?;
+    board.check(joins_to(rt, ctx, scope, &[valued(first, ends), valued(second, 1)])?);
+    board.check(number_of(rt, ctx, first) == ends);
+    board.check(number_of(rt, ctx, second) == 1);
     close_bare(rt, ctx, scope)?;
-    assert_eq!(rt; board.calls(), 2);
-    Ok(())
+    board.check(board.calls() == 2);
+    Some(())
 }
 
 /// Jobs fork jobs, and read the binding that they inherit.
-fn a_tree_grows<N: RealmName, S: Spawns<N, JobWork<AnyEnd, N, TestJob>>, R: Wait + Abort>(
+fn a_tree_grows<N: RealmName, S: Spawns<N, JobWork<AnyEnd, N, TestJob>>, R: Wait>(
     rt: &R,
     ctx: &mut TaskCtx<AnyEnd, S, N>,
     board: &Shared,
-) -> Result<(), Fail> {
-    ctx.bind(rt, board.key, Value::Num(7))?;
-    let scope = open(rt, ctx, Joiner::AwaitAll, Options::PLAIN)?;
-    let Ok(root) = fork(rt, ctx, scope, board, Duty::Tree { depth: 6 }) else {
-        return Err("no fork")?;
-    };
+) -> Option<()> {
+    ctx.bind(rt, board.key, Value::Num(7)).ok()?;
+    let scope = open(rt, ctx, Joiner::AwaitAll, Options::PLAIN).ok()?;
+    let root = fork(rt, ctx, scope, board, Duty::Tree { depth: 6 }).ok()?;
     join(rt, ctx, scope)?;
-    assert_eq!(rt; number_of(rt, ctx, root), 127);
+    board.check(number_of(rt, ctx, root) == 127);
     close_bare(rt, ctx, scope)?;
-    ctx.unbind(rt)?;
-    assert_eq!(rt; board.calls(), 127);
-    Ok(())
+    ctx.unbind(rt).ok()?;
+    board.check(board.calls() == 127);
+    Some(())
 }
 
 /// The second thread is refused: its job comes back uncalled, and the join answers without it.
-fn second_thread_is_refused<
-    N: RealmName,
-    S: Spawns<N, JobWork<AnyEnd, N, TestJob>>,
-    R: Wait + Abort,
->(rt: &R, ctx: &mut TaskCtx<AnyEnd, S, N>, board: &Shared) -> Result<(), Fail> {
-    let scope = open(rt, ctx, Joiner::All, Options::PLAIN)?;
-    let Ok(first) = fork(rt, ctx, scope, board, Duty::Plain(1)) else {
-        return Err("no fork")?;
-    };
-    let Err(back) = fork(rt, ctx, scope, board, Duty::Plain(2)) else {
-        return Err("the second thread was not refused")?;
-    };
-    assert!(rt; back.task == Some(2) && back.refusal == Refusal::Rejected);
-    assert!(rt; matches!(back.duty, Duty::Plain(2)));
-    assert!(rt; joins_to(rt, ctx, scope, &[valued(first, 1)])?);
-    assert_eq!(rt; number_of(rt, ctx, first), 1);
+fn second_thread_is_refused<N: RealmName, S: Spawns<N, JobWork<AnyEnd, N, TestJob>>, R: Wait>(
+    rt: &R,
+    ctx: &mut TaskCtx<AnyEnd, S, N>,
+    board: &Shared,
+) -> Option<()> {
+    let scope = open(rt, ctx, Joiner::All, Options::PLAIN).ok()?;
+    let first = fork(rt, ctx, scope, board, Duty::Plain(1)).ok()?;
+    let back = fork(rt, ctx, scope, board, Duty::Plain(2)).err()?;
+    board.check(back.task == Some(2) && back.refusal == Refusal::Rejected);
+    board.check(matches!(back.duty, Duty::Plain(2)));
+    board.check(joins_to(rt, ctx, scope, &[valued(first, 1)])?);
+    board.check(number_of(rt, ctx, first) == 1);
     let counts = show(rt, ctx, scope, first)?.counts;
-    assert!(rt; counts.never == 1 && counts.finished == 1);
+    board.check(counts.never == 1 && counts.finished == 1);
     let report = close(rt, ctx, scope)?;
-    assert!(rt; report.nested == 0 && report.runs == (1, 1));
-    assert_eq!(rt; board.calls(), 1);
-    Ok(())
+    board.check(report.nested == 0 && report.runs == (1, 1));
+    board.check(board.calls() == 1);
+    Some(())
 }

@@ -46,7 +46,13 @@ where
     R: Wait + Abort + Files + Alloc,
 {
     let board = Board::shared(alloc).ok_or("memory")?;
-    play(rt, ctx, &board, row)
+    let is_played = play(rt, ctx, &board, row).is_some();
+    let (checks, wrong) = (board.checks(), board.wrong());
+    assert!(rt;
+        is_played && wrong == 0,
+        "of {checks} checks, the {wrong}th was wrong"
+    );
+    Ok(())
 }
 
 /// The row over the crew's threads, of which one may be refused.
