@@ -1,6 +1,5 @@
 //! Jobs of several kinds, and the spawners that run them.
 
-mod calls;
 mod deeds;
 mod duties;
 mod helped;

@@ -1,7 +1,6 @@
 //! What the jobs do in their contexts.
 ghost use Rattle.std.specs.Prelude.{◌≡◌};
 
-use super::calls::{close_bare, join, open};
 use super::duties::{Duty, SHIELD, Shared, TestJob, fork, number_of};
 use job_runner::{JobWork, TaskCtx};
 use join_rules::Joiner;
@@ -53,7 +52,7 @@ pub fn leave_two<N: RealmName, S: Spawns<N, JobWork<AnyEnd, N, TestJob>>, R: Wai
     ctx: &mut TaskCtx<AnyEnd, S, N>,
     board: &Shared,
 ) {
-    if let Ok(scope) = open(rt, ctx, Joiner::AwaitAll, Options::PLAIN) {
+    if let Ok(scope) = ctx.open(rt, Joiner::AwaitAll, Options::PLAIN) {
         let _task = fork(rt, ctx, scope, board, Duty::LeavesOpen);
     }
 }
@@ -65,16 +64,16 @@ pub fn meet_shielded<N: RealmName, S: Spawns<N, JobWork<AnyEnd, N, TestJob>>, R:
     board: &Shared,
 ) -> i64 {
     let _mark = ctx.wait_cancelled(rt);
-    let Ok(scope) = open(rt, ctx, Joiner::AwaitAll, SHIELD) else {
+    let Ok(scope) = ctx.open(rt, Joiner::AwaitAll, SHIELD) else {
         return 0;
     };
     let task = fork(rt, ctx, scope, board, Duty::Plain(3));
-    let _joined = join(rt, ctx, scope);
+    let _joined = ctx.join(rt, scope);
     let number = match task {
         Ok(task) => number_of(rt, ctx, task),
         Err(_) => 0,
     };
-    let _how = close_bare(rt, ctx, scope);
+    let _how = ctx.close_scope_bare(rt, scope);
     number
 }
 
@@ -83,11 +82,11 @@ pub fn open_all<N: RealmName, S: Spawner<N>, R: Wait>(
     rt: &R,
     ctx: &mut TaskCtx<AnyEnd, S, N>,
 ) -> i64 {
-    let Ok(outermost) = open(rt, ctx, Joiner::AwaitAll, Options::PLAIN) else {
+    let Ok(outermost) = ctx.open(rt, Joiner::AwaitAll, Options::PLAIN) else {
         return 0;
     };
     let opened = open_inside(rt, ctx);
-    let _how = close_bare(rt, ctx, outermost);
+    let _how = ctx.close_scope_bare(rt, outermost);
     opened.saturating_add(1)
 }
 
@@ -97,7 +96,7 @@ fn open_inside<N: RealmName, S: Spawner<N>, R: Wait>(
     ctx: &mut TaskCtx<AnyEnd, S, N>,
 ) -> i64 {
     for opened in 0..100i64 {
-        if open(rt, ctx, Joiner::AwaitAll, Options::PLAIN).is_err() {
+        if ctx.open(rt, Joiner::AwaitAll, Options::PLAIN).is_err() {
             return opened;
         }
     }
@@ -148,12 +147,12 @@ fn below<N: RealmName, S: Spawns<N, JobWork<AnyEnd, N, TestJob>>, R: Wait>(
     board: &Shared,
     depth: u32,
 ) -> i64 {
-    let Ok(scope) = open(rt, ctx, Joiner::AwaitAll, Options::PLAIN) else {
+    let Ok(scope) = ctx.open(rt, Joiner::AwaitAll, Options::PLAIN) else {
         return 0;
     };
     let left = fork(rt, ctx, scope, board, Duty::Tree { depth });
     let right = fork(rt, ctx, scope, board, Duty::Tree { depth });
-    let _joined = join(rt, ctx, scope);
+    let _joined = ctx.join(rt, scope);
     let mut all = 0i64;
     if let Ok(task) = left {
         all = number_of(rt, ctx, task);
@@ -161,6 +160,6 @@ fn below<N: RealmName, S: Spawns<N, JobWork<AnyEnd, N, TestJob>>, R: Wait>(
     if let Ok(task) = right {
         all = all.saturating_add(number_of(rt, ctx, task));
     }
-    let _how = close_bare(rt, ctx, scope);
+    let _how = ctx.close_scope_bare(rt, scope);
     all
 }

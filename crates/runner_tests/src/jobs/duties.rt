@@ -1,9 +1,8 @@
 //! Jobs of several kinds, and how they are forked.
-use super::calls::open;
 use super::deeds::{
     bind_and_unbind, grow, leave_two, look, meet_shielded, open_all, wait_for, wait_until,
 };
-use job_runner::{Answers, ForkRefusal, Job, JobWork, NamedJob, TaskCtx};
+use job_runner::{Answers, Job, JobWork, NamedJob, TaskCtx};
 use join_rules::Joiner;
 use realm_lock::RealmName;
 use scope_rules::{
@@ -27,9 +26,6 @@ pub const SHIELD: Options = Options {
 pub struct Board {
     flags: [AtomicU64; 2],
     called: AtomicU64,
-    /// How much was checked, and which check was the first that was wrong, or 0.
-    checks: AtomicU64,
-    wrong: AtomicU64,
     pub label: Label,
     pub key: Name,
 }
@@ -47,8 +43,6 @@ impl Board {
         let board = Board {
             flags: [AtomicU64::new(0), AtomicU64::new(0)],
             called: AtomicU64::new(0),
-            checks: AtomicU64::new(0),
-            wrong: AtomicU64::new(0),
             label,
             key: Name::new(b"user")?,
         };
@@ -58,24 +52,6 @@ impl Board {
     /// How many jobs were called.
     pub fn calls(&self) -> u64 {
         self.called.load(Ordering::SeqCst)
-    }
-
-    /// Checks that it is right.
-    pub fn check(&self, is_right: bool) {
-        let number = self.checks.fetch_add(1, Ordering::SeqCst).saturating_add(1);
-        if !is_right && self.wrong() == 0 {
-            self.wrong.store(number, Ordering::SeqCst);
-        }
-    }
-
-    /// How much was checked.
-    pub fn checks(&self) -> u64 {
-        self.checks.load(Ordering::SeqCst)
-    }
-
-    /// The number of the first check that was wrong, from 1, or 0.
-    pub fn wrong(&self) -> u64 {
-        self.wrong.load(Ordering::SeqCst)
     }
 
     fn note(&self) {
@@ -159,7 +135,7 @@ impl<N: RealmName, S: Spawns<N, JobWork<AnyEnd, N, TestJob>>> Job<AnyEnd, S, N> 
             Duty::Looks { looks } => look(ctx, looks),
             Duty::Waits => wait_until(rt, ctx),
             Duty::LeavesOpen => {
-                let _scope = open(rt, ctx, Joiner::AwaitAll, Options::PLAIN);
+                let _scope = ctx.open(rt, Joiner::AwaitAll, Options::PLAIN);
                 5
             }
             Duty::LeavesTwo => {
@@ -168,9 +144,9 @@ impl<N: RealmName, S: Spawns<N, JobWork<AnyEnd, N, TestJob>>> Job<AnyEnd, S, N> 
             }
             Duty::Shielded => meet_shielded(rt, ctx, &board),
             Duty::OpensAll => open_all(rt, ctx),
-            Duty::Opens => match open(rt, ctx, Joiner::AwaitAll, Options::PLAIN) {
+            Duty::Opens => match ctx.open(rt, Joiner::AwaitAll, Options::PLAIN) {
                 Ok(_) => 0,
-                Err(refusal) => i64::from(refusal.number()),
+                Err((refusal, _)) => i64::from(refusal.number()),
             },
             Duty::Binds => bind_and_unbind(rt, ctx, board.key),
             Duty::Tree { depth } => grow(rt, ctx, &board, depth),
@@ -180,53 +156,25 @@ impl<N: RealmName, S: Spawns<N, JobWork<AnyEnd, N, TestJob>>> Job<AnyEnd, S, N> 
 }
 
 /// The job under the board's label. None where no share of the board is had.
-fn named(board: &Shared, duty: Duty) -> Option<NamedJob<AnyEnd, TestJob>> {
+pub fn named(board: &Shared, duty: Duty) -> Option<NamedJob<AnyEnd, TestJob>> {
     let share = Arc::try_clone(board).ok()?;
     let job = TestJob { duty, board: share };
     Some(NamedJob::new(board.label, job))
 }
 
-/// A job that its fork handed back: why, of which task, if it has a number, and what its duty is.
-#[derive(Clone, Copy)]
-pub struct Back {
-    pub refusal: Refusal,
-    pub task: Option<TaskId>,
-    pub duty: Duty,
-}
-
-/// What is to be said of the job.
-fn back_of(refused: ForkRefusal<AnyEnd, TestJob>) -> Back {
-    let refusal = refused.refusal();
-    let task = match &refused {
-        ForkRefusal::Before(_, _) => None,
-        ForkRefusal::Rejected(task, _) => Some(*task),
-    };
-    Back {
-        refusal,
-        task,
-        duty: refused.into_job().into_job().duty,
-    }
-}
-
-/// Forks a job in the scope, and gives its task, or says which was handed back.
+/// Forks a job in the scope, and gives its task.
 pub fn fork<N: RealmName, S: Spawns<N, JobWork<AnyEnd, N, TestJob>>, R: Wait>(
     rt: &R,
     ctx: &mut TaskCtx<AnyEnd, S, N>,
     scope: ScopeId,
     board: &Shared,
     duty: Duty,
-) -> Result<TaskId, Back> {
+) -> Result<TaskId, Refusal> {
     let Some(job) = named(board, duty) else {
-        return Err(Back {
-            refusal: Refusal::Memory,
-            task: None,
-            duty,
-        });
+        return Err(Refusal::Memory);
     };
-    match ctx.fork_job(rt, scope, job) {
-        Ok(ForkReply::Thread(task)) => Ok(task),
-        Ok(ForkReply::Never(task)) => Ok(task),
-        Err(refused) => Err(back_of(refused)),
+    match ctx.fork_job(rt, scope, job)? {
+        ForkReply::Thread(task) | ForkReply::Never(task) => Ok(task),
     }
 }
 

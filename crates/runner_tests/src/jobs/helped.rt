@@ -1,7 +1,6 @@
 //! Jobs that main runs itself, where no thread has taken them yet.
 ghost use Rattle.std.specs.Prelude.{◌≡◌};
 
-use super::calls::{close_bare, join, open};
 use super::duties::{Board, Duty, Shared, TestJob, fork};
 use job_runner::{JobWork, TaskCtx};
 use join_rules::Joiner;
@@ -22,12 +21,14 @@ type MainCtx<N> = TaskCtx<AnyEnd, OsThreads<N, JobWork<AnyEnd, N, TestJob>>, N>;
 /// Opens a scope, forks a job, helps, joins and closes: whether main ran the job. None where that didn't end as
 /// it was to.
 fn help_once<N: RealmName, R: Wait>(rt: &R, ctx: &mut MainCtx<N>, board: &Shared) -> Option<bool> {
-    let scope = open(rt, ctx, Joiner::AwaitAll, Options::PLAIN).ok()?;
+    let Ok(scope) = ctx.open(rt, Joiner::AwaitAll, Options::PLAIN) else {
+        return None;
+    };
     let task = fork(rt, ctx, scope, board, Duty::Plain(7)).ok()?;
     let has_helped = ctx.help::<TestJob, R>(rt, scope);
-    join(rt, ctx, scope)?;
+    ctx.join(rt, scope).ok()?;
     let is_right = ctx.result(rt, task) == Ok(Value::Num(7));
-    close_bare(rt, ctx, scope)?;
+    ctx.close_scope_bare(rt, scope).ok()?;
     if is_right { Some(has_helped) } else { None }
 }
 

@@ -1,7 +1,7 @@
 //! What a log says of the tasks of its scope.
 
 use scope_log::{LogEntry, ScopeLog};
-use scope_rules::{End, TaskId};
+use scope_rules::{End, TaskId, Value};
 
 /// How many starts and ends of tasks the log has.
 pub fn starts_and_ends(log: &ScopeLog) -> (u64, u64) {
@@ -32,17 +32,19 @@ pub fn order_of_ends(log: &ScopeLog) -> (TaskId, TaskId) {
     (first, last)
 }
 
-/// The first end, if the scope had become cancelled before.
-pub fn end_after_cancel(log: &ScopeLog) -> Option<End> {
+/// Whether a task ended with the number, after the scope had become cancelled.
+pub fn ends_after_cancel(log: &ScopeLog, number: i64) -> bool {
     let mut cancelled = false;
     for entry in log.entries() {
         match entry {
             LogEntry::Cancelled(_) => cancelled = true,
-            LogEntry::Finish { end, .. } => return if cancelled { Some(*end) } else { None },
+            LogEntry::Finish { end, .. } => {
+                return cancelled && *end == Ok(Value::Num(number));
+            }
             _ => {}
         }
     }
-    None
+    false
 }
 
 /// How the task ended, if the log has that.

@@ -1,18 +1,20 @@
 //! Rows of what main does with jobs in its context: which there are, and two that look for one another, a
 //! tree, and a thread that is refused.
-use super::calls::{close, close_bare, join, joins_to, open, show, valued};
-use super::duties::{Duty, Shared, TestJob, fork, number_of};
+use super::duties::{Duty, Shared, TestJob, fork, named, number_of};
+use super::logs::starts_and_ends;
 use super::outcomes::{
     main_cancels, nth_is_refused, one_ends_with, one_fails, time_runs_out, two_end_in_reverse,
 };
 use super::soak::soak;
 use super::unruly::{little_room, one_is_left_open, ten_rounds, two_are_left_open};
-use job_runner::{JobWork, TaskCtx};
+use job_runner::{ForkRefusal, JobWork, TaskCtx};
 use join_rules::Joiner;
 use realm_lock::RealmName;
-use scope_rules::{AnyEnd, Limits, Options, Refusal, Value};
+use scope_rules::{AnyEnd, Limits, Options, Outcome, Refusal, Value};
+use std::process::Abort;
 use std::rt::Files;
 use std::sync::Wait;
+use std::test::Fail;
 use thread_crew::Spawns;
 
 /// Which row.
@@ -69,13 +71,12 @@ impl Row {
     }
 }
 
-/// Plays the row, with jobs that share the board, which has what was found wrong. None where a call was refused.
-pub fn play<N: RealmName, S: Spawns<N, JobWork<AnyEnd, N, TestJob>>, R: Wait + Files + Alloc>(
-    rt: &R,
-    ctx: &mut TaskCtx<AnyEnd, S, N>,
-    board: &Shared,
-    row: Row,
-) -> Option<()> {
+/// Plays the row, with jobs that share the board.
+pub fn play<
+    N: RealmName,
+    S: Spawns<N, JobWork<AnyEnd, N, TestJob>>,
+    R: Wait + Abort + Files + Alloc,
+>(rt: &R, ctx: &mut TaskCtx<AnyEnd, S, N>, board: &Shared, row: Row) -> Result<(), Fail> {
     match row {
         Row::Meet { looks, first } => two_meet(rt, ctx, board, looks, first),
         Row::Tree => a_tree_grows(rt, ctx, board),
@@ -95,66 +96,101 @@ pub fn play<N: RealmName, S: Spawns<N, JobWork<AnyEnd, N, TestJob>>, R: Wait + F
 }
 
 /// Two jobs look for one another.
-fn two_meet<N: RealmName, S: Spawns<N, JobWork<AnyEnd, N, TestJob>>, R: Wait>(
+fn two_meet<N: RealmName, S: Spawns<N, JobWork<AnyEnd, N, TestJob>>, R: Wait + Abort>(
     rt: &R,
     ctx: &mut TaskCtx<AnyEnd, S, N>,
     board: &Shared,
     looks: u32,
     ends: i64,
-) -> Option<()> {
-    let scope = open(rt, ctx, Joiner::All, Options::PLAIN).ok()?;
-    let one = Duty::Meets {
-        is_first: true,
-        looks,
+) -> Result<(), Fail> {
+    let Ok(scope) = ctx.open(rt, Joiner::All, Options::PLAIN) else {
+        return Err("no scope")?;
     };
-    let other = Duty::Meets {
-        is_first: false,
-        looks,
+    let first = fork(
+        rt,
+        ctx,
+        scope,
+        board,
+        Duty::Meets {
+            is_first: true,
+            looks,
+        },
+    );
+    let second = fork(
+        rt,
+        ctx,
+        scope,
+        board,
+        Duty::Meets {
+            is_first: false,
+            looks,
+        },
+    );
+    let (Ok(first), Ok(second)) = (first, second) else {
+        return Err("no fork")?;
     };
-    let first = fork(rt, ctx, scope, board, one).ok()?;
-    let second = fork(rt, ctx, scope, board, other).ok()?;
-    board.check(joins_to(rt, ctx, scope, &[valued(first, ends), valued(second, 1)])?);
-    board.check(number_of(rt, ctx, first) == ends);
-    board.check(number_of(rt, ctx, second) == 1);
-    close_bare(rt, ctx, scope)?;
-    board.check(board.calls() == 2);
-    Some(())
+    let joined = ctx.join(rt, scope)?;
+    assert!(rt; matches!(joined.outcome, Outcome::All(_)));
+    assert_eq!(rt; number_of(rt, ctx, first), ends);
+    assert_eq!(rt; number_of(rt, ctx, second), 1);
+    ctx.close_scope_bare(rt, scope)?;
+    assert_eq!(rt; board.calls(), 2);
+    Ok(())
 }
 
 /// Jobs fork jobs, and read the binding that they inherit.
-fn a_tree_grows<N: RealmName, S: Spawns<N, JobWork<AnyEnd, N, TestJob>>, R: Wait>(
+fn a_tree_grows<N: RealmName, S: Spawns<N, JobWork<AnyEnd, N, TestJob>>, R: Wait + Abort>(
     rt: &R,
     ctx: &mut TaskCtx<AnyEnd, S, N>,
     board: &Shared,
-) -> Option<()> {
-    ctx.bind(rt, board.key, Value::Num(7)).ok()?;
-    let scope = open(rt, ctx, Joiner::AwaitAll, Options::PLAIN).ok()?;
-    let root = fork(rt, ctx, scope, board, Duty::Tree { depth: 6 }).ok()?;
-    join(rt, ctx, scope)?;
-    board.check(number_of(rt, ctx, root) == 127);
-    close_bare(rt, ctx, scope)?;
-    ctx.unbind(rt).ok()?;
-    board.check(board.calls() == 127);
-    Some(())
+) -> Result<(), Fail> {
+    ctx.bind(rt, board.key, Value::Num(7))?;
+    let Ok(scope) = ctx.open(rt, Joiner::AwaitAll, Options::PLAIN) else {
+        return Err("no scope")?;
+    };
+    let Ok(root) = fork(rt, ctx, scope, board, Duty::Tree { depth: 6 }) else {
+        return Err("no fork")?;
+    };
+    ctx.join(rt, scope)?;
+    assert_eq!(rt; number_of(rt, ctx, root), 127);
+    ctx.close_scope_bare(rt, scope)?;
+    ctx.unbind(rt)?;
+    assert_eq!(rt; board.calls(), 127);
+    Ok(())
 }
 
 /// The second thread is refused: its job comes back uncalled, and the join answers without it.
-fn second_thread_is_refused<N: RealmName, S: Spawns<N, JobWork<AnyEnd, N, TestJob>>, R: Wait>(
-    rt: &R,
-    ctx: &mut TaskCtx<AnyEnd, S, N>,
-    board: &Shared,
-) -> Option<()> {
-    let scope = open(rt, ctx, Joiner::All, Options::PLAIN).ok()?;
-    let first = fork(rt, ctx, scope, board, Duty::Plain(1)).ok()?;
-    let back = fork(rt, ctx, scope, board, Duty::Plain(2)).err()?;
-    board.check(back.task == Some(2) && back.refusal == Refusal::Rejected);
-    board.check(matches!(back.duty, Duty::Plain(2)));
-    board.check(joins_to(rt, ctx, scope, &[valued(first, 1)])?);
-    board.check(number_of(rt, ctx, first) == 1);
-    let counts = show(rt, ctx, scope, first)?.counts;
-    board.check(counts.never == 1 && counts.finished == 1);
-    let report = close(rt, ctx, scope)?;
-    board.check(report.nested == 0 && report.runs == (1, 1));
-    board.check(board.calls() == 1);
-    Some(())
+fn second_thread_is_refused<
+    N: RealmName,
+    S: Spawns<N, JobWork<AnyEnd, N, TestJob>>,
+    R: Wait + Abort,
+>(rt: &R, ctx: &mut TaskCtx<AnyEnd, S, N>, board: &Shared) -> Result<(), Fail> {
+    let Ok(scope) = ctx.open(rt, Joiner::All, Options::PLAIN) else {
+        return Err("no scope")?;
+    };
+    let Ok(first) = fork(rt, ctx, scope, board, Duty::Plain(1)) else {
+        return Err("no fork")?;
+    };
+    let job = named(board, Duty::Plain(2)).ok_or("memory")?;
+    let Err(refused) = ctx.fork_job(rt, scope, job) else {
+        return Err("the second thread was not refused")?;
+    };
+    assert!(rt; matches!(&refused, ForkRefusal::Rejected(2, _)));
+    assert!(rt; refused.refusal() == Refusal::Rejected);
+    assert!(rt; matches!(refused.into_job().into_job().duty, Duty::Plain(2)));
+    let joined = ctx.join(rt, scope)?;
+    assert!(rt;
+        match &joined.outcome {
+            Outcome::All(values) => values.as_slice().len() == 1
+                && values.as_slice()[0].task == first,
+            _ => false
+        }
+    );
+    assert_eq!(rt; number_of(rt, ctx, first), 1);
+    let view = ctx.view(rt, scope)?;
+    assert!(rt; view.counts.never == 1 && view.counts.finished == 1);
+    let report = ctx.close_scope(rt, scope)?;
+    assert!(rt; report.nested.is_empty() && starts_and_ends(&report.log) == (1, 1));
+    assert_eq!(rt; board.calls(), 1);
+    Ok(())
 }

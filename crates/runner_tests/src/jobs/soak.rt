@@ -1,18 +1,19 @@
 //! Two thousand rounds of eight jobs on one realm, which retires between them: each report is right, each job
 //! was called once, and memory doesn't grow.
-use super::calls::{join, open};
 use super::duties::{Duty, Shared, TestJob, fork};
 use super::logs::{end_of, starts_and_ends};
-use super::unruly::{left_open, retired};
+use super::unruly::left_open;
 use job_runner::{JobWork, TaskCtx};
 use join_rules::Joiner;
 use realm_lock::RealmName;
 use scope_log::ScopeLog;
 use scope_rules::{AnyEnd, End, Fault, Options, ScopeId, TaskId, Value};
 use std::fs;
+use std::process::Abort;
 use std::rt::Files;
 use std::sync::Wait;
-use thread_crew::{Spawner, Spawns};
+use std::test::Fail;
+use thread_crew::Spawns;
 
 /// How many rounds there are, and after how many memory is measured first.
 const ROUNDS: u32 = 2_000;
@@ -77,44 +78,35 @@ fn is_right(log: &ScopeLog, scope: ScopeId, first: TaskId, faults: (Fault, Fault
 }
 
 /// Opens a scope, forks the jobs, cancels, joins and closes, and retires.
-fn round<N: RealmName, S: Spawns<N, JobWork<AnyEnd, N, TestJob>>, R: Wait>(
+fn round<N: RealmName, S: Spawns<N, JobWork<AnyEnd, N, TestJob>>, R: Wait + Abort>(
     rt: &R,
     ctx: &mut TaskCtx<AnyEnd, S, N>,
     board: &Shared,
     faults: (Fault, Fault),
-) -> Option<()> {
-    let scope = open(rt, ctx, Joiner::AwaitAll, Options::PLAIN).ok()?;
-    let first = fork(rt, ctx, scope, board, duty_at(0)).ok()?;
+) -> Result<(), Fail> {
+    let Ok(scope) = ctx.open(rt, Joiner::AwaitAll, Options::PLAIN) else {
+        return Err("no scope")?;
+    };
+    let Ok(first) = fork(rt, ctx, scope, board, duty_at(0)) else {
+        return Err("no fork")?;
+    };
     for place in 1..AT_ONCE {
-        fork(rt, ctx, scope, board, duty_at(place)).ok()?;
+        assert!(rt; fork(rt, ctx, scope, board, duty_at(place)).is_ok());
     }
-    ctx.cancel(rt, scope).ok()?;
-    join(rt, ctx, scope)?;
-    board.check(closes_right(rt, ctx, scope, first, faults)?);
-    retired(rt, ctx)?;
-    Some(())
+    ctx.cancel(rt, scope)?;
+    ctx.join(rt, scope)?;
+    let report = ctx.close_scope(rt, scope)?;
+    assert!(rt; is_right(&report.log, scope, first, faults));
+    ctx.retire(rt)?;
+    Ok(())
 }
 
-/// Closes the scope: whether the report is right.
-fn closes_right<N: RealmName, S: Spawner<N>, R: Wait>(
-    rt: &R,
-    ctx: &mut TaskCtx<AnyEnd, S, N>,
-    scope: ScopeId,
-    first: TaskId,
-    faults: (Fault, Fault),
-) -> Option<bool> {
-    match ctx.close_scope(rt, scope) {
-        Ok(report) => Some(is_right(&report.log, scope, first, faults)),
-        Err(_) => None,
-    }
-}
-
-/// All rounds: how much memory there was early and late, in kB, is checked by the board.
-pub fn soak<N: RealmName, S: Spawns<N, JobWork<AnyEnd, N, TestJob>>, R: Wait + Files + Alloc>(
-    rt: &R,
-    ctx: &mut TaskCtx<AnyEnd, S, N>,
-    board: &Shared,
-) -> Option<()> {
+/// All rounds.
+pub fn soak<
+    N: RealmName,
+    S: Spawns<N, JobWork<AnyEnd, N, TestJob>>,
+    R: Wait + Abort + Files + Alloc,
+>(rt: &R, ctx: &mut TaskCtx<AnyEnd, S, N>, board: &Shared) -> Result<(), Fail> {
     let faults = (Fault(board.label.name), left_open()?);
     let mut early = 0;
     for done in 0..ROUNDS {
@@ -125,7 +117,10 @@ pub fn soak<N: RealmName, S: Spawns<N, JobWork<AnyEnd, N, TestJob>>, R: Wait + F
     }
     let late = told(rt, "VmRSS:");
     let most = early.saturating_add(early / 20).saturating_add(ARENAS);
-    board.check(late <= most);
-    board.check(board.calls() == u64::from(ROUNDS).saturating_mul(u64::from(AT_ONCE)));
-    Some(())
+    assert!(rt; late <= most, "{early} kB, and then {late} kB");
+    assert_eq!(rt;
+        board.calls(),
+        u64::from(ROUNDS).saturating_mul(u64::from(AT_ONCE))
+    );
+    Ok(())
 }

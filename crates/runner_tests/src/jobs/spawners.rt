@@ -46,13 +46,7 @@ where
     R: Wait + Abort + Files + Alloc,
 {
     let board = Board::shared(alloc).ok_or("memory")?;
-    let is_played = play(rt, ctx, &board, row).is_some();
-    let (checks, wrong) = (board.checks(), board.wrong());
-    assert!(rt;
-        is_played && wrong == 0,
-        "of {checks} checks, the {wrong}th was wrong"
-    );
-    Ok(())
+    play(rt, ctx, &board, row)
 }
 
 /// The row over the crew's threads, of which one may be refused.
