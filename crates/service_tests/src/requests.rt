@@ -146,7 +146,9 @@ fn ask_both<R: Wait + SystemTime + Copy, N: RealmName, S: Forks<AnyEnd, N, Ask<R
         name: asks.0.shop,
         due: None,
     };
-    scope.fork(rt, ctx, NamedJob::new(label, asks.0))?;
+    if let Err(refused) = scope.fork(rt, ctx, NamedJob::new(label, asks.0)) {
+        return Err(refused.refusal());
+    }
     fork(rt, ctx, scope.number(), asks.1.shop, asks.1)?;
     let joined = scope.join_by(rt, ctx, clock)?;
     Ok(sum_in(&joined.outcome))

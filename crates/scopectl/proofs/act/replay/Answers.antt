@@ -1,0 +1,9 @@
+-- The notes that are wanted are those of the words.
+use Rattle.std.proofs.Common.{sym, ◌∙◌}
+use Rattle.scopectl.proofs.act.replay.Goals as goal
+
+pub returns-in-Some-clause-done : goal.returns-in-Some-clause-done
+returns-in-Some-clause-done g c = c.replay_noted.ensures.done c.args.explain c.args.trace (sym c.notes_wanted.ensures ∙ c.in-Some.is)
+
+pub returns-in-None-clause-done : goal.returns-in-None-clause-done
+returns-in-None-clause-done g c = c.replay_plainly.ensures.done c.args.explain c.args.trace (sym c.notes_wanted.ensures ∙ c.in-None.is)
