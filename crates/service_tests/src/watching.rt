@@ -126,14 +126,15 @@ impl<N: RealmName, R: Handle, S: Forks<AnyEnd, N, Work<R, N>>> Service<S, N, R> 
             millis: 30,
             clock,
         };
-        within(rt, ctx, Joiner::Any, Options::PLAIN, |ctx, scope| {
+        let seen: Seen = within(rt, ctx, Joiner::Any, Options::PLAIN, |ctx, scope| {
             fork(rt, ctx, scope, shop, Work::Shop)?;
             await_start(rt, ctx, scope)?;
             let (job, promise) = promised(alloc, watch, job)?;
             let slot = fork_into(rt, ctx, scope, Work::Watch(job), promise)?;
             ctx.join(rt, scope)?;
-            Ok(slot.take(rt, ctx)?)
-        })
+            slot.take(rt, ctx)
+        })?;
+        Ok(seen)
     }
 }
 
