@@ -4,4 +4,6 @@
 #[cfg(test)]
 mod clocks;
 #[cfg(test)]
+mod faults;
+#[cfg(test)]
 mod gateway;
