@@ -22,3 +22,5 @@ mod threads;
 mod views;
 #[cfg(test)]
 mod waits;
+#[cfg(test)]
+mod waits_by;

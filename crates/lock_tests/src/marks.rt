@@ -15,7 +15,8 @@ const SHIELDED: Options = Options {
     ..Options::PLAIN
 };
 
-fn open_marked<N: RealmName, R: Wait>(
+/// Opens a scope that awaits all its tasks, with its cell.
+pub fn open_marked<N: RealmName, R: Wait>(
     rt: &R,
     realm: &Realm<AnyEnd, N>,
     token: &mut ActorToken,
@@ -32,7 +33,7 @@ fn open_marked<N: RealmName, R: Wait>(
 }
 
 /// Forks a task, and starts it. Its token.
-fn run<N: RealmName, R: Wait>(
+pub fn run<N: RealmName, R: Wait>(
     rt: &R,
     realm: &Realm<AnyEnd, N>,
     main: &mut ActorToken,

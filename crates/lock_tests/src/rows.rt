@@ -6,13 +6,17 @@ use crate::marks::{one_marked, one_of_two_marked};
 use crate::reports::{a_report_shows_each_run, closes_are_refused};
 use crate::stress::ten_thousand_rounds;
 use crate::threads::{ten_rounds, two_served, waited};
-use crate::waits::{Waker, a_cancel_wakes, a_close_wakes, a_reject_wakes, an_end_wakes_a_close};
+use crate::waits::{
+    Waker, a_cancel_wakes, a_close_wakes, a_mark_wakes, a_reject_wakes, an_end_wakes_a_close,
+};
+use crate::waits_by::a_nearer_deadline_wakes;
 use realm_hands::Hands;
 use realm_lock::{ActorToken, Realm, RealmName, Seed};
 use scope_rules::{AnyEnd, Limits};
 use std::alloc::Global;
 use std::marker::Brand;
 use std::process::Abort;
+use std::rt::Clock as SystemTime;
 use std::sync::Wait;
 use std::test::Fail;
 use std::thread::Threads;
@@ -30,6 +34,8 @@ enum Row {
     WokenByReject,
     WokenByClose,
     CloseWoken,
+    SleepWoken,
+    Marked,
     TenRounds,
     TenThousandRounds,
 }
@@ -46,7 +52,7 @@ impl Row {
 }
 
 /// A row of one thread that plays all actors, or one after which main has no token.
-fn play_with<N: RealmName + Send + Sync, R: Threads + Wait + Abort + Sync>(
+fn play_with<N: RealmName + Send + Sync, R: Threads + Wait + SystemTime + Abort + Sync>(
     rt: &R,
     alloc: Global,
     realm: &Realm<AnyEnd, N>,
@@ -66,7 +72,7 @@ fn play_with<N: RealmName + Send + Sync, R: Threads + Wait + Abort + Sync>(
 }
 
 /// A row in which a call waits, or one of several threads.
-fn play_waiting<N: RealmName + Send + Sync, R: Threads + Wait + Abort + Sync>(
+fn play_waiting<N: RealmName + Send + Sync, R: Threads + Wait + SystemTime + Abort + Sync>(
     rt: &R,
     realm: &Realm<AnyEnd, N>,
     mut main: ActorToken,
@@ -80,11 +86,13 @@ fn play_waiting<N: RealmName + Send + Sync, R: Threads + Wait + Abort + Sync>(
         Row::WokenByReject => a_reject_wakes(rt, realm, &mut main),
         Row::WokenByClose => a_close_wakes(rt, realm, &mut main),
         Row::CloseWoken => an_end_wakes_a_close(rt, realm, &mut main),
+        Row::Marked => a_mark_wakes(rt, realm, &mut main),
+        Row::SleepWoken => a_nearer_deadline_wakes(rt, realm, &mut main),
         _ => two_served(rt, realm, &mut main),
     }
 }
 
-fn play<N: RealmName + Send + Sync, R: Threads + Wait + Abort + Sync>(
+fn play<N: RealmName + Send + Sync, R: Threads + Wait + SystemTime + Abort + Sync>(
     rt: &R,
     alloc: Global,
     realm: &Realm<AnyEnd, N>,
@@ -102,7 +110,7 @@ fn play<N: RealmName + Send + Sync, R: Threads + Wait + Abort + Sync>(
     }
 }
 
-fn check<N: RealmName + Send + Sync, R: Threads + Wait + Abort + Sync>(
+fn check<N: RealmName + Send + Sync, R: Threads + Wait + SystemTime + Abort + Sync>(
     rt: &R,
     alloc: Global,
     seed: Seed,
@@ -116,7 +124,7 @@ fn check<N: RealmName + Send + Sync, R: Threads + Wait + Abort + Sync>(
 }
 
 /// The rows, and how often each is played.
-const ROWS: [(Row, u32); 13] = [
+const ROWS: [(Row, u32); 15] = [
     (Row::OneMarked, 1),
     (Row::OneOfTwoMarked, 1),
     (Row::Reported, 1),
@@ -129,6 +137,8 @@ const ROWS: [(Row, u32); 13] = [
     (Row::WokenByReject, 1),
     (Row::WokenByClose, 1),
     (Row::CloseWoken, 1),
+    (Row::SleepWoken, 1),
+    (Row::Marked, 2_000),
     (Row::TenRounds, 1),
 ];
 

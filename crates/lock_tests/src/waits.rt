@@ -4,6 +4,7 @@ ghost use Rattle.std.specs.Prelude.{◌≡◌};
 ghost use Rattle.share_ledger.specs.Values.{IsWaiting};
 
 use crate::common::{finish, fork, open};
+use crate::marks::{open_marked, run};
 use crate::threads::join_by;
 use realm_lock::{ActorToken, Realm, RealmName, Ticket};
 use scope_rules::{AnyEnd, Options, ScopeId, Value};
@@ -22,7 +23,7 @@ pub enum Waker {
 }
 
 /// So long that the other thread has gone to sleep by then, as a rule.
-fn pause() {
+pub fn pause() {
     for _ in 0..20_000u32 {
         thread::yield_now();
     }
@@ -175,5 +176,29 @@ pub fn an_end_wakes_a_close<N: RealmName + Send + Sync, R: Threads + Wait + Abor
         { realm.close_bare(rt, main, scope).is_ok() },
     );
     assert!(rt; is_served && closed);
+    Ok(())
+}
+
+/// A wait for a mark ends, however closely the cancel comes upon its look: in one of many rounds, between that and
+/// its sleep.
+pub fn a_mark_wakes<N: RealmName + Send + Sync, R: Threads + Wait + Abort + Sync>(
+    rt: &R,
+    realm: &Realm<AnyEnd, N>,
+    main: &mut ActorToken,
+) -> Result<(), Fail>
+    requires { main.old.table ≡ N.table }
+{
+    let (scope, cell, mut seat) = open_marked(rt, realm, main, Options::PLAIN)?;
+    let mut token = run(rt, realm, main, scope)?;
+    let (is_cancelled, marked) = thread::join(
+        rt,
+        ||
+            requires { token.table ≡ N.table }
+        { realm.cancel(rt, &mut token, scope).is_ok() },
+        ||
+            requires { seat.cell ≡ cell }
+        { realm.wait_marked(rt, &cell, &mut seat).scope },
+    );
+    assert!(rt; is_cancelled && marked == scope);
     Ok(())
 }

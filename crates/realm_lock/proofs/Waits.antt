@@ -1,6 +1,6 @@
 -- What waits by a clock do, put together turn by turn.
-use Rattle.std.proofs.Common.{◌≡◌, ◌⊎◌, inl, inr, ℕ, ◌≤◌, Bool, true, false, nat_lt, Result, Ok, Err, List, [], ◌∷◌, ◌++◌, refl, ap, sym, subst, ◌∙◌, arith}
-use Rattle.std.specs.Prelude.{IfOk, IfErr, MatchResult}
+use Rattle.std.proofs.Common.{◌≡◌, ◌⊎◌, inl, inr, ℕ, Bool, true, false, nat_lt, Option, None, Some, Result, Ok, Err, List, [], ◌∷◌, ◌++◌, refl, ap, sym, subst, ◌∙◌, arith}
+use Rattle.std.specs.Prelude.{IfOk, IfErr, MatchOption, MatchResult}
 use Rattle.std.proofs.lemmas.Bool.{le-ltb}
 use Rattle.std.proofs.lemmas.List.{same_from_push}
 use Rattle.scope_rules.specs.declared.types.answers.Cancelling.{Cancelling}
@@ -28,7 +28,8 @@ use Rattle.realm_core.specs.Views.{Joins}
 use Rattle.realm_core.specs.declared.joins.Joined.{Joined}
 use Rattle.realm_core.specs.Closes.{Begins, IsBegun}
 use Rattle.realm_core.proofs.Kept.{begun_asked, begun_looked}
-use Rattle.realm_lock.specs.Waits.{HasCome, Ticks, TickRefused, Waited, began, looked, read, ticked, Stopped, WaitsToClose, StopsClosing, StaysUnclosed, ClosesAfter}
+use Rattle.realm_lock.specs.Turns.{JoinsInTime, LooksInTime, PassesDue, PassesTime, TurnRefused, Turns}
+use Rattle.realm_lock.specs.Waits.{HasCome, JoinsBy, Ticks, TickRefused, Waited, began, looked, read, ticked, Stopped, WaitsToClose, StopsClosing, StaysUnclosed, ClosesAfter}
 
 -- a tick that is due is refused by the rules for the load alone
 full : (L : Limits) (h : History) (now : ℕ) (r : Refusal) → HasCome h now → check_of L h (Tick now) ≡ Err r → r ≡ TooMany
@@ -80,6 +81,24 @@ begun_refused old mid new s now r same it tick =
     let looks : HasLooked mid new = elim tick.refused [ inl by ↦ by.looks | inr none ↦ none.looks ] in
     begun_turned old mid new s now same it (inl (tick.same, looks))
 
+-- over a look and a tick, for the token as it is then
+pub begun_ticked : (old mid new : OwnerValue) (s now : ℕ) → Looked old mid → IsBegun (history_seen mid) old.actor s → Ticks mid new now → IsBegun (history_seen new) new.actor s
+begun_ticked old mid new s now look it tick = subst (λ (a : ℕ). IsBegun (history_seen new) a s) (sym (ap (λ (t : OwnerValue). t.actor) (tick.same ∙ ap (λ (t : OwnerValue). record t { seen = new.seen }) look.0))) (begun_turned old mid new s now look.0 it (inr tick))
+
+-- what is so where there is none
+pub none_of : {A : Type 0} (o : Option A) (P : Type 0) (Q : A → Type 0) → o ≡ None → MatchOption o P Q → P
+none_of None P Q is it = it
+none_of (Some a) P Q is it = absurd cc
+
+-- a join at once, and one after a tick
+pub first_in : (old new : OwnerValue) (s now : ℕ) (result : Result Joined Refusal) → Joins old new s result → JoinsInTime old new s now result
+first_in old new s now (Ok joined) it = inl it
+first_in old new s now (Err refusal) it = inl it
+
+pub again_in : (old there new : OwnerValue) (s now : ℕ) (result : Result Joined Refusal) → Turns old there now → Joins there new s result → JoinsInTime old new s now result
+again_in old there new s now (Ok joined) turn it = inr (record { there = there; turns = turn; joins = it })
+again_in old there new s now (Err refusal) turn it = inr (inl (record { there = there; turns = turn; joins = it }))
+
 -- a refused join looked
 pub join_looked : (old new : OwnerValue) (s : ℕ) (r : Refusal) → Joins old new s (Err r) → Looked old new
 join_looked old new s r it = (it.0, elim it.1 [ inl by ↦ by.looks | inr none ↦ none.looks ])
@@ -107,6 +126,47 @@ module _ {K : Type 0} {reads : K → K → ℕ → Type 0} {old : OwnerValue} {s
   pub turned : (there new : OwnerValue) (clock next : K) (now : ℕ) → Waited reads old start there clock → reads clock next now → Looked there new ⊎ Ticks there new now → Waited reads old start new next
   turned there new clock next now so_far reading (inl look) = looked (read so_far reading) look
   turned there new clock next now so_far reading (inr tick) = ticked so_far reading tick
+
+  -- a hold after a reading: it ticked, or looked
+  pub passes_in : (there new : OwnerValue) (clock next : K) (now : ℕ) (ticks : Bool) → Waited reads old start there clock → reads clock next now → PassesDue there new now ticks → Waited reads old start new next
+  passes_in there new clock next now true so_far reading tick = ticked so_far reading tick
+  passes_in there new clock next now false so_far reading look = looked (read so_far reading) look
+
+  -- it looked, and then ticked
+  turned_in : (there new : OwnerValue) (clock next : K) (now : ℕ) → Waited reads old start there clock → reads clock next now → Turns there new now → Waited reads old start new next
+  turned_in there new clock next now so_far reading turn = ticked (looked so_far turn.looks) reading turn.ticks
+
+  -- it looked, once or twice
+  pub looked_in : (there new : OwnerValue) (clock next : K) (now : ℕ) → Waited reads old start there clock → reads clock next now → LooksInTime there new now → Waited reads old start new next
+  looked_in there new clock next now so_far reading (inl look) = looked (read so_far reading) look
+  looked_in there new clock next now so_far reading (inr again) = looked (turned_in there again.there clock next now so_far reading again.turns) again.looks
+
+  -- the tick was refused
+  pub stopped_in : (there new : OwnerValue) (clock next : K) (now : ℕ) (refusal : Refusal) → Waited reads old start there clock → reads clock next now → TurnRefused there new now refusal → Stopped reads old new start next refusal
+  stopped_in there new clock next now refusal so_far reading it = record { there = it.there; clock = clock; waited = looked so_far it.looks; now = now; read = reading; refused = it.refused }
+
+  -- a join that was answered
+  pub joined_in : (there new : OwnerValue) (clock next : K) (s now : ℕ) (result : Result Joined Refusal) → Waited reads old start there clock → reads clock next now → JoinsInTime there new s now result → JoinsBy reads old new start next s result
+  joined_in there new clock next s now (Ok joined) so_far reading (inl joins) = record { there = there; waited = read so_far reading; joins = joins }
+  joined_in there new clock next s now (Ok joined) so_far reading (inr again) = record { there = again.there; waited = turned_in there again.there clock next now so_far reading again.turns; joins = again.joins }
+  joined_in there new clock next s now (Err refusal) so_far reading (inl joins) = inl (record { there = there; waited = read so_far reading; joins = joins })
+  joined_in there new clock next s now (Err refusal) so_far reading (inr (inl again)) = inl (record { there = again.there; waited = turned_in there again.there clock next now so_far reading again.turns; joins = again.joins })
+  joined_in there new clock next s now (Err refusal) so_far reading (inr (inr it)) = inr (stopped_in there new clock next now refusal so_far reading it)
+
+  -- and one that is not ready
+  pub unready_in : (there new : OwnerValue) (clock next : K) (s now : ℕ) (r : Refusal) → r ≡ NotReady → Waited reads old start there clock → reads clock next now → JoinsInTime there new s now (Err r) → Waited reads old start new next
+  unready_in there new clock next s now r is so_far reading (inl joins) = looked (read so_far reading) (join_looked there new s r joins)
+  unready_in there new clock next s now r is so_far reading (inr (inl again)) = looked (turned_in there again.there clock next now so_far reading again.turns) (join_looked again.there new s r again.joins)
+  unready_in there new clock next s now r is so_far reading (inr (inr it)) =
+      absurd (elim it.refused.why [
+        | inl full ↦ let both : TooMany ≡ NotReady = sym full ∙ is in absurd cc
+        | inr none ↦ let both : Memory ≡ NotReady = sym none ∙ is in absurd cc
+      ])
+
+  -- time that was passed, whichever way
+  pub passed_in : (there new : OwnerValue) (clock next : K) (now : ℕ) → Waited reads old start there clock → reads clock next now → PassesTime there new now → Waited reads old start new next
+  passed_in there new clock next now so_far reading (inl same) = subst (λ (t : OwnerValue). Waited reads old start t next) (sym same) (read so_far reading)
+  passed_in there new clock next now so_far reading (inr passes) = turned there new clock next now so_far reading passes
 
   -- what the close did, or was refused for, that came then
   pub ok_after : {A E : Type 0} (P : A → OwnerValue → Type 0) (there : OwnerValue) (last : K) (s : ℕ) (result : Result A E) → WaitsToClose reads old there start last s → IfOk result (λ a. P a there) → IfOk result (λ a. ClosesAfter reads old start last s (P a))

@@ -5,3 +5,5 @@ pub mod Cells
 pub mod Marked
 pub mod MarkLaws
 pub mod Looks
+pub mod Sleeps
+pub mod Turns

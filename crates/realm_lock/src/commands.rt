@@ -124,7 +124,7 @@ impl<C: Catalog, N: RealmName> Realm<C, N> {
         let mut locked = self.room.locked.lock(rt);
         let before = locked.next_deadline();
         let told = locked.perform(token, &Event::Move { scope, deadline });
-        self.wake_if_nearer(&locked, before);
+        self.wake_if_nearer(&mut locked, before);
         told_done(told)
     }
 

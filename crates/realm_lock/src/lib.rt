@@ -5,6 +5,7 @@
 mod closing;
 mod commands;
 mod dozers;
+mod in_time;
 mod joins;
 pub mod laws;
 mod looks;
@@ -17,7 +18,6 @@ mod setters;
 mod sleeps;
 mod task_calls;
 mod timed;
-mod turns;
 mod views;
 
 pub use cancel_marks::{Mark, MarkCell, Seat};

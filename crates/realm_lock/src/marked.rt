@@ -1,11 +1,14 @@
-ghost use Rattle.std.specs.Prelude.{◌≡◌, ◌⊎◌, false, true, None, Some, Ok, Err, IfErr, IfOk, IsOk, MatchResult, [], OnSome, length, ◌<◌};
+ghost use Rattle.std.specs.Prelude.{◌≡◌, ◌⊎◌, false, true, None, Some, Ok, Err, IfErr, IfOk, IsOk, MatchResult, [], OnSome, length, ◌<◌, is_ok};
 ghost use Rattle.std.specs.List.{All};
+ghost use Rattle.std.specs.Option.{MatchOption};
 ghost use Rattle.scope_rules.specs.declared.types.events.Options.{Options};
 ghost use Rattle.scope_rules.specs.declared.types.joiners.Policy.{Policy};
-ghost use Rattle.scope_rules.specs.declared.types.refusals.Refusal.TheVariants.{Memory};
+ghost use Rattle.scope_rules.specs.declared.types.refusals.Refusal.TheVariants.{Memory, NotReady};
 ghost use Rattle.scope_rules.specs.History.{is_open};
 ghost use Rattle.scope_rules.specs.Checks.{scope_check};
 ghost use Rattle.scope_rules.specs.Scopes.{innermost};
+ghost use Rattle.scope_rules.specs.Tasks.{settled};
+ghost use Rattle.scope_kept.specs.Coming.{IsNextDeadline, NoDeadlineComes};
 ghost use Rattle.scope_rules.specs.Replies.{base_of, fork_reply, next_scope};
 ghost use Rattle.join_rules.specs.Joiners.{policy_of};
 ghost use Rattle.share_ledger.specs.Tickets.{given_in};
@@ -14,26 +17,27 @@ ghost use Rattle.kept_realm.specs.Fits.{Fitting};
 ghost use Rattle.share_ledger.specs.Values.{IsWaiting, TicketValue, is_recorded_by};
 ghost use Rattle.realm_core.specs.Calls.{Added, DoesOrMemory, Looked, Performed, Records, SeesMore, TicketAdded, history_seen};
 ghost use Rattle.realm_core.specs.Tasks.{GivesTicket, MayFinish, Finishes, IsRunning, ticket_aside};
-ghost use Rattle.realm_core.specs.Telling.{Shown};
+ghost use Rattle.realm_core.specs.Telling.{Shown, Stepped};
 ghost use Rattle.realm_core.specs.Views.{Joins, JoinsBare};
 ghost use Rattle.realm_core.specs.Waiting.{FoundUnsettled, IsOpenOf};
 ghost use Rattle.realm_core.specs.Closes.{IsBegun, Begins, MayEnd, MayReport};
 ghost use Rattle.realm_lock.specs.Cells.{GivesCell};
 ghost use Rattle.realm_lock.specs.Openings.{scope_alone, refusal_of};
-ghost use Rattle.realm_lock.specs.Waits.{HasCome, Ticks, TickRefused};
+ghost use Rattle.realm_lock.specs.Sleeps.{IsHeldUp};
 
-use crate::dozers::Dozers;
+use crate::dozers::{Bed, Dozers, Noted};
 use crate::setters::Setters;
 use cancel_marks::MarkCell;
 use join_rules::Joiner;
 use realm_core::{
     BareOutcome, CloseReport, Forked, Joined, RealmCore, RealmName, begin, end_if_settled,
-    report_if_settled, told_done, unsettled,
+    report_if_settled, unsettled,
 };
 use scope_checks::checks::scope_check;
-use scope_checks::{Readings, Told, table};
+use scope_checks::{Readings, Told, questions, table};
 use scope_rules::{
-    Base, Cancelling, Catalog, End, Event, Label, Limits, Options, Refusal, ScopeId, Verdict,
+    Base, Cancelling, Catalog, Effective, End, Event, Label, Limits, Options, Refusal, ScopeId,
+    Verdict,
 };
 use share_ledger::{OwnerShare, RealmStep, Seed, Ticket};
 use std::alloc::Global;
@@ -46,8 +50,8 @@ use std::marker::Model;
 #[derive(Drop)]
 pub(crate) struct MarkedCore<C: Catalog, N: RealmName> {
     alloc: Global,
-    core: RealmCore<C, N>,
-    setters: Setters,
+    pub(crate) core: RealmCore<C, N>,
+    pub(crate) setters: Setters,
     dozers: Dozers,
 }
 
@@ -142,6 +146,8 @@ impl<C: Catalog, N: RealmName> MarkedCore<C, N> {
     pub(crate) fn join(&mut self, token: &mut OwnerShare, scope: ScopeId) -> Result<Joined, Refusal>
         requires named { token.old.table ≡ N.table }
         ensures answer { Joins token.old token.new scope result }
+        ensures steps { Stepped self.old self.new token.new (RealmStep.Happened (Event.Join token.old.actor scope)) (is_ok result) }
+        ensures busy { result ≡ Err NotReady → settled (history_of self.new.steps) scope ≡ false }
         ensures fitting { Fitting C.fitting (history_seen token.new) }
     {
         let _legal = self.core.limits();
@@ -160,6 +166,7 @@ impl<C: Catalog, N: RealmName> MarkedCore<C, N> {
     ) -> Result<BareOutcome, Refusal>
         requires named { token.old.table ≡ N.table }
         ensures answer { JoinsBare token.old token.new scope result }
+        ensures busy { result ≡ Err NotReady → settled (history_of self.new.steps) scope ≡ false }
         ensures fitting { Fitting C.fitting (history_seen token.new) }
     {
         let _legal = self.core.limits();
@@ -167,47 +174,6 @@ impl<C: Catalog, N: RealmName> MarkedCore<C, N> {
         self.setters.catch_up(&mut self.core);
         let _fitting = self.core.limits();
         result
-    }
-
-    /// Takes a turn of a wait whose clock has read `now`. Where a deadline has come by then, it ticks, and
-    /// answers 0; else it looks, and answers in how many milliseconds the next deadline comes, if one does.
-    pub(crate) fn take_turn(
-        &mut self,
-        token: &mut OwnerShare,
-        now: u64,
-    ) -> Result<Option<u64>, Refusal>
-        requires named { token.old.table ≡ N.table }
-        ensures taken { MatchResult result (λ _. Looked token.old token.new ⊎ Ticks token.old token.new now) (TickRefused token.old token.new now) }
-        ensures left { IfOk result (λ left. (left ≡ Some 0) ⊎ (HasCome (history_seen token.new) now → ⊥)) }
-        ensures fitting { Fitting C.fitting (history_seen token.new) }
-    {
-        match self.core.realm().next_deadline() {
-            Some(deadline) if deadline <= now => {
-                match self.tick_due(token, now) {
-                    Ok(()) => Ok(Some(0)),
-                    Err(refusal) => Err(refusal),
-                }
-            }
-            next => {
-                self.core.look(token);
-                let _fitting = self.core.limits();
-                Ok(next.map(|deadline| deadline - now))
-            }
-        }
-    }
-
-    /// Ticks to the moment, by which a deadline has come.
-    fn tick_due(&mut self, token: &mut OwnerShare, now: u64) -> Result<(), Refusal>
-        requires named { token.old.table ≡ N.table }
-        requires due { HasCome (history_of self.old.steps) now }
-        ensures ticked { MatchResult result (λ _. Ticks token.old token.new now) (TickRefused token.old token.new now) }
-        ensures fitting { Fitting C.fitting (history_seen token.new) }
-    {
-        let _legal = self.core.limits();
-        let result = self.core.perform(token, &Event::Tick { now });
-        self.setters.catch_up(&mut self.core);
-        let _fitting = self.core.limits();
-        told_done(result)
     }
 
     /// Begins to close a scope.
@@ -327,34 +293,70 @@ impl<C: Catalog, N: RealmName> MarkedCore<C, N> {
         }
     }
 
-    /// A scope of which a task waits or runs, of those that the close of the scope covers; the scope
-    /// itself where there is none.
-    pub(crate) fn unsettled(&self, scope: ScopeId) -> ScopeId {
-        unsettled(self.core.realm(), scope).unwrap_or(scope)
+    /// A scope of which a task waits or runs, of those that the close of the scope covers, which can't end.
+    pub(crate) fn unsettled(&self, scope: ScopeId) -> ScopeId
+        requires { IsHeldUp (history_of self.now.steps) scope }
+        ensures { settled (history_of self.now.steps) result ≡ false }
+    {
+        match unsettled(self.core.realm(), scope) {
+            Some(busy) => busy,
+            None => unreachable!(),
+        }
     }
 
     /// The deadline that comes next, in milliseconds, if one does.
-    pub(crate) fn next_deadline(&self) -> Option<u64> {
+    pub(crate) fn next_deadline(&self) -> Option<u64>
+        ensures { MatchOption result (NoDeadlineComes (history_of self.now.steps)) (IsNextDeadline (history_of self.now.steps)) }
+    {
         self.core.realm().next_deadline()
     }
 
-    /// Notes that a call sleeps at the cell that waits by a clock.
-    pub(crate) fn note_dozer(&mut self, cell: &MarkCell) -> Option<usize>
-        ensures { self.new ≡ self.old }
-    {
-        self.dozers.enter(cell)
+    /// The deadline in effect for the scope at whose cell the bed is, in milliseconds, if there is one to come.
+    pub(crate) fn deadline_at(&self, bed: &Bed) -> Option<u64> {
+        let Bed::Cell(cell) = bed else {
+            return None;
+        };
+        match questions::effective_deadline(self.core.realm(), cell.scope()) {
+            Ok(Effective::At(deadline)) => Some(deadline),
+            _ => None,
+        }
     }
 
-    /// Forgets the call at the place, which has woken.
-    pub(crate) fn forget_dozer(&mut self, place: usize)
+    /// Notes that a call goes to sleep in the bed that waits by a clock. None where no note is had.
+    pub(crate) fn note_dozer(&mut self, bed: &Bed) -> Option<Noted>
         ensures { self.new ≡ self.old }
     {
-        self.dozers.leave(place);
+        let bed = bed.share()?;
+        self.dozers.enter(bed)
     }
 
-    /// Wakes who sleeps by a clock.
-    pub(crate) fn wake_dozers(&self) {
-        self.dozers.wake();
+    /// Whether the call that is noted watches.
+    pub(crate) fn is_watching(&self, noted: &Noted) -> bool {
+        self.dozers.is_watching(noted)
+    }
+
+    /// Forgets a call that has woken.
+    pub(crate) fn forget_dozer(&mut self, noted: Noted)
+        ensures { self.new ≡ self.old }
+    {
+        self.dozers.leave(noted);
+    }
+
+    /// Where one sleeps that is to watch, if nobody does.
+    pub(crate) fn heir(&self) -> Option<&Bed> {
+        self.dozers.heir()
+    }
+
+    /// Who watches does so no longer. Gives where its bed is noted.
+    pub(crate) fn dismiss_watcher(&mut self) -> Option<usize>
+        ensures { self.new ≡ self.old }
+    {
+        self.dozers.dismiss()
+    }
+
+    /// The bed that is noted there.
+    pub(crate) fn bed(&self, place: usize) -> Option<&Bed> {
+        self.dozers.bed(place)
     }
 }
 
@@ -386,6 +388,8 @@ impl<C: Catalog, N: RealmName> MarkedCore<C, N> {
         ensures looks { Looked token.old token.new × Fitting C.fitting (history_seen token.new) }
         ensures begun { IsBegun (history_seen token.new) token.old.actor scope }
         ensures settled { result ≡ true → FoundUnsettled (history_seen token.new) scope None }
+        ensures steps { Shown self.old self.new token.new }
+        ensures held_up { result ≡ false → IsHeldUp (history_of self.new.steps) scope }
     {
         self.core.look(token);
         let _fitting = self.core.limits();
@@ -403,6 +407,7 @@ impl<C: Catalog, N: RealmName> MarkedCore<C, N> {
         requires begun { IsBegun (history_seen token.old) token.old.actor scope }
         ensures seen { SeesMore token.old token.new × Fitting C.fitting (history_seen token.new) }
         ensures answer { MayEnd token.old token.new scope result }
+        ensures held_up { result ≡ None → IsHeldUp (history_of self.new.steps) scope }
     {
         let _legal = self.core.limits();
         let result = end_if_settled(&mut self.core, token, scope);
@@ -424,6 +429,7 @@ impl<C: Catalog, N: RealmName> MarkedCore<C, N> {
         requires begun { IsBegun (history_seen token.old) token.old.actor scope }
         ensures seen { SeesMore token.old token.new × Fitting C.fitting (history_seen token.new) }
         ensures answer { MayReport token.old token.new scope tickets.old.items tickets.new.items result }
+        ensures held_up { result ≡ None → IsHeldUp (history_of self.new.steps) scope }
     {
         let _legal = self.core.limits();
         let result = report_if_settled(&mut self.core, self.alloc, token, scope, tickets);

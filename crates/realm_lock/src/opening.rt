@@ -79,7 +79,7 @@ impl<C: Catalog, N: RealmName> Realm<C, N> {
         let mut locked = self.room.locked.lock(rt);
         let before = locked.next_deadline();
         let opened = locked.open(token, joiner, options);
-        self.wake_if_nearer(&locked, before);
+        self.wake_if_nearer(&mut locked, before);
         opened
     }
 

@@ -17,7 +17,7 @@ use std::sync::{Arc, Condvar, Mutex};
 #[derive(Drop)]
 pub(crate) struct Room<K: Drop> {
     pub(crate) locked: Mutex<K>,
-    pub(crate) nearer: Condvar,
+    pub(crate) moments: Condvar,
 }
 
 /// A realm for threads to share: each has a share of it. Whenever its lock is free, its book is the
@@ -44,7 +44,7 @@ impl<C: Catalog, N: RealmName> Realm<C, N> {
         let (locked, token) = MarkedCore::new(alloc, seed, limits);
         let room = Room {
             locked: Mutex::new(locked),
-            nearer: Condvar::new(),
+            moments: Condvar::new(),
         };
         match Arc::new(alloc, room) {
             Ok(room) => Ok((Realm { room }, token)),

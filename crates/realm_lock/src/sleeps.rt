@@ -1,6 +1,15 @@
+ghost use Rattle.std.specs.Prelude.{◌≡◌, ◌-◌, ◌*◌, ◌≤◌, ℕ, IfSome, IsTrue, None, Some, false};
+ghost use Rattle.std.specs.Option.{MatchOption};
+ghost use Rattle.std.specs.Duration.{as_nanos};
+ghost use Rattle.std.specs.Sync.Mutex.{mutex_guard_value};
+ghost use Rattle.scope_rules.specs.Tasks.{settled};
+ghost use Rattle.share_ledger.specs.Steps.{history_of};
+ghost use Rattle.realm_lock.specs.Waits.{HasCome};
+ghost use Rattle.realm_lock.specs.Sleeps.{NANOS, sooner};
+
+use crate::dozers::Bed;
 use crate::marked::MarkedCore;
 use crate::realm::Realm;
-use cancel_marks::MarkCell;
 use realm_core::RealmName;
 use scope_rules::{Catalog, ScopeId};
 use std::rt::Clock as SystemTime;
@@ -10,27 +19,20 @@ use std::time::Duration;
 // For how many milliseconds at most a call sleeps by a clock that isn't noted among those who do.
 const UNNOTED_MILLIS: u64 = 10;
 
-/// Where a call sleeps that waits by a clock.
-#[derive(Drop)]
-pub(crate) enum Bed {
-    /// At the cell of the scope that it waits for. Where that isn't had, since std's count of holders is
-    /// full, it looks again at once.
-    Cell(Option<MarkCell>),
-    /// At no scope's: it waits for a moment alone.
-    Moment,
-}
-
 /// Who sleeps where. A call that waits for a scope sleeps at the scope's cell, which is woken when the
 /// scope becomes cancelled and when the last of its tasks has ended. So an event wakes only those whom it
-/// concerns. One that waits by a clock is also woken when a deadline comes nearer than it reckoned with.
+/// concerns. Of those who wait by a clock one watches: it sleeps until the realm's next deadline, and is
+/// woken when one comes nearer. A call that ends its wait wakes another to watch, if nobody does.
 impl<C: Catalog, N: RealmName> Realm<C, N> {
-    /// Sleeps at the cell of the scope until it is woken.
+    /// Sleeps at the cell of the scope, of which a task waits or runs, until it is woken.
     pub(crate) fn sleep_at<'a, R: Wait>(
         &'a self,
         rt: &R,
         locked: MutexGuard<'a, MarkedCore<C, N>>,
         scope: ScopeId,
-    ) -> MutexGuard<'a, MarkedCore<C, N>> {
+    ) -> MutexGuard<'a, MarkedCore<C, N>>
+        requires busy { settled (history_of (mutex_guard_value locked).steps) scope ≡ false }
+    {
         match locked.cell(scope) {
             Ok(cell) => cell.sleep(rt, locked),
             Err(_) => {
@@ -40,58 +42,112 @@ impl<C: Catalog, N: RealmName> Realm<C, N> {
         }
     }
 
-    /// Sleeps until it is woken, or for so many milliseconds.
-    pub(crate) fn doze<R: Wait + SystemTime>(
-        &self,
+    /// Sleeps at the cell of the scope, of which a task waits or runs, until it is woken or a deadline has
+    /// come; the clock has read `now`, and none has come by then. Where the cell isn't had, since std's count
+    /// of holders is full, it doesn't sleep.
+    pub(crate) fn doze_at<'a, R: Wait + SystemTime>(
+        &'a self,
         rt: &R,
-        locked: MutexGuard<'_, MarkedCore<C, N>>,
-        millis: Option<u64>,
-        bed: Bed,
-    ) {
-        match bed {
-            Bed::Cell(Some(cell)) => doze_at(rt, locked, millis, &cell),
-            Bed::Cell(None) => {}
-            Bed::Moment => match millis {
-                Some(millis) => {
-                    let most = Duration::from_millis(millis);
-                    let _woken = self.room.nearer.wait_timeout(rt, locked, most);
-                }
-                None => {
-                    let _woken = self.room.nearer.wait(rt, locked);
-                }
-            },
+        locked: MutexGuard<'a, MarkedCore<C, N>>,
+        now: u64,
+        scope: ScopeId,
+    )
+        requires busy { settled (history_of (mutex_guard_value locked).steps) scope ≡ false }
+        requires passed { HasCome (history_of (mutex_guard_value locked).steps) now → ⊥ }
+    {
+        if let Ok(cell) = locked.cell(scope) {
+            self.doze(rt, locked, now, None, Bed::Cell(cell));
         }
     }
 
-    /// Wakes those who wait by a clock, if the next deadline is nearer now than it was.
-    pub(crate) fn wake_if_nearer(&self, locked: &MarkedCore<C, N>, before: Option<u64>) {
+    /// Sleeps in the bed until it is woken, a deadline has come, or `until`; the clock has read `now`, and no
+    /// deadline has come by then.
+    pub(crate) fn doze<'a, R: Wait + SystemTime>(
+        &'a self,
+        rt: &R,
+        locked: MutexGuard<'a, MarkedCore<C, N>>,
+        now: u64,
+        until: Option<u64>,
+        bed: Bed,
+    )
+        requires passed { HasCome (history_of (mutex_guard_value locked).steps) now → ⊥ }
+    {
+        let mut locked = locked;
+        match locked.note_dozer(&bed) {
+            Some(noted) => {
+                let most = if locked.is_watching(&noted) {
+                    time_to(now, locked.next_deadline(), until)
+                } else {
+                    time_to(now, locked.deadline_at(&bed), until)
+                };
+                let mut locked = self.slept(rt, locked, bed, most);
+                locked.forget_dozer(noted);
+            }
+            None => {
+                let most = now.saturating_add(UNNOTED_MILLIS);
+                let until = until.unwrap_or(most).min(most);
+                let most = time_to(now, locked.next_deadline(), Some(until));
+                let _locked = self.slept(rt, locked, bed, most);
+            }
+        }
+    }
+
+    /// Sleeps in the bed until it is woken, or for so long.
+    fn slept<'a, R: Wait + SystemTime>(
+        &'a self,
+        rt: &R,
+        locked: MutexGuard<'a, MarkedCore<C, N>>,
+        bed: Bed,
+        most: Option<Duration>,
+    ) -> MutexGuard<'a, MarkedCore<C, N>> {
+        match (bed, most) {
+            (Bed::Cell(cell), Some(most)) => cell.doze(rt, locked, most),
+            (Bed::Cell(cell), None) => cell.sleep(rt, locked),
+            (Bed::Moment, Some(most)) => {
+                let (locked, _) = self.room.moments.wait_timeout(rt, locked, most);
+                locked
+            }
+            (Bed::Moment, None) => self.room.moments.wait(rt, locked),
+        }
+    }
+
+    /// A wait by a clock ends: if nobody watches, one who sleeps is woken to.
+    pub(crate) fn hand_on(&self, locked: &MarkedCore<C, N>) {
+        self.wake(locked.heir());
+    }
+
+    /// Wakes who watches, if the next deadline is nearer now than it was.
+    pub(crate) fn wake_if_nearer(&self, locked: &mut MarkedCore<C, N>, before: Option<u64>)
+        ensures { locked.new ≡ locked.old }
+    {
         if is_nearer(locked.next_deadline(), before) {
-            locked.wake_dozers();
-            self.room.nearer.notify_all();
+            if let Some(place) = locked.dismiss_watcher() {
+                self.wake(locked.bed(place));
+            }
+        }
+    }
+
+    /// Wakes who sleeps in the bed.
+    fn wake(&self, bed: Option<&Bed>) {
+        match bed {
+            Some(Bed::Cell(cell)) => cell.wake(),
+            Some(Bed::Moment) => self.room.moments.notify_all(),
+            None => {}
         }
     }
 }
 
-/// Sleeps at the cell until it is woken, or for so many milliseconds. It is noted meanwhile.
-fn doze_at<C: Catalog, N: RealmName, R: Wait + SystemTime>(
-    rt: &R,
-    locked: MutexGuard<'_, MarkedCore<C, N>>,
-    millis: Option<u64>,
-    cell: &MarkCell,
-) {
-    let mut locked = locked;
-    let place = locked.note_dozer(cell);
-    let most = match place {
-        Some(_) => millis,
-        None => Some(millis.unwrap_or(UNNOTED_MILLIS).min(UNNOTED_MILLIS)),
+/// The time from `now` to the sooner of the two moments, in milliseconds, if there is one.
+fn time_to(now: u64, deadline: Option<u64>, until: Option<u64>) -> Option<Duration>
+    ensures { MatchOption result (sooner deadline until ≡ None) (λ most. (end : ℕ) × (sooner deadline until ≡ Some end) × (as_nanos most ≡ (end - now) * NANOS)) }
+{
+    let end = match (deadline, until) {
+        (Some(deadline), Some(until)) => deadline.min(until),
+        (Some(deadline), None) => deadline,
+        (None, Some(until)) => until,
+        (None, None) => return None,
     };
-    let mut locked = match most {
-        Some(most) => cell.doze(rt, locked, Duration::from_millis(most)),
-        None => cell.sleep(rt, locked),
-    };
-    if let Some(place) = place {
-        locked.forget_dozer(place);
-    }
+    Some(Duration::from_millis(end.saturating_sub(now)))
 }
 
 /// Whether the deadline that comes next now is nearer than the one that came next before.

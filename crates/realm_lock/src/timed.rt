@@ -1,4 +1,4 @@
-ghost use Rattle.std.specs.Prelude.{◌≡◌, None, Some, Ok, Err, IfOk, IfErr, IfSome, MatchOption, MatchResult};
+ghost use Rattle.std.specs.Prelude.{◌≡◌, ◌≤◌, ℕ, IsTrue, None, Some, Ok, Err, IfOk, IfErr, IfSome, MatchOption, MatchResult};
 ghost use Rattle.once_cell.specs.Once.{Agrees};
 ghost use Rattle.cancel_marks.specs.Marked.{said_by};
 ghost use Rattle.scope_rules.specs.declared.types.refusals.Refusal.TheVariants.{NotReady};
@@ -8,8 +8,8 @@ ghost use Rattle.realm_core.specs.Waiting.{FoundUnsettled, IsOpenOf};
 ghost use Rattle.realm_core.specs.Closes.{IsBegun};
 ghost use Rattle.realm_lock.specs.Waits.{HasCome, HasPassed, JoinsBy, StaysUnclosed, Stopped, StopsClosing, Waited, WaitsToClose, shown_in};
 
+use crate::dozers::Bed;
 use crate::realm::Realm;
-use crate::sleeps::Bed;
 use cancel_marks::{Mark, MarkCell, Seat};
 use named_jobs::Clock;
 use realm_core::{Joined, RealmName};
@@ -20,10 +20,11 @@ use std::sync::Wait;
 
 /// The waits by a clock (Trio, whose run loop wakes at the next deadline): each does what the wait of the
 /// same name does, and passes the realm's time meanwhile, so that deadlines pass while all wait. It sleeps
-/// until it is woken or a deadline has come, whoever's it is; then it ticks to what its clock reads, in a
-/// hold that does nothing else. So it ticks at most once for each deadline, however many wait. A tick that
-/// is refused, as where the load is used up (`TooMany`), is the wait's answer, and what it waited for
-/// hasn't been done. The clock is read without the lock. That a wait wakes in time is not promised.
+/// until it is woken or a deadline in effect for it has come; one of those who wait so wakes at each deadline,
+/// whoever's it is, and when its wait ends another does. Who wakes ticks to what its clock reads, if a deadline
+/// has come: so there is at most one tick for each deadline, however many wait. A tick that is refused, as
+/// where the load is used up (`TooMany`), is the wait's answer, and what it waited for hasn't been done. The
+/// clock is read without the lock. That a wait wakes in time is not promised.
 impl<C: Catalog, N: RealmName> Realm<C, N> {
     /// Joins the actor's scope as `join` does.
     pub fn join_by<R: Wait + SystemTime, K: Clock>(
@@ -42,17 +43,14 @@ impl<C: Catalog, N: RealmName> Realm<C, N> {
         for _ in rt.forever() {
             let now = clock.now();
             let mut locked = self.room.locked.lock(rt);
-            match locked.join(token, scope) {
-                Err(Refusal::NotReady) => {
-                    let bed = Bed::Cell(locked.cell(scope).ok());
-                    if let Err(refusal) = self.pass_time(rt, locked, token, now, None, bed) {
-                        return Err(refusal);
-                    }
-                }
+            match locked.join_in_time(token, scope, now) {
+                Err(Refusal::NotReady) => self.doze_at(rt, locked, now, scope),
                 Err(refusal) => {
+                    self.hand_on(&locked);
                     return Err(refusal);
                 }
                 Ok(joined) => {
+                    self.hand_on(&locked);
                     return Ok(joined);
                 }
             }
@@ -100,12 +98,19 @@ impl<C: Catalog, N: RealmName> Realm<C, N> {
         for _ in rt.forever() {
             let now = clock.now();
             let mut locked = self.room.locked.lock(rt);
-            if locked.is_settled(token, scope) {
-                return Ok(());
-            }
-            let bed = Bed::Cell(locked.cell(locked.unsettled(scope)).ok());
-            if let Err(refusal) = self.pass_time(rt, locked, token, now, None, bed) {
-                return Err(refusal);
+            match locked.is_settled_in_time(token, scope, now) {
+                Ok(true) => {
+                    self.hand_on(&locked);
+                    return Ok(());
+                }
+                Ok(false) => {
+                    let waits_for = locked.unsettled(scope);
+                    self.doze_at(rt, locked, now, waits_for);
+                }
+                Err(refusal) => {
+                    self.hand_on(&locked);
+                    return Err(refusal);
+                }
             }
         }
         unreachable!()
@@ -134,16 +139,24 @@ impl<C: Catalog, N: RealmName> Realm<C, N> {
     {
         for _ in rt.forever() {
             let now = clock.now();
-            let locked = self.room.locked.lock(rt);
-            match cell.checkpoint(seat) {
-                Some(mark) => return Ok(Some(mark)),
-                None => {
-                    let bed = Bed::Cell(cell.share().ok());
-                    match self.pass_time(rt, locked, token, now, until, bed) {
-                        Ok(true) => return Ok(None),
-                        Ok(false) => {}
-                        Err(refusal) => return Err(refusal),
+            let mut locked = self.room.locked.lock(rt);
+            match locked.marked_in_time(token, cell, seat, now) {
+                Ok(None) => {
+                    if is_over(until, now) {
+                        self.hand_on(&locked);
+                        return Ok(None);
                     }
+                    if let Ok(cell) = cell.share() {
+                        self.doze(rt, locked, now, until, Bed::Cell(cell));
+                    }
+                }
+                Ok(Some(mark)) => {
+                    self.hand_on(&locked);
+                    return Ok(Some(mark));
+                }
+                Err(refusal) => {
+                    self.hand_on(&locked);
+                    return Err(refusal);
                 }
             }
         }
@@ -168,13 +181,27 @@ impl<C: Catalog, N: RealmName> Realm<C, N> {
     {
         for _ in rt.forever() {
             let now = clock.now();
-            let locked = self.room.locked.lock(rt);
-            match self.pass_time(rt, locked, token, now, Some(until), Bed::Moment) {
-                Ok(true) => return Ok(()),
-                Ok(false) => {}
-                Err(refusal) => return Err(refusal),
+            let mut locked = self.room.locked.lock(rt);
+            if let Err(refusal) = locked.pass_due(token, now) {
+                self.hand_on(&locked);
+                return Err(refusal);
             }
+            if until <= now {
+                self.hand_on(&locked);
+                return Ok(());
+            }
+            self.doze(rt, locked, now, Some(until), Bed::Moment);
         }
         unreachable!()
+    }
+}
+
+/// The moment until which is slept, if there is one, has come.
+fn is_over(until: Option<u64>, now: u64) -> bool
+    ensures { IsTrue result → (end : ℕ) × (until ≡ Some end) × (end ≤ now) }
+{
+    match until {
+        Some(end) => end <= now,
+        None => false,
     }
 }

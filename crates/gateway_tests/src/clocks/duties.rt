@@ -1,6 +1,6 @@
 //! What the jobs do, and how main opens scopes and forks them.
-use super::readings::BoardClock;
-use job_runner::{Answers, Job, JobWork, NamedJob, TaskCtx};
+use super::readings::{BoardClock, CountedClock};
+use job_runner::{Answers, Clock, Job, JobWork, NamedJob, SystemClock, TaskCtx};
 use join_rules::Joiner;
 use realm_lock::RealmName;
 use scope_rules::{AnyEnd, End, Expiry, Label, Name, Options, ScopeId, Value};
@@ -16,16 +16,30 @@ use thread_crew::{Spawner, Spawns};
 #[derive(Drop)]
 pub struct Board {
     time: AtomicU64,
+    readings: AtomicU64,
 }
 
 /// A share of the board.
 pub type Shared = Arc<Board, Global>;
 
 impl Board {
-    /// A board whose time is 0. None where memory is refused.
+    /// A board whose time is 0, and of which no clock was read. None where memory is refused.
     pub fn shared(alloc: Global) -> Option<Shared> {
-        let time = AtomicU64::new(0);
-        Arc::new(alloc, Board { time }).ok()
+        let board = Board {
+            time: AtomicU64::new(0),
+            readings: AtomicU64::new(0),
+        };
+        Arc::new(alloc, board).ok()
+    }
+
+    /// Counts a reading.
+    pub fn count(&self) {
+        self.readings.fetch_add(1, Ordering::SeqCst);
+    }
+
+    /// How many readings were counted.
+    pub fn readings(&self) -> u64 {
+        self.readings.load(Ordering::SeqCst)
     }
 
     /// What the clocks read.
@@ -33,6 +47,7 @@ impl Board {
         self.time.load(Ordering::SeqCst)
     }
 
+    /// Sets what the clocks read.
     fn set(&self, time: u64) {
         self.time.store(time, Ordering::SeqCst);
     }
@@ -49,6 +64,15 @@ pub enum Duty {
     Shields {
         deadline: u64,
     },
+    /// After a pause it opens a scope with the deadline, sets the board's time to that, and waits for its mark.
+    OpensLate {
+        deadline: u64,
+    },
+    /// It opens a scope with the deadline, and waits for its mark by the worker's clock, whose readings are
+    /// counted.
+    Counts {
+        deadline: u64,
+    },
     /// It sleeps for a while, whatever happens.
     Naps,
     /// After a pause it sets the board's time.
@@ -63,10 +87,10 @@ pub enum Duty {
     },
 }
 
-/// A job, with the handle by which it sleeps.
+/// A job, with its clock.
 #[derive(Drop)]
 pub struct Worker<T> {
-    pub rt: T,
+    pub clock: SystemClock<T>,
     pub duty: Duty,
     pub board: Shared,
 }
@@ -81,11 +105,8 @@ impl<
     S: Spawns<N, JobWork<AnyEnd, N, Worker<T>>>,
 > Job<AnyEnd, S, N> for Worker<T> {
     fn run<R: Wait>(self, rt: &R, ctx: &mut TaskCtx<AnyEnd, S, N>) -> End {
-        let Worker {
-            rt: time,
-            duty,
-            board,
-        } = self;
+        let Worker { clock, duty, board } = self;
+        let time = clock.runtime();
         let is_right = match duty {
             Duty::Waits => ctx.wait_cancelled(rt).is_some(),
             Duty::WaitsBy => {
@@ -93,6 +114,14 @@ impl<
                 matches!(ctx.wait_cancelled_by(&time, &mut clock), Ok(Some(_)))
             }
             Duty::Shields { deadline } => shield(rt, ctx, deadline),
+            Duty::OpensLate { deadline } => {
+                thread::sleep(&time, Duration::from_millis(50));
+                open_late(rt, ctx, &board, deadline)
+            }
+            Duty::Counts { deadline } => {
+                let mut counted = CountedClock::new(clock, board);
+                count(&time, ctx, &mut counted, deadline)
+            }
             Duty::Naps => {
                 thread::sleep(&time, Duration::from_millis(300));
                 true
@@ -132,6 +161,39 @@ fn shield<N: RealmName, S: Spawner<N>, R: Wait>(
     }
 }
 
+/// Whether the mark comes of a scope that is opened while another waits by the board's clock.
+fn open_late<N: RealmName, S: Spawner<N>, R: Wait>(
+    rt: &R,
+    ctx: &mut TaskCtx<AnyEnd, S, N>,
+    board: &Shared,
+    deadline: u64,
+) -> bool {
+    board.set(deadline);
+    match open(rt, ctx, Some(deadline), false) {
+        Some(scope) => {
+            let is_marked = ctx.wait_cancelled(rt).is_some();
+            is_marked && ctx.close_scope_bare(rt, scope).is_ok()
+        }
+        None => false,
+    }
+}
+
+/// Whether the mark comes of a scope of its own, by the counted clock.
+fn count<N: RealmName, S: Spawner<N>, R: Wait + SystemTime, K: Clock>(
+    rt: &R,
+    ctx: &mut TaskCtx<AnyEnd, S, N>,
+    clock: &mut K,
+    deadline: u64,
+) -> bool {
+    match open(rt, ctx, Some(deadline), false) {
+        Some(scope) => {
+            let is_marked = matches!(ctx.wait_cancelled_by(rt, clock), Ok(Some(_)));
+            is_marked && ctx.close_scope_bare(rt, scope).is_ok()
+        }
+        None => false,
+    }
+}
+
 /// Opens a scope that awaits all its tasks.
 pub fn open<N: RealmName, S: Spawner<N>, R: Wait>(
     rt: &R,
@@ -164,15 +226,31 @@ pub fn fork<
     scope: ScopeId,
     duty: Duty,
 ) -> bool {
+    match SystemClock::starting_at(time, 0) {
+        Some(clock) => fork_with(rt, ctx, clock, board, scope, duty),
+        None => false,
+    }
+}
+
+/// The same for a job with this clock.
+pub fn fork_with<
+    T: Wait + SystemTime + Copy + Drop,
+    N: RealmName,
+    S: Spawns<N, JobWork<AnyEnd, N, Worker<T>>>,
+    R: Wait,
+>(
+    rt: &R,
+    ctx: &mut TaskCtx<AnyEnd, S, N>,
+    clock: SystemClock<T>,
+    board: &Shared,
+    scope: ScopeId,
+    duty: Duty,
+) -> bool {
     let (Ok(board), Some(name)) = (Arc::try_clone(board), Name::new(b"work")) else {
         return false;
     };
     let label = Label { name, due: None };
-    let worker = Worker {
-        rt: time,
-        duty,
-        board,
-    };
+    let worker = Worker { clock, duty, board };
     ctx.fork_job(rt, scope, NamedJob::new(label, worker))
         .is_ok()
 }

@@ -3,6 +3,7 @@ ghost use Rattle.std.specs.Prelude.{◌≡◌, Some};
 
 use super::duties::Shared;
 use job_runner::{Clock, SystemClock};
+use std::rt::Clock as SystemTime;
 use std::test::Fail;
 use std::thread;
 use std::time::Duration;
@@ -72,6 +73,34 @@ impl Clock for BoardClock {
 
     fn last(&self) -> Option<u64> {
         self.last
+    }
+}
+
+/// The system's clock, of which each reading is counted on the board.
+#[derive(Drop)]
+pub struct CountedClock<T> {
+    clock: SystemClock<T>,
+    board: Shared,
+}
+
+impl<T> CountedClock<T> {
+    pub fn new(clock: SystemClock<T>, board: Shared) -> CountedClock<T> {
+        CountedClock { clock, board }
+    }
+}
+
+impl<T: SystemTime + Copy> Clock for CountedClock<T> {
+    ghost reading = { λ clock. clock.clock.last };
+
+    ghost reads = { λ old new now. new.clock.last ≡ Some now };
+
+    fn now(&mut self) -> u64 {
+        self.board.count();
+        self.clock.now()
+    }
+
+    fn last(&self) -> Option<u64> {
+        self.clock.last()
     }
 }
 

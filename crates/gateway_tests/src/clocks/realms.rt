@@ -3,7 +3,7 @@ ghost use Rattle.std.specs.Prelude.{◌≡◌};
 
 use super::duties::{Board, Shared, Worker};
 use super::rows::{limits_of_one_tick, one_tick, rows};
-use super::together::{closed_by, moved, together, woken};
+use super::together::{closed_by, counted, handed_on, moved, opened_late, together, woken};
 use job_runner::{JobWork, TaskCtx};
 use realm_lock::{Realm, RealmName, Seed};
 use scope_rules::{AnyEnd, Limits};
@@ -26,6 +26,12 @@ enum Play {
     Woken,
     /// A deadline is moved while main sleeps.
     Moved { nearer: bool },
+    /// A scope with a deadline is opened while main sleeps.
+    OpenedLate { first: bool },
+    /// Who waits by a clock ends its wait before another deadline comes.
+    HandedOn,
+    /// Many wait by clocks, each for a deadline of its own.
+    Counted,
     /// Main closes a scope in which a job waits behind a shield.
     ClosedBy,
 }
@@ -53,6 +59,9 @@ fn in_context<N: RealmName, R: CrewRuntime + SystemTime + Drop>(
         Play::Together => together(rt, ctx, board),
         Play::Woken => woken(rt, ctx, board),
         Play::Moved { nearer } => moved(rt, ctx, board, nearer),
+        Play::OpenedLate { first } => opened_late(rt, ctx, board, first),
+        Play::HandedOn => handed_on(rt, ctx, board),
+        Play::Counted => counted(rt, ctx, board),
         Play::ClosedBy => closed_by(rt, ctx, board),
     }
 }
@@ -136,6 +145,30 @@ fn a_deadline_moved_nearer_wakes_who_waits(rt: HostRuntime) -> Result<(), Fail> 
 #[test]
 fn a_deadline_moved_away_passes_later(rt: HostRuntime) -> Result<(), Fail> {
     assert!(rt; is_right(&rt, Play::Moved { nearer: false }));
+    Ok(())
+}
+
+#[test]
+fn an_open_with_the_first_deadline_wakes_who_waits(rt: HostRuntime) -> Result<(), Fail> {
+    assert!(rt; is_right(&rt, Play::OpenedLate { first: true }));
+    Ok(())
+}
+
+#[test]
+fn an_open_with_a_nearer_deadline_wakes_who_waits(rt: HostRuntime) -> Result<(), Fail> {
+    assert!(rt; is_right(&rt, Play::OpenedLate { first: false }));
+    Ok(())
+}
+
+#[test]
+fn who_ends_its_wait_hands_on_the_watch(rt: HostRuntime) -> Result<(), Fail> {
+    assert!(rt; is_right(&rt, Play::HandedOn));
+    Ok(())
+}
+
+#[test]
+fn each_who_waits_reads_its_clock_three_times(rt: HostRuntime) -> Result<(), Fail> {
+    assert!(rt; is_right(&rt, Play::Counted));
     Ok(())
 }
 

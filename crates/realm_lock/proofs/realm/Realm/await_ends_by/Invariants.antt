@@ -1,5 +1,4 @@
 -- The token and the clock are those of a wait so far, and the close goes on.
-use Rattle.std.proofs.Common.{◌≡◌}
 use Rattle.realm_core.specs.Calls.{SeesMore, history_seen}
 use Rattle.realm_core.specs.Closes.{IsBegun}
 use Rattle.realm_lock.specs.Waits.{Waited}

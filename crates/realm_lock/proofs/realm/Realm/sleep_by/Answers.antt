@@ -1,15 +1,16 @@
 use Rattle.std.proofs.Common.{refl}
 use Rattle.realm_lock.specs.Waits.{began}
-use Rattle.realm_lock.proofs.Waits.{turned, waited_sees}
+use Rattle.realm_lock.proofs.Waits.{passes_in, waited_sees}
 use Rattle.realm_lock.proofs.realm.Realm.sleep_by.Goals as goal
 
 pub loop-init : goal.loop-init
 loop-init g c = ((tt, tt), refl, began)
 
-pub returns-in-Ok-true-clause-answer : goal.returns-in-Ok-true-clause-answer
-returns-in-Ok-true-clause-answer g c = turned c.loop.token c.pass_time.new.token c.loop.clock c.now-now.new.self c.now-now.result c.loop.invariant.2 c.now-now.ensures.read c.in-Ok-true.ensures.passed
+pub returns-then-until-now-clause-answer : goal.returns-then-until-now-clause-answer
+returns-then-until-now-clause-answer g c =
+    passes_in c.loop.token c.pass_due.new.token c.loop.clock c.now-now.new.self c.now-now.result c.in_default.field-0 c.loop.invariant.2 c.now-now.ensures.read c.in_default.ensures.passes
 
 pub loop-preserved : goal.loop-preserved
 loop-preserved g c =
-    let next = turned c.loop.token c.pass_time.new.token c.loop.clock c.now-now.new.self c.now-now.result c.loop.invariant.2 c.now-now.ensures.read c.in-Ok-false.ensures.passed in
-    ((tt, tt), waited_sees c.pass_time.new.token c.now-now.new.self next, next)
+    let next = passes_in c.loop.token c.pass_due.new.token c.loop.clock c.now-now.new.self c.now-now.result c.in_default.field-0 c.loop.invariant.2 c.now-now.ensures.read c.in_default.ensures.passes in
+    ((tt, tt), waited_sees c.pass_due.new.token c.now-now.new.self next, next)

@@ -1,5 +1,4 @@
 -- The token and the clock are those of a wait so far.
-use Rattle.std.proofs.Common.{◌≡◌}
 use Rattle.realm_core.specs.Calls.{SeesMore}
 use Rattle.realm_lock.specs.Waits.{Waited}
 use Rattle.realm_lock.proofs.realm.Realm.sleep_by.Given as goal

@@ -1,18 +1,27 @@
 use Rattle.std.proofs.Common.{refl, sym, ◌∙◌}
-use Rattle.realm_lock.specs.Waits.{began, read}
-use Rattle.realm_lock.proofs.Waits.{turned, waited_sees}
+use Rattle.realm_lock.specs.Waits.{began}
+use Rattle.realm_lock.proofs.Waits.{none_of, passed_in, waited_sees}
 use Rattle.realm_lock.proofs.realm.Realm.wait_marked_by.Goals as goal
 
 pub loop-init : goal.loop-init
 loop-init g c = ((tt, tt), refl, began, c.requires.seat, refl)
 
-pub returns-in-Some-checkpoint-clause-answer : goal.returns-in-Some-checkpoint-clause-answer
-returns-in-Some-checkpoint-clause-answer g c = read c.loop.invariant.2 c.now-now.ensures.read
+pub returns-then-is_over-clause-answer : goal.returns-then-is_over-clause-answer
+returns-then-is_over-clause-answer g c = passed_in c.loop.token c.marked_in_time.new.token c.loop.clock c.now-now.new.self c.now-now.result c.loop.invariant.2 c.now-now.ensures.read c.in-Ok-None.ensures.passes
 
-pub returns-in-Ok-true-clause-answer : goal.returns-in-Ok-true-clause-answer
-returns-in-Ok-true-clause-answer g c = turned c.loop.token c.pass_time.new.token c.loop.clock c.now-now.new.self c.now-now.result c.loop.invariant.2 c.now-now.ensures.read c.in-Ok-true.ensures.passed
+pub returns-in-Ok-Some-clause-answer : goal.returns-in-Ok-Some-clause-answer
+returns-in-Ok-Some-clause-answer g c = passed_in c.loop.token c.marked_in_time.new.token c.loop.clock c.now-now.new.self c.now-now.result c.loop.invariant.2 c.now-now.ensures.read c.in-Ok-Some.ensures.passes
+
+pub loop-preserved-in-Ok : goal.loop-preserved-in-Ok
+loop-preserved-in-Ok g c =
+    let new = c.marked_in_time.new.token in
+    let next = passed_in c.loop.token new c.loop.clock c.now-now.new.self c.now-now.result c.loop.invariant.2 c.now-now.ensures.read c.in-Ok-None.ensures.passes in
+    let unshown = none_of c.in-Ok-None.field-0 _ _ c.in-Ok-None.field-0-is c.in-Ok-None.ensures.mark in
+    ((tt, tt), waited_sees new c.now-now.new.self next, next, c.marked_in_time.ensures.cell, unshown.1 ∙ (sym unshown.0 ∙ c.loop.invariant.4))
 
 pub loop-preserved : goal.loop-preserved
 loop-preserved g c =
-    let next = turned c.loop.token c.pass_time.new.token c.loop.clock c.now-now.new.self c.now-now.result c.loop.invariant.2 c.now-now.ensures.read c.in-Ok-false.ensures.passed in
-    ((tt, tt), waited_sees c.pass_time.new.token c.now-now.new.self next, next, c.checkpoint.ensures.cell, c.in-None-checkpoint.ensures.mark.1 ∙ (sym c.in-None-checkpoint.ensures.mark.0 ∙ c.loop.invariant.4))
+    let new = c.marked_in_time.new.token in
+    let next = passed_in c.loop.token new c.loop.clock c.now-now.new.self c.now-now.result c.loop.invariant.2 c.now-now.ensures.read c.in-Ok-None.ensures.passes in
+    let unshown = none_of c.in-Ok-None.field-0 _ _ c.in-Ok-None.field-0-is c.in-Ok-None.ensures.mark in
+    ((tt, tt), waited_sees new c.now-now.new.self next, next, c.marked_in_time.ensures.cell, unshown.1 ∙ (sym unshown.0 ∙ c.loop.invariant.4))

@@ -1,0 +1,169 @@
+-- Why who sleeps waits: what it waits for is not there yet, and no deadline has come.
+use Rattle.std.proofs.Common.{◌≡◌, inl, inr, ℕ, ◌<◌, ◌==◌, ◌||◌, ◌&&◌, Bool, true, false, not, nat_le, nat_lt, is_some, Result, Ok, Err, Option, Some, None, List, [], ◌∷◌, ◌++◌, refl, sym, ap, subst, ◌∙◌, arith}
+use Rattle.std.specs.Prelude.{if◌then◌else◌, IfOk, is_ok}
+use Rattle.scope_rules.specs.declared.types.capacity.Limits.{Limits}
+use Rattle.scope_rules.specs.declared.types.events.Event.TheVariants.{Join, Tick}
+use Rattle.scope_rules.specs.declared.types.refusals.Refusal.{Refusal}
+use Rattle.scope_rules.specs.declared.types.refusals.Refusal.TheVariants.{Memory, NoScope, NotOwner, Closed, AlreadyJoined, NoTask, WrongStage, NotReady, Retired}
+use Rattle.scope_rules.specs.History.{History, moment, opening, forking}
+use Rattle.scope_rules.specs.Cancels.{is_cancelled}
+use Rattle.scope_rules.specs.Scopes.{closing, joined}
+use Rattle.scope_rules.specs.Tasks.{is_running, ready, settled, stage}
+use Rattle.scope_rules.specs.Checks.{Checked, actor_check, checks, owns, refuse_if, scope_check, task_check, then_check}
+use Rattle.scope_rules.specs.Table.{check_of}
+use Rattle.scope_rules.proofs.Timed.{moment_grows}
+use Rattle.share_ledger.specs.declared.steps.Ask.TheVariants as ask
+use Rattle.share_ledger.specs.declared.steps.RealmStep.{RealmStep}
+use Rattle.share_ledger.specs.declared.steps.RealmStep.TheVariants.{Asked, Happened}
+use Rattle.share_ledger.specs.Steps.{history_of}
+use Rattle.share_ledger.proofs.Histories.{history-push}
+use Rattle.scope_kept.specs.declared.bare.BareOutcome.{BareOutcome}
+use Rattle.scope_checks.specs.declared.told.Told.{Told}
+use Rattle.scope_checks.specs.declared.told.Told.TheVariants as told
+use Rattle.scope_checks.specs.Telling.{records}
+use Rattle.scope_rules.specs.Replies.{Realm}
+use Rattle.realm_core.specs.Calls.{Performed, Refused, done, history_seen}
+use Rattle.realm_core.specs.Cores.{CoreValue}
+use Rattle.realm_core.specs.Telling.{Stepped}
+use Rattle.realm_core.specs.Views.{Joins, JoinsBare}
+use Rattle.realm_core.specs.declared.joins.Joined.{Joined}
+use Rattle.realm_core.specs.Closes.{IsBegun}
+use Rattle.realm_core.specs.Waiting.{FoundUnsettled, HoldsUp}
+use Rattle.share_ledger.specs.Values.{OwnerValue}
+use Rattle.realm_lock.specs.Sleeps.{IsHeldUp}
+use Rattle.realm_lock.specs.Waits.{HasCome}
+
+-- ---- a join that is not ready
+
+otherwise : (b : Bool) (x : Refusal) → (x ≡ NotReady → ⊥) → refuse_if b x ≡ Err NotReady → ⊥
+otherwise true x apart is = let same : x ≡ NotReady = cc in apart same
+otherwise false x apart is = absurd cc
+
+-- the check before isn't refused so, so one behind it is
+behind_check : (c : Checked) (cs : List Checked) → (c ≡ Err NotReady → ⊥) → checks (c ∷ cs) ≡ Err NotReady → checks cs ≡ Err NotReady
+unfolding checks then_check
+behind_check (Ok tt) cs apart is = is
+behind_check (Err r) cs apart is = let same : r ≡ NotReady = cc in absurd (apart (ap Err same))
+
+numbered : (b c : Bool) (x : Refusal) → (x ≡ NotReady → ⊥) → (if b then Err Retired else refuse_if c x) ≡ Err NotReady → ⊥
+numbered true c x apart is = absurd cc
+numbered false c x apart is = otherwise c x apart is
+
+alone : (c : Checked) → (c ≡ Err NotReady → ⊥) → checks (c ∷ []) ≡ Err NotReady → ⊥
+unfolding checks
+alone c apart it = let none : checks [] ≡ Err NotReady = behind_check c [] apart it in absurd cc
+
+task_passes : (h : History) (a : ℕ) → task_check h a ≡ Err NotReady → ⊥
+unfolding task_check
+task_passes h a it = numbered (nat_lt 0 a && nat_le a h.base.tasks) (not (is_some (forking h a))) NoTask (λ same. absurd cc) it
+
+runs : (h : History) (a : ℕ) → checks (task_check h a ∷ refuse_if (not (is_running (stage h a))) WrongStage ∷ []) ≡ Err NotReady → ⊥
+runs h a refused =
+    let last = behind_check (task_check h a) (refuse_if (not (is_running (stage h a))) WrongStage ∷ []) (task_passes h a) refused in
+    alone (refuse_if (not (is_running (stage h a))) WrongStage) (otherwise (not (is_running (stage h a))) WrongStage (λ same. absurd cc)) last
+
+acts_by : (b : Bool) (c : Checked) → (c ≡ Err NotReady → ⊥) → (if b then Ok tt else c) ≡ Err NotReady → ⊥
+acts_by true c apart it = absurd cc
+acts_by false c apart it = apart it
+
+acts : (h : History) (a : ℕ) → actor_check h a ≡ Err NotReady → ⊥
+unfolding actor_check
+acts h a is = acts_by (a == 0) (checks (task_check h a ∷ refuse_if (not (is_running (stage h a))) WrongStage ∷ [])) (runs h a) is
+
+last_check : (b : Bool) → checks (refuse_if b NotReady ∷ []) ≡ Err NotReady → b ≡ true
+unfolding checks then_check
+last_check true is = refl
+last_check false is = absurd cc
+
+-- where a join is not ready, a task of the scope waits or runs
+pub unready : (L : Limits) (h : History) (a s : ℕ) → check_of L h (Join a s) ≡ Err NotReady → settled h s ≡ false
+unfolding check_of scope_check ready
+unready L h a s is =
+    let one = behind_check (actor_check h a) _ (acts h a) is in
+    let two = behind_check (scope_check h s) _ (λ it. numbered (nat_lt 0 s && nat_le s h.base.scopes) (not (is_some (opening h s))) NoScope (λ same. absurd cc) it) one in
+    let three = behind_check (refuse_if (not (owns h a s)) NotOwner) _ (otherwise _ NotOwner (λ same. absurd cc)) two in
+    let four = behind_check (refuse_if (closing h s) Closed) _ (otherwise _ Closed (λ same. absurd cc)) three in
+    let five = behind_check (refuse_if (joined h s) AlreadyJoined) _ (otherwise _ AlreadyJoined (λ same. absurd cc)) four in
+    by (is_cancelled h s) (settled h s) (last_check (not (ready h s)) five)
+  where
+    by : (c b : Bool) → not (c || b) ≡ true → b ≡ false
+    by true b it = absurd cc
+    by false true it = absurd cc
+    by false false it = refl
+
+module _ (core after final : CoreValue) (old new : OwnerValue) (s : ℕ) (same : final ≡ after) where
+  seen_there : Stepped core after new (Happened (Join old.actor s)) false → history_of new.seen ≡ history_of final.steps
+  seen_there stepped = sym (ap (λ (k : CoreValue). history_of k.steps) (same ∙ stepped.0))
+
+  busy_by : (r : Refusal) → r ≡ NotReady → Stepped core after new (Happened (Join old.actor s)) false → Refused old new (Happened (Join old.actor s)) r → settled (history_of final.steps) s ≡ false
+  busy_by r is stepped by = subst (λ (h : History). settled h s ≡ false) (seen_there stepped) (unready old.limits (history_of new.seen) old.actor s (by.by ∙ ap Err is))
+
+  -- what a join leaves that is not ready
+  pub join_busy : (result : Result Joined Refusal) → Stepped core after new (Happened (Join old.actor s)) (is_ok result) → Joins old new s result → result ≡ Err NotReady → settled (history_of final.steps) s ≡ false
+  join_busy (Ok joined) stepped did is = absurd cc
+  join_busy (Err r) stepped did is =
+      let named : r ≡ NotReady = cc in
+      elim did.1 [
+        | inl by ↦ busy_by r named stepped by
+        | inr none ↦ let both : Memory ≡ NotReady = sym none.memory ∙ named in absurd cc
+      ]
+
+  -- the same where the outcome is told without the lists
+  pub join_bare_busy : (result : Result BareOutcome Refusal) → Stepped core after new (Happened (Join old.actor s)) (is_ok result) → JoinsBare old new s result → result ≡ Err NotReady → settled (history_of final.steps) s ≡ false
+  join_bare_busy (Ok outcome) stepped did is = absurd cc
+  join_bare_busy (Err r) stepped did is = let named : r ≡ NotReady = cc in busy_by r named stepped did.1
+
+-- ---- a close that is held up
+
+pub held_up : (h : History) (a s : ℕ) (t : ℕ) → IsBegun h a s → FoundUnsettled h s (Some t) → IsHeldUp h s
+held_up h a s t begun found = record { actor = a; opens = begun.of; by = t; holds = subst (λ (b : ℕ). HoldsUp h b s t) begun.of.by (found begun.of.opened begun.of.is begun.of.unclosed) }
+
+-- by what a look found
+pub held_at : (core : CoreValue) (realm : Realm) (token : OwnerValue) (a s : ℕ) (found : Option ℕ) (none : Bool) → realm ≡ record { limits = core.limits; history = history_of core.steps } → core.steps ≡ token.seen → IsBegun (history_seen token) a s → FoundUnsettled realm.history s found → is_some found ≡ not none → none ≡ false → IsHeldUp (history_of core.steps) s
+held_at core realm token a s (Some t) none lent all begun finds is not_none =
+    let here : FoundUnsettled (history_of core.steps) s (Some t) = subst (λ (r : Realm). FoundUnsettled r.history s (Some t)) lent finds in
+    held_up (history_of core.steps) a s t (subst (λ (l : List RealmStep). IsBegun (history_of l) a s) (sym all) begun) here
+held_at core realm token a s None none lent all begun finds is not_none =
+    let both : false ≡ not false = is ∙ ap not not_none in
+    absurd cc
+
+-- and what is found then
+pub busy_at : (core there : CoreValue) (realm : Realm) (s t : ℕ) → there ≡ core → realm ≡ record { limits = there.limits; history = history_of there.steps } → IsHeldUp (history_of core.steps) s → FoundUnsettled realm.history s (Some t) → settled (history_of core.steps) t ≡ false
+busy_at core there realm s t same lent held finds =
+    let here : FoundUnsettled (history_of core.steps) s (Some t) = subst (λ (k : CoreValue). FoundUnsettled (history_of k.steps) s (Some t)) same (subst (λ (r : Realm). FoundUnsettled r.history s (Some t)) lent finds) in
+    (here held.opens.opened held.opens.is held.opens.unclosed).busy
+
+-- where nothing is found, nothing holds it up
+pub none_busy : (core there : CoreValue) (realm : Realm) (s : ℕ) → there ≡ core → realm ≡ record { limits = there.limits; history = history_of there.steps } → IsHeldUp (history_of core.steps) s → FoundUnsettled realm.history s None → ⊥
+none_busy core there realm s same lent held finds =
+    let here : FoundUnsettled (history_of core.steps) s None = subst (λ (k : CoreValue). FoundUnsettled (history_of k.steps) s None) same (subst (λ (r : Realm). FoundUnsettled r.history s None) lent finds) in
+    let it = held.holds in
+    let owner : it.of.opened.actor ≡ held.opens.opened.actor = it.of.by ∙ sym held.opens.by in
+    let quiet : settled (history_of core.steps) held.by ≡ true = here held.opens.opened held.opens.is held.opens.unclosed held.by it.of.opened it.of.is owner it.from it.of.unclosed in
+    let both : true ≡ false = sym quiet ∙ it.busy in
+    absurd cc
+
+-- ---- a tick leaves no deadline that has come
+
+pub none_after : (there : List RealmStep) (a now : ℕ) → HasCome (history_of (there ++ Asked a (ask.Tick now) ∷ [])) now → ⊥
+none_after there a now due = omega (arith, at, due.come, late)
+  where
+    at : moment (history_of (there ++ Asked a (ask.Tick now) ∷ [])) ≡ now
+    at = ap moment (history-push there (Asked a (ask.Tick now))) ∙ moment_grows (history_of there) (Tick now)
+
+    late : moment (history_of (there ++ Asked a (ask.Tick now) ∷ [])) < due.deadline
+    late = due.next.coming
+
+-- what the command of a tick leaves that was accepted
+pub tick_passed : (core after final : CoreValue) (old new : OwnerValue) (now : ℕ) (result : Result Told Refusal) → final ≡ after → Stepped core after new (Asked old.actor (ask.Tick now)) (records result) → Performed old new (Tick now) result → IfOk (done result) (λ _. (final.steps ≡ new.seen) × (HasCome (history_of final.steps) now → ⊥))
+tick_passed core after final old new now (Ok told.Already) same stepped did = absurd (both did.1.already)
+  where
+    both : false ≡ true → ⊥
+    both is = absurd cc
+tick_passed core after final old new now (Ok answer) same stepped did =
+    let x = Asked old.actor (ask.Tick now) in
+    let steps : final.steps ≡ core.steps ++ x ∷ [] = ap (λ (k : CoreValue). k.steps) (same ∙ stepped.1) in (
+      ap (λ (k : CoreValue). k.steps) (same ∙ stepped.0),
+      λ due. none_after core.steps old.actor now (subst (λ (l : List RealmStep). HasCome (history_of l) now) steps due),
+    )
+tick_passed core after final old new now (Err r) same stepped did = tt

@@ -1,0 +1,21 @@
+-- Over what nobody sleeps, and how long.
+use Rattle.std.specs.Prelude.{ℕ, Option, None, Some, min}
+use Rattle.scope_rules.specs.History.{History}
+use Rattle.realm_core.specs.Waiting.{IsOpenOf, HoldsUp}
+
+-- a task waits or runs of a scope that the close of scope s covers
+pub record IsHeldUp (h : History) (s : ℕ) : Type 0 where
+  pub actor : ℕ
+  pub opens : IsOpenOf h actor s
+  pub by : ℕ
+  pub holds : HoldsUp h actor s by
+
+-- the sooner of two moments, if there is one
+abbrev pub sooner : Option ℕ → Option ℕ → Option ℕ
+sooner None other = other
+sooner (Some moment) None = Some moment
+sooner (Some moment) (Some other) = Some (min moment other)
+
+-- the nanoseconds in a millisecond
+abbrev pub NANOS : ℕ
+NANOS = 1_000_000
