@@ -1,6 +1,7 @@
 //! Works and the crews that run them; named jobs.
 
 mod boards;
+mod keeping;
 mod naming;
 mod recalls;
 mod rounds;

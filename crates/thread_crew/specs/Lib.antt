@@ -1,2 +1,3 @@
 pub mod Returns
+pub mod Staff
 pub mod Teams

@@ -1,4 +1,4 @@
-ghost use Rattle.std.specs.Prelude.{◌≡◌};
+ghost use Rattle.std.specs.Prelude.{◌≡◌, Some, IsOk, IsSome, MatchResult};
 ghost use Rattle.thread_crew.specs.Returns.{Returns};
 
 use crate::spawning::{Ready, Spawner, Spawns, Work};
@@ -17,7 +17,9 @@ pub struct Inline<L> {
 
 impl<L> Inline<L> {
     /// One that lends its works this spawner.
-    pub fn new(lent: L) -> Inline<L> {
+    pub fn new(lent: L) -> Inline<L>
+        ensures { result.lent ≡ Some lent }
+    {
         Inline { lent: Some(lent) }
     }
 }
@@ -66,7 +68,11 @@ impl<N: RealmName, L: Drop, W: Ready + Work<N, L>> Spawns<N, W> for Inline<L> {
         rt: &R,
         ticket: Ticket,
         work: W,
-    ) -> Result<InlineHandle<N>, (Ticket, W)> {
+    ) -> Result<InlineHandle<N>, (Ticket, W)>
+        requires { W.ready_for work ticket }
+        ensures handed { MatchResult result (λ handle. handle.first.value ≡ ticket) (λ refused. (refused.0 ≡ ticket) × (refused.1 ≡ work)) }
+        ensures runs { IsSome self.old.lent → IsOk result × IsSome self.new.lent }
+    {
         let Some(lent) = self.lent.take() else {
             return Err((ticket, work));
         };

@@ -108,10 +108,10 @@ where
     for _ in rt.forever() {
         let next = match order {
             Some(order) => {
-                let (finished, way_back, lent) = order.run(rt, threads);
+                let (owed, lent) = order.run(rt, threads);
                 threads = lent;
                 let next = office.next(rt, tray, number);
-                way_back.put(rt, finished);
+                owed.put(rt);
                 next
             }
             None => office.next(rt, tray, number),

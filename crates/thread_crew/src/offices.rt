@@ -1,7 +1,7 @@
 ghost use Rattle.std.specs.Prelude.{◌≡◌, IfErr, IfSome};
 
 use crate::orders::OfScope;
-use crate::staff::{Answer, Lack, Next, SharedTray, Staff, Wish};
+use crate::staff::{Answer, Called, Lack, Next, SharedTray, Staff, Wish};
 use scope_rules::ScopeId;
 use std::alloc::{AllocError, Global};
 use std::sync::{Arc, Condvar, Mutex, Wait};
@@ -34,7 +34,7 @@ impl<O: Drop> Office<O> {
         let taken = self.staff.lock(rt).take_or_ask(order);
         match taken {
             Ok(called) => {
-                ring(called);
+                wake(called);
                 Ok(())
             }
             Err((Lack::Crew, order)) => Err(order),
@@ -58,7 +58,7 @@ impl<O: Drop> Office<O> {
         let taken = self.staff.lock(rt).take(order);
         match taken {
             Ok(called) => {
-                ring(called);
+                wake(called);
                 Ok(())
             }
             Err((_, order)) => Err(order),
@@ -80,7 +80,7 @@ impl<O: Drop> Office<O> {
     /// the others is woken before it is run.
     pub(crate) fn come<R: Wait>(&self, rt: &R) -> Option<O> {
         let (order, called) = self.staff.lock(rt).come();
-        ring(called);
+        wake(called);
         order
     }
 
@@ -137,9 +137,10 @@ impl<O: Drop + OfScope> Office<O> {
     }
 }
 
-/// Wakes the thread of the tray, if one is to be woken.
-fn ring<O: Drop>(called: Option<SharedTray<O>>) {
-    if let Some(tray) = called {
-        tray.ring();
+/// Wakes the thread that was called, if one was.
+fn wake<O: Drop>(called: Option<Called<O>>) {
+    match called {
+        Some(called) => called.wake(),
+        None => {}
     }
 }

@@ -32,6 +32,21 @@ impl<N: RealmName> Finished<N> {
 /// The tray by which a ticket comes back.
 pub(crate) type WayBack<N> = Arc<Tray<Finished<N>>, Global>;
 
+/// A ticket that its joiner waits for, and the way on which it goes back. It can't be let go: who has it puts
+/// it there.
+pub(crate) struct OwedTicket<N: RealmName> {
+    finished: Finished<N>,
+    way_back: WayBack<N>,
+}
+
+impl<N: RealmName> OwedTicket<N> {
+    /// Puts the ticket where the join of its handle finds it.
+    pub(crate) fn put<R: Wait>(self, rt: &R) {
+        let OwedTicket { finished, way_back } = self;
+        way_back.put(rt, finished);
+    }
+}
+
 /// What lies in the queue of a crew: which scope its task is of.
 pub(crate) trait OfScope {
     ghost use Rattle.std.specs.Prelude.{ℕ, ◌≡◌};
@@ -79,8 +94,8 @@ impl<N: RealmName, W: Ready> Order<N, W> {
         (ticket, work)
     }
 
-    /// Runs the work, which is lent the spawner, and gives the ticket, the way back, and the spawner.
-    pub(crate) fn run<S, R: Wait>(self, rt: &R, spawner: S) -> (Finished<N>, WayBack<N>, S)
+    /// Runs the work, which is lent the spawner, and gives the ticket, with its way back, and the spawner.
+    pub(crate) fn run<S, R: Wait>(self, rt: &R, spawner: S) -> (OwedTicket<N>, S)
     where
         W: Work<N, S>,
     {
@@ -90,18 +105,19 @@ impl<N: RealmName, W: Ready> Order<N, W> {
             way_back,
         } = self;
         let (ticket, spawner) = work.run(rt, spawner, ticket);
-        (Finished::new(ticket), way_back, spawner)
+        let finished = Finished::new(ticket);
+        (OwedTicket { finished, way_back }, spawner)
     }
 
     /// Runs the work in the caller's own thread, by the spawner that it is lent, and puts the ticket where the
-    /// join of its handle finds it. Gives the spawner back. No clause says more: what lies under a lock is seen
-    /// by none, and the join says that the ticket has ended.
+    /// join of its handle finds it. Gives the spawner back. That the ticket is put there, the types say
+    /// (`OwedTicket`), and no clause: none sees what lies under a lock. The join says that it has ended.
     pub fn run_here<S, R: Wait>(self, rt: &R, spawner: S) -> S
     where
         W: Work<N, S> + Drop,
     {
-        let (finished, way_back, spawner) = self.run(rt, spawner);
-        way_back.put(rt, finished);
+        let (owed, spawner) = self.run(rt, spawner);
+        owed.put(rt);
         spawner
     }
 }

@@ -42,7 +42,8 @@ impl<N: RealmName, W: Ready + Work<N, OsThreads<N, W>>> Crew<N, W> {
         })
     }
 
-    /// The crew's threads, as a spawner. Refused only where std's count of holders is full.
+    /// The crew's threads, as a spawner. Refused only where std's count of holders is full. No clause says whose
+    /// threads they are: they are told apart by what lies under the crew's lock; tests count them.
     pub fn threads(&self) -> Result<OsThreads<N, W>, AllocError> {
         let office = Arc::try_clone(&self.office)?;
         Ok(OsThreads {
@@ -52,7 +53,7 @@ impl<N: RealmName, W: Ready + Work<N, OsThreads<N, W>>> Crew<N, W> {
     }
 
     /// Closes the crew: from now on each fork is refused. Waits until the works that run have ended, and
-    /// joins all threads.
+    /// joins all threads. No clause says so, since it speaks of other calls and of threads; tests count them.
     pub fn close<R: Threads + Wait>(self, rt: &R)
     where
         W: Drop,

@@ -1,4 +1,4 @@
-ghost use Rattle.std.specs.Prelude.{◌≡◌};
+ghost use Rattle.std.specs.Prelude.{◌≡◌, ◌==◌, ◌-◌, IsErr, MatchResult};
 ghost use Rattle.thread_crew.specs.Returns.{Returns};
 
 use crate::inline::InlineHandle;
@@ -42,12 +42,17 @@ pub struct RefuseNth<S> {
 
 impl<S> RefuseNth<S> {
     /// One that refuses the `nth` work, counted from 1; none where that is 0.
-    pub fn new(nth: u64, inner: S) -> RefuseNth<S> {
+    pub fn new(nth: u64, inner: S) -> RefuseNth<S>
+        ensures { (result.left ≡ nth) × (result.inner ≡ inner) }
+    {
         RefuseNth { left: nth, inner }
     }
 
     /// Whether the work that is passed now is the one to be refused.
-    fn is_refused(&mut self) -> bool {
+    fn is_refused(&mut self) -> bool
+        ensures refused { result ≡ (self.old.left == 1) }
+        ensures counted { (self.new.left ≡ self.old.left - 1) × (self.new.inner ≡ self.old.inner) }
+    {
         let left = self.left;
         self.left = left.saturating_sub(1);
         left == 1
@@ -65,12 +70,12 @@ impl<N: RealmName, S: Spawner<N>> Spawner<N> for RefuseNth<S> {
 }
 
 impl<N: RealmName, W: Ready, S: Spawns<N, W>> Spawns<N, W> for RefuseNth<S> {
-    fn spawn<R: Wait>(
-        &mut self,
-        rt: &R,
-        ticket: Ticket,
-        work: W,
-    ) -> Result<S::Handle, (Ticket, W)> {
+    fn spawn<R: Wait>(&mut self, rt: &R, ticket: Ticket, work: W) -> Result<S::Handle, (Ticket, W)>
+        requires { W.ready_for work ticket }
+        ensures handed { MatchResult result (λ handle. S.first_of handle ≡ ticket) (λ refused. (refused.0 ≡ ticket) × (refused.1 ≡ work)) }
+        ensures refused { self.old.left ≡ 1 → IsErr result × (self.new.inner ≡ self.old.inner) }
+        ensures counted { self.new.left ≡ self.old.left - 1 }
+    {
         if self.is_refused() {
             return Err((ticket, work));
         }

@@ -60,7 +60,7 @@ pub trait Spawns<N: RealmName, W: Ready>: Spawner<N> {
 /// where it would only wait for them.
 pub trait Recalls<N: RealmName, W: Ready>: Spawns<N, W> + Drop {
     /// A share of the spawner, by which a work that was given back forks its own. None where std's count of
-    /// holders is full.
+    /// holders is full. No clause says whose share it is: what the two have in common lies under a lock.
     fn share(&self) -> Option<Self>;
 
     /// A work of a task of the scope that no thread has taken, if there is one, the one that was forked last.

@@ -32,10 +32,11 @@ impl<L: Drop> Board<L> {
 }
 
 impl<L> Board<L> {
-    /// Counts a run of the work at the place.
-    pub fn note(&self, place: u32) {
-        if let Some(runs) = self.runs.get(place as usize) {
-            runs.fetch_add(1, Ordering::SeqCst);
+    /// Counts a run of the work at the place, and gives how many there were, with this one.
+    pub fn note(&self, place: u32) -> u64 {
+        match self.runs.get(place as usize) {
+            Some(runs) => runs.fetch_add(1, Ordering::SeqCst).saturating_add(1),
+            None => 0,
         }
     }
 

@@ -1,7 +1,7 @@
 //! Works that their owner takes back and runs itself.
 ghost use Rattle.std.specs.Prelude.{◌≡◌};
 
-use super::works::Kind::Plain;
+use super::works::Kind::{Counts, Plain};
 use super::works::{CrewWork, Shared, fork, join, shared};
 use scope_rules::ScopeId;
 use share_ledger::{RealmName, Seed};
@@ -16,6 +16,9 @@ const SCOPE: ScopeId = 1;
 
 /// How many works are forked.
 const FORKS: u32 = 1_000;
+
+/// How often three works are forked at most until all are taken back.
+const ROUNDS: u32 = 10_000;
 
 /// The place of these works.
 const PLACE: u32 = 0;
@@ -66,7 +69,54 @@ fn owner_helps<N: RealmName, R: Wait>(
     Ok((helped, is_right && board.runs(PLACE) == u64::from(FORKS)))
 }
 
-fn on_a_crew<N, R>(rt: &R, alloc: Global, seed: Seed) -> Result<Found, AllocError>
+/// Forks three works, runs those that no thread takes, until none is given back, and joins all. How many it ran,
+/// and whether the last that was forked was run first.
+fn owner_takes_three<N: RealmName, R: Wait>(
+    rt: &R,
+    alloc: Global,
+    threads: &mut OsThreads<N, CrewWork<N>>,
+    board: &Shared<N>,
+) -> Result<Found, AllocError> {
+    let mut handles = Vec::new(alloc);
+    for _ in 0..3u32 {
+        let Some((0, handle)) = fork(rt, threads, board, Counts, PLACE) else {
+            return Ok((0, false));
+        };
+        handles.push(handle)?;
+    }
+    let mut helped = 0u32;
+    for _ in 0..4u32 {
+        helped = helped.saturating_add(run_here(rt, threads, SCOPE));
+    }
+    let mut is_last_first = true;
+    let mut place = i64::try_from(board.runs(PLACE)).unwrap_or(0);
+    for handle in handles {
+        let end = join(rt, threads, handle);
+        is_last_first = is_last_first && end == Some(place);
+        place = place.saturating_sub(1);
+    }
+    Ok((helped, is_last_first))
+}
+
+/// Goes on until the owner ran all three itself, on a crew of which some threads rest.
+fn owner_takes_all<N: RealmName, R: Wait>(
+    rt: &R,
+    alloc: Global,
+    crew: &Crew<N, CrewWork<N>>,
+    board: &Shared<N>,
+) -> Result<Found, AllocError> {
+    let mut threads = crew.threads()?;
+    for _ in 0..ROUNDS {
+        let (helped, is_right) = owner_takes_three(rt, alloc, &mut threads, board)?;
+        if helped == 3 {
+            return Ok((helped, is_right));
+        }
+    }
+    Ok((0, false))
+}
+
+/// What its owner does with a crew: the one or the other.
+fn on_a_crew<N, R>(rt: &R, alloc: Global, seed: Seed, is_in_turn: bool) -> Result<Found, AllocError>
 where
     N: RealmName + Send + Sync + 'static,
     R: CrewRuntime,
@@ -74,15 +124,29 @@ where
 {
     let board: Shared<N> = shared(alloc, seed)?;
     let crew = Crew::open(rt, alloc, 4)?;
-    let found = owner_helps(rt, alloc, &crew, &board);
+    let found = if is_in_turn {
+        owner_takes_all(rt, alloc, &crew, &board)
+    } else {
+        owner_helps(rt, alloc, &crew, &board)
+    };
     crew.close(rt);
     found
+}
+
+/// What is given back is the last that was forked, and then the one before it, until none is left.
+#[test]
+fn works_are_taken_back_last_first(rt: HostRuntime) -> Result<(), Fail> {
+    let seed = Seed::new(rt.alloc())?;
+    let (helped, is_right) = on_a_crew::<Brand, _>(&rt, rt.alloc(), seed, true)?;
+    assert!(rt; is_right && helped == 3, "{helped}");
+    Ok(())
 }
 
 /// Each work is run once, by a thread or by its owner, who runs some: a thread that was called comes later.
 #[test]
 fn an_owner_runs_works_that_no_thread_has_taken(rt: HostRuntime) -> Result<(), Fail> {
-    let (helped, is_right) = on_a_crew::<Brand, _>(&rt, rt.alloc(), Seed::new(rt.alloc())?)?;
+    let seed = Seed::new(rt.alloc())?;
+    let (helped, is_right) = on_a_crew::<Brand, _>(&rt, rt.alloc(), seed, false)?;
     assert!(rt; is_right && helped > 0, "{helped}");
     Ok(())
 }

@@ -180,6 +180,28 @@ fn works_on_a_crew(rt: HostRuntime) -> Result<(), Fail> {
     Ok(())
 }
 
+/// No works but the one that forks others while the crew is closed.
+const CLOSED_AT_ONCE: Rounds = Rounds {
+    name: "closed at once",
+    works: &[],
+    times: 0,
+    at_once: 8,
+    keeps: &[0],
+    refused: &[0],
+};
+
+/// Where no thread may rest, each fork waits for one, in which the close mostly finds it: it is answered then
+/// too. Else this would never end.
+#[test]
+fn a_closing_crew_answers_a_fork_that_waits_for_a_thread(rt: HostRuntime) -> Result<(), Fail> {
+    for _ in 0..200 {
+        let seed = Seed::new(rt.alloc())?;
+        let played = on_a_crew::<Brand, _>(&rt, rt.alloc(), seed, (CLOSED_AT_ONCE, 0, 0))?;
+        assert!(rt; played.is_right_but_for(0));
+    }
+    Ok(())
+}
+
 /// Run with one allocation after another refused too: one work is at most, and no thread is left over.
 #[test]
 fn a_refused_growth_refuses_one_work(rt: HostRuntime) -> Result<(), Fail> {
@@ -215,7 +237,7 @@ where
 }
 
 /// The same on the crew, which is closed afterwards.
-fn gather<N: RealmName, R: Wait>(
+pub fn gather<N: RealmName, R: Wait>(
     rt: &R,
     alloc: Global,
     crew: &Crew<N, CrewWork<N>>,
