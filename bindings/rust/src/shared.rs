@@ -1,0 +1,242 @@
+//! What the threads of a realm share: the book behind its lock, the clock, and the bells.
+
+use crate::ffi::Book;
+use crate::options::Options;
+use crate::refusal::Refusal;
+use std::alloc::{handle_alloc_error, Layout};
+use std::collections::HashMap;
+use std::sync::atomic::{AtomicBool, AtomicU64, Ordering};
+use std::sync::{Arc, Condvar, Mutex, MutexGuard, PoisonError};
+use std::time::{Duration, Instant};
+
+/// The actor that is no task.
+pub(crate) const MAIN: u32 = 0;
+/// The moment of a deadline that never comes.
+const NEVER: u64 = u64::MAX;
+
+/// What rings where something happens to a scope. The book decides; a bell only says it without a lock.
+#[derive(Default)]
+pub(crate) struct Bell {
+    /// Whether the book said that the scope is cancelled.
+    pub(crate) cancelled: AtomicBool,
+    /// The owner waits here for its join.
+    pub(crate) owner: Condvar,
+    /// Those who sleep in the scope wait here for its cancel.
+    pub(crate) sleepers: Condvar,
+}
+
+/// A scope that is open, as its owner and its jobs know it.
+#[derive(Clone)]
+pub(crate) struct Around {
+    pub(crate) scope: u32,
+    pub(crate) bell: Arc<Bell>,
+}
+
+/// What the lock guards.
+pub(crate) struct Inner {
+    pub(crate) book: Book,
+    /// The bells of the scopes that are not closed.
+    bells: HashMap<u32, Arc<Bell>>,
+    /// How many of the book's cancelled scopes were told to their bells.
+    told: usize,
+}
+
+/// What the threads of a realm share.
+pub(crate) struct Shared {
+    inner: Mutex<Inner>,
+    /// The next deadline of the realm in milliseconds, as the book said last.
+    next: AtomicU64,
+    began: Instant,
+}
+
+impl Shared {
+    pub(crate) fn new(book: Book) -> Shared {
+        let inner = Inner { book, bells: HashMap::new(), told: 0 };
+        Shared { inner: Mutex::new(inner), next: AtomicU64::new(NEVER), began: Instant::now() }
+    }
+
+    /// The book, for a question that passes no deadline. A job's panic never comes while the lock is held, so a
+    /// poisoned lock guards a whole book.
+    pub(crate) fn quietly(&self) -> MutexGuard<'_, Inner> {
+        self.inner.lock().unwrap_or_else(PoisonError::into_inner)
+    }
+
+    /// The book, once the deadlines that are due have passed.
+    pub(crate) fn lock(&self) -> MutexGuard<'_, Inner> {
+        let mut inner = self.quietly();
+        self.pass_deadlines(&mut inner);
+        inner
+    }
+
+    /// Whether a deadline is due that the book was not told of. It takes no lock.
+    pub(crate) fn is_due(&self) -> bool {
+        let next = self.next.load(Ordering::Relaxed);
+        next != NEVER && self.now() >= next
+    }
+
+    /// Tells the book the moment where a deadline is due.
+    pub(crate) fn pass_deadlines(&self, inner: &mut Inner) {
+        if self.is_due() {
+            // A refusal (the load's limit) leaves the deadline standing: the next call tries again.
+            let _ = inner.book.tick(self.now());
+            self.settle(inner);
+        }
+    }
+
+    /// Rings the bells of what the book has cancelled since the last call, and notes the next deadline.
+    pub(crate) fn settle(&self, inner: &mut Inner) {
+        while let Some(scope) = inner.book.nth_cancelled(inner.told) {
+            inner.told += 1;
+            if let Some(bell) = inner.bells.get(&scope) {
+                bell.cancelled.store(true, Ordering::Release);
+                bell.owner.notify_all();
+                bell.sleepers.notify_all();
+            }
+        }
+        if self.next.load(Ordering::Relaxed) != NEVER {
+            self.note_next(inner);
+        }
+    }
+
+    fn note_next(&self, inner: &mut Inner) {
+        self.next.store(inner.book.next_deadline().unwrap_or(NEVER), Ordering::Relaxed);
+    }
+
+    /// Waits until the bell rings, a deadline that counts for the scope is due, or the end that is given has come.
+    pub(crate) fn wait<'lock>(
+        &self,
+        mut inner: MutexGuard<'lock, Inner>,
+        bell: &Condvar,
+        scope: Option<u32>,
+        end: Option<Instant>,
+    ) -> MutexGuard<'lock, Inner> {
+        let deadline = scope.and_then(|scope| inner.book.until(scope)).and_then(|moment| self.instant_of(moment));
+        // A deadline that is due and still stands was refused by the load's limit: it is tried again soon.
+        let deadline = deadline.map(|deadline| deadline.max(Instant::now() + Duration::from_millis(1)));
+        let limit = match (deadline, end) {
+            (Some(deadline), Some(end)) => Some(deadline.min(end)),
+            (deadline, end) => deadline.or(end),
+        };
+        let mut inner = match limit {
+            None => bell.wait(inner).unwrap_or_else(PoisonError::into_inner),
+            Some(limit) => {
+                let left = limit.saturating_duration_since(Instant::now());
+                bell.wait_timeout(inner, left).unwrap_or_else(PoisonError::into_inner).0
+            }
+        };
+        self.pass_deadlines(&mut inner);
+        inner
+    }
+
+    /// The moment of the realm's clock: whole milliseconds that have passed.
+    fn now(&self) -> u64 {
+        u64::try_from(self.began.elapsed().as_millis()).unwrap_or(NEVER)
+    }
+
+    /// The moment after so long, rounded up.
+    fn after(&self, duration: Duration) -> u64 {
+        let whole = self.began.elapsed().saturating_add(duration);
+        let rounded = whole.saturating_add(Duration::from_nanos(999_999));
+        u64::try_from(rounded.as_millis()).unwrap_or(NEVER)
+    }
+
+    fn instant_of(&self, moment: u64) -> Option<Instant> {
+        self.began.checked_add(Duration::from_millis(moment))
+    }
+
+    /// The actor opens a scope, and gets its bell.
+    pub(crate) fn open(&self, actor: u32, options: &Options) -> Result<Around, Refusal> {
+        let mut inner = self.lock();
+        let (joiner, bound) = options.joiner_numbers();
+        let deadline = options.within.map(|duration| self.after(duration));
+        let answer = inner.book.open_scope(actor, joiner, bound, options.flags(), deadline.unwrap_or(0))?;
+        let around = Around { scope: answer as u32, bell: Arc::default() };
+        inner.bells.insert(around.scope, Arc::clone(&around.bell));
+        if deadline.is_some() {
+            self.note_next(&mut inner);
+        }
+        self.settle(&mut inner);
+        self.pass_deadlines(&mut inner);
+        Ok(around)
+    }
+
+    /// Main, with no scope open, lets the past go: the limits count from here, and so do the cancelled scopes.
+    pub(crate) fn retire(&self) {
+        let mut inner = self.lock();
+        if inner.book.retire(MAIN).is_ok() {
+            inner.told = 0;
+        }
+    }
+
+    /// Sets the scope's deadline so long after now, or takes it away. Who waits learns it.
+    pub(crate) fn move_deadline(&self, scope: u32, within: Option<Duration>) -> Result<(), Refusal> {
+        let mut inner = self.lock();
+        match within {
+            Some(duration) => inner.book.move_deadline(scope, self.after(duration))?,
+            None => inner.book.move_never(scope)?,
+        };
+        self.note_next(&mut inner);
+        self.settle(&mut inner);
+        self.pass_deadlines(&mut inner);
+        for bell in inner.bells.values() {
+            bell.owner.notify_all();
+            bell.sleepers.notify_all();
+        }
+        Ok(())
+    }
+
+    /// Cancels the scope: whether it was not cancelled before.
+    pub(crate) fn cancel(&self, scope: u32) -> Result<bool, Refusal> {
+        let mut inner = self.lock();
+        let answer = inner.book.cancel(scope)?;
+        self.settle(&mut inner);
+        Ok(answer == 0)
+    }
+
+    /// Begins to close the scope, which cancels what still runs in it.
+    pub(crate) fn begin_close(&self, actor: u32, scope: u32) {
+        let mut inner = self.lock();
+        let answer = surely(inner.book.begin_close(actor, scope));
+        debug_assert!(answer.is_ok(), "the owner closes its innermost scope: {answer:?}");
+        self.settle(&mut inner);
+    }
+
+    /// Ends the close, once no thread of the scope is left: what was amiss.
+    pub(crate) fn end_close(&self, actor: u32, scope: u32) -> Result<(), Refusal> {
+        let mut inner = self.lock();
+        let answer = surely(inner.book.end_close(actor, scope));
+        inner.bells.remove(&scope);
+        self.settle(&mut inner);
+        match answer? {
+            2 => Err(Refusal::NotJoined),
+            3 => Err(Refusal::Structure),
+            _ => Ok(()),
+        }
+    }
+
+    /// Notes how a task began.
+    pub(crate) fn record(&self, event: impl FnOnce(&mut Book) -> Result<i64, Refusal>) -> MutexGuard<'_, Inner> {
+        let mut inner = self.lock();
+        let answer = surely(event(&mut inner.book));
+        debug_assert!(answer.is_ok(), "each task begins and ends once: {answer:?}");
+        inner
+    }
+
+    /// Notes how a task ended, and tells the owner of its scope where nothing is left to wait for.
+    pub(crate) fn record_end(&self, around: &Around, event: impl FnOnce(&mut Book) -> Result<i64, Refusal>) {
+        let mut inner = self.record(event);
+        self.settle(&mut inner);
+        if inner.book.is_quiet(around.scope) {
+            around.bell.owner.notify_all();
+        }
+    }
+}
+
+/// The answer to a call that can't be left out: where memory is refused for it, the program ends, as Rust's own
+/// allocations end it.
+pub(crate) fn surely(answer: Result<i64, Refusal>) -> Result<i64, Refusal> {
+    if answer == Err(Refusal::Memory) {
+        handle_alloc_error(Layout::new::<Inner>());
+    }
+    answer
+}

@@ -1,0 +1,367 @@
+//! Scopes, joiners, results and bindings.
+
+use balkreyn::{
+    Canceller, Context, Joiner, Limits, Look, Options, Outcome, Realm, Refusal, Scope, ScopeError, Task, TaskError,
+    Value,
+};
+use std::collections::HashSet;
+use std::num::NonZeroUsize;
+use std::sync::Mutex;
+use std::time::{Duration, Instant};
+
+const LONG: Duration = Duration::from_secs(20);
+
+fn millis(count: u64) -> Duration {
+    Duration::from_millis(count)
+}
+
+/// Forks a job that gives the number at once.
+fn number<'scope>(s: &Scope<'scope, '_>, number: u32) -> Task<'scope, u32, Refusal> {
+    s.fork("number", move |_: &Context| Ok(number)).unwrap()
+}
+
+/// Whether the book told no result.
+fn tells_none<T, E>(result: &Result<T, TaskError<E>>) -> bool {
+    matches!(result, Err(TaskError::Refused(Refusal::NoResult)))
+}
+
+#[test]
+fn results_come_in_fork_order() {
+    let mut realm = Realm::new().unwrap();
+    let squares = realm.run(|cx| {
+        cx.scope(Joiner::All, |s| {
+            let jobs = (0..20u64).map(|index| {
+                s.fork("square", move |cx: &Context| cx.sleep(millis(20 - index)).map(|()| index * index)).unwrap()
+            });
+            let jobs: Vec<_> = jobs.collect();
+            assert_eq!(s.join(), Ok(Outcome::All));
+            s.results(jobs).into_iter().map(Result::unwrap).collect::<Vec<_>>()
+        })
+    });
+    assert_eq!(squares.unwrap(), (0..20).map(|index| index * index).collect::<Vec<_>>());
+}
+
+#[test]
+fn jobs_borrow_from_the_stack() {
+    let words = [String::from("one"), String::from("three")];
+    let mut lengths = [0; 2];
+    Realm::new().unwrap().run(|cx| {
+        cx.scope(Joiner::AwaitOk, |s| {
+            for (word, length) in words.iter().zip(&mut lengths) {
+                s.fork("length", move |_: &Context| -> Result<(), Refusal> {
+                    *length = word.len();
+                    Ok(())
+                })
+                .unwrap();
+            }
+            assert_eq!(s.join(), Ok(Outcome::Done));
+        })
+        .unwrap();
+    });
+    assert_eq!(lengths, [3, 5]);
+    assert_eq!(words.len(), 2);
+}
+
+#[test]
+fn the_first_failure_cancels_the_rest() {
+    let began = Instant::now();
+    Realm::new().unwrap().run(|cx| {
+        cx.scope(Joiner::All, |s| {
+            let slow = s.fork("slow", |cx: &Context| cx.sleep(LONG).map_err(|_| "cut")).unwrap();
+            let failing = s.fork("failing", |_: &Context| Err::<(), _>("broken")).unwrap();
+            assert_eq!(s.join(), Ok(Outcome::Failed(failing.id())));
+            assert!(matches!(s.result(failing), Err(TaskError::Failed("broken"))));
+            assert!(tells_none(&s.result(slow)));
+            assert!(cx.is_cancelled());
+        })
+        .unwrap();
+        assert!(!cx.is_cancelled());
+    });
+    assert!(began.elapsed() < LONG);
+}
+
+#[test]
+fn a_late_result_counts_for_nothing() {
+    Realm::new().unwrap().run(|cx| {
+        cx.scope(Joiner::Any, |s| {
+            let late = s
+                .fork("late", |cx: &Context| {
+                    while !cx.is_cancelled() {
+                        std::thread::yield_now();
+                    }
+                    Ok::<_, Refusal>("late")
+                })
+                .unwrap();
+            let first = s.fork("first", |_: &Context| Ok::<_, Refusal>("first")).unwrap();
+            let winner = first.id();
+            assert_eq!(s.join(), Ok(Outcome::Any(winner)));
+            // Both have ended once the late one has; the book tells the first alone.
+            std::thread::sleep(millis(30));
+            assert!(tells_none(&s.result(late)));
+            assert_eq!(s.result_of(winner, [first]).unwrap(), "first");
+        })
+        .unwrap();
+    });
+}
+
+#[test]
+fn a_result_is_read_after_the_join_alone() {
+    Realm::new().unwrap().run(|cx| {
+        cx.scope(Joiner::All, |s| {
+            let early = number(s, 1);
+            assert!(matches!(s.result(early), Err(TaskError::Refused(Refusal::NotJoined))));
+            assert_eq!(s.join(), Ok(Outcome::All));
+            assert_eq!(s.join(), Err(Refusal::AlreadyJoined));
+            let refused = s.fork("late", |_: &Context| Ok::<_, Refusal>(()));
+            assert_eq!(refused.map(|task| task.id()), Err(Refusal::AlreadyJoined));
+        })
+        .unwrap();
+    });
+}
+
+#[test]
+fn joiners_answer_by_their_rules() {
+    Realm::new().unwrap().run(|cx| {
+        let failing = |_: &Context| Err::<u32, _>("broken");
+        cx.scope(Joiner::Any, |s| assert_eq!(s.join(), Ok(Outcome::Empty))).unwrap();
+        cx.scope(Joiner::Await, |s| {
+            s.fork("failing", failing).unwrap();
+            let kept = number(s, 7);
+            assert_eq!(s.join(), Ok(Outcome::Done));
+            assert_eq!(s.result(kept).unwrap(), 7);
+        })
+        .unwrap();
+        cx.scope(Joiner::UntilFailed(2), |s| {
+            let slow = s.fork("slow", |cx: &Context| cx.sleep(LONG)).unwrap();
+            s.fork("failing", failing).unwrap();
+            s.fork("failing", failing).unwrap();
+            assert_eq!(s.join(), Ok(Outcome::List));
+            assert!(tells_none(&s.result(slow)));
+        })
+        .unwrap();
+        cx.scope(Joiner::UntilOk(3), |s| {
+            let jobs: Vec<_> = (0..3).map(|index| number(s, index)).collect();
+            s.fork("slow", |cx: &Context| cx.sleep(LONG)).unwrap();
+            assert_eq!(s.join(), Ok(Outcome::List));
+            assert_eq!(s.results(jobs).into_iter().map(Result::unwrap).sum::<u32>(), 3);
+        })
+        .unwrap();
+        cx.scope(Joiner::UntilSum(10), |s| {
+            for bid in [4i64, 6] {
+                s.fork_measured("bid", |bid| *bid, move |_: &Context| Ok::<_, Refusal>(bid)).unwrap();
+            }
+            s.fork("slow", |cx: &Context| cx.sleep(LONG)).unwrap();
+            assert_eq!(s.join(), Ok(Outcome::List));
+        })
+        .unwrap();
+    });
+}
+
+#[test]
+fn a_panic_is_the_failure_of_its_job() {
+    let mut realm = Realm::new().unwrap();
+    realm.run(|cx| {
+        cx.scope(Joiner::All, |s| {
+            let task = s.fork("job", |_: &Context| -> Result<(), Refusal> { panic!("on purpose {}", 1) }).unwrap();
+            assert_eq!(s.join(), Ok(Outcome::Failed(task.id())));
+            let journal = cx.look().journal().unwrap();
+            assert!(journal.contains("fail 1 panicked\n"), "{journal}");
+            match s.result(task) {
+                Err(TaskError::Panicked(panic)) => assert_eq!(panic.message(), "on purpose 1"),
+                other => panic!("{other:?}"),
+            }
+        })
+        .unwrap();
+    });
+}
+
+#[test]
+fn a_panic_of_the_body_goes_on_once_the_scope_is_closed() {
+    let mut realm = Realm::new().unwrap();
+    let look = realm.look();
+    let panic = std::panic::catch_unwind(std::panic::AssertUnwindSafe(|| {
+        realm.run(|cx| {
+            cx.scope(Joiner::All, |s| {
+                s.fork("slow", |cx: &Context| cx.sleep(LONG)).unwrap();
+                panic!("of the body")
+            })
+            .unwrap_or(())
+        })
+    }));
+    assert_eq!(panic.unwrap_err().downcast_ref::<&str>(), Some(&"of the body"));
+    let journal = look.journal().unwrap();
+    assert!(journal.ends_with("closed 0 1\n"), "{journal}");
+    assert_eq!(realm.run(|cx| cx.scope(Joiner::All, |s| s.join())).unwrap(), Ok(Outcome::All));
+}
+
+#[test]
+fn a_forgotten_join_is_told() {
+    Realm::new().unwrap().run(|cx| {
+        let forgotten = cx.scope(Joiner::All, |s| {
+            number(s, 1);
+            "kept"
+        });
+        assert!(matches!(forgotten, Err(ScopeError::NotJoined("kept"))));
+        assert_eq!(cx.scope(Joiner::All, |_| "nothing was forked").unwrap(), "nothing was forked");
+        let refused = cx.try_scope(Joiner::All, |s| s.fork("job", |_: &Context| Ok::<_, Refusal>(())).map(|_| ()));
+        assert_eq!(refused, Err(Refusal::NotJoined));
+    });
+}
+
+#[test]
+fn a_body_that_returns_early_closes_its_scope() {
+    Realm::new().unwrap().run(|cx| {
+        let refused = cx.try_scope(Joiner::All, |s| {
+            s.fork("slow", |cx: &Context| cx.sleep(LONG))?;
+            s.fork("No Name", |_: &Context| Ok::<_, Refusal>(()))?;
+            s.join()
+        });
+        assert_eq!(refused, Err(Refusal::BadArgument));
+        let journal = cx.look().journal().unwrap();
+        assert!(journal.ends_with("closed 0 1\n"), "{journal}");
+    });
+}
+
+#[test]
+fn bindings_are_inherited_and_taken_away() {
+    Realm::new().unwrap().run(|cx| {
+        cx.bind("tenant", "acme", |cx| {
+            assert_eq!(cx.get("tenant"), Some(Value::from("acme")));
+            cx.scope(Joiner::AwaitOk, |s| {
+                let seen = s
+                    .fork("job", |cx: &Context| {
+                        let inherited = cx.get("tenant");
+                        let own = cx.bind("tenant", 7, |cx| cx.get("tenant"))?;
+                        Ok::<_, Refusal>((inherited, own, cx.get("tenant")))
+                    })
+                    .unwrap();
+                let refused = cx.bind("depth", 1, |_| s.fork("job", |_: &Context| Ok::<_, Refusal>(())).map(|_| ()));
+                assert_eq!(refused, Ok(Err(Refusal::Structure)));
+                assert_eq!(s.join(), Ok(Outcome::Done));
+                let acme = Some(Value::from("acme"));
+                assert_eq!(s.result(seen).unwrap(), (acme.clone(), Some(Value::from(7)), acme));
+            })
+            .unwrap();
+        })
+        .unwrap();
+        assert_eq!(cx.get("tenant"), None);
+        assert_eq!(cx.bind("No Name", 1, |_| ()), Err(Refusal::BadArgument));
+        assert_eq!(cx.bind("name", "No Name", |_| ()), Err(Refusal::BadArgument));
+    });
+}
+
+#[test]
+fn ten_thousand_scopes_fit_in_one_realm() {
+    let mut realm = Realm::new().unwrap();
+    let total = realm.run(|cx| {
+        (0..10_000u32)
+            .map(|index| {
+                cx.scope(Joiner::All, |s| {
+                    let task = (index % 100 == 0).then(|| number(s, 1));
+                    assert_eq!(s.join(), Ok(Outcome::All));
+                    task.map_or(0, |task| s.result(task).unwrap())
+                })
+                .unwrap()
+            })
+            .sum::<u32>()
+    });
+    assert_eq!(total, 100);
+}
+
+#[test]
+fn limits_are_those_of_a_request() {
+    let mut realm = Realm::with_limits(Limits { scopes: 2, tasks: 1, load: 100 }).unwrap();
+    assert!(Realm::with_limits(Limits { scopes: 0, tasks: 1, load: 1 }).is_err());
+    realm.run(|cx| {
+        for _ in 0..5 {
+            cx.scope(Joiner::All, |s| {
+                number(s, 1);
+                let refused = s.fork("second", |_: &Context| Ok::<_, Refusal>(()));
+                assert_eq!(refused.map(|task| task.id()), Err(Refusal::TooMany));
+                assert_eq!(s.join(), Ok(Outcome::All));
+                cx.scope(Joiner::All, |_| ()).unwrap();
+                assert_eq!(cx.scope(Joiner::All, |_| ()).map_err(|error| error.refusal()), Err(Refusal::TooMany));
+            })
+            .unwrap();
+        }
+        for _ in 0..200 {
+            cx.bind("key", 1, |_| ()).unwrap();
+        }
+        // A binding that the load's limit kept is gone before the next request.
+        cx.scope(Joiner::All, |_| {
+            let bound = (0..200).take_while(|_| cx.bind("kept", 1, |_| ()).is_ok()).count();
+            assert!(bound > 0 && bound < 200);
+            while cx.bind("kept", 1, |_| ()).is_ok() {}
+        })
+        .unwrap();
+        cx.scope(Joiner::All, |_| assert_eq!(cx.get("kept"), None)).unwrap();
+        assert_eq!(cx.get("kept"), None);
+    });
+}
+
+#[test]
+fn scopes_lie_sixteen_deep_at_the_most() {
+    fn nest(cx: &Context, depth: u32) -> u32 {
+        match cx.scope(Joiner::All, |_| nest(cx, depth + 1)) {
+            Ok(deepest) => deepest,
+            Err(error) => {
+                assert_eq!(error.refusal(), Refusal::TooDeep);
+                depth
+            }
+        }
+    }
+    assert_eq!(Realm::new().unwrap().run(|cx| nest(cx, 0)), 16);
+}
+
+#[test]
+fn a_look_from_outside_shows_the_tree() {
+    let mut realm = Realm::new().unwrap();
+    let look = realm.look();
+    realm.run(|cx| {
+        cx.scope(Options::new(Joiner::Any).within(LONG).move_on(), |s| {
+            s.fork("seen", |cx: &Context| cx.sleep(LONG)).unwrap();
+            let tree = std::thread::spawn(move || look.dump().unwrap()).join().unwrap();
+            assert!(tree.contains("\"name\":\"seen\"") && tree.contains("\"joiner\":\"any\""), "{tree}");
+            s.cancel().unwrap();
+            assert!(matches!(s.join(), Ok(Outcome::Cancelled(_))));
+        })
+        .unwrap();
+    });
+    assert!(realm.look().journal().unwrap().starts_with("open 0 any deadline="));
+}
+
+#[test]
+fn threads_are_used_again_up_to_their_limit() {
+    let names = Mutex::new(HashSet::new());
+    let note = |cx: &Context| {
+        names.lock().unwrap().insert(std::thread::current().id());
+        cx.sleep(millis(1))
+    };
+    Realm::new().unwrap().run(|cx| {
+        let two = NonZeroUsize::new(2).unwrap();
+        cx.scope(Options::new(Joiner::All).threads(two), |s| {
+            for _ in 0..10 {
+                s.fork("noting", note).unwrap();
+            }
+            assert_eq!(s.join(), Ok(Outcome::All));
+        })
+        .unwrap();
+        assert!(names.lock().unwrap().len() <= 2);
+        cx.scope(Options::new(Joiner::Any).threads(NonZeroUsize::MIN), |s| {
+            let first = number(s, 1).id();
+            let queued = s.fork("queued", |cx: &Context| cx.sleep(LONG)).unwrap();
+            s.fork("never", |_: &Context| -> Result<(), Refusal> { panic!("it ran") }).unwrap();
+            assert_eq!(s.join(), Ok(Outcome::Any(first)));
+            assert!(tells_none(&s.result(queued)));
+        })
+        .unwrap();
+    });
+}
+
+#[test]
+fn what_any_thread_may_hold_can_be_sent() {
+    fn is_shared<T: Send + Sync>() {}
+    is_shared::<Realm>();
+    is_shared::<Look>();
+    is_shared::<Canceller>();
+}

@@ -1,0 +1,5 @@
+pub mod AsBox
+pub mod Acted
+pub mod Joins
+pub mod Lines
+pub mod Doors

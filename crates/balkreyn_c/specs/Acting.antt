@@ -1,0 +1,36 @@
+-- What a command does to the realm of a book.
+use Rattle.std.specs.Prelude.{◌≡◌, ℤ, Option, None, Some, Result}
+use Rattle.scope_rules.specs.declared.types.events.Event.{Event}
+use Rattle.scope_rules.specs.declared.types.refusals.Refusal.{Refusal}
+use Rattle.scope_rules.specs.Replies.{Realm}
+use Rattle.scope_checks.specs.declared.told.Told.{Told}
+use Rattle.scope_checks.specs.Entering.{Tells}
+use Rattle.balkreyn_c.specs.Numbers.{no_realm, bad_argument, number_of, told_number}
+
+-- the event is tried: the number is that of what it is told, or of the refusal, and the realm is what that leaves
+pub record Performs (old : Realm) (e : Event) (answer : ℤ) (new : Realm) : Type 0 where
+  pub reply : Result Told Refusal
+  pub tells : Tells old e reply new
+  pub number : answer ≡ number_of told_number reply
+
+-- a book that holds none answers that, whatever it is asked, and still holds none
+pub record Answers (answer : ℤ) (new : Option Realm) : Type 0 where
+  pub number : answer ≡ no_realm
+  pub none : new ≡ None
+
+-- the arguments are in no form
+pub record Refuses (old : Realm) (answer : ℤ) (new : Option Realm) : Type 0 where
+  pub number : answer ≡ bad_argument
+  pub kept : new ≡ Some old
+
+-- the event is tried in the realm
+pub record Tries (old : Realm) (e : Event) (answer : ℤ) (new : Option Realm) : Type 0 where
+  pub realm : Realm
+  pub holds : new ≡ Some realm
+  pub performs : Performs old e answer realm
+
+-- the command of the event, if its arguments make one
+abbrev pub Acts : Option Realm → Option Event → ℤ → Option Realm → Type 0
+Acts None e answer new = Answers answer new
+Acts (Some old) None answer new = Refuses old answer new
+Acts (Some old) (Some e) answer new = Tries old e answer new

@@ -1,0 +1,109 @@
+-- What a line of a script does to the realm of a book, and what is told of it. What a line is answered and what it
+-- leaves are those of scripts.
+use Rattle.std.specs.Prelude.{◌≡◌, ◌⊎◌, ℤ, pos, ℕ, List, length, Option, None, Some, Err}
+use Rattle.scope_rules.specs.declared.types.events.Event.{Event}
+use Rattle.scope_rules.specs.declared.types.events.Event.TheVariants as event
+use Rattle.scope_rules.specs.declared.types.refusals.Refusal.{Refusal}
+use Rattle.scope_rules.specs.declared.types.refusals.Refusal.TheVariants.{Memory}
+use Rattle.scope_rules.specs.Replies.{Realm}
+use Rattle.scope_checks.specs.declared.told.Told.{Told}
+use Rattle.scope_checks.specs.declared.told.Told.TheVariants as told
+use Rattle.scope_checks.specs.Entering.{Retires, Tells}
+use Rattle.script_words.specs.declared.commands.Command.{Command}
+use Rattle.script_words.specs.declared.commands.Command.TheVariants.{Do, Retire, Ask}
+use Rattle.script_words.specs.declared.commands.Line.{Line}
+use Rattle.script_words.specs.declared.commands.Line.TheVariants.{Command as command}
+use Rattle.script_words.specs.declared.reply.Reply.{Reply}
+use Rattle.script_words.specs.declared.reply.Reply.TheVariants as reply
+use Rattle.script_words.specs.Lines.{line_said}
+use Rattle.scope_script.specs.Replying.{Performs, realm_after}
+use Rattle.scope_script.specs.Sessions.{line_reply, realm_after_line}
+use Rattle.balkreyn_c.specs.declared.line.Performed.{Performed}
+use Rattle.balkreyn_c.specs.declared.line.Performed.TheVariants as performed
+use Rattle.balkreyn_c.specs.Asking.{text_in}
+use Rattle.balkreyn_c.specs.Numbers.{no_realm, refused, untold}
+
+-- the reply to an event that was recorded and tells no more
+abbrev pub done_reply : Event → Reply
+done_reply (event.Reject task) = reply.Rejected
+done_reply (event.Start task) = reply.Started
+done_reply (event.Finish task end) = reply.Finished
+done_reply (event.Cancel scope) = reply.Cancelled
+done_reply (event.Move scope deadline) = reply.Moved
+done_reply (event.Tick now) = reply.Moment now
+done_reply (event.Bind actor pair) = reply.Bound
+done_reply (event.Unbind actor) = reply.Unbound
+done_reply (event.BeginClose actor scope) = reply.Closing
+done_reply other = reply.Already
+
+-- the reply to an event that was told so
+abbrev pub reply_of : Event → Told → Reply
+reply_of e (told.Scope scope) = reply.Scope scope
+reply_of e (told.Task task) = reply.Task task
+reply_of e told.Recorded = done_reply e
+reply_of e told.Already = reply.Already
+reply_of e (told.Closed verdict) = reply.Closed verdict
+reply_of e told.Done = done_reply e
+
+-- what came of a command that was refused so
+abbrev pub not_done : Refusal → Performed
+not_done Memory = performed.Memory
+not_done r = performed.Told (reply.Refused r)
+
+-- the command may be refused memory before anything is done
+abbrev pub MayWant : Realm → Command → Type 0
+MayWant old (Do e) = Tells old e (Err Memory) old
+MayWant old (Retire actor) = Retires old actor (Err Memory) old
+MayWant old (Ask question) = ⊥
+
+-- memory was refused, and nothing was done
+pub record Stopped (old : Realm) (c : Command) (new : Realm) : Type 0 where
+  pub wants : MayWant old c
+  pub kept : new ≡ old
+
+-- the command was performed and has its reply; or it was, and there was no memory for that; or nothing was done
+abbrev pub DidPerform : Realm → Command → Performed → Realm → Type 0
+DidPerform old c (performed.Told said) new = Performs old c new said
+DidPerform old c performed.Untold new = new ≡ realm_after old c
+DidPerform old c performed.Memory new = Stopped old c new
+
+-- the line was performed, and its reply was told: it is written where there is room
+pub record Replies (old : Realm) (said : Line) (answer : ℤ) (new : Realm) (was now : List ℕ) : Type 0 where
+  pub number : answer ≡ pos (length (line_reply old said))
+  pub written : now ≡ text_in (line_reply old said) was
+  pub realm : new ≡ realm_after_line old said
+
+-- the line was performed, and there was no memory for its reply
+pub record IsUntold (old : Realm) (said : Line) (answer : ℤ) (new : Realm) (was now : List ℕ) : Type 0 where
+  pub number : answer ≡ untold
+  pub kept : now ≡ was
+  pub realm : new ≡ realm_after_line old said
+
+-- a line may be refused memory
+abbrev pub LineWants : Realm → Line → Type 0
+LineWants old (command c) = MayWant old c
+LineWants old other = ⊥
+
+-- nothing was done
+pub record IsStopped (old : Realm) (said : Line) (answer : ℤ) (new : Realm) (was now : List ℕ) : Type 0 where
+  pub wants : LineWants old said
+  pub number : answer ≡ refused Memory
+  pub kept : now ≡ was
+  pub realm : new ≡ old
+
+abbrev pub DoesLine : Realm → Line → ℤ → Realm → List ℕ → List ℕ → Type 0
+DoesLine old said answer new was now = Replies old said answer new was now ⊎ (IsUntold old said answer new was now ⊎ IsStopped old said answer new was now)
+
+pub record NoLine (answer : ℤ) (new : Option Realm) (was now : List ℕ) : Type 0 where
+  pub number : answer ≡ no_realm
+  pub none : new ≡ None
+  pub kept : now ≡ was
+
+pub record TakesLine (old : Realm) (line : List ℕ) (answer : ℤ) (new : Option Realm) (was now : List ℕ) : Type 0 where
+  pub realm : Realm
+  pub holds : new ≡ Some realm
+  pub does : DoesLine old (line_said line) answer realm was now
+
+abbrev pub Lines : Option Realm → List ℕ → ℤ → Option Realm → List ℕ → List ℕ → Type 0
+Lines None line answer new was now = NoLine answer new was now
+Lines (Some old) line answer new was now = TakesLine old line answer new was now

@@ -1,0 +1,11 @@
+pub mod Owning
+pub mod Numbers
+pub mod Acting
+pub mod Asking
+pub mod Opening
+pub mod Named
+pub mod Joining
+pub mod Books
+pub mod Wanting
+pub mod Texts
+pub mod Doors

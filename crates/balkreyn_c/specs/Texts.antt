@@ -1,0 +1,58 @@
+-- The texts that go out.
+use Rattle.std.specs.Prelude.{◌≡◌, ◌⊎◌, ℕ, ℤ, pos, List, [], ◌∷◌, ◌++◌, length, Option, None, Some, Result, Ok, Err}
+use Rattle.scope_rules.specs.declared.types.outcomes.Outcome.{Outcome}
+use Rattle.scope_rules.specs.declared.types.refusals.Refusal.{Refusal}
+use Rattle.scope_rules.specs.declared.types.refusals.Refusal.TheVariants.{Memory}
+use Rattle.scope_rules.specs.History.{History}
+use Rattle.scope_rules.specs.Outcomes.{outcome}
+use Rattle.scope_rules.specs.Replies.{Realm, AnswersValue, outcome_check}
+use Rattle.script_words.specs.declared.reply.Reply.{Reply}
+use Rattle.script_words.specs.declared.reply.Reply.TheVariants as reply
+use Rattle.script_words.specs.ReplyText.{reply_text}
+use Rattle.balkreyn_c.specs.Asking.{text_in}
+use Rattle.balkreyn_c.specs.Numbers.{no_realm, number_of, refused, untold}
+
+-- the line of the reply, with its line feed
+abbrev pub reply_line : Reply → List ℕ
+reply_line said = reply_text said ++ 10 ∷ []
+
+-- nothing was written
+pub record Silent (number answer : ℤ) (old new : List ℕ) : Type 0 where
+  pub number_is : answer ≡ number
+  pub kept : new ≡ old
+
+-- the text was written where there is room, and its length is answered
+pub record Writes (text : List ℕ) (answer : ℤ) (old new : List ℕ) : Type 0 where
+  pub number : answer ≡ pos (length text)
+  pub written : new ≡ text_in text old
+
+-- the text was written where there is room; or there was no memory for it
+abbrev pub WritesReply : List ℕ → ℤ → List ℕ → List ℕ → Type 0
+WritesReply text answer old new = Writes text answer old new ⊎ Silent untold answer old new
+
+-- the text was written where there is room; or memory was refused
+abbrev pub WritesOrNot : List ℕ → ℤ → List ℕ → List ℕ → Type 0
+WritesOrNot text answer old new = Writes text answer old new ⊎ Silent (refused Memory) answer old new
+
+-- the same of the text of the history
+abbrev pub Shows : Option Realm → (History → List ℕ) → ℤ → List ℕ → List ℕ → Type 0
+Shows None text answer old new = Silent no_realm answer old new
+Shows (Some realm) text answer old new = WritesOrNot (text realm.history) answer old new
+
+abbrev pub outcome_line : Outcome → List ℕ
+outcome_line o = reply_line (reply.Outcome o)
+
+abbrev pub outcome_line_in : Result Outcome Refusal → List ℕ → List ℕ
+outcome_line_in (Ok o) old = text_in (outcome_line o) old
+outcome_line_in (Err r) old = old
+
+-- the line of what the join answered; or its refusal, or want of memory
+pub record TellsLine (h : History) (scope : ℕ) (answer : ℤ) (old new : List ℕ) : Type 0 where
+  pub reply : Result Outcome Refusal
+  pub tells : AnswersValue (outcome_check h scope) (outcome h scope) reply
+  pub number : answer ≡ number_of (λ o. pos (length (outcome_line o))) reply
+  pub text : new ≡ outcome_line_in reply old
+
+abbrev pub OutcomeLine : Option Realm → ℕ → ℤ → List ℕ → List ℕ → Type 0
+OutcomeLine None scope answer old new = Silent no_realm answer old new
+OutcomeLine (Some realm) scope answer old new = TellsLine realm.history scope answer old new

@@ -1,0 +1,26 @@
+//! From the arguments of a command to its event, and from that to the answer.
+
+ghost use Rattle.std.specs.Prelude.{◌≡◌, Some, None};
+ghost use Rattle.balkreyn_c.specs.Acting.{Acts};
+
+use crate::book::{Book, put, taken};
+use crate::numbers::{BAD_ARGUMENT, NO_REALM, told};
+use scope_rules::Event;
+use std::alloc::Global;
+
+/// Tries the event in the book's realm, if the arguments made one.
+#[tactic(auto, using(crate::proofs::Acted::tried))]
+pub fn act(alloc: Global, book: &mut Book, event: Option<Event>) -> i64
+    ensures { Acts book.old.place.held event result book.new.place.held }
+{
+    let Some(mut realm) = taken(alloc, book) else {
+        return NO_REALM;
+    };
+    let Some(event) = event else {
+        put(book, realm);
+        return BAD_ARGUMENT;
+    };
+    let answer = told(realm.perform(&event, false, None));
+    put(book, realm);
+    answer
+}

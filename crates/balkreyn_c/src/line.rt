@@ -1,0 +1,204 @@
+//! The line door: a line of a script in, the line of its reply out. What a line is answered, and what it leaves, are
+//! those of scripts.
+
+ghost use Rattle.std.specs.Prelude.{◌≡◌, MatchResult, false};
+ghost use Rattle.scope_script.specs.Replying.{answer_to, is_join};
+ghost use Rattle.script_words.specs.Lines.{line_said};
+ghost use Rattle.balkreyn_c.specs.Doors.{DidPerform, DoesLine, Lines, done_reply, not_done, reply_of};
+ghost use Rattle.balkreyn_c.specs.Texts.{WritesReply, reply_line};
+
+use crate::book::{Book, put, taken};
+use crate::numbers::{NO_REALM, UNTOLD, refused};
+use crate::outcomes::join_in;
+use crate::text::{write_line, write_text};
+use kept_realm::KeptRealm;
+use scope_checks::{Told, questions};
+use scope_rules::{Actor, Event, Refusal, ScopeId};
+use script_words::{Command, Line, Question, Reply, read_line};
+use std::alloc::Global;
+
+/// What came of a command.
+#[derive(Drop)]
+pub enum Performed {
+    /// It was performed, and this is its reply.
+    Told(Reply),
+    /// It was performed, and there was no memory for its reply.
+    Untold,
+    /// Memory was refused, and nothing was done.
+    Memory,
+}
+
+/// Performs a line of a script, and writes the line of its reply.
+#[unsafe(no_mangle)]
+pub extern "C" fn balkreyn_line(
+    alloc: Global,
+    book: &mut Book,
+    line: &[u8],
+    reply: &mut [u8],
+) -> i64
+    ensures { Lines book.old.place.held line.now result book.new.place.held reply.old reply.new }
+{
+    let Some(mut realm) = taken(alloc, book) else {
+        return NO_REALM;
+    };
+    let answer = do_line(alloc, &mut realm, line, reply);
+    put(book, realm);
+    answer
+}
+
+/// Performs the line in the realm, and writes the line of its reply.
+#[tactic(auto, using(crate::proofs::Doors::replied, crate::proofs::Doors::bad_word, crate::proofs::Doors::silent, crate::proofs::Doors::performed_untold, crate::proofs::Doors::line_stopped))]
+fn do_line(alloc: Global, realm: &mut KeptRealm, line: &[u8], reply: &mut [u8]) -> i64
+    ensures { DoesLine realm.old (line_said line.now) result realm.new reply.old reply.new }
+{
+    match read_line(line) {
+        Line::Silent => write_text(reply, b""),
+        Line::BadWord => write_reply(alloc, &Reply::Refused(Refusal::BadWord), reply),
+        Line::Command(command) => match perform(alloc, realm, command) {
+            Performed::Told(said) => write_reply(alloc, &said, reply),
+            Performed::Untold => UNTOLD,
+            Performed::Memory => refused(Refusal::Memory),
+        },
+    }
+}
+
+/// Writes the line of the reply, if there is memory for it.
+fn write_reply(alloc: Global, said: &Reply, buffer: &mut [u8]) -> i64
+    ensures { WritesReply (reply_line said.now) result buffer.old buffer.new }
+{
+    match write_line(alloc, said, buffer) {
+        Ok(length) => length,
+        Err(_) => UNTOLD,
+    }
+}
+
+/// Performs the command in the realm.
+#[tactic(auto, using(crate::proofs::Doors::asked))]
+fn perform(alloc: Global, realm: &mut KeptRealm, command: Command) -> Performed
+    ensures { DidPerform realm.old command result realm.new }
+{
+    match command {
+        Command::Do(Event::Join { actor, scope }) => join(alloc, realm, actor, scope),
+        Command::Do(event) => try_event(realm, event),
+        Command::Retire { actor } => retire(realm, actor),
+        Command::Ask(question) => Performed::Told(ask(realm, question)),
+    }
+}
+
+/// Tries the event, which is no join.
+#[tactic(auto, using(crate::proofs::Doors::refused_as))]
+fn try_event(realm: &mut KeptRealm, event: Event) -> Performed
+    requires { is_join (Command.Do event) ≡ false }
+    ensures { DidPerform realm.old (Command.Do event) result realm.new }
+{
+    match realm.perform(&event, false, None) {
+        Ok(told) => Performed::Told(reply_of(&event, told)),
+        Err(refusal) => not_done(refusal),
+    }
+}
+
+/// What came of a command that was refused so.
+fn not_done(refusal: Refusal) -> Performed
+    ensures { result ≡ not_done refusal }
+{
+    match refusal {
+        Refusal::Memory => Performed::Memory,
+        other => Performed::Told(Reply::Refused(other)),
+    }
+}
+
+/// The reply to the event that was told so.
+fn reply_of(event: &Event, told: Told) -> Reply
+    ensures { result ≡ reply_of event.now told }
+{
+    match told {
+        Told::Scope(scope) => Reply::Scope(scope),
+        Told::Task(task) => Reply::Task(task),
+        Told::Already => Reply::Already,
+        Told::Closed(verdict) => Reply::Closed(verdict),
+        Told::Recorded | Told::Done => done_reply(event),
+    }
+}
+
+/// The reply to the event that was recorded and tells no more.
+fn done_reply(event: &Event) -> Reply
+    ensures { result ≡ done_reply event.now }
+{
+    match *event {
+        Event::Reject { .. } => Reply::Rejected,
+        Event::Start { .. } => Reply::Started,
+        Event::Finish { .. } => Reply::Finished,
+        Event::Cancel { .. } => Reply::Cancelled,
+        Event::Move { .. } => Reply::Moved,
+        Event::Tick { now } => Reply::Moment(now),
+        Event::Bind { .. } => Reply::Bound,
+        Event::Unbind { .. } => Reply::Unbound,
+        Event::BeginClose { .. } => Reply::Closing,
+        _ => Reply::Already,
+    }
+}
+
+/// Joins the scope, and reads what the join gave.
+#[tactic(auto, using(crate::proofs::Doors::join_told, crate::proofs::Doors::join_untold, crate::proofs::Doors::join_refusal))]
+fn join(alloc: Global, realm: &mut KeptRealm, actor: Actor, scope: ScopeId) -> Performed
+    ensures { DidPerform realm.old (Command.Do (Event.Join actor scope)) result realm.new }
+{
+    if let Err(refusal) = join_in(realm, actor, scope) {
+        return Performed::Told(Reply::Refused(refusal));
+    }
+    match questions::outcome(realm, alloc, scope) {
+        Ok(outcome) => Performed::Told(Reply::Outcome(outcome)),
+        Err(_) => Performed::Untold,
+    }
+}
+
+/// Lets the past go.
+#[tactic(auto, using(crate::proofs::Doors::retire_refused_as))]
+fn retire(realm: &mut KeptRealm, actor: Actor) -> Performed
+    ensures { DidPerform realm.old (Command.Retire actor) result realm.new }
+{
+    match realm.retire(actor) {
+        Ok(base) => Performed::Told(Reply::Retired {
+            scopes: base.scopes(),
+            tasks: base.tasks(),
+        }),
+        Err(refusal) => not_done(refusal),
+    }
+}
+
+/// The reply to the question.
+#[tactic(auto, unfolding(scope_script::specs::Replying::answer_to))]
+fn ask(realm: &KeptRealm, question: Question) -> Reply
+    ensures { result ≡ answer_to realm.now.history question }
+{
+    match question {
+        Question::State { task } => told(questions::state(realm, task), Reply::State),
+        Question::Stage { task } => told(questions::stage(realm, task), Reply::Stage),
+        Question::Result { actor, task } => {
+            told(questions::result(realm, actor, task), Reply::Value)
+        }
+        Question::Fault { actor, task } => {
+            told(questions::fault(realm, actor, task), Reply::Fault)
+        }
+        Question::Cause { scope } => told(questions::cause(realm, scope), Reply::Cause),
+        Question::Until { scope } => told(
+            questions::effective_deadline(realm, scope),
+            Reply::Until,
+        ),
+        Question::Counts { scope } => told(questions::counts(realm, scope), Reply::Counts),
+        Question::Get { actor, key } => {
+            told(questions::binding(realm, actor, &key), Reply::Value)
+        }
+    }
+}
+
+/// The reply that a constructor makes of what was answered.
+fn told<T, F: FnOnce(T) -> Reply + Drop>(answer: Result<T, Refusal>, tell: F) -> Reply
+    requires { F.IsAlwaysCallable tell }
+    ensures { MatchResult answer (λ x. F.post tell x result) (λ refusal. result ≡ Reply.Refused refusal) }
+{
+    match answer {
+        Ok(value) => tell(value),
+        Err(refusal) => Reply::Refused(refusal),
+    }
+}

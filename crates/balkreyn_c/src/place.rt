@@ -1,0 +1,82 @@
+//! The memory behind a book: a box whose pointer C may keep, typed as bytes.
+
+ghost use Rattle.std.specs.Prelude.{◌≡◌, Option, None, Some, IsNone, IsSome};
+ghost use Rattle.balkreyn_c.specs.Owning.{Realm, place_coded, place_owns};
+
+mod parts;
+
+use kept_realm::KeptRealm;
+use parts::Parts;
+use std::alloc::Global;
+use std::marker::Model;
+use std::ptr;
+
+/// Where a realm lies, or nothing. What the pointer points to is the realm's alone.
+#[repr(C)]
+pub struct Place {
+    at: *mut u8,
+    alloc: Global,
+    pub ghost held: { Option Realm } by { place_coded },
+}
+
+impl Model for Place {
+    ghost also_owns = { λ p. place_owns p.alloc p.at p.held };
+}
+
+unsafe impl Send for Place {}
+
+impl Place {
+    /// Nothing.
+    pub fn empty(alloc: Global) -> Place
+        ensures { result.held ≡ None }
+    {
+        let at = ptr::null_mut();
+        Place { at, alloc }
+    }
+
+    /// The same pointer, typed as bytes.
+    fn of_parts(parts: Parts<KeptRealm, Global>) -> Place
+        ensures { result.held ≡ Some parts.value }
+    {
+        let Parts { ptr, alloc } = parts;
+        let at = ptr as *mut u8;
+        Place { at, alloc }
+    }
+
+    /// The pointer as it was.
+    fn into_parts(self) -> Parts<KeptRealm, Global>
+        requires { IsSome self.held }
+        ensures { self.held ≡ Some result.value }
+    {
+        let Place { at, alloc } = self;
+        let ptr = at as *mut KeptRealm;
+        Parts { ptr, alloc }
+    }
+
+    /// Where the box keeps it.
+    pub fn of_box(realm: Box<KeptRealm, Global>) -> Place
+        ensures { result.held ≡ Some realm.value }
+    {
+        Place::of_parts(Parts::of(realm))
+    }
+
+    /// The box, which is there.
+    pub fn into_box(self) -> Box<KeptRealm, Global>
+        requires { IsSome self.held }
+        ensures { self.held ≡ Some result.value }
+    {
+        self.into_parts().into_box()
+    }
+}
+
+/// A place that holds a realm is not let go: its memory would be lost.
+impl Drop for Place {
+    fn drop(self)
+        requires { IsNone self.held }
+    {
+        let Place {
+            at: _at,
+            alloc: _alloc,
+        } = self;
+    }
+}

@@ -1,0 +1,63 @@
+//! What there is of a realm as text: the tree of its scopes, and its journal.
+
+ghost use Rattle.std.specs.Prelude.{◌≡◌};
+ghost use Rattle.script_journal.specs.Script.{script_text};
+ghost use Rattle.tree_dump.specs.Tree.{dump_text};
+ghost use Rattle.balkreyn_c.specs.Texts.{Shows, WritesOrNot};
+
+use crate::book::{Book, put, taken};
+use crate::numbers::{NO_REALM, refused};
+use crate::text::write_text;
+use kept_realm::KeptRealm;
+use scope_rules::Refusal;
+use script_journal::journal_of;
+use std::alloc::Global;
+use tree_dump::dump_of;
+
+/// The tree of the scopes that are not closed, as JSON without blanks.
+#[unsafe(no_mangle)]
+pub extern "C" fn balkreyn_dump(alloc: Global, book: &mut Book, text: &mut [u8]) -> i64
+    ensures text { Shows book.old.place.held dump_text result text.old text.new }
+    ensures kept { book.new.place.held ≡ book.old.place.held }
+{
+    let Some(realm) = taken(alloc, book) else {
+        return NO_REALM;
+    };
+    let answer = write_dump(alloc, &realm, text);
+    put(book, realm);
+    answer
+}
+
+/// What happened since the last retirement, as a script.
+#[unsafe(no_mangle)]
+pub extern "C" fn balkreyn_journal(alloc: Global, book: &mut Book, text: &mut [u8]) -> i64
+    ensures text { Shows book.old.place.held script_text result text.old text.new }
+    ensures kept { book.new.place.held ≡ book.old.place.held }
+{
+    let Some(realm) = taken(alloc, book) else {
+        return NO_REALM;
+    };
+    let answer = write_journal(alloc, &realm, text);
+    put(book, realm);
+    answer
+}
+
+/// Writes the tree of the realm.
+fn write_dump(alloc: Global, realm: &KeptRealm, text: &mut [u8]) -> i64
+    ensures { WritesOrNot (dump_text realm.now.history) result text.old text.new }
+{
+    match dump_of(alloc, realm) {
+        Ok(tree) => write_text(text, tree.as_bytes()),
+        Err(_) => refused(Refusal::Memory),
+    }
+}
+
+/// Writes the journal of the realm.
+fn write_journal(alloc: Global, realm: &KeptRealm, text: &mut [u8]) -> i64
+    ensures { WritesOrNot (script_text realm.now.history) result text.old text.new }
+{
+    match journal_of(alloc, realm) {
+        Ok(script) => write_text(text, script.as_bytes()),
+        Err(_) => refused(Refusal::Memory),
+    }
+}
