@@ -1,1 +1,3 @@
+pub mod Shown
 mod Tried
+pub mod Waited

@@ -1,7 +1,7 @@
 -- What a body did that was run in a scope of its own: a scope that was opened for it, and closed behind it.
 -- Said is what was opened and closed, whichever way the body went, and what is answered. Of what the body did in
 -- between just what its own contract says; a closure without clauses has the one that is found from its code.
-use Rattle.std.specs.Prelude.{◌≡◌, ℕ, ◌⊎◌, Result, Ok, Err, IsOk, IsErrAnd}
+use Rattle.std.specs.Prelude.{◌≡◌, ℕ, ◌⊎◌, None, Result, Ok, Err, IsOk, IsErrAnd}
 use Rattle.std.specs.Borrow.{MutBor}
 use Rattle.std.specs.Fn.{Once}
 use Rattle.scope_rules.specs.declared.types.answers.Verdict.{Verdict}
@@ -14,7 +14,8 @@ use Rattle.share_ledger.specs.declared.steps.RealmStep.TheVariants.{Happened}
 use Rattle.share_ledger.specs.Values.{OwnerValue}
 use Rattle.realm_core.specs.Calls.{SeesMore, history_seen}
 use Rattle.realm_core.specs.Closes.{ClosesBare}
-use Rattle.realm_core.specs.Waiting.{IsOpenOf}
+use Rattle.realm_core.specs.Waiting.{FoundUnsettled, IsOpenOf}
+use Rattle.realm_lock.specs.Waits.{StaysUnclosed, WaitsToClose}
 use Rattle.job_runner.specs.Rooms.{DoesInRoom}
 
 -- what an open with such a joiner and such options did, and answered: in the history that the token has seen, and
@@ -26,6 +27,28 @@ Opens token leaves policy options old new result = DoesInRoom (token old) (token
 -- shows the scope as its actor's, and not closed
 abbrev pub Closes : {X : Type 0} → (X → OwnerValue) → (X → X → ℕ → Result Verdict Refusal → Type 0) → X → X → ℕ → Result Verdict Refusal → Type 0
 Closes token leaves old new s result = ClosesBare (token old) (token new) s result × (IsOpenOf (history_seen (token old)) (token old).actor s → IsOk result) × SeesMore (token old) (token new) × leaves old new s result
+
+-- the wait by a clock that comes before the close of scope s: it began the close, and came back once no task of what
+-- that covers waited or ran; or the close could not begin, or a tick was refused
+abbrev pub WaitsFirst : {K : Type 0} → (K → K → ℕ → Type 0) → OwnerValue → OwnerValue → K → K → ℕ → Result (Unit {0}) Refusal → Type 0
+WaitsFirst reads old there start last s (Ok done) = WaitsToClose reads old there start last s × FoundUnsettled (history_seen there) s None
+WaitsFirst reads old there start last s (Err refusal) = StaysUnclosed reads old there start last s refusal
+
+-- what a close of scope s by a clock did, and answered: it waited so, and then it was closed as one is without a
+-- clock, also where a tick was refused
+pub record ClosesBy {K : Type 0} (reads : K → K → ℕ → Type 0) (old new : OwnerValue) (start last : K) (s : ℕ) (result : Result Verdict Refusal) : Type 0 where
+  pub there : OwnerValue
+  pub waited : Result (Unit {0}) Refusal
+  pub waits : WaitsFirst reads old there start last s waited
+  pub closes : ClosesBare there new s result
+
+-- the same with what it left of the rest of the context; it is not refused where one without a clock isn't
+abbrev pub ClosesInTime : {X K : Type 0} → (X → OwnerValue) → (X → X → ℕ → Result Verdict Refusal → Type 0) → (K → K → ℕ → Type 0) → X → X → K → K → ℕ → Result Verdict Refusal → Type 0
+ClosesInTime token leaves reads old new start last s result = ClosesBy reads (token old) (token new) start last s result × (IsOpenOf (history_seen (token old)) (token old).actor s → IsOk result) × SeesMore (token old) (token new) × leaves old new s result
+
+-- what one did by this clock, wherever that stood then
+abbrev pub ClosesFrom : {X K : Type 0} → (X → OwnerValue) → (X → X → ℕ → Result Verdict Refusal → Type 0) → (K → K → ℕ → Type 0) → K → X → X → ℕ → Result Verdict Refusal → Type 0
+ClosesFrom {K = K} token leaves reads start old new s result = (last : K) × ClosesInTime token leaves reads old new start last s result
 
 -- what is answered where the body found this, and the close of its scope answered that: a refused close comes
 -- first, with an error that `makes` says of its refusal, and else it is just what the body found

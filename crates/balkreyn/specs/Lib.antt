@@ -1,4 +1,5 @@
 pub mod Bodies
+pub mod Looks
 pub mod Rooms
 pub mod Slots
 pub mod Turns

@@ -1,12 +1,12 @@
 //! Pictures of a realm, by an actor's token.
-ghost use Rattle.std.specs.Prelude.{◌≡◌, MatchResult, string_bytes};
-ghost use Rattle.scope_rules.specs.declared.types.refusals.Refusal.TheVariants.{Memory};
+ghost use Rattle.std.specs.Prelude.{◌≡◌};
 ghost use Rattle.script_journal.specs.Script.{script_text};
 ghost use Rattle.tree_dump.specs.Tree.{dump_text};
 ghost use Rattle.tree_dump.specs.TextTree.{tree_text};
 ghost use Rattle.realm_core.specs.Calls.{Reads};
+ghost use Rattle.balkreyn.specs.Looks.{Says};
 
-use crate::pictures::{Dump, Journal, Tree};
+use crate::copies::{CopyOut, dump_in, journal_in, tree_in};
 use job_runner::TaskCtx;
 use realm_lock::RealmName;
 use scope_rules::{Catalog, Refusal};
@@ -30,7 +30,7 @@ pub trait ShowsByToken {
     /// `Memory`.
     fn tree<R: Wait>(&mut self, rt: &R, alloc: Global) -> Result<String, Refusal>
         ensures rest { Self.kept self.old self.new }
-        ensures answer { Reads (Self.token self.old) (Self.token self.new) (λ h. MatchResult result (λ text. string_bytes text ≡ tree_text h) (λ refusal. refusal ≡ Memory)) };
+        ensures answer { Reads (Self.token self.old) (Self.token self.new) (λ h. Says (tree_text h) result) };
 
     /// The same tree for programs, as JSON without blanks.
     ///
@@ -38,7 +38,7 @@ pub trait ShowsByToken {
     /// `Memory`.
     fn dump<R: Wait>(&mut self, rt: &R, alloc: Global) -> Result<String, Refusal>
         ensures rest { Self.kept self.old self.new }
-        ensures answer { Reads (Self.token self.old) (Self.token self.new) (λ h. MatchResult result (λ text. string_bytes text ≡ dump_text h) (λ refusal. refusal ≡ Memory)) };
+        ensures answer { Reads (Self.token self.old) (Self.token self.new) (λ h. Says (dump_text h) result) };
 
     /// What happened since the last retirement, as a script.
     ///
@@ -46,7 +46,7 @@ pub trait ShowsByToken {
     /// `Memory`.
     fn journal<R: Wait>(&mut self, rt: &R, alloc: Global) -> Result<String, Refusal>
         ensures rest { Self.kept self.old self.new }
-        ensures answer { Reads (Self.token self.old) (Self.token self.new) (λ h. MatchResult result (λ text. string_bytes text ≡ script_text h) (λ refusal. refusal ≡ Memory)) };
+        ensures answer { Reads (Self.token self.old) (Self.token self.new) (λ h. Says (script_text h) result) };
 }
 
 impl<C: Catalog, S: Spawner<N>, N: RealmName> ShowsByToken for TaskCtx<C, S, N> {
@@ -55,14 +55,14 @@ impl<C: Catalog, S: Spawner<N>, N: RealmName> ShowsByToken for TaskCtx<C, S, N> 
     ghost kept = { λ old new. new ≡ record old { token = new.token } };
 
     fn tree<R: Wait>(&mut self, rt: &R, alloc: Global) -> Result<String, Refusal> {
-        self.look(rt, Tree { alloc })
+        tree_in(alloc, self.look(rt, CopyOut { alloc }))
     }
 
     fn dump<R: Wait>(&mut self, rt: &R, alloc: Global) -> Result<String, Refusal> {
-        self.look(rt, Dump { alloc })
+        dump_in(alloc, self.look(rt, CopyOut { alloc }))
     }
 
     fn journal<R: Wait>(&mut self, rt: &R, alloc: Global) -> Result<String, Refusal> {
-        self.look(rt, Journal { alloc })
+        journal_in(alloc, self.look(rt, CopyOut { alloc }))
     }
 }

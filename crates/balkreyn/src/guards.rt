@@ -1,5 +1,5 @@
 //! A scope that can't be forgotten.
-ghost use Rattle.std.specs.Prelude.{◌≡◌, ◌⊎◌, Err, IfErr, IfOk, IsOk, MatchResult};
+ghost use Rattle.std.specs.Prelude.{◌≡◌, ◌⊎◌, Err, IfErr, IfOk, IsOk, MatchResult, None};
 ghost use Rattle.scope_rules.specs.declared.types.refusals.Refusal.TheVariants.{Memory, NotReady};
 ghost use Rattle.scope_rules.specs.Replies.{next_scope};
 ghost use Rattle.join_rules.specs.Joiners.{policy_of};
@@ -7,8 +7,9 @@ ghost use Rattle.kept_realm.specs.Fits.{Fitting};
 ghost use Rattle.realm_core.specs.Calls.{SeesMore, history_seen};
 ghost use Rattle.realm_core.specs.Views.{Joins, JoinsBare};
 ghost use Rattle.realm_core.specs.Closes.{ClosesBare};
-ghost use Rattle.realm_core.specs.Waiting.{IsOpenOf};
-ghost use Rattle.realm_lock.specs.Waits.{JoinsBy};
+ghost use Rattle.realm_core.specs.Waiting.{FoundUnsettled, IsOpenOf};
+ghost use Rattle.realm_lock.specs.Waits.{ClosesAfter, JoinsBy, StaysUnclosed, StopsClosing};
+ghost use Rattle.balkreyn.specs.Bodies.{ClosesBy};
 ghost use Rattle.thread_crew.specs.Teams.{AreGone};
 ghost use Rattle.job_runner.specs.Forks.{ForksJob, KeepsThread, job_of, why_alone};
 ghost use Rattle.job_runner.specs.Lists.{ListsBelow, ListsOne};
@@ -16,6 +17,7 @@ ghost use Rattle.job_runner.specs.Reports.{ClosesHere, StaysHere};
 ghost use Rattle.job_runner.specs.Rooms.{DoesInRoom};
 
 use crate::aliases::Forks;
+use crate::scoped::close_in_time;
 use job_runner::{Answers, Clock, ForkRefusal, NamedJob, TaskCtx};
 use join_rules::Joiner;
 use realm_lock::{BareOutcome, CloseReport, Joined, RealmName};
@@ -28,8 +30,8 @@ use thread_crew::Spawner;
 
 /// A scope that was opened and is still to be closed (JEP 505 has the block of a `try` in its place, Trio
 /// that of a nursery). It can't be let go: where it would be, by a forgotten `close` or by a `?` before it,
-/// the program doesn't compile. Pass it to `close` or `report`, in the context in which it was opened:
-/// another refuses it.
+/// the program doesn't compile. Pass it to `close_by` or `report_by`, or to `close` or `report`, which wait without
+/// a clock, in the context in which it was opened: another refuses it.
 pub struct Opened {
     scope: ScopeId,
 }
@@ -160,6 +162,26 @@ impl Opened {
         ctx.close_scope_bare(rt, scope)
     }
 
+    /// Closes the scope as `close` does, once it has waited by the clock until its tasks have ended: deadlines
+    /// pass meanwhile, also behind a shield (Trio). Where a tick is refused, it goes on without the clock.
+    ///
+    /// # Errors
+    /// Those of `close`.
+    pub fn close_by<C: Catalog, S: Spawner<N>, N: RealmName, R: Wait + SystemTime, K: Clock>(
+        self,
+        rt: &R,
+        ctx: &mut TaskCtx<C, S, N>,
+        clock: &mut K,
+    ) -> Result<Verdict, Refusal>
+        ensures rest { (ctx.new ≡ record ctx.old { token = ctx.new.token; spawner = ctx.new.spawner; opened = ctx.new.opened; team = ctx.new.team }) × SeesMore ctx.old.token ctx.new.token }
+        ensures answer { ClosesBy K.reads ctx.old.token ctx.new.token clock.old clock.new self result }
+        ensures sure { IsOpenOf (history_seen ctx.old.token) ctx.old.token.actor self → IsOk result }
+        ensures left { MatchResult result (λ _. AreGone self ctx.new.team × ListsBelow self ctx.old.opened.items ctx.new.opened.items) (λ _. (ctx.new.team ≡ ctx.old.team) × (ctx.new.opened ≡ ctx.old.opened)) }
+    {
+        let Opened { scope } = self;
+        close_in_time(rt, ctx, scope, clock)
+    }
+
     /// Closes the scope as `close` does, with a report of it and of what was closed inside it, as
     /// `TaskCtx::close_scope` gives it (JEP 505, `close`).
     ///
@@ -178,6 +200,33 @@ impl Opened {
         ensures handed_back { IfErr result (λ back. back.1 ≡ self) }
     {
         match ctx.close_scope(rt, self.scope) {
+            Ok(report) => {
+                let Opened { scope: _ } = self;
+                Ok(report)
+            }
+            Err(refusal) => Err((refusal, self)),
+        }
+    }
+
+    /// The same by the clock, as `TaskCtx::close_scope_by` does.
+    ///
+    /// # Errors
+    /// Those of `report`, and those of a tick, with the guard handed back: `close` closes then without clock and
+    /// report, and takes no load.
+    pub fn report_by<C: Catalog, S: Spawner<N>, N: RealmName, R: Wait + SystemTime, K: Clock>(
+        self,
+        rt: &R,
+        ctx: &mut TaskCtx<C, S, N>,
+        clock: &mut K,
+    ) -> Result<CloseReport, (Refusal, Opened)>
+        ensures rest { (ctx.new ≡ record ctx.old { token = ctx.new.token; spawner = ctx.new.spawner; opened = ctx.new.opened; team = ctx.new.team }) × SeesMore ctx.old.token ctx.new.token }
+        ensures closed { IfOk result (λ report. ClosesAfter K.reads ctx.old.token clock.old clock.new self (λ there. FoundUnsettled (history_seen there) self None × ClosesHere there ctx.new.token self ctx.old.team report)) }
+        ensures refused { IfErr result (λ back. (StaysUnclosed K.reads ctx.old.token ctx.new.token clock.old clock.new self back.0 × (ctx.new.team ≡ ctx.old.team)) ⊎ ClosesAfter K.reads ctx.old.token clock.old clock.new self (λ there. FoundUnsettled (history_seen there) self None × StaysHere there ctx.new.token self ctx.old.team ctx.new.team back.0)) }
+        ensures left { MatchResult result (λ _. AreGone self ctx.new.team × ListsBelow self ctx.old.opened.items ctx.new.opened.items) (λ _. ctx.new.opened ≡ ctx.old.opened) }
+        ensures sure { IsOpenOf (history_seen ctx.old.token) ctx.old.token.actor self → IfErr result (λ back. (back.0 ≡ NotReady) ⊎ (back.0 ≡ Memory) ⊎ StopsClosing K.reads ctx.old.token ctx.new.token clock.old clock.new self back.0) }
+        ensures handed_back { IfErr result (λ back. back.1 ≡ self) }
+    {
+        match ctx.close_scope_by(rt, self.scope, clock) {
             Ok(report) => {
                 let Opened { scope: _ } = self;
                 Ok(report)

@@ -1,6 +1,6 @@
 //! One crate to import: what a service needs of the runtime of task scopes, by the names that the guide
-//! uses. A guard holds a scope that can't be forgotten, and `within` runs a body in a scope that is closed
-//! whatever the body answers. A slot gives a job's result, of the caller's own type, to the owner of its scope
+//! uses. A guard holds a scope that can't be forgotten, and `within_by` runs a body in a scope that is closed
+//! whatever the body answers, by a clock. A slot gives a job's result, of the caller's own type, to the owner of its scope
 //! alone, after the join. `rotate` runs a service that never goes idle, on two realms that serve in turn. A look
 //! from any thread shows the tree of what is open, and the script of what happened.
 #![tactic(auto)]
@@ -8,6 +8,7 @@
 mod aliases;
 mod baton;
 mod by_token;
+mod copies;
 mod errors;
 mod forks;
 mod guards;
@@ -49,9 +50,9 @@ pub use scope_rules::{
     Label, Limits, Name, Options, Outcome, Refusal, Rule, ScopeId, State, TaskId, TaskState,
     TaskStates, TaskValue, TaskValues, Value, Verdict,
 };
-pub use scoped::{Scopes, within};
+pub use scoped::{Scopes, within, within_by};
 pub use services::{Promises, Service, realm_clock, serve_on_crew};
-pub use slots::{Promise, Slot, fork_into, promised};
+pub use slots::{Slot, fork_typed};
 pub use std::marker::Brand;
 pub use std::sync::Wait;
 pub use thread_crew::{Crew, CrewRuntime, OsThreads, Recalls, Spawner, Spawns};

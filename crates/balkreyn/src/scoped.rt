@@ -1,11 +1,17 @@
 //! A body that runs in a scope of its own.
+ghost use Rattle.std.specs.Prelude.{◌≡◌, IsOk, MatchResult};
 ghost use Rattle.join_rules.specs.Joiners.{policy_of};
-ghost use Rattle.balkreyn.specs.Bodies.{Closes, Opens, RunsWithin};
+ghost use Rattle.realm_core.specs.Calls.{SeesMore, history_seen};
+ghost use Rattle.realm_core.specs.Waiting.{IsOpenOf};
+ghost use Rattle.thread_crew.specs.Teams.{AreGone};
+ghost use Rattle.job_runner.specs.Lists.{ListsBelow};
+ghost use Rattle.balkreyn.specs.Bodies.{Closes, ClosesBy, ClosesFrom, Opens, RunsWithin};
 
-use job_runner::TaskCtx;
+use job_runner::{Clock, TaskCtx};
 use join_rules::Joiner;
 use realm_lock::RealmName;
 use scope_rules::{Catalog, Options, Refusal, ScopeId, Verdict};
+use std::rt::Clock as SystemTime;
 use std::sync::Wait;
 use thread_crew::Spawner;
 
@@ -17,7 +23,7 @@ pub trait Scopes {
     ghost use Rattle.scope_rules.specs.declared.types.refusals.Refusal.{Refusal};
     ghost use Rattle.join_rules.specs.Joiners.{policy_of};
     ghost use Rattle.share_ledger.specs.Values.{OwnerValue};
-    ghost use Rattle.balkreyn.specs.Bodies.{Closes, Opens};
+    ghost use Rattle.balkreyn.specs.Bodies.{Closes, ClosesInTime, Opens};
 
     /// The actor's token.
     ghost token: { Self → OwnerValue };
@@ -40,6 +46,16 @@ pub trait Scopes {
     /// Closes the scope, as `TaskCtx::close_scope_bare` does.
     fn close_opened<R: Wait>(&mut self, rt: &R, scope: ScopeId) -> Result<Verdict, Refusal>
         ensures { Closes Self.token Self.left_by_close self.old self.new scope result };
+
+    /// Waits by the clock until the scope can be closed, as `TaskCtx::await_close_by` does, and then closes it as
+    /// `close_opened` does, also where a tick was refused.
+    fn close_opened_by<R: Wait + SystemTime, K: Clock>(
+        &mut self,
+        rt: &R,
+        scope: ScopeId,
+        clock: &mut K,
+    ) -> Result<Verdict, Refusal>
+        ensures { ClosesInTime Self.token Self.left_by_close K.reads self.old self.new clock.old clock.new scope result };
 }
 
 impl<C: Catalog, S: Spawner<N>, N: RealmName> Scopes for TaskCtx<C, S, N> {
@@ -68,12 +84,39 @@ impl<C: Catalog, S: Spawner<N>, N: RealmName> Scopes for TaskCtx<C, S, N> {
     fn close_opened<R: Wait>(&mut self, rt: &R, scope: ScopeId) -> Result<Verdict, Refusal> {
         self.close_scope_bare(rt, scope)
     }
+
+    fn close_opened_by<R: Wait + SystemTime, K: Clock>(
+        &mut self,
+        rt: &R,
+        scope: ScopeId,
+        clock: &mut K,
+    ) -> Result<Verdict, Refusal> {
+        close_in_time(rt, self, scope, clock)
+    }
+}
+
+/// Waits by the clock until the scope can be closed, and then closes it, also where a tick was refused.
+pub(crate) fn close_in_time<
+    C: Catalog,
+    S: Spawner<N>,
+    N: RealmName,
+    R: Wait + SystemTime,
+    K: Clock,
+>(rt: &R, ctx: &mut TaskCtx<C, S, N>, scope: ScopeId, clock: &mut K) -> Result<Verdict, Refusal>
+    ensures rest { (ctx.new ≡ record ctx.old { token = ctx.new.token; spawner = ctx.new.spawner; opened = ctx.new.opened; team = ctx.new.team }) × SeesMore ctx.old.token ctx.new.token }
+    ensures answer { ClosesBy K.reads ctx.old.token ctx.new.token clock.old clock.new scope result }
+    ensures sure { IsOpenOf (history_seen ctx.old.token) ctx.old.token.actor scope → IsOk result }
+    ensures left { MatchResult result (λ _. AreGone scope ctx.new.team × ListsBelow scope ctx.old.opened.items ctx.new.opened.items) (λ _. (ctx.new.team ≡ ctx.old.team) × (ctx.new.opened ≡ ctx.old.opened)) }
+{
+    let _waited = ctx.await_close_by(rt, scope, clock);
+    ctx.close_scope_bare(rt, scope)
 }
 
 /// Runs the body in a scope that it opens for it, and closes the scope on each way out, whatever the body
 /// answered: a `?` in the body leaves no thread of the scope behind (JEP 505 has the block of a `try` in its
-/// place, Trio that of a nursery). What it did is told with the body's own contract in the midst. That it
-/// returns is not promised.
+/// place, Trio that of a nursery). What it did is told with the body's own contract in the midst. The close waits
+/// without a clock: `within_by` is for scopes in which anybody waits for a deadline. That it returns is not
+/// promised.
 ///
 /// # Errors
 /// Where the open is refused, what `E` makes of its refusal, and the body is not called. Else what `E` makes of
@@ -92,5 +135,28 @@ pub fn within<
     let scope = ctx.open_scope(rt, joiner, options)?;
     let found = body(ctx, scope);
     ctx.close_opened(rt, scope)?;
+    found
+}
+
+/// Runs the body in a scope as `within` does, and closes it by the clock: so a deadline passes also while the
+/// scope waits for its last tasks, even behind a shield (Trio, whose run loop wakes at the next deadline). Where a
+/// tick is refused, it goes on without the clock. The clock is a copy of the one by which the body waits.
+///
+/// # Errors
+/// Those of `within`.
+pub fn within_by<
+    X: Scopes,
+    R: Wait + SystemTime,
+    K: Clock + Drop,
+    T: Drop,
+    E: From<Refusal> + Drop,
+    F: FnOnce(&mut X, ScopeId) -> Result<T, E>,
+>(rt: &R, ctx: &mut X, joiner: Joiner, options: Options, mut clock: K, body: F) -> Result<T, E>
+    requires { F.IsAlwaysCallable body }
+    ensures { RunsWithin (Opens X.token X.left_by_open (policy_of joiner) options) (ClosesFrom X.token X.left_by_close K.reads clock) E.from_gives F.FnOnce body ctx.old ctx.new result }
+{
+    let scope = ctx.open_scope(rt, joiner, options)?;
+    let found = body(ctx, scope);
+    ctx.close_opened_by(rt, scope, &mut clock)?;
     found
 }

@@ -1,6 +1,5 @@
-//! From the promise of a value to the slot that gives it up.
-ghost use Rattle.std.specs.Prelude.{◌≡◌, IfOk, MatchResult};
-ghost use Rattle.scope_rules.specs.declared.types.refusals.Refusal.TheVariants.{Memory};
+//! From the fork of a typed job to the slot that gives its value up.
+ghost use Rattle.std.specs.Prelude.{◌≡◌, IfOk};
 ghost use Rattle.realm_core.specs.Calls.{SeesMore};
 ghost use Rattle.job_runner.specs.Forks.{KeepsThread};
 ghost use Rattle.balkreyn.specs.Slots.{ForksInto, Takes, label_of, task_of};
@@ -10,48 +9,10 @@ use crate::places::Place;
 use job_runner::{Answers, JobWork, NamedJob, TaskCtx};
 use realm_lock::RealmName;
 use scope_rules::{AnyEnd, Catalog, ForkReply, Label, Name, Refusal, ScopeId, TaskId};
-use std::alloc::Global;
+use std::alloc::{AllocError, Global};
 use std::marker::Model;
 use std::sync::{Arc, Wait};
 use thread_crew::{Spawner, Spawns};
-
-/// The other end of one job's place, until the job is forked. Its value is the job's name.
-#[derive(Drop)]
-pub struct Promise<J: Yields> {
-    name: Name,
-    place: Arc<Place<J>, Global>,
-}
-
-impl<J: Yields> Model for Promise<J> {
-    ghost use Rattle.scope_rules.specs.declared.types.names.Name.{Name};
-
-    ghost Value = { Name };
-
-    ghost view = { λ p. p.name };
-}
-
-/// The job with a place for its value, and the promise of it, which `fork_into` makes a slot of. Pass it the
-/// two together: a slot whose job another work carried gives nothing, or what another job of that name
-/// answered.
-///
-/// # Errors
-/// `Memory`, and the job is let go.
-pub fn promised<J: Yields + Drop>(
-    alloc: Global,
-    name: Name,
-    job: J,
-) -> Result<(Typed<J>, Promise<J>), Refusal>
-    ensures { MatchResult result (λ both. (both.0 ≡ record { name = name; job = job }) × (both.1 ≡ name)) (λ refusal. refusal ≡ Memory) }
-{
-    let place = Arc::new(alloc, Place::new())?;
-    let share = Arc::try_clone(&place)?;
-    let typed = Typed {
-        name,
-        job,
-        place: share,
-    };
-    Ok((typed, Promise { name, place }))
-}
 
 /// What a forked job's value is had from (JEP 505, `Subtask`). Its value is the job's name, with what its
 /// fork was answered.
@@ -70,34 +31,53 @@ impl<J: Yields> Model for Slot<J> {
     ghost view = { λ s. record { name = s.name; reply = s.reply } };
 }
 
-/// Forks the work of a typed job in the actor's scope, under the promise's name, as `TaskCtx::fork_job` does
-/// (JEP 505, `fork`).
+/// Forks the typed job in the actor's scope, under the name, as `TaskCtx::fork_job` does (JEP 505, `fork`), and
+/// gives the slot of its value. The place of that is made here, and the work that carries the job is made of both
+/// (`From`): so a slot has no other job's place.
 ///
 /// # Errors
-/// Those of `TaskCtx::fork_job`, by their refusal; the work is let go.
-pub fn fork_into<
-    J: Yields,
-    W: Answers + Drop,
+/// Those of `TaskCtx::fork_job`, by their refusal, and `Memory` where there is none for the place; the job is let
+/// go.
+pub fn fork_typed<
+    J: Yields + Drop,
+    W: Answers + From<Typed<J>> + Drop,
     N: RealmName,
     S: Spawns<N, JobWork<AnyEnd, N, W>>,
     R: Wait,
 >(
     rt: &R,
+    alloc: Global,
     ctx: &mut TaskCtx<AnyEnd, S, N>,
     scope: ScopeId,
-    work: W,
-    promise: Promise<J>,
+    name: Name,
+    job: J,
 ) -> Result<Slot<J>, Refusal>
     ensures rest { (ctx.new ≡ record ctx.old { token = ctx.new.token; spawner = ctx.new.spawner; team = ctx.new.team }) × SeesMore ctx.old.token ctx.new.token }
-    ensures answer { ForksInto ctx.old.token ctx.new.token scope promise result }
-    ensures kept { IfOk result (λ slot. KeepsThread ctx.new.token scope (label_of promise) slot.reply ctx.old.team ctx.new.team) }
+    ensures answer { ForksInto ctx.old.token ctx.new.token scope name result }
+    ensures kept { IfOk result (λ slot. KeepsThread ctx.new.token scope (label_of name) slot.reply ctx.old.team ctx.new.team) }
 {
-    let Promise { name, place } = promise;
+    let Ok((place, share)) = place_and_share(alloc) else {
+        return Err(Refusal::Memory);
+    };
+    let work = W::from(Typed {
+        name,
+        job,
+        place: share,
+    });
     let label = Label { name, due: None };
     match ctx.fork_job(rt, scope, NamedJob::new(label, work)) {
         Ok(reply) => Ok(Slot { name, reply, place }),
         Err(refused) => Err(refused.refusal()),
     }
+}
+
+/// A place for what a job answers, for its slot, and a share of it, for its work.
+fn place_and_share<J: Yields>(
+    alloc: Global,
+) -> Result<(Arc<Place<J>, Global>, Arc<Place<J>, Global>), AllocError> {
+    let place = Arc::new(alloc, Place::new())?;
+    let share = Arc::try_clone(&place)?;
+    Ok((place, share))
 }
 
 impl<J: Yields> Slot<J> {

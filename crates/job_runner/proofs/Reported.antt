@@ -21,11 +21,11 @@ pub held_why : (s : ℕ) (returned kept : List TicketValue) (begun new : OwnerVa
 held_why s returned kept begun new (Ok report) held = tt
 held_why s returned kept begun new (Err refusal) held = held_for s returned kept begun new refusal held
 
--- one half of what is said of a result
-pub if_ok : {A E : Type 0} (P : A → Type 0) (Q : E → Type 0) (result : Result A E) → MatchResult result P Q → IfOk result P
-if_ok P Q (Ok x) it = it
-if_ok P Q (Err e) it = tt
+-- one half of what is said of a result, beside what is so in any case
+pub if_ok_beside : {A E : Type 0} (So : Type 0) (P : A → Type 0) (Q : E → Type 0) (result : Result A E) → So → MatchResult result P Q → IfOk result (λ x. So × P x)
+if_ok_beside So P Q (Ok x) so it = (so, it)
+if_ok_beside So P Q (Err e) so it = tt
 
-pub if_err : {A E : Type 0} (P : A → Type 0) (Q : E → Type 0) (result : Result A E) → MatchResult result P Q → IfErr result Q
-if_err P Q (Ok x) it = tt
-if_err P Q (Err e) it = it
+pub if_err_beside : {A E : Type 0} (So : Type 0) (P : A → Type 0) (Q : E → Type 0) (result : Result A E) → So → MatchResult result P Q → IfErr result (λ e. So × Q e)
+if_err_beside So P Q (Ok x) so it = tt
+if_err_beside So P Q (Err e) so it = (so, it)

@@ -1,6 +1,6 @@
 -- What a context's list of open scopes holds.
-use Rattle.std.specs.Prelude.{◌≡◌, ℕ, ◌⊎◌, None, Option, List, [], ◌∷◌, ◌++◌, nat_lt}
-use Rattle.std.specs.List.{filter}
+use Rattle.std.specs.Prelude.{◌≡◌, ◌≢◌, ℕ, ◌⊎◌, None, Option, List, [], ◌∷◌, ◌++◌, nat_lt}
+use Rattle.std.specs.List.{All, filter}
 use Rattle.cancel_marks.specs.Seats.{Seen}
 use Rattle.job_runner.specs.declared.contexts.OpenScope.{OpenScope}
 
@@ -29,3 +29,7 @@ pub record LooksFromLast (around around_then : Option Seen) (old new : List Open
 -- last open scope, or else that of the scope around
 abbrev pub KeepsOthers : Option Seen → Option Seen → List OpenScope → List OpenScope → Type 0
 KeepsOthers around around_then old new = ((old ≡ []) × (new ≡ [])) ⊎ LooksFromLast around around_then old new
+
+-- no scope of this number is listed
+abbrev pub IsUnlisted : ℕ → List OpenScope → Type 0
+IsUnlisted s opened = All (λ (o : OpenScope). o.scope ≢ s) opened

@@ -6,6 +6,7 @@ use Rattle.cancel_marks.specs.declared.marks.Mark.{Mark}
 use Rattle.cancel_marks.specs.Marked.{said_by}
 use Rattle.cancel_marks.specs.Seats.{Seen}
 use Rattle.job_runner.specs.declared.contexts.OpenScope.{OpenScope}
+use Rattle.job_runner.specs.Lists.{IsUnlisted}
 
 -- the seat of the innermost open scope, or else the one of the scope around
 abbrev pub seat_here : Option Seen → List OpenScope → Option Seen
@@ -27,3 +28,8 @@ abbrev pub Shows : Option Seen → Option Seen → Option Mark → Type 0
 Shows None None None = Unit {0}
 Shows (Some before) (Some after) shown = (after.cell ≡ before.cell) × MatchOption shown ((before.known ≡ None) × (after.known ≡ None)) (λ mark. (mark.seat ≡ after) × (after.known ≡ Some (said_by mark)) × Agrees before.known (said_by mark))
 Shows _ _ _ = ⊥
+
+-- the mark with which the job of a task in scope s begins: a seat at that scope's cell which was shown nothing; there
+-- is none only where the scope isn't listed
+abbrev pub IsMarkOf : ℕ → List OpenScope → Option Seen → Type 0
+IsMarkOf s opened around = MatchOption around (IsUnlisted s opened) (λ (m : Seen). (m.cell.scope ≡ s) × (m.known ≡ None))

@@ -1,6 +1,8 @@
-ghost use Rattle.std.specs.Prelude.{◌≡◌, None, IfOk, IfErr, IfSome, OnSome};
+ghost use Rattle.std.specs.Prelude.{◌≡◌, None, IfOk, IfErr, IfSome, MatchOption, OnSome};
 ghost use Rattle.realm_core.specs.Calls.{SeesMore};
 ghost use Rattle.realm_core.specs.Tasks.{IsNewTicket};
+ghost use Rattle.job_runner.specs.Lists.{IsUnlisted};
+ghost use Rattle.job_runner.specs.Marks.{IsMarkOf};
 ghost use Rattle.job_runner.specs.Forks.{ForksJob, KeepsThread, SpawnsJob, job_of, refusal_of, why_alone, why_of};
 ghost use Rattle.thread_crew.specs.Teams.{HasRoom, HasThreadMore, IsSameTeam};
 
@@ -108,6 +110,7 @@ impl<C: Catalog, S: Spawner<N>, N: RealmName> TaskCtx<C, S, N> {
         requires room { HasRoom self.old.team }
         requires named { ticket.table ≡ N.table }
         requires fresh { IsNewTicket self.old.token ticket.scope work.job.label ticket }
+        requires marked { IsMarkOf ticket.scope self.old.opened.items work.around }
         ensures rest { (self.new ≡ record self.old { token = self.new.token; spawner = self.new.spawner; team = self.new.team }) × SeesMore self.old.token self.new.token }
         ensures answer { SpawnsJob self.old.token self.new.token ticket (why_alone result) }
         ensures handed_back { IfErr result (λ e. job_of e ≡ work.job) }
@@ -129,12 +132,12 @@ impl<C: Catalog, S: Spawner<N>, N: RealmName> TaskCtx<C, S, N> {
     }
 
     /// Room for a thread of the scope: for its handle, and for its return, with what its own context
-    /// begins with.
+    /// begins with: the mark of the scope, as long as that is listed.
     fn room_for_a_thread(&mut self, scope: ScopeId) -> Option<(HeldRealm<C, N>, Option<Marker>)>
         ensures rest { self.new ≡ record self.old { team = self.new.team } }
         ensures team { IsSameTeam self.old.team self.new.team }
         ensures room { OnSome result (HasRoom self.new.team) }
-        ensures around { IfSome result (λ room. IfSome room.1 (λ marker. (marker.cell.scope ≡ scope) × (marker.known ≡ None))) }
+        ensures around { IfSome result (λ room. IsMarkOf scope self.old.opened.items room.1) }
     {
         let realm = self.realm.again()?;
         let around = match self.marker_of(scope) {
@@ -147,7 +150,7 @@ impl<C: Catalog, S: Spawner<N>, N: RealmName> TaskCtx<C, S, N> {
 
     /// The marker of the scope, if it is open in this context.
     fn marker_of(&self, scope: ScopeId) -> Option<&Marker>
-        ensures { IfSome result (λ marker. marker.now.cell.scope ≡ scope) }
+        ensures { MatchOption result (IsUnlisted scope self.now.opened.items) (λ marker. marker.now.cell.scope ≡ scope) }
     {
         for open in &self.opened {
             if open.scope == scope {

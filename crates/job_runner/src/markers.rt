@@ -2,8 +2,8 @@ ghost use Rattle.std.specs.Prelude.{◌≡◌, IfSome, None, Some, Ok, MatchResu
 ghost use Rattle.std.specs.Option.{MatchOption};
 ghost use Rattle.once_cell.specs.Once.{Agrees};
 ghost use Rattle.cancel_marks.specs.Marked.{said_by};
-ghost use Rattle.realm_core.specs.Calls.{SeesMore};
-ghost use Rattle.realm_lock.specs.Waits.{HasPassed, Stopped, Waited, shown_in};
+ghost use Rattle.realm_core.specs.Calls.{SeesMore, history_seen};
+ghost use Rattle.realm_lock.specs.Waits.{HasCome, HasPassed, Stopped, Waited, shown_in};
 
 use cancel_marks::{Mark, MarkCell, Seat};
 use named_jobs::Clock;
@@ -86,6 +86,7 @@ impl Marker {
         ensures cell { self.new.cell ≡ self.old.cell }
         ensures mark { MatchOption (shown_in result) ((self.old.known ≡ None) × (self.new.known ≡ None)) (λ mark. (mark.seat ≡ self.new) × (self.new.known ≡ Some (said_by mark)) × Agrees self.old.known (said_by mark)) }
         ensures slept { result ≡ Ok None → HasPassed until (K.reading clock.new) }
+        ensures passed_all { result ≡ Ok None → IfSome (K.reading clock.new) (λ now. HasCome (history_seen token.new) now → ⊥) }
     {
         realm.wait_marked_by(rt, token, &self.cell, &mut self.seat, clock, until)
     }

@@ -1,10 +1,10 @@
 ghost use Rattle.std.specs.Prelude.{◌≡◌, ◌⊎◌, [], None, Some, Ok, IfOk, IfErr, IfSome, IsSome, MatchResult};
-ghost use Rattle.scope_rules.specs.declared.types.refusals.Refusal.TheVariants.{NotReady};
+ghost use Rattle.scope_rules.specs.declared.types.refusals.Refusal.TheVariants.{Memory, NotReady};
 ghost use Rattle.kept_realm.specs.Fits.{Fitting};
 ghost use Rattle.realm_core.specs.Calls.{SeesMore, history_seen};
-ghost use Rattle.realm_core.specs.Waiting.{IsOpenOf};
-ghost use Rattle.realm_core.specs.Closes.{ClosesBare};
-ghost use Rattle.realm_lock.specs.Waits.{ClosesAfter, HasPassed, JoinsBy, StaysUnclosed, Stopped, StopsClosing, Waited, shown_in};
+ghost use Rattle.realm_core.specs.Waiting.{FoundUnsettled, IsOpenOf};
+ghost use Rattle.realm_core.specs.Closes.{ClosesBare, IsBegun};
+ghost use Rattle.realm_lock.specs.Waits.{ClosesAfter, HasCome, HasPassed, JoinsBy, StaysUnclosed, Stopped, StopsClosing, Waited, WaitsToClose, shown_in};
 ghost use Rattle.job_runner.specs.Lists.{KeepsOthers, ListsBelow};
 ghost use Rattle.job_runner.specs.Marks.{scope_here, seat_here, Shows};
 ghost use Rattle.job_runner.specs.Reports.{ClosesHere, StaysHere};
@@ -42,8 +42,29 @@ impl<C: Catalog, S: Spawner<N>, N: RealmName> TaskCtx<C, S, N> {
         self.realm.lent().join_by(rt, &mut token.held, scope, clock)
     }
 
-    /// Closes the actor's scope, as `close_scope_bare` does, and waits by the clock until its tasks have
-    /// ended. Refused as that is, and where a tick is: then the scope is closing, and its threads are not
+    /// Begins to close the actor's scope, as a close does, and waits by the clock until that can end: until no
+    /// task waits or runs of the scope, and of what the actor opened later. Then no close waits. Refused as
+    /// `Realm::close_bare` is, and where a tick is: then the scope is closing. `close_scope_bare` closes it in
+    /// either case, and takes no load.
+    pub fn await_close_by<R: Wait + SystemTime, K: Clock>(
+        &mut self,
+        rt: &R,
+        scope: ScopeId,
+        clock: &mut K,
+    ) -> Result<(), Refusal>
+        ensures rest { (self.new ≡ record self.old { token = self.new.token }) × SeesMore self.old.token self.new.token }
+        ensures answer { MatchResult result (λ _. WaitsToClose K.reads self.old.token self.new.token clock.old clock.new scope) (StaysUnclosed K.reads self.old.token self.new.token clock.old clock.new scope) }
+        ensures settled { IfOk result (λ _. IsBegun (history_seen self.new.token) self.old.token.actor scope × FoundUnsettled (history_seen self.new.token) scope None) }
+        ensures sure { IsOpenOf (history_seen self.old.token) self.old.token.actor scope → IfErr result (StopsClosing K.reads self.old.token self.new.token clock.old clock.new scope) }
+    {
+        let token = &mut self.token;
+        self.realm
+            .lent()
+            .await_close_by(rt, &mut token.held, scope, clock)
+    }
+
+    /// Closes the actor's scope, as `close_scope_bare` does, once it has waited by the clock until its tasks
+    /// have ended. Refused as that is, and where a tick is: then the scope is closing, and its threads are not
     /// joined; `close_scope_bare` closes it, which takes no load.
     pub fn close_scope_bare_by<R: Wait + SystemTime, K: Clock>(
         &mut self,
@@ -52,17 +73,12 @@ impl<C: Catalog, S: Spawner<N>, N: RealmName> TaskCtx<C, S, N> {
         clock: &mut K,
     ) -> Result<Verdict, Refusal>
         ensures rest { (self.new ≡ record self.old { token = self.new.token; spawner = self.new.spawner; opened = self.new.opened; team = self.new.team }) × SeesMore self.old.token self.new.token }
-        ensures closed { IfOk result (λ how. ClosesAfter K.reads self.old.token clock.old clock.new scope (λ there. ClosesBare there self.new.token scope (Ok how))) }
+        ensures closed { IfOk result (λ how. ClosesAfter K.reads self.old.token clock.old clock.new scope (λ there. FoundUnsettled (history_seen there) scope None × ClosesBare there self.new.token scope (Ok how))) }
         ensures refused { IfErr result (StaysUnclosed K.reads self.old.token self.new.token clock.old clock.new scope) }
         ensures sure { IsOpenOf (history_seen self.old.token) self.old.token.actor scope → IfErr result (StopsClosing K.reads self.old.token self.new.token clock.old clock.new scope) }
         ensures left { MatchResult result (λ _. AreGone scope self.new.team × ListsBelow scope self.old.opened.items self.new.opened.items) (λ _. (self.new.team ≡ self.old.team) × (self.new.opened ≡ self.old.opened)) }
     {
-        let token = &mut self.token;
-        match self
-            .realm
-            .lent()
-            .await_close_by(rt, &mut token.held, scope, clock)
-        {
+        match self.await_close_by(rt, scope, clock) {
             Ok(()) => match self.close_scope_bare(rt, scope) {
                 Ok(verdict) => Ok(verdict),
                 Err(_) => unreachable!(),
@@ -79,16 +95,12 @@ impl<C: Catalog, S: Spawner<N>, N: RealmName> TaskCtx<C, S, N> {
         clock: &mut K,
     ) -> Result<CloseReport, Refusal>
         ensures rest { (self.new ≡ record self.old { token = self.new.token; spawner = self.new.spawner; opened = self.new.opened; team = self.new.team }) × SeesMore self.old.token self.new.token }
-        ensures closed { IfOk result (λ report. ClosesAfter K.reads self.old.token clock.old clock.new scope (λ there. ClosesHere there self.new.token scope self.old.team report)) }
-        ensures refused { IfErr result (λ refusal. (StaysUnclosed K.reads self.old.token self.new.token clock.old clock.new scope refusal × (self.new.team ≡ self.old.team)) ⊎ ClosesAfter K.reads self.old.token clock.old clock.new scope (λ there. StaysHere there self.new.token scope self.old.team self.new.team refusal)) }
+        ensures closed { IfOk result (λ report. ClosesAfter K.reads self.old.token clock.old clock.new scope (λ there. FoundUnsettled (history_seen there) scope None × ClosesHere there self.new.token scope self.old.team report)) }
+        ensures refused { IfErr result (λ refusal. (StaysUnclosed K.reads self.old.token self.new.token clock.old clock.new scope refusal × (self.new.team ≡ self.old.team)) ⊎ ClosesAfter K.reads self.old.token clock.old clock.new scope (λ there. FoundUnsettled (history_seen there) scope None × StaysHere there self.new.token scope self.old.team self.new.team refusal)) }
         ensures left { MatchResult result (λ _. AreGone scope self.new.team × ListsBelow scope self.old.opened.items self.new.opened.items) (λ _. self.new.opened ≡ self.old.opened) }
+        ensures sure { IsOpenOf (history_seen self.old.token) self.old.token.actor scope → IfErr result (λ refusal. (refusal ≡ NotReady) ⊎ (refusal ≡ Memory) ⊎ StopsClosing K.reads self.old.token self.new.token clock.old clock.new scope refusal) }
     {
-        let token = &mut self.token;
-        match self
-            .realm
-            .lent()
-            .await_close_by(rt, &mut token.held, scope, clock)
-        {
+        match self.await_close_by(rt, scope, clock) {
             Ok(()) => self.close_scope(rt, scope),
             Err(refusal) => Err(refusal),
         }
@@ -111,8 +123,8 @@ impl<C: Catalog, S: Spawner<N>, N: RealmName> TaskCtx<C, S, N> {
     }
 
     /// Sleeps until the moment, in milliseconds, or until `checkpoint` would show a mark, and gives that
-    /// (Trio, `sleep_until`, which a cancel ends). Where both have come it gives the mark, and a deadline
-    /// that comes at the moment comes first. Refused where a tick is.
+    /// (Trio, `sleep_until`, which a cancel ends). Where both have come it gives the mark, and each deadline
+    /// that has come by then is passed first. Refused where a tick is.
     pub fn sleep_by<R: Wait + SystemTime, K: Clock>(
         &mut self,
         rt: &R,
@@ -124,6 +136,7 @@ impl<C: Catalog, S: Spawner<N>, N: RealmName> TaskCtx<C, S, N> {
         ensures shows { Shows (seat_here self.old.around self.old.opened.items) (seat_here self.new.around self.new.opened.items) (shown_in result) }
         ensures of { IfSome (shown_in result) (λ mark. scope_here self.old.around self.old.opened.items ≡ Some mark.scope) }
         ensures slept { result ≡ Ok None → HasPassed (Some until) (K.reading clock.new) }
+        ensures passed_all { result ≡ Ok None → IfSome (K.reading clock.new) (λ now. HasCome (history_seen self.new.token) now → ⊥) }
     {
         self.await_mark_by(rt, clock, Some(until))
     }
@@ -141,6 +154,7 @@ impl<C: Catalog, S: Spawner<N>, N: RealmName> TaskCtx<C, S, N> {
         ensures shows { Shows (seat_here self.old.around self.old.opened.items) (seat_here self.new.around self.new.opened.items) (shown_in result) }
         ensures of { IfSome (shown_in result) (λ mark. scope_here self.old.around self.old.opened.items ≡ Some mark.scope) }
         ensures slept { result ≡ Ok None → IsSome (seat_here self.old.around self.old.opened.items) ⊎ IsSome until → HasPassed until (K.reading clock.new) }
+        ensures passed_all { result ≡ Ok None → IsSome (seat_here self.old.around self.old.opened.items) ⊎ IsSome until → IfSome (K.reading clock.new) (λ now. HasCome (history_seen self.new.token) now → ⊥) }
     {
         let realm = self.realm.lent();
         let token = &mut self.token;
@@ -172,6 +186,7 @@ fn wait_around_by<C: Catalog, N: RealmName, R: Wait + SystemTime, K: Clock>(
     ensures shows { Shows around.old around.new (shown_in result) }
     ensures of { IfSome (shown_in result) (λ mark. scope_here around.old [] ≡ Some mark.scope) }
     ensures slept { result ≡ Ok None → IsSome around.old ⊎ IsSome until → HasPassed until (K.reading clock.new) }
+    ensures passed_all { result ≡ Ok None → IsSome around.old ⊎ IsSome until → IfSome (K.reading clock.new) (λ now. HasCome (history_seen token.new) now → ⊥) }
 {
     match around {
         Some(marker) => marker.wait_by(rt, realm, token, clock, until),

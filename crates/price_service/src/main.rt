@@ -51,7 +51,7 @@ impl<R: Handle, N: RealmName, S: Forks<AnyEnd, N, Ask<R>>> Service<S, N, R> for 
     fn serve(self, rt: &R, ctx: &mut TaskCtx<AnyEnd, S, N>) -> Result<Outcome, ServiceError> {
         let mut clock = realm_clock(rt)?;
         let (shop, options) = (Name::literal(b"shop"), fail_after(&mut clock, 2_000));
-        within(rt, ctx, Joiner::Any, options, |ctx, scope| {
+        within_by(rt, ctx, Joiner::Any, options, clock, |ctx, scope| {
             for (file, takes) in [("ash", 60_000), ("birch", 20), ("cedar", 30_000)] {
                 let job = Ask(file, takes, clock, self.0);
                 fork(rt, ctx, scope, shop, job)?;

@@ -21,11 +21,11 @@ use Rattle.job_runner.specs.Reports.{ClosesHere, StaysHere, StaysBegunHere}
 use Rattle.quote_gateway.specs.Going.{shapes, KeepsTasks, EndsScope}
 use Rattle.quote_gateway.proofs.Going.{added, agreed, for_first, goes_on, looked, sees_on, tokens_on}
 
-begins_keeps : (old new : OwnerValue) (s : ℕ) (how : Cancelling) → Begins old new s (Ok how) → KeepsTasks old new
+pub begins_keeps : (old new : OwnerValue) (s : ℕ) (how : Cancelling) → Begins old new s (Ok how) → KeepsTasks old new
 begins_keeps old new s Recorded it = added old.limits old.actor old.seen new.seen (Happened (BeginClose old.actor s)) it.0 refl
 begins_keeps old new s Already it = looked old.limits old.actor old.seen new.seen it.0.looks
 
-refused_keeps : (old new : OwnerValue) (s : ℕ) (refusal : Refusal) → Begins old new s (Err refusal) → KeepsTasks old new
+pub refused_keeps : (old new : OwnerValue) (s : ℕ) (refusal : Refusal) → Begins old new s (Err refusal) → KeepsTasks old new
 refused_keeps old new s refusal it = elim it [
   | inl by ↦ looked old.limits old.actor old.seen new.seen by.looks
   | inr over ↦ looked old.limits old.actor old.seen new.seen over.0.looks

@@ -55,7 +55,7 @@ read_is (Err r) value result read passed is so = absurd cc
 
 -- ---- all of them
 
-follows_still : (old new : OwnerValue) (s : ℕ) → KeepsTasks old new → IsOpenHere old s → Follows (history_seen old) (history_seen new)
+pub follows_still : (old new : OwnerValue) (s : ℕ) → KeepsTasks old new → IsOpenHere old s → Follows (history_seen old) (history_seen new)
 follows_still old new s on here = follows_going old.limits old.actor s (shapes old.actor) old.seen new.seen (shapes_find old.actor) on here.of
 
 -- a join joins the scope, and leaves its tasks

@@ -1,6 +1,6 @@
 -- What a join by a clock leaves in a request.
-use Rattle.std.proofs.Common.{◌≡◌, ◌⊎◌, inl, inr, ℕ, ◌≤◌, Bool, true, false, nat_lt, Option, Some, None, Ok, Err, Result, List, refl, sym, ap, ◌∙◌, arith}
-use Rattle.std.specs.Prelude.{IfSome, IsSome}
+use Rattle.std.proofs.Common.{◌≡◌, inl, inr, ℕ, ◌≤◌, Bool, true, false, nat_lt, Option, Some, None, Ok, Err, Result, List, MatchResult, refl, sym, ap, ◌∙◌, subst, arith}
+use Rattle.std.specs.Prelude.{IsSome}
 use Rattle.std.proofs.lemmas.Bool.{ltb-true}
 use Rattle.scope_rules.specs.declared.types.capacity.Limits.{Limits}
 use Rattle.scope_rules.specs.declared.types.capacity.TheConstants.{STEP_LOAD}
@@ -14,26 +14,28 @@ use Rattle.scope_rules.specs.Load.{over_load}
 use Rattle.scope_rules.specs.Table.{check_of}
 use Rattle.share_ledger.specs.declared.steps.Ask.TheVariants.{Tick}
 use Rattle.share_ledger.specs.declared.steps.RealmStep.TheVariants.{Asked}
-use Rattle.share_ledger.specs.Steps.{IsLegal}
+use Rattle.share_ledger.specs.Steps.{IsLegal, history_of}
 use Rattle.share_ledger.specs.Values.{OwnerValue}
-use Rattle.realm_core.specs.Calls.{SeesMore, history_seen}
+use Rattle.realm_core.specs.Calls.{SeesMore, history_seen, step_check}
 use Rattle.realm_core.specs.declared.joins.Joined.{Joined}
-use Rattle.realm_lock.specs.Waits.{JoinsBy, JoinsThen, Stopped, Waited, began, looked as has_looked, read, ticked}
+use Rattle.realm_lock.specs.Waits.{JoinsBy, JoinsThen, StaysUnclosed, Stopped, StopsClosing, Waited, WaitsToClose, began, looked as has_looked, read, ticked}
 use Rattle.realm_lock.proofs.Waits.{waited_sees}
 use Rattle.quote_plan.specs.Plans.{PlanValue}
 use Rattle.quote_gateway.specs.declared.faults.GatewayFault.{GatewayFault}
 use Rattle.quote_gateway.specs.declared.faults.GatewayFault.TheVariants as fault
-use Rattle.quote_gateway.specs.Going.{shapes, IsBeginning, IsOpenHere, HasForked, HasJoined, KeepsTasks}
-use Rattle.quote_gateway.specs.Requests.{FindsNone, IsOfCall, IsTold}
-use Rattle.quote_gateway.proofs.Going.{added, begins_going, goes_nowhere, looked, same_actor, sees_on, tokens_on}
+use Rattle.quote_gateway.specs.Going.{shapes, IsOpenHere, IsTurnedDown, HasForked, HasJoined, KeepsTasks}
+use Rattle.quote_gateway.specs.Requests.{FindsNone, IsOfCall, IsRejectedIn, IsStepIn, IsTold}
+use Rattle.quote_gateway.proofs.Going.{added, begins_going, begins_on, goes_nowhere, looked, same_actor, same_limits, tokens_on}
+use Rattle.quote_gateway.proofs.Closing.{begins_keeps, refused_keeps}
+use Rattle.quote_gateway.proofs.Following.{label_after, rejected_after, task_after}
 use Rattle.quote_gateway.proofs.Asking.{forked_still}
-use Rattle.quote_gateway.proofs.Reading.{joined_here}
+use Rattle.quote_gateway.proofs.Reading.{follows_still, joined_here}
 use Rattle.quote_gateway.proofs.Requested.{none_earlier, turned_none}
 use Rattle.quote_gateway.proofs.Turned.{join_keeps, join_refused, looked_by, refused_or_memory, turned_down, Pulsed}
 
 module _ {K : Type 0} (reads : K → K → ℕ → Type 0) (old : OwnerValue) (start : K) (lawful : IsLegal old.limits old.seen) where
   -- while it waits, its token's actor opens, closes and forks nothing
-  waited_keeps : (there : OwnerValue) (clock : K) → Waited reads old start there clock → KeepsTasks old there
+  pub waited_keeps : (there : OwnerValue) (clock : K) → Waited reads old start there clock → KeepsTasks old there
   waited_keeps there clock began = goes_nowhere old.limits (shapes old.actor) old.seen lawful
   waited_keeps there clock (has_looked {there = mid} so_far look) =
       tokens_on old mid there shapes (waited_sees mid clock so_far) (waited_keeps mid clock so_far) (looked mid.limits mid.actor mid.seen there.seen look.1)
@@ -45,7 +47,7 @@ module _ {K : Type 0} (reads : K → K → ℕ → Type 0) (old : OwnerValue) (s
   then_keeps new last s result it =
       tokens_on old it.there new shapes (waited_sees it.there last it.waited) (waited_keeps it.there last it.waited) (join_keeps it.there new s result it.joins)
 
-  stop_keeps : (new : OwnerValue) (last : K) (refusal : Refusal) → Stopped reads old new start last refusal → KeepsTasks old new
+  pub stop_keeps : (new : OwnerValue) (last : K) (refusal : Refusal) → Stopped reads old new start last refusal → KeepsTasks old new
   stop_keeps new last refusal it =
       tokens_on old it.there new shapes (waited_sees it.there it.clock it.waited) (waited_keeps it.there it.clock it.waited)
       (looked it.there.limits it.there.actor it.there.seen new.seen (looked_by it.there new (Asked it.there.actor (Tick it.now)) refusal it.refused.refused))
@@ -75,6 +77,69 @@ pub joined_by : {K : Type 0} (reads : K → K → ℕ → Type 0) (old new : Own
 joined_by reads old new start last s ls ks joined it was =
     let there = forked_still old it.there s ls ks (waited_sees it.there last it.waited) (waited_keeps reads old start was.here.legal it.there last it.waited) was in
     joined_here it.there new s ls ks joined it.joins there
+
+-- ---- what a wait for the end of the jobs leaves
+
+module _ {K : Type 0} (reads : K → K → ℕ → Type 0) (old new : OwnerValue) (start last : K) (s : ℕ) where
+  legal_begun : (begun : OwnerValue) → SeesMore old begun → KeepsTasks old begun → IsLegal begun.limits begun.seen
+  legal_begun begun same keeps = subst (λ (L : Limits). IsLegal L begun.seen) (sym (same_limits old begun same)) keeps.legal
+
+  waits_keeps : WaitsToClose reads old new start last s → KeepsTasks old new
+  waits_keeps it =
+      let keeps = begins_keeps old it.begun s it.how it.begins in
+      tokens_on old it.begun new shapes it.same keeps (waited_keeps reads it.begun start (legal_begun it.begun it.same keeps) new last it.waited)
+
+  stops_keeps : (refusal : Refusal) → StopsClosing reads old new start last s refusal → KeepsTasks old new
+  stops_keeps refusal it =
+      let keeps = begins_keeps old it.begun s it.how it.begins in
+      tokens_on old it.begun new shapes it.same keeps (stop_keeps reads it.begun start (legal_begun it.begun it.same keeps) new last refusal it.stopped)
+
+  pub ended_keeps : (result : Result (Unit {0}) Refusal) → MatchResult result (λ _. WaitsToClose reads old new start last s) (StaysUnclosed reads old new start last s) → KeepsTasks old new
+  ended_keeps (Ok done) it = waits_keeps it
+  ended_keeps (Err refusal) it = elim it [ inl by ↦ refused_keeps old new s refusal by.0 | inr stop ↦ stops_keeps refusal stop ]
+
+-- what a call was refused for before is what it was refused for
+module _ (old mid new : OwnerValue) (plan : PlanValue) (s : ℕ) (same : SeesMore mid new) (keeps : KeepsTasks mid new) (here : IsOpenHere mid s) where
+  rejected_later : IsRejectedIn old mid plan s → IsRejectedIn old new plan s
+  rejected_later it = elim it [
+    | inl by ↦ inl (record {
+      step = by.step;
+      of = subst (λ (a : ℕ). IsStepIn plan a s by.step) (sym (same_actor mid new same)) by.of;
+      refused = record {
+        seen = by.refused.seen;
+        since = by.refused.since;
+        until = begins_on by.refused.seen mid.seen new.seen by.refused.until (begins_going mid.limits (shapes mid.actor) mid.seen new.seen keeps);
+        refusal = by.refused.refusal;
+        other = by.refused.other;
+        by = subst (λ (t : OwnerValue). step_check t.limits t.actor by.step (history_of by.refused.seen) ≡ Err by.refused.refusal) (sym same) by.refused.by;
+      };
+    })
+    | inr never ↦
+        let on = follows_still mid new s keeps here in
+        inr (record {
+          task = never.task;
+          of = task_after (history_seen mid) (history_seen new) s never.task on never.of;
+          its = never.its;
+          labelled = label_after (history_seen mid) (history_seen new) never.task never.its on never.labelled;
+          one = never.one;
+          never = rejected_after (history_seen mid) (history_seen new) never.task on never.never;
+        })
+  ]
+
+  pub none_later : (Expired Past : Type 0) (why : GatewayFault) → IsOfCall why → FindsNone old mid plan s Expired why → FindsNone old new plan s Past why
+  none_later Expired Past fault.Memory call it = it
+  none_later Expired Past fault.Rejected call it = rejected_later it
+  none_later Expired Past fault.Lost call it = absurd call
+  none_later Expired Past fault.Cancelled call it = absurd call
+  none_later Expired Past fault.Strange call it = absurd call
+
+-- only a call is turned down
+pub turned_call : (Why : Type 0) (why : GatewayFault) → IsTurnedDown Why why → IsOfCall why
+turned_call Why fault.Memory it = it
+turned_call Why fault.Rejected it = tt
+turned_call Why fault.Lost it = it
+turned_call Why fault.Cancelled it = it
+turned_call Why fault.Strange it = it
 
 -- ---- what is told
 

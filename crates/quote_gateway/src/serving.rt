@@ -4,7 +4,7 @@ ghost use Rattle.realm_core.specs.Calls.{DoesOrMemory, SeesMore, history_seen};
 ghost use Rattle.quote_plan.specs.Allowed.{AllowedText, AllowedTextBy, HasExpired};
 ghost use Rattle.quote_plan.specs.AnswerText.{answer_text};
 ghost use Rattle.quote_plan.specs.Plans.{labels_of};
-ghost use Rattle.quote_gateway.specs.Going.{HasForked, IsBeginning, KeepsInnermost, KeepsScopes, KeepsTasks};
+ghost use Rattle.quote_gateway.specs.Going.{HasForked, IsBeginning, IsOpenHere, KeepsInnermost, KeepsScopes, KeepsTasks};
 ghost use Rattle.quote_gateway.specs.Offers.{labels_in};
 ghost use Rattle.quote_gateway.specs.Requests.{Allows, Fails, FindsNone, IsFound, IsTold, MakesAnswer, RestsOn, moving_on, without_deadline};
 
@@ -54,9 +54,9 @@ pub fn serve_in<N: RealmName, J: Answers + Drop, S: Spawns<N, JobWork<Due, N, J>
 }
 
 /// Serves the request as `serve_in` does, by a deadline, in milliseconds: it waits by the clock until all
-/// jobs have ended or the deadline has come, and jobs that look for their mark end then too. It reads the
-/// clock once more; where that has come to the deadline, the answer may be of the prices that were there by
-/// then (`Answer::Partial`).
+/// jobs have ended or the deadline has come, and jobs that look for their mark end then too. By the clock it
+/// also waits for the end of those that go on, before it closes their scope. It reads the clock once more; where
+/// that has come to the deadline, the answer may be of the prices that were there by then (`Answer::Partial`).
 ///
 /// # Errors
 /// As those of `serve_in`. `Rejected` also where a tick was refused, as where the load is used up.
@@ -203,11 +203,15 @@ fn find_by<
             deadline,
             clock,
         ),
-        Err(fault) => Err(fault),
+        Err(fault) => {
+            end_jobs(rt, ctx, scope, clock);
+            Err(fault)
+        }
     }
 }
 
-/// Joins the scope by the clock, reads the clock once more, and answers by what the scope's tasks came to.
+/// Joins the scope by the clock, waits by it until the jobs have ended, reads it once more, and answers by what
+/// the scope's tasks came to.
 fn answer_in_time<N: RealmName, S: Spawner<N>, K: Clock, R: Wait + SystemTime>(
     rt: &R,
     alloc: Global,
@@ -227,13 +231,32 @@ fn answer_in_time<N: RealmName, S: Spawner<N>, K: Clock, R: Wait + SystemTime>(
 {
     let joined = match ctx.join_by(rt, scope, clock) {
         Ok(joined) => joined,
-        Err(refusal) => return Err(GatewayFault::of_refusal(refusal)),
+        Err(refusal) => {
+            end_jobs(rt, ctx, scope, clock);
+            return Err(GatewayFault::of_refusal(refusal));
+        }
     };
+    end_jobs(rt, ctx, scope, clock);
     if let Err(refusal) = tell(rt, ctx, clock) {
         return Err(GatewayFault::of_refusal(refusal));
     }
     let expired = has_expired(clock, deadline);
     answer_joined(rt, alloc, ctx, plan, tasks, &joined.outcome, expired)
+}
+
+/// Begins the close of the scope, and waits by the clock until its jobs have ended: so deadlines inside it pass
+/// meanwhile, also behind a shield. Where a tick is refused, the end of the close waits without the clock.
+fn end_jobs<N: RealmName, S: Spawner<N>, K: Clock, R: Wait + SystemTime>(
+    rt: &R,
+    ctx: &mut TaskCtx<Due, S, N>,
+    scope: ScopeId,
+    clock: &mut K,
+)
+    requires here { IsOpenHere ctx.old.token scope }
+    ensures token { SeesMore ctx.old.token ctx.new.token }
+    ensures keeps { KeepsTasks ctx.old.token ctx.new.token }
+{
+    let _waited = ctx.await_close_by(rt, scope, clock);
 }
 
 /// Tells the realm the moment that the clock reads, unless it has come that far by another's clock. Where

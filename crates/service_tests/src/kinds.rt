@@ -4,7 +4,7 @@ ghost use Rattle.std.specs.Prelude.{◌≡◌};
 use balkreyn::{
     Answers, AnyEnd, CrewRuntime, End, Fault, Forks, Handle, Job, Joiner, Name, Options, Promises,
     RealmName, Refusal, ScopeId, Seed, Service, Slot, Spawner, TaskCtx, Typed, TypedJob, Yields,
-    fork_into, promised, serve_on_crew,
+    fork_typed, serve_on_crew,
 };
 use std::alloc::Global;
 use std::marker::Brand;
@@ -86,6 +86,18 @@ enum Shop {
     Stock(Typed<AskStock>),
 }
 
+impl From<Typed<AskPage>> for Shop {
+    fn from(typed: Typed<AskPage>) -> Shop {
+        Shop::Page(typed)
+    }
+}
+
+impl From<Typed<AskStock>> for Shop {
+    fn from(typed: Typed<AskStock>) -> Shop {
+        Shop::Stock(typed)
+    }
+}
+
 impl Answers for Shop {
     ghost may_end = { λ job end. Unit {0} };
 }
@@ -115,12 +127,9 @@ fn ask<N: RealmName, S: Forks<AnyEnd, N, Shop>, R: Wait>(
     scope: ScopeId,
     name: Name,
 ) -> Result<Asked, Refusal> {
-    let (page, promise) = promised(alloc, name, AskPage { alloc, lines: 4 })?;
-    let page = fork_into(rt, ctx, scope, Shop::Page(page), promise)?;
-    let (stock, promise) = promised(alloc, name, AskStock { pieces: 3 })?;
-    let stock = fork_into(rt, ctx, scope, Shop::Stock(stock), promise)?;
-    let (nothing, promise) = promised(alloc, name, AskStock { pieces: 0 })?;
-    let nothing = fork_into(rt, ctx, scope, Shop::Stock(nothing), promise)?;
+    let page = fork_typed(rt, alloc, ctx, scope, name, AskPage { alloc, lines: 4 })?;
+    let stock = fork_typed(rt, alloc, ctx, scope, name, AskStock { pieces: 3 })?;
+    let nothing = fork_typed(rt, alloc, ctx, scope, name, AskStock { pieces: 0 })?;
     Ok(Asked {
         page,
         stock,

@@ -1,5 +1,5 @@
-//! Tests of what a service imports: scopes that can't be forgotten, results of a caller's own type, a look at a
-//! request that hangs, and a service that never goes idle.
+//! Tests of what a service imports: scopes that can't be forgotten, results of a caller's own type, closes by a
+//! clock, a look at a request that hangs, and a service that never goes idle.
 #![tactic(auto)]
 
 #[cfg(test)]
@@ -8,6 +8,8 @@ mod kinds;
 mod requests;
 #[cfg(test)]
 mod rotation;
+#[cfg(test)]
+mod shields;
 #[cfg(test)]
 mod turns;
 #[cfg(test)]

@@ -6,7 +6,7 @@ use balkreyn::{
     Answers, AnyEnd, Clock, CrewRuntime, End, Fault, Forks, Handle, Job, Joiner, Label, Name,
     NamedJob, NoTime, Opened, Options, Outcome, Promises, RealmName, Refusal, ScopeId, Seed,
     Service, Spawner, SystemClock, TaskCtx, TaskValue, Value, Verdict, fail_after, fork,
-    realm_clock, serve_on_crew, within,
+    realm_clock, serve_on_crew, within, within_by,
 };
 use std::alloc::Global;
 use std::marker::Brand;
@@ -41,20 +41,21 @@ impl<T> Answers for Ask<T> {
 }
 
 impl<T: Wait + SystemTime + Copy, N: RealmName, S: Spawner<N>> Job<AnyEnd, S, N> for Ask<T> {
-    fn run<R: Wait>(self, rt: &R, ctx: &mut TaskCtx<AnyEnd, S, N>) -> End {
+    fn run<R: Wait>(self, _rt: &R, ctx: &mut TaskCtx<AnyEnd, S, N>) -> End {
         let Ask {
             shop,
             price,
             takes,
             mut clock,
         } = self;
-        let asked = within(
-            rt,
+        let own = clock.runtime();
+        let asked = within_by(
+            &own,
             ctx,
             Joiner::AwaitAll,
             Options::PLAIN,
+            clock,
             |ctx: &mut TaskCtx<AnyEnd, S, N>, _scope: ScopeId| -> Result<i64, Failed> {
-                let own = clock.runtime();
                 let until = clock.now().saturating_add(takes);
                 match ctx.sleep_by(&own, &mut clock, until)? {
                     None => Ok(price),
@@ -103,11 +104,12 @@ fn sum_within<R: Wait + SystemTime + Copy, N: RealmName, S: Forks<AnyEnd, N, Ask
 ) -> Result<Option<i64>, Refusal> {
     let options = fail_after(clock, millis);
     let (first, second) = asks;
-    within(
+    within_by(
         rt,
         ctx,
         Joiner::All,
         options,
+        *clock,
         |ctx: &mut TaskCtx<AnyEnd, S, N>, scope: ScopeId| -> Result<Option<i64>, Refusal> {
             fork(rt, ctx, scope, first.shop, first)?;
             fork(rt, ctx, scope, second.shop, second)?;
@@ -165,7 +167,7 @@ fn sum_guarded<R: Wait + SystemTime + Copy, N: RealmName, S: Forks<AnyEnd, N, As
     let options = fail_after(clock, millis);
     let scope = Opened::at(rt, ctx, Joiner::All, options)?;
     let found = ask_both(rt, ctx, &scope, clock, asks);
-    scope.close(rt, ctx)?;
+    scope.close_by(rt, ctx, clock)?;
     found
 }
 
@@ -180,7 +182,7 @@ fn sum_reported<R: Wait + SystemTime + Copy, N: RealmName, S: Forks<AnyEnd, N, A
     let options = fail_after(clock, millis);
     let scope = Opened::at(rt, ctx, Joiner::All, options)?;
     let found = ask_both(rt, ctx, &scope, clock, asks);
-    match scope.report(rt, ctx) {
+    match scope.report_by(rt, ctx, clock) {
         Ok(report) => {
             if report.verdict == Verdict::Plain && report.nested.is_empty() {
                 found

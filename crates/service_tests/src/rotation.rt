@@ -4,7 +4,7 @@ ghost use Rattle.std.specs.Prelude.{◌≡◌};
 use balkreyn::{
     Answers, AnyEnd, Brand, CloseReport, CrewRuntime, End, Fault, Forks, Handle, Job, Joiner,
     Limits, LogEntry, Name, Need, RealmName, Refusal, Requests, ScopeId, Seed, Side, Stopped,
-    SystemClock, TaskCtx, Turned, Turns, Value, fail_after, fork, rotate, within,
+    SystemClock, TaskCtx, Turned, Turns, Value, fail_after, fork, rotate, within_by,
 };
 use std::alloc::Global;
 use std::process::Abort;
@@ -43,7 +43,7 @@ fn ask_two<K: Handle, N: RealmName, S: Forks<AnyEnd, N, Work<K>>>(
 ) -> Result<i64, Refusal> {
     let rt = clock.runtime();
     let options = fail_after(&mut clock, 60_000);
-    within(&rt, ctx, Joiner::All, options, |ctx, scope| {
+    within_by(&rt, ctx, Joiner::All, options, clock, |ctx, scope| {
         fork(&rt, ctx, scope, name, Work::Shop { price: 30 })?;
         fork(&rt, ctx, scope, name, Work::Shop { price: 12 })?;
         let joined = ctx.join_by(&rt, scope, &mut clock)?;

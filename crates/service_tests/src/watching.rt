@@ -4,8 +4,8 @@ ghost use Rattle.std.specs.Prelude.{◌≡◌};
 use balkreyn::{
     Answers, AnyEnd, Clock, CrewRuntime, End, Fault, Forks, Handle, Job, Joiner, Name, Options,
     Promises, Realm, RealmName, Refusal, ScopeId, Seed, Service, ServiceError, Shows, ShowsByToken,
-    Spawner, SystemClock, TaskCtx, Typed, TypedJob, Value, Yields, fork, fork_into, promised,
-    realm_clock, serve_on_crew, within,
+    Spawner, SystemClock, TaskCtx, Typed, TypedJob, Value, Yields, fork, fork_typed, realm_clock,
+    serve_on_crew, within,
 };
 use std::alloc::Global;
 use std::marker::Brand;
@@ -70,6 +70,12 @@ enum Work<K, N: RealmName> {
     Watch(Typed<Watch<K, N>>),
 }
 
+impl<K, N: RealmName> From<Typed<Watch<K, N>>> for Work<K, N> {
+    fn from(typed: Typed<Watch<K, N>>) -> Work<K, N> {
+        Work::Watch(typed)
+    }
+}
+
 impl<K, N: RealmName> Answers for Work<K, N> {
     ghost may_end = { λ job end. Unit {0} };
 }
@@ -129,8 +135,7 @@ impl<N: RealmName, R: Handle, S: Forks<AnyEnd, N, Work<R, N>>> Service<S, N, R> 
         let seen: Seen = within(rt, ctx, Joiner::Any, Options::PLAIN, |ctx, scope| {
             fork(rt, ctx, scope, shop, Work::Shop)?;
             await_start(rt, ctx, scope)?;
-            let (job, promise) = promised(alloc, watch, job)?;
-            let slot = fork_into(rt, ctx, scope, Work::Watch(job), promise)?;
+            let slot = fork_typed(rt, alloc, ctx, scope, watch, job)?;
             ctx.join(rt, scope)?;
             slot.take(rt, ctx)
         })?;

@@ -34,6 +34,9 @@ pub enum Duty {
     TicksAt(u64, u64),
     /// It cancels the scope of the request.
     Cancels,
+    /// Once it is cancelled it opens a shielded scope with this deadline, in milliseconds, and waits there for its
+    /// mark, without a clock.
+    Lingers(u64),
     /// It opens a scope, which it leaves open.
     LeavesOpen,
     /// It ends with the fault `memory` instead.
@@ -71,6 +74,7 @@ impl<S: Spawner<N>, N: RealmName> Job<Due, S, N> for Asked {
             Duty::Cancels => {
                 let _how = ctx.cancel(rt, SCOPE);
             }
+            Duty::Lingers(deadline) => linger(rt, ctx, deadline),
             Duty::LeavesOpen => {
                 let _scope = ctx.open(rt, Joiner::AwaitAll, Options::PLAIN);
             }
@@ -122,6 +126,23 @@ fn look<S: Spawner<N>, N: RealmName>(ctx: &mut TaskCtx<Due, S, N>)
             return;
         }
         thread::yield_now();
+    }
+}
+
+/// Waits to be cancelled, and then behind a shield for the deadline.
+fn linger<S: Spawner<N>, N: RealmName, R: Wait>(
+    rt: &R,
+    ctx: &mut TaskCtx<Due, S, N>,
+    deadline: u64,
+) {
+    let _unwanted = ctx.wait_cancelled(rt);
+    let options = Options {
+        shield: true,
+        ..Options::by(deadline)
+    };
+    if let Ok(scope) = ctx.open(rt, Joiner::AwaitAll, options) {
+        let _mark = ctx.wait_cancelled(rt);
+        let _how = ctx.close_scope_bare(rt, scope);
     }
 }
 

@@ -26,7 +26,7 @@ fn timed(
             refused: 0,
             timed: Some(Timed {
                 deadline: 100,
-                reading,
+                reading: Some(reading),
             }),
         },
         wanted,
@@ -63,6 +63,31 @@ fn requests_have_deadlines(rt: HostRuntime) -> Result<(), Fail> {
             check(&rt, row, &served);
         }
     }
+    Ok(())
+}
+
+/// A job that is not wanted any more goes on behind a shield until a deadline there has come: the close of the
+/// request lets that pass, by the system's clock.
+const LINGERING: Row = Row {
+    request: Request {
+        plan: "mode first / offer b 899 / offer a 905",
+        jobs: "mode first / offer b 899 / offer a 905",
+        duties: &[Duty::Lingers(300)],
+        refused: 0,
+        timed: Some(Timed {
+            deadline: 60_000,
+            reading: None,
+        }),
+    },
+    wanted: Ok("first a 905"),
+    calls: Some(2),
+};
+
+#[test]
+fn a_request_by_a_deadline_closes_by_its_clock(rt: HostRuntime) -> Result<(), Fail> {
+    let seed = Seed::new(rt.alloc())?;
+    let served = over_a_crew::<Brand, _>(&rt, rt.alloc(), seed, 4, LINGERING.request)?;
+    check(&rt, &LINGERING, &served);
     Ok(())
 }
 

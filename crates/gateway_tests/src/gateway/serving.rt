@@ -3,7 +3,7 @@ ghost use Rattle.std.specs.Prelude.{◌≡◌};
 
 use super::asking::{Asked, Duty, jobs_with};
 use super::plans::plan_of;
-use job_runner::{JobWork, NamedJob, SetClock};
+use job_runner::{JobWork, NamedJob, SetClock, SystemClock};
 use quote_gateway::{GatewayFault, Plan, Served as Found, serve, serve_by};
 use realm_lock::{RealmName, Seed};
 use scope_rules::Due;
@@ -15,11 +15,11 @@ use std::sync::{Arc, Wait};
 use std::test::Fail;
 use thread_crew::{Crew, CrewRuntime, Inline, Nobody, RefuseNth, Spawns};
 
-/// The deadline of a request, and what its clock reads, in milliseconds.
+/// The deadline of a request, and what its clock reads, in milliseconds: with none it is the system's.
 #[derive(Clone, Copy)]
 pub struct Timed {
     pub deadline: u64,
-    pub reading: u64,
+    pub reading: Option<u64>,
 }
 
 /// A request.
@@ -65,13 +65,29 @@ pub fn line_of<N, S, R>(
 where
     N: RealmName,
     S: Spawns<N, JobWork<Due, N, Asked>> + Drop,
-    R: Wait + SystemTime,
+    R: Wait + SystemTime + Copy,
     requires { seed ≡ N.table }
 {
     let served = match timed {
         None => serve::<N, _, _, _>(rt, alloc, seed, plan, jobs, spawner)?,
-        Some(Timed { deadline, reading }) => {
+        Some(
+            Timed {
+                deadline,
+                reading: Some(reading),
+            },
+        ) => {
             let mut clock = SetClock::new(reading);
+            serve_by::<N, _, _, _, _>(rt, alloc, seed, plan, jobs, spawner, deadline, &mut clock)?
+        }
+        Some(
+            Timed {
+                deadline,
+                reading: None,
+            },
+        ) => {
+            let Some(mut clock) = SystemClock::starting_at(*rt, 0) else {
+                return Err(GatewayFault::Rejected);
+            };
             serve_by::<N, _, _, _, _>(rt, alloc, seed, plan, jobs, spawner, deadline, &mut clock)?
         }
     };
@@ -94,7 +110,7 @@ pub fn over<N, S, R>(
 where
     N: RealmName,
     S: Spawns<N, JobWork<Due, N, Asked>> + Drop,
-    R: Wait + SystemTime,
+    R: Wait + SystemTime + Copy,
     requires { seed ≡ N.table }
 {
     let plan = plan_of(alloc, request.plan)?;
@@ -108,7 +124,7 @@ where
 }
 
 /// Serves the request on one thread: each job ends before the next is forked.
-pub fn over_one_thread<N: RealmName, R: Wait + SystemTime>(
+pub fn over_one_thread<N: RealmName, R: Wait + SystemTime + Copy>(
     rt: &R,
     alloc: Global,
     seed: Seed,

@@ -12,27 +12,37 @@ use std::sync::Wait;
 use std::test::Fail;
 use thread_crew::{Crew, CrewRuntime, OsThreads};
 
-/// How many scopes there are, one after another, with a job each.
-const SCOPES: u32 = 500;
+/// How many scopes there are, one after another, and how many jobs each has.
+const SCOPES: u32 = 250;
+
+const JOBS: u32 = 4;
 
 /// Main's context over the threads of a crew.
 type MainCtx<N> = TaskCtx<AnyEnd, OsThreads<N, JobWork<AnyEnd, N, TestJob>>, N>;
 
-/// Opens a scope, forks a job, helps, joins and closes: whether main ran the job. None where that didn't end as
-/// it was to.
+/// Opens a scope, forks the jobs, helps, joins and closes: whether main ran a job. None where that didn't end as it
+/// was to, or where the help left a job to a second one.
 fn help_once<N: RealmName, R: Wait>(rt: &R, ctx: &mut MainCtx<N>, board: &Shared) -> Option<bool> {
     let Ok(scope) = ctx.open(rt, Joiner::AwaitAll, Options::PLAIN) else {
         return None;
     };
-    let task = fork(rt, ctx, scope, board, Duty::Plain(7)).ok()?;
+    let mut last = 0;
+    for _ in 0..JOBS {
+        last = fork(rt, ctx, scope, board, Duty::Plain(7)).ok()?;
+    }
     let has_helped = ctx.help::<TestJob, R>(rt, scope);
+    let is_done = !ctx.help::<TestJob, R>(rt, scope);
     ctx.join(rt, scope).ok()?;
-    let is_right = ctx.result(rt, task) == Ok(Value::Num(7));
+    let is_right = ctx.result(rt, last) == Ok(Value::Num(7));
     ctx.close_scope_bare(rt, scope).ok()?;
-    if is_right { Some(has_helped) } else { None }
+    if is_right && is_done {
+        Some(has_helped)
+    } else {
+        None
+    }
 }
 
-/// Does so in each scope: how many jobs main ran. None where one didn't end as it was to, or was not called
+/// Does so in each scope: in how many main ran a job. None where one didn't end as it was to, or was not called
 /// just once.
 fn help_in_each<N: RealmName, R: Wait>(
     rt: &R,
@@ -45,7 +55,7 @@ fn help_in_each<N: RealmName, R: Wait>(
             helped = helped.saturating_add(1);
         }
     }
-    if board.calls() == u64::from(SCOPES) {
+    if board.calls() == u64::from(SCOPES) * u64::from(JOBS) {
         Some(helped)
     } else {
         None
@@ -84,7 +94,7 @@ fn over_a_crew<N: RealmName + Send + Sync + 'static, R: CrewRuntime>(
     helped
 }
 
-/// Each job is called once, and main runs some: a thread that was called comes later.
+/// Each job is called once, and main runs some, since a thread that was called comes later: all that there are.
 #[test]
 fn main_runs_jobs_that_no_thread_has_taken(rt: HostRuntime) -> Result<(), Fail> {
     let helped = over_a_crew::<Brand, _>(&rt, rt.alloc(), Seed::new(rt.alloc())?);

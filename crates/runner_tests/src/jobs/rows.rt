@@ -6,7 +6,7 @@ use super::outcomes::{
     main_cancels, nth_is_refused, one_ends_with, one_fails, time_runs_out, two_end_in_reverse,
 };
 use super::soak::soak;
-use super::unruly::{little_room, one_is_left_open, ten_rounds, two_are_left_open};
+use super::unruly::{closes_cancel, little_room, one_is_left_open, ten_rounds, two_are_left_open};
 use job_runner::{ForkRefusal, JobWork, TaskCtx};
 use join_rules::Joiner;
 use realm_lock::RealmName;
@@ -43,6 +43,8 @@ pub enum Row {
     LeftOpen,
     /// So do a job and one that it forked.
     TwoLeftOpen,
+    /// Main closes two scopes whose jobs wait for their marks.
+    ClosesCancel,
     /// A scope, two tasks and a load of ten.
     LittleRoom,
     /// Ten rounds in a realm with room for one task.
@@ -89,6 +91,7 @@ pub fn play<
         Row::EndsWith { duty, number } => one_ends_with(rt, ctx, board, duty, number),
         Row::LeftOpen => one_is_left_open(rt, ctx, board),
         Row::TwoLeftOpen => two_are_left_open(rt, ctx, board),
+        Row::ClosesCancel => closes_cancel(rt, ctx, board),
         Row::LittleRoom => little_room(rt, ctx, board),
         Row::Rounds => ten_rounds(rt, ctx, board),
         Row::Soak => soak(rt, ctx, board),

@@ -108,7 +108,7 @@ fn two_jobs_see_each_other(rt: HostRuntime) -> Result<(), Fail> {
 }
 
 /// What is played over a crew.
-const ROWS: [Row; 18] = [
+const ROWS: [Row; 19] = [
     Row::Tree,
     Row::SecondRefused,
     Row::NthRefused(1),
@@ -142,6 +142,7 @@ const ROWS: [Row; 18] = [
     },
     Row::LeftOpen,
     Row::TwoLeftOpen,
+    Row::ClosesCancel,
     Row::LittleRoom,
     Row::Rounds,
 ];

@@ -1,10 +1,10 @@
-//! Jobs that leave scopes open, and realms with room for very little.
+//! Jobs that leave scopes open or wait for their close, and realms with room for very little.
 use super::duties::{Duty, Shared, TestJob, fork, named, number_of};
 use super::logs::{end_of, is_closed, starts_and_ends};
 use job_runner::{ForkRefusal, JobWork, TaskCtx};
 use join_rules::Joiner;
 use realm_lock::RealmName;
-use scope_rules::{AnyEnd, Fault, Name, Options, Outcome, Refusal};
+use scope_rules::{AnyEnd, Fault, Name, Options, Outcome, Refusal, Value};
 use std::process::Abort;
 use std::sync::Wait;
 use std::test::Fail;
@@ -59,6 +59,29 @@ pub fn two_are_left_open<N: RealmName, S: Spawns<N, JobWork<AnyEnd, N, TestJob>>
     assert!(rt; is_closed(&inner.log));
     let report = ctx.close_scope(rt, scope)?;
     assert!(rt; starts_and_ends(&report.log) == (1, 1) && report.nested.is_empty());
+    Ok(())
+}
+
+/// Two scopes, in each of which a job waits for its mark: nobody cancels them, but their closes do. The report of the
+/// outer one is of its own job alone, once the inner one is closed without a report.
+pub fn closes_cancel<N: RealmName, S: Spawns<N, JobWork<AnyEnd, N, TestJob>>, R: Wait + Abort>(
+    rt: &R,
+    ctx: &mut TaskCtx<AnyEnd, S, N>,
+    board: &Shared,
+) -> Result<(), Fail> {
+    let Ok(outer) = ctx.open(rt, Joiner::AwaitAll, Options::PLAIN) else {
+        return Err("no scope")?;
+    };
+    assert!(rt; fork(rt, ctx, outer, board, Duty::Waits).is_ok());
+    let Ok(inner) = ctx.open(rt, Joiner::AwaitAll, Options::PLAIN) else {
+        return Err("no scope")?;
+    };
+    assert!(rt; fork(rt, ctx, inner, board, Duty::Waits).is_ok());
+    ctx.close_scope_bare(rt, inner)?;
+    let report = ctx.close_scope(rt, outer)?;
+    assert!(rt; report.nested.is_empty() && starts_and_ends(&report.log) == (1, 1));
+    assert!(rt; end_of(&report.log, 1) == Some(Ok(Value::Num(i64::from(outer)))));
+    assert!(rt; board.calls() == 2);
     Ok(())
 }
 

@@ -1,21 +1,25 @@
-use Rattle.std.proofs.Common.{subst}
-use Rattle.share_ledger.specs.Values.{OwnerValue}
-use Rattle.realm_lock.specs.Waits.{WaitsToClose}
+use Rattle.std.proofs.Common.{ap, subst}
+use Rattle.std.specs.Prelude.{MatchResult, None}
+use Rattle.realm_core.specs.Calls.{history_seen}
+use Rattle.realm_core.specs.Waiting.{FoundUnsettled}
+use Rattle.thread_crew.specs.Teams.{TeamValue}
 use Rattle.realm_lock.proofs.Waits.{ok_after, err_after}
 use Rattle.job_runner.specs.Reports.{ClosesHere, StaysHere}
-use Rattle.job_runner.proofs.Reported.{if_ok, if_err}
+use Rattle.job_runner.proofs.Reported.{if_ok_beside, if_err_beside}
 use Rattle.job_runner.proofs.contexts.TaskCtx.close_scope_by.Goals as goal
 
 pub returns-in-Ok-clause-closed : goal.returns-in-Ok-clause-closed
 returns-in-Ok-clause-closed g c =
-    let there = c.await_close_by.new.token in
+    let there = c.await_close_by.new.self.token in
     let new = c.close_scope.new.self in
-    let waits = subst (λ (t : OwnerValue). WaitsToClose g.K.Clock.reads t there c.args.clock.now c.await_close_by.new.clock c.args.scope) c.token.view_is c.in-Ok.ensures.answer in
-    ok_after (λ report t. ClosesHere t new.token c.args.scope c.args.self.now.team report) there c.await_close_by.new.clock c.args.scope c.close_scope.result waits (if_ok _ _ c.close_scope.result c.close_scope.ensures.answer)
+    let Closes : TeamValue → Type 0 = λ team. MatchResult c.close_scope.result (λ report. ClosesHere there new.token c.args.scope team report) (λ refusal. StaysHere there new.token c.args.scope team new.team refusal) in
+    ok_after (λ report t. FoundUnsettled (history_seen t) c.args.scope None × ClosesHere t new.token c.args.scope c.args.self.now.team report) there c.await_close_by.new.clock c.args.scope c.close_scope.result c.in-Ok.ensures.answer
+    (if_ok_beside _ _ _ c.close_scope.result c.in-Ok.ensures.settled.1 (subst Closes (ap (λ x. x.team) c.await_close_by.ensures.rest.0) c.close_scope.ensures.answer))
 
 pub returns-in-Ok-clause-refused : goal.returns-in-Ok-clause-refused
 returns-in-Ok-clause-refused g c =
-    let there = c.await_close_by.new.token in
+    let there = c.await_close_by.new.self.token in
     let new = c.close_scope.new.self in
-    let waits = subst (λ (t : OwnerValue). WaitsToClose g.K.Clock.reads t there c.args.clock.now c.await_close_by.new.clock c.args.scope) c.token.view_is c.in-Ok.ensures.answer in
-    err_after (λ refusal t. StaysHere t new.token c.args.scope c.args.self.now.team new.team refusal) _ there c.await_close_by.new.clock c.args.scope c.close_scope.result waits (if_err _ _ c.close_scope.result c.close_scope.ensures.answer)
+    let Closes : TeamValue → Type 0 = λ team. MatchResult c.close_scope.result (λ report. ClosesHere there new.token c.args.scope team report) (λ refusal. StaysHere there new.token c.args.scope team new.team refusal) in
+    err_after (λ refusal t. FoundUnsettled (history_seen t) c.args.scope None × StaysHere t new.token c.args.scope c.args.self.now.team new.team refusal) _ there c.await_close_by.new.clock c.args.scope c.close_scope.result c.in-Ok.ensures.answer
+    (if_err_beside _ _ _ c.close_scope.result c.in-Ok.ensures.settled.1 (subst Closes (ap (λ x. x.team) c.await_close_by.ensures.rest.0) c.close_scope.ensures.answer))

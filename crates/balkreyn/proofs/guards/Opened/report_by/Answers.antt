@@ -1,0 +1,27 @@
+use Rattle.std.proofs.Common.{ℕ, ◌≡◌, ◌⊎◌, subst}
+use Rattle.std.specs.Prelude.{None}
+use Rattle.realm_core.specs.Calls.{history_seen}
+use Rattle.realm_core.specs.Waiting.{FoundUnsettled}
+use Rattle.realm_lock.specs.Waits.{ClosesAfter, StaysUnclosed}
+use Rattle.job_runner.specs.Reports.{ClosesHere, StaysHere}
+use Rattle.balkreyn.proofs.guards.Opened.report_by.Goals as goal
+
+pub returns-in-Ok-clause-closed : goal.returns-in-Ok-clause-closed
+returns-in-Ok-clause-closed g c =
+    let old = c.args.ctx.now in
+    let new = c.close_scope_by.new.self in
+    let last = c.close_scope_by.new.clock in
+    subst
+    (λ (s : ℕ). ClosesAfter g.K.Clock.reads old.token c.args.clock.now last s (λ there. FoundUnsettled (history_seen there) s None × ClosesHere there new.token s old.team c.in-Ok.report))
+    c.self.view_is
+    c.in-Ok.ensures.closed
+
+pub returns-in-Err-clause-refused : goal.returns-in-Err-clause-refused
+returns-in-Err-clause-refused g c =
+    let old = c.args.ctx.now in
+    let new = c.close_scope_by.new.self in
+    let last = c.close_scope_by.new.clock in
+    subst
+    (λ (s : ℕ). (StaysUnclosed g.K.Clock.reads old.token new.token c.args.clock.now last s c.in-Err.refusal × (new.team ≡ old.team)) ⊎ ClosesAfter g.K.Clock.reads old.token c.args.clock.now last s (λ there. FoundUnsettled (history_seen there) s None × StaysHere there new.token s old.team new.team c.in-Err.refusal))
+    c.self.view_is
+    c.in-Err.ensures.refused

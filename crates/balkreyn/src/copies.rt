@@ -1,0 +1,117 @@
+//! A realm's history, copied out of it, and what is written of that.
+ghost use Rattle.std.specs.Prelude.{◌≡◌, MatchResult};
+ghost use Rattle.scope_rules.specs.declared.types.refusals.Refusal.TheVariants.{Memory};
+ghost use Rattle.scope_rules.specs.History.{History};
+ghost use Rattle.script_journal.specs.Script.{script_text};
+ghost use Rattle.tree_dump.specs.Tree.{dump_text};
+ghost use Rattle.tree_dump.specs.TextTree.{tree_text};
+ghost use Rattle.balkreyn.specs.Looks.{IsCopyOf, Says};
+
+use realm_lock::{KeptRealm, Look};
+use scope_checks::records;
+use scope_rules::{Base, Event, Limits, Refusal};
+use script_journal::script_of;
+use std::alloc::Global;
+use std::marker::Model;
+use tree_dump::{dump_of, tree_of};
+
+/// A history, and the limits of its realm. Its value is the history.
+#[derive(Drop)]
+pub(crate) struct Copied {
+    limits: Limits,
+    base: Base,
+    events: Vec<Event>,
+}
+
+impl Model for Copied {
+    ghost use Rattle.scope_rules.specs.History.{History};
+
+    ghost Value = { History };
+
+    ghost view = { λ c. record { base = c.base; events = c.events.items } };
+}
+
+/// The copy of a realm's whole history: what is done under its lock.
+#[derive(Clone, Copy)]
+pub(crate) struct CopyOut {
+    pub(crate) alloc: Global,
+}
+
+impl Look for CopyOut {
+    ghost use Rattle.balkreyn.specs.Looks.{IsCopyOf};
+
+    type Answer = Result<Copied, Refusal>;
+
+    ghost tells = { λ copy h answer. IsCopyOf h answer };
+
+    fn look(self, realm: &KeptRealm) -> Result<Copied, Refusal> {
+        let from = realm.base();
+        let Ok(binds) = Vec::from_slice(self.alloc, from.binds()) else {
+            return Err(Refusal::Memory);
+        };
+        let base = Base::new(from.moment(), from.scopes(), from.tasks(), binds);
+        match Vec::from_slice(self.alloc, realm.events()) {
+            Ok(events) => Ok(Copied {
+                limits: realm.limits(),
+                base,
+                events,
+            }),
+            Err(_) => Err(Refusal::Memory),
+        }
+    }
+}
+
+impl Copied {
+    /// A realm of its own in which all this has happened, so that questions need not scan. That each event is
+    /// accepted again, no clause says: one that isn't would be told as want of memory.
+    fn replayed(self, alloc: Global) -> Result<KeptRealm, Refusal>
+        ensures { MatchResult result (λ realm. realm.history ≡ self) (λ refusal. refusal ≡ Memory) }
+    {
+        let Copied {
+            limits,
+            base,
+            events,
+        } = self;
+        let Ok(mut realm) = KeptRealm::with_base(alloc, limits, base) else {
+            return Err(Refusal::Memory);
+        };
+        for event in &events {
+            let told = realm.perform(event, false, None);
+            if !records(&told) {
+                return Err(Refusal::Memory);
+            }
+        }
+        Ok(realm)
+    }
+}
+
+/// The tree of what stands at the end of the history, as text for a terminal.
+pub(crate) fn tree_in(alloc: Global, copied: Result<Copied, Refusal>) -> Result<String, Refusal>
+    ensures { (h : History) → IsCopyOf h copied → Says (tree_text h) result }
+{
+    match tree_of(alloc, &copied?.replayed(alloc)?) {
+        Ok(text) => Ok(text),
+        Err(_) => Err(Refusal::Memory),
+    }
+}
+
+/// The same tree, as JSON without blanks.
+pub(crate) fn dump_in(alloc: Global, copied: Result<Copied, Refusal>) -> Result<String, Refusal>
+    ensures { (h : History) → IsCopyOf h copied → Says (dump_text h) result }
+{
+    match dump_of(alloc, &copied?.replayed(alloc)?) {
+        Ok(text) => Ok(text),
+        Err(_) => Err(Refusal::Memory),
+    }
+}
+
+/// The script of the history.
+pub(crate) fn journal_in(alloc: Global, copied: Result<Copied, Refusal>) -> Result<String, Refusal>
+    ensures { (h : History) → IsCopyOf h copied → Says (script_text h) result }
+{
+    let copied = copied?;
+    match script_of(alloc, &copied.base, copied.events.as_slice()) {
+        Ok(text) => Ok(text),
+        Err(_) => Err(Refusal::Memory),
+    }
+}
