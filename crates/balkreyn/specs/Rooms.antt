@@ -1,5 +1,6 @@
 -- How much of a realm's room requests take.
-use Rattle.std.specs.Prelude.{ℕ, ◌+◌, ◌-◌, ◌*◌, ◌≤◌, false}
+use Rattle.std.specs.Prelude.{ℕ, ◌+◌, ◌-◌, ◌*◌, ◌≤◌, false, true}
+use Rattle.scope_rules.specs.declared.types.capacity.Limits.{Limits}
 use Rattle.scope_rules.specs.declared.types.capacity.TheConstants.{OPEN_LOAD, FORK_LOAD, STEP_LOAD}
 use Rattle.balkreyn.specs.declared.rooms.Need.{Need}
 use Rattle.balkreyn.specs.declared.rooms.Room.{Room}
@@ -7,6 +8,10 @@ use Rattle.balkreyn.specs.declared.rooms.Room.{Room}
 -- the load of all that is needed
 abbrev pub load_of : Need → ℕ
 load_of need = need.scopes * OPEN_LOAD + need.tasks * FORK_LOAD + need.steps * STEP_LOAD
+
+-- all the room of a realm with these limits
+abbrev pub room_of : Limits → Room
+room_of limits = record { scopes = limits.scopes; tasks = limits.tasks; load = limits.load; is_empty = true }
 
 -- there is so much room
 pub record HasRoom (room : Room) (need : Need) : Type 0 where

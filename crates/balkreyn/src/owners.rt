@@ -24,6 +24,20 @@ pub(crate) struct Owner<'a, J: Drop, Q: Drop, T> {
     pub(crate) turned: &'a T,
 }
 
+/// A turn that was opened, of which nobody was told yet how it ended. It can't be dropped: a function that would
+/// drop it doesn't compile. Pass it to `ended`.
+struct Turn {
+    side: Side,
+}
+
+impl Turn {
+    /// Tells how it ended.
+    fn ended<T: Turned>(self, turned: &T, report: Option<CloseReport>) {
+        let Turn { side } = self;
+        turned.ended(side, report);
+    }
+}
+
 /// Why an owner begins no more requests in a turn.
 #[derive(Clone, Copy)]
 enum Ended {
@@ -74,19 +88,16 @@ impl<J: Answers + Drop, Q: Drop, T: Turned> Owner<'_, J, Q, T> {
         let mut room = Room::of(self.limits);
         for _ in rt.forever() {
             let scope = Opened::at(rt, ctx, Joiner::AwaitAll, Options::PLAIN)?;
+            let turn = Turn { side: self.side };
             room.open_turn();
             let more = self.take_turn(rt, ctx, &scope, &mut room, clock);
             let joined = scope.join_bare(rt, ctx);
-            self.end_turn(rt, ctx, scope)?;
+            self.end_turn(rt, ctx, scope, turn)?;
             joined?;
             if !more {
                 return Ok(());
             }
-            match ctx.retire(rt) {
-                Ok(_base) => room = Room::of(self.limits),
-                Err(Refusal::Memory) => {}
-                Err(refusal) => return Err(refusal),
-            }
+            room = room.after_retire(self.limits, ctx.retire(rt))?;
         }
         unreachable!()
     }
@@ -97,16 +108,19 @@ impl<J: Answers + Drop, Q: Drop, T: Turned> Owner<'_, J, Q, T> {
         rt: &R,
         ctx: &mut TaskCtx<AnyEnd, S, N>,
         scope: Opened,
+        turn: Turn,
     ) -> Result<(), Refusal> {
-        let report = match scope.report(rt, ctx) {
-            Ok(report) => Some(report),
-            Err((_refusal, back)) => {
-                back.close(rt, ctx)?;
-                None
+        match scope.report(rt, ctx) {
+            Ok(report) => {
+                turn.ended(self.turned, Some(report));
+                Ok(())
             }
-        };
-        self.turned.ended(self.side, report);
-        Ok(())
+            Err((_refusal, back)) => {
+                let closed = back.close(rt, ctx);
+                turn.ended(self.turned, None);
+                closed
+            }
+        }
     }
 
     /// Waits for the baton, begins requests while it has it, and hands it on. Answers whether more may come.

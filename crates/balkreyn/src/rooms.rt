@@ -1,8 +1,10 @@
 //! How much of a realm's room requests take.
-ghost use Rattle.std.specs.Prelude.{◌≡◌, ◌↔◌, IsTrue, true};
-ghost use Rattle.balkreyn.specs.Rooms.{HasRoom, in_use, load_of, room_without};
+ghost use Rattle.std.specs.Prelude.{◌≡◌, ◌⊎◌, ◌↔◌, Err, IfErr, IfOk, IsTrue, Ok, true};
+ghost use Rattle.scope_rules.specs.declared.types.refusals.Refusal.TheVariants.{Memory};
+ghost use Rattle.balkreyn.specs.Rooms.{HasRoom, in_use, load_of, room_of, room_without};
 
-use crate::Limits;
+use crate::{Limits, Refusal};
+use scope_rules::Base;
 use scope_rules::types::capacity::{FORK_LOAD, OPEN_LOAD, STEP_LOAD};
 
 /// What one request takes of its realm's room, between two retirements, at the most.
@@ -47,13 +49,34 @@ pub(crate) struct Room {
 impl Room {
     /// The room of a realm that has just begun, or retired.
     pub(crate) fn of(limits: Limits) -> Room
-        ensures { result ≡ record { scopes = limits.scopes; tasks = limits.tasks; load = limits.load; is_empty = true } }
+        ensures { result ≡ room_of limits }
     {
         Room {
             scopes: limits.scopes,
             tasks: limits.tasks,
             load: u64::from(limits.load),
             is_empty: true,
+        }
+    }
+
+    /// The room once its realm was asked to retire: all of it, or what is left of it if memory was refused for
+    /// that, so that the owner goes on and tries again after its next turn.
+    ///
+    /// # Errors
+    /// Any other refusal.
+    pub(crate) fn after_retire(
+        self,
+        limits: Limits,
+        retired: Result<Base, Refusal>,
+    ) -> Result<Room, Refusal>
+        ensures whole { IfOk retired (λ _. result ≡ Ok (room_of limits)) }
+        ensures again { retired ≡ Err Memory → result ≡ Ok self }
+        ensures refused { IfErr retired (λ why. (why ≡ Memory) ⊎ (result ≡ Err why)) }
+    {
+        match retired {
+            Ok(_base) => Ok(Room::of(limits)),
+            Err(Refusal::Memory) => Ok(self),
+            Err(refusal) => Err(refusal),
         }
     }
 
