@@ -5,8 +5,10 @@
 //! from any thread shows the tree of what is open, and the script of what happened.
 #![tactic(auto)]
 
+mod acting;
 mod aliases;
 mod baton;
+mod blocks;
 mod by_token;
 mod copies;
 mod errors;
@@ -24,8 +26,11 @@ mod rotation;
 mod scoped;
 mod services;
 mod slots;
+mod tasks;
 
+pub use acting::{Acts, Cx};
 pub use aliases::{Forks, Handle};
+pub use blocks::{bound, scope};
 pub use by_token::ShowsByToken;
 pub use errors::{NoTime, ServiceError};
 pub use forks::fork;
@@ -55,4 +60,5 @@ pub use services::{Promises, Service, realm_clock, serve_on_crew};
 pub use slots::{Slot, fork_typed};
 pub use std::marker::Brand;
 pub use std::sync::Wait;
+pub use tasks::{Serves, Task, Timed, serve};
 pub use thread_crew::{Crew, CrewRuntime, OsThreads, Recalls, Spawner, Spawns};

@@ -9,7 +9,7 @@ use crate::requests::{Requests, Side, Turned};
 use crate::rooms::Room;
 use crate::rotation::Turns;
 use crate::{
-    Answers, AnyEnd, ForkRefusal, ForkReply, Forks, Handle, Joiner, Label, Limits, NamedJob,
+    Answers, AnyEnd, CloseReport, ForkRefusal, ForkReply, Forks, Handle, Joiner, Label, Limits, NamedJob,
     Opened, Options, Promises, RealmName, Refusal, Service, ServiceError, Spawner, SystemClock,
     TaskCtx, Wait, realm_clock,
 };
@@ -118,7 +118,8 @@ impl<J: Answers + Drop, Q: Drop, T: Turned> Owner<'_, J, Q, T> {
             Err((_refusal, back)) => {
                 let closed = back.close(rt, ctx);
                 turn.ended(self.turned, None);
-                closed
+                closed?;
+                Ok(())
             }
         }
     }

@@ -1,0 +1,91 @@
+-- What is done by a context that knows the realm's time: each wait reads a copy of its clock.
+use Rattle.std.specs.Prelude.{◌≡◌, ◌⊎◌, ℕ, ◌+◌, ◌-◌, ◌^◌, min, Option, None, Some, Result, Ok, Err, IsErrAnd}
+use Rattle.std.specs.Borrow.{MutBor}
+use Rattle.std.specs.Fn.{Once}
+use Rattle.cancel_marks.specs.declared.marks.Mark.{Mark}
+use Rattle.cancel_marks.specs.Seats.{Seen}
+use Rattle.named_jobs.specs.Clocks.{IsAfter}
+use Rattle.scope_rules.specs.declared.types.events.Event.TheVariants.{Bind, Unbind}
+use Rattle.scope_rules.specs.declared.types.events.Expiry.{Expiry}
+use Rattle.scope_rules.specs.declared.types.events.Options.{Options}
+use Rattle.scope_rules.specs.declared.types.names.Name.{Name}
+use Rattle.scope_rules.specs.declared.types.refusals.Refusal.{Refusal}
+use Rattle.scope_rules.specs.declared.types.values.Value.{Value}
+use Rattle.share_ledger.specs.declared.steps.RealmStep.TheVariants.{Happened}
+use Rattle.share_ledger.specs.Values.{OwnerValue}
+use Rattle.realm_core.specs.Calls.{DoesOrMemory}
+use Rattle.realm_core.specs.declared.joins.Joined.{Joined}
+use Rattle.realm_lock.specs.Waits.{HasPassed, JoinsBy, Stopped, Waited, shown_in}
+use Rattle.job_runner.specs.Marks.{Shows}
+
+-- the clock was read, and the options have a deadline so many milliseconds later
+pub record IsSoAfter {K : Type 0} (reads : K → K → ℕ → Type 0) (start : K) (millis : ℕ) (expiry : Expiry) (options : Options) : Type 0 where
+  pub last : K
+  pub now : ℕ
+  pub read : reads start last now
+  pub after : IsAfter now millis expiry options
+
+-- a join by a copy of this clock
+pub record JoinsFrom {K : Type 0} (reads : K → K → ℕ → Type 0) (start : K) (old new : OwnerValue) (scope : ℕ) (result : Result Joined Refusal) : Type 0 where
+  pub last : K
+  pub joins : JoinsBy reads old new start last scope result
+
+-- what a sleep until the moment did and answered: it waited, and where there is no mark the moment has passed; or a tick
+-- was refused
+abbrev pub Slept : {K : Type 0} → (K → K → ℕ → Type 0) → (K → Option ℕ) → (old new : OwnerValue) (start last : K) (until : ℕ) → Result (Option Mark) Refusal → Type 0
+Slept reads reading old new start last until (Ok None) = Waited reads old start new last × HasPassed (Some until) (reading last)
+Slept reads reading old new start last until (Ok (Some mark)) = Waited reads old start new last
+Slept reads reading old new start last until (Err refusal) = Stopped reads old new start last refusal
+
+-- a sleep of so many milliseconds by a copy of this clock, from its first reading on; a mark is what the seat shows
+pub record SleepsFor {K : Type 0} (reads : K → K → ℕ → Type 0) (reading : K → Option ℕ) (start : K) (old new : OwnerValue) (seat seat_new : Option Seen) (millis : ℕ) (result : Result (Option Mark) Refusal) : Type 0 where
+  pub begun : K
+  pub now : ℕ
+  pub read : reads start begun now
+  pub last : K
+  pub slept : Slept reads reading old new begun last (min (now + millis) (2 ^ 64 - 1)) result
+  pub shows : Shows seat seat_new (shown_in result)
+
+-- ---- a body with a binding
+
+-- the key was bound above the actor's other bindings, or that was refused
+abbrev pub Binds : {X : Type 0} → (X → OwnerValue) → Name → Value → X → X → Result (Unit {0}) Refusal → Type 0
+Binds token key value old new result = DoesOrMemory (token old) (token new) (Happened (Bind (token old).actor (record { key = key; value = value }))) (λ _. tt) result
+
+-- the actor's last own binding was taken away, or that was refused
+abbrev pub Unbinds : {X : Type 0} → (X → OwnerValue) → X → X → Result (Unit {0}) Refusal → Type 0
+Unbinds token old new result = DoesOrMemory (token old) (token new) (Happened (Unbind (token old).actor)) (λ _. tt) result
+
+-- the body was called with a context, and by its own contract it may have found this then, and left that context
+pub record RanBound {F X T E : Type 0} (calls : Once F (MutBor X × Unit {0}) (Result T E × (MutBor X × Unit {0}))) (body : F) (begun ended : X) (found : Result T E) : Type 0 where
+  pub lent : MutBor X
+  pub given : lent.now ≡ begun
+  pub back : MutBor X
+  pub left : back.now ≡ ended
+  pub met : calls.post body (lent, tt) (found, (back, tt))
+
+-- the bind was refused, and nothing was done behind it
+pub record StaysUnbound {X T E : Type 0} (binds : X → X → Result (Unit {0}) Refusal → Type 0) (makes : Refusal → E → Type 0) (old new : X) (result : Result T E) : Type 0 where
+  pub refusal : Refusal
+  pub refused : binds old new (Err refusal)
+  pub answers : IsErrAnd result (makes refusal)
+
+-- what is answered where the body found this, and the unbind was answered that
+abbrev pub Unbound : {T E : Type 0} → (Refusal → E → Type 0) → Result T E → Result (Unit {0}) Refusal → Result T E → Type 0
+Unbound makes found (Ok done) result = result ≡ found
+Unbound makes found (Err refusal) result = IsErrAnd result (makes refusal)
+
+-- first the key was bound, then the body ran, and last the binding was taken away, whatever the body had found
+pub record RunsInBinding {F X T E : Type 0} (token : X → OwnerValue) (key : Name) (value : Value) (makes : Refusal → E → Type 0) (calls : Once F (MutBor X × Unit {0}) (Result T E × (MutBor X × Unit {0}))) (body : F) (old new : X) (result : Result T E) : Type 0 where
+  pub begun : X
+  pub ended : X
+  pub found : Result T E
+  pub unbound : Result (Unit {0}) Refusal
+  pub bound : Binds token key value old begun (Ok tt)
+  pub ran : RanBound calls body begun ended found
+  pub taken : Unbinds token ended new unbound
+  pub answers : Unbound makes found unbound result
+
+-- what was done that runs the body with a binding: one of these two
+abbrev pub RunsBound : {F X T E : Type 0} → (X → OwnerValue) → Name → Value → (Refusal → E → Type 0) → Once F (MutBor X × Unit {0}) (Result T E × (MutBor X × Unit {0})) → F → X → X → Result T E → Type 0
+RunsBound token key value makes calls body old new result = StaysUnbound (Binds token key value) makes old new result ⊎ RunsInBinding token key value makes calls body old new result

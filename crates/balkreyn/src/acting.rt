@@ -1,0 +1,212 @@
+//! One value to act by: a task's context with the realm's time.
+ghost use Rattle.std.specs.Prelude.{◌≡◌, MatchResult};
+ghost use Rattle.thread_crew.specs.Teams.{AreGone};
+ghost use Rattle.job_runner.specs.Lists.{ListsBelow, ListsOne};
+
+use crate::aliases::{Forks, Handle};
+use crate::forks::fork;
+use crate::scoped::Scopes;
+use crate::tasks::Timed;
+use job_runner::{Answers, Clock, SystemClock, TaskCtx, fail_after, move_on_after};
+use join_rules::Joiner;
+use realm_lock::{Joined, Mark, RealmName};
+use scope_rules::{AnyEnd, Cancelling, ForkReply, Name, Options, Refusal, ScopeId, Value, Verdict};
+use std::rt::Clock as SystemTime;
+use std::sync::Wait;
+use thread_crew::Spawner;
+
+/// What a service and its jobs act by: the context of a task, which knows the realm's time. A helper has one bound,
+/// `X: Acts<W>`, where `W` is the type of its jobs. Each wait is by the realm's clock, so it ends at a deadline.
+pub trait Acts<W>: Scopes {
+    ghost use Rattle.std.specs.Prelude.{◌≡◌, ℕ, ⊥, Err, Option};
+    ghost use Rattle.scope_rules.specs.declared.types.events.Event.TheVariants as event;
+    ghost use Rattle.scope_rules.specs.declared.types.events.Expiry.TheVariants.{Fail, MoveOn};
+    ghost use Rattle.scope_rules.specs.declared.types.refusals.Refusal.TheVariants.{NotReady};
+    ghost use Rattle.scope_rules.specs.Replies.{binding_reply};
+    ghost use Rattle.share_ledger.specs.declared.steps.RealmStep.TheVariants.{Happened};
+    ghost use Rattle.cancel_marks.specs.Seats.{Seen};
+    ghost use Rattle.realm_core.specs.Calls.{DoesOrMemory, Reads, RecordsOrMemory, SeesMore};
+    ghost use Rattle.job_runner.specs.Marks.{Shows};
+    ghost use Rattle.balkreyn.specs.Acting.{IsSoAfter, JoinsFrom, SleepsFor};
+    ghost use Rattle.balkreyn.specs.Slots.{ForksUnder};
+
+    /// The runtime by which it waits and sleeps.
+    type Runtime: Handle;
+
+    /// The clock of the realm's time.
+    type Time: Clock + Copy + Drop;
+
+    /// The seat from which a checkpoint looks.
+    ghost seat: { Self → Option Seen };
+
+    /// The clock from which each wait begins to read.
+    ghost time: { Self → Self.Time };
+
+    /// The runtime.
+    fn runtime(&self) -> Self::Runtime;
+
+    /// A copy of the realm's clock.
+    fn clock(&self) -> Self::Time
+        ensures { result ≡ Self.time self.now };
+
+    /// Options with a deadline so many milliseconds from now; if it passes, the scope's outcome is a timeout
+    /// (Trio, `fail_after`).
+    fn fail_after(&self, millis: u64) -> Options
+        ensures { IsSoAfter Self.Time.reads (Self.time self.now) millis Fail result };
+
+    /// The same, but the scope's outcome is what there is by then (Trio, `move_on_after`).
+    fn move_on_after(&self, millis: u64) -> Options
+        ensures { IsSoAfter Self.Time.reads (Self.time self.now) millis MoveOn result };
+
+    /// Forks the job under the name in the actor's scope, as `fork` does (JEP 505, `fork`).
+    fn fork(&mut self, scope: ScopeId, name: Name, job: W) -> Result<ForkReply, Refusal>
+        ensures sees { SeesMore (Self.token self.old) (Self.token self.new) }
+        ensures answer { ForksUnder (Self.token self.old) (Self.token self.new) scope name result };
+
+    /// Joins the actor's scope by the realm's clock, as `TaskCtx::join_by` does (JEP 505, `join`): a deadline of the
+    /// scope, or of one around it, ends the wait.
+    fn join(&mut self, scope: ScopeId) -> Result<Joined, Refusal>
+        ensures sees { SeesMore (Self.token self.old) (Self.token self.new) }
+        ensures answer { JoinsFrom Self.Time.reads (Self.time self.old) (Self.token self.old) (Self.token self.new) scope result }
+        ensures waited { result ≡ Err NotReady → ⊥ };
+
+    /// Sleeps so many milliseconds, or until a checkpoint would show a mark, which it then returns (Trio, `sleep`).
+    fn sleep(&mut self, millis: u64) -> Result<Option<Mark>, Refusal>
+        ensures sees { SeesMore (Self.token self.old) (Self.token self.new) }
+        ensures answer { SleepsFor Self.Time.reads Self.Time.reading (Self.time self.old) (Self.token self.old) (Self.token self.new) (Self.seat self.old) (Self.seat self.new) millis result };
+
+    /// The mark of the scope that this task is in, once that is seen to be cancelled (Trio, a checkpoint).
+    fn checkpoint(&mut self) -> Option<Mark>
+        ensures token { Self.token self.new ≡ Self.token self.old }
+        ensures shows { Shows (Self.seat self.old) (Self.seat self.new) result };
+
+    /// Cancels the scope and all that it reaches (Trio, `cancel`).
+    fn cancel(&mut self, scope: ScopeId) -> Result<Cancelling, Refusal>
+        ensures { RecordsOrMemory (Self.token self.old) (Self.token self.new) (event.Cancel scope) result };
+
+    /// Binds the key above the actor's other bindings (JEP 506, `where`).
+    fn bind(&mut self, key: Name, value: Value) -> Result<(), Refusal>
+        ensures { DoesOrMemory (Self.token self.old) (Self.token self.new) (Happened (event.Bind (Self.token self.old).actor (record { key = key; value = value }))) (λ _. tt) result };
+
+    /// Takes away the actor's last own binding.
+    fn unbind(&mut self) -> Result<(), Refusal>
+        ensures { DoesOrMemory (Self.token self.old) (Self.token self.new) (Happened (event.Unbind (Self.token self.old).actor)) (λ _. tt) result };
+
+    /// What the actor sees the key bound to (JEP 506, `ScopedValue.get`).
+    fn get(&mut self, key: &Name) -> Result<Value, Refusal>
+        ensures { Reads (Self.token self.old) (Self.token self.new) (λ h. result ≡ binding_reply h (Self.token self.new).actor key.now) };
+}
+
+/// The context of a task, with the clock of its realm.
+#[derive(Drop)]
+pub struct Cx<'a, K, S: Spawner<N>, N: RealmName> {
+    pub(crate) clock: SystemClock<K>,
+    pub(crate) ctx: &'a mut TaskCtx<AnyEnd, S, N>,
+}
+
+impl<K, S: Spawner<N>, N: RealmName> Scopes for Cx<'_, K, S, N> {
+    ghost use Rattle.std.specs.Prelude.{◌≡◌, MatchResult};
+    ghost use Rattle.thread_crew.specs.Teams.{AreGone};
+    ghost use Rattle.job_runner.specs.Lists.{ListsBelow, ListsOne};
+
+    ghost token = { λ cx. cx.ctx.now.token };
+
+    ghost left_by_open = { λ old new result. MatchResult result (λ scope. ListsOne scope old.ctx.now.opened.items new.ctx.now.opened.items) (λ _. new.ctx.now.opened.items ≡ old.ctx.now.opened.items) };
+
+    ghost left_by_close = { λ old new scope result. MatchResult result (λ _. AreGone scope new.ctx.now.team × ListsBelow scope old.ctx.now.opened.items new.ctx.now.opened.items) (λ _. (new.ctx.now.team ≡ old.ctx.now.team) × (new.ctx.now.opened ≡ old.ctx.now.opened)) };
+
+    fn open_scope<R: Wait>(
+        &mut self,
+        rt: &R,
+        joiner: Joiner,
+        options: Options,
+    ) -> Result<ScopeId, Refusal> {
+        self.ctx.open_scope(rt, joiner, options)
+    }
+
+    fn close_opened<R: Wait>(&mut self, rt: &R, scope: ScopeId) -> Result<Verdict, Refusal> {
+        self.ctx.close_opened(rt, scope)
+    }
+
+    fn close_opened_by<R: Wait + SystemTime, C: Clock>(
+        &mut self,
+        rt: &R,
+        scope: ScopeId,
+        clock: &mut C,
+    ) -> Result<Verdict, Refusal> {
+        self.ctx.close_opened_by(rt, scope, clock)
+    }
+}
+
+impl<K: Handle, N: RealmName, W: Answers + Drop, S: Forks<AnyEnd, N, Timed<K, W>>> Acts<W>
+    for Cx<'_, K, S, N> {
+    ghost use Rattle.job_runner.specs.Marks.{seat_here};
+
+    type Runtime = K;
+
+    type Time = SystemClock<K>;
+
+    ghost seat = { λ cx. seat_here cx.ctx.now.around cx.ctx.now.opened.items };
+
+    ghost time = { λ cx. cx.clock };
+
+    fn runtime(&self) -> K {
+        self.clock.runtime()
+    }
+
+    fn clock(&self) -> SystemClock<K> {
+        self.clock
+    }
+
+    fn fail_after(&self, millis: u64) -> Options {
+        let mut clock = self.clock;
+        fail_after(&mut clock, millis)
+    }
+
+    fn move_on_after(&self, millis: u64) -> Options {
+        let mut clock = self.clock;
+        move_on_after(&mut clock, millis)
+    }
+
+    fn fork(&mut self, scope: ScopeId, name: Name, job: W) -> Result<ForkReply, Refusal> {
+        let clock = self.clock;
+        fork(
+            &clock.runtime(),
+            self.ctx,
+            scope,
+            name,
+            Timed { clock, job },
+        )
+    }
+
+    fn join(&mut self, scope: ScopeId) -> Result<Joined, Refusal> {
+        let mut clock = self.clock;
+        self.ctx.join_by(&clock.runtime(), scope, &mut clock)
+    }
+
+    fn sleep(&mut self, millis: u64) -> Result<Option<Mark>, Refusal> {
+        let mut clock = self.clock;
+        let until = clock.now().saturating_add(millis);
+        self.ctx.sleep_by(&clock.runtime(), &mut clock, until)
+    }
+
+    fn checkpoint(&mut self) -> Option<Mark> {
+        self.ctx.checkpoint()
+    }
+
+    fn cancel(&mut self, scope: ScopeId) -> Result<Cancelling, Refusal> {
+        self.ctx.cancel(&self.clock.runtime(), scope)
+    }
+
+    fn bind(&mut self, key: Name, value: Value) -> Result<(), Refusal> {
+        self.ctx.bind(&self.clock.runtime(), key, value)
+    }
+
+    fn unbind(&mut self) -> Result<(), Refusal> {
+        self.ctx.unbind(&self.clock.runtime())
+    }
+
+    fn get(&mut self, key: &Name) -> Result<Value, Refusal> {
+        self.ctx.get(&self.clock.runtime(), key)
+    }
+}

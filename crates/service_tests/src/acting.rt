@@ -1,0 +1,147 @@
+//! A service whose jobs and helpers act by one value: no clock, no runtime and no name of a realm in their signatures.
+ghost use Rattle.std.specs.Prelude.{◌≡◌};
+
+use balkreyn::{
+    Acts, Answers, CrewRuntime, End, Fault, Joiner, Name, Options, Outcome, Promises, RealmName,
+    Refusal, Seed, Serves, ServiceError, Task, Value, bound, scope, serve,
+};
+use std::alloc::Global;
+use std::marker::Brand;
+use std::process::Abort;
+use std::rt::Clock as SystemTime;
+use std::test::Fail;
+
+/// What the service forks: a shop that answers after so many milliseconds, one that never does, and one that answers
+/// the number that its request is bound to.
+#[derive(Drop)]
+enum Shop {
+    Answers { price: i64, after: u64 },
+    Hangs,
+    ByRequest,
+}
+
+impl Answers for Shop {
+    ghost may_end = { λ job end. Unit {0} };
+}
+
+impl Task for Shop {
+    #[tactic(auto, unfolding(scope_rules::specs::NameText::is_name))]
+    fn run<X: Acts<Shop>>(self, cx: &mut X) -> End {
+        match self {
+            Shop::Answers { price, after } => asked(cx, price, after),
+            Shop::Hangs => asked(cx, 0, u64::MAX),
+            Shop::ByRequest => match cx.get(&Name::literal(b"request")) {
+                Ok(value) => Ok(value),
+                Err(_) => Err(Fault(Name::literal(b"no-request"))),
+            },
+        }
+    }
+}
+
+/// The price, after so many milliseconds, if no cancel comes first.
+#[tactic(auto, unfolding(scope_rules::specs::NameText::is_name))]
+fn asked<X: Acts<Shop>>(cx: &mut X, price: i64, after: u64) -> End {
+    match cx.sleep(after) {
+        Ok(None) => Ok(Value::Num(price)),
+        _ => Err(Fault(Name::literal(b"too-late"))),
+    }
+}
+
+/// What the service comes to: the first of three that answers, what there is at a deadline that one job sleeps over,
+/// what a job sees of its request's binding, and what is seen of it behind the request.
+#[derive(Clone, Copy)]
+struct Seen {
+    first: Option<i64>,
+    timed_out: bool,
+    by_request: Option<i64>,
+    unbound: bool,
+}
+
+/// The service.
+#[derive(Clone, Copy)]
+struct Shops;
+
+impl Promises for Shops {
+    type Answer = Seen;
+
+    type Error = ServiceError;
+
+    ghost may_answer = { λ service answer. Unit {0} };
+}
+
+impl Serves<Shop> for Shops {
+    #[tactic(auto, unfolding(scope_rules::specs::NameText::is_name))]
+    fn serve<X: Acts<Shop>>(self, cx: &mut X) -> Result<Seen, ServiceError> {
+        let first = first_of(cx)?;
+        let timed_out = hung(cx)?;
+        let request = Name::literal(b"request");
+        let by_request = bound(cx, request, Value::Num(7), |cx| one(cx, Shop::ByRequest))?;
+        let unbound = cx.get(&request) == Err(Refusal::NotBound);
+        Ok(Seen {
+            first,
+            timed_out,
+            by_request,
+            unbound,
+        })
+    }
+}
+
+/// The first answer of three.
+#[tactic(auto, unfolding(scope_rules::specs::NameText::is_name))]
+fn first_of<X: Acts<Shop>>(cx: &mut X) -> Result<Option<i64>, Refusal> {
+    let options = cx.fail_after(60_000);
+    scope(cx, Joiner::Any, options, |cx, scope| {
+        for (price, after) in [(1, 60_000), (2, 10), (3, 60_000)] {
+            cx.fork(scope, Name::literal(b"shop"), Shop::Answers { price, after })?;
+        }
+        match &cx.join(scope)?.outcome {
+            Outcome::Any { value: Value::Num(price), .. } => Ok(Some(*price)),
+            _ => Ok(None),
+        }
+    })
+}
+
+/// Whether a join ends at the deadline of its scope.
+#[tactic(auto, unfolding(scope_rules::specs::NameText::is_name))]
+fn hung<X: Acts<Shop>>(cx: &mut X) -> Result<bool, Refusal> {
+    let options = cx.fail_after(200);
+    scope(cx, Joiner::All, options, |cx, scope| {
+        cx.fork(scope, Name::literal(b"shop"), Shop::Hangs)?;
+        match &cx.join(scope)?.outcome {
+            Outcome::Timeout => Ok(true),
+            _ => Ok(false),
+        }
+    })
+}
+
+/// What one job answers.
+#[tactic(auto, unfolding(scope_rules::specs::NameText::is_name))]
+fn one<X: Acts<Shop>>(cx: &mut X, job: Shop) -> Result<Option<i64>, Refusal> {
+    scope(cx, Joiner::Any, Options::PLAIN, |cx, scope| {
+        cx.fork(scope, Name::literal(b"shop"), job)?;
+        match &cx.join(scope)?.outcome {
+            Outcome::Any { value: Value::Num(price), .. } => Ok(Some(*price)),
+            _ => Ok(None),
+        }
+    })
+}
+
+/// Serves.
+fn served<N: RealmName + Send + Sync + 'static, R: CrewRuntime + SystemTime>(
+    rt: &R,
+    alloc: Global,
+    seed: Seed,
+) -> Result<Seen, ServiceError>
+    requires { seed ≡ N.table }
+{
+    serve::<N, Shop, Shops, R>(rt, alloc, seed, 4, Shops)
+}
+
+#[test]
+fn a_service_acts_by_one_value(rt: HostRuntime) -> Result<(), Fail> {
+    let seed = Seed::new(rt.alloc()).map_err(|_| "memory")?;
+    let seen = served::<Brand, _>(&rt, rt.alloc(), seed).map_err(|_| "a refusal")?;
+    assert!(rt; seen.first == Some(2) && seen.timed_out);
+    assert!(rt; seen.by_request == Some(7) && seen.unbound);
+    Ok(())
+}
