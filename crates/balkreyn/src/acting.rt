@@ -10,7 +10,10 @@ use crate::tasks::Timed;
 use job_runner::{Answers, Clock, SystemClock, TaskCtx, fail_after, move_on_after};
 use join_rules::Joiner;
 use realm_lock::{Joined, Mark, RealmName};
-use scope_rules::{AnyEnd, Cancelling, ForkReply, Name, Options, Refusal, ScopeId, Value, Verdict};
+use scope_rules::{
+    AnyEnd, Cancelling, ForkReply, Name, Options, Refusal, ScopeId, TaskId, Value, Verdict,
+};
+use std::alloc::Global;
 use std::rt::Clock as SystemTime;
 use std::sync::Wait;
 use thread_crew::Spawner;
@@ -22,7 +25,7 @@ pub trait Acts<W>: Scopes {
     ghost use Rattle.scope_rules.specs.declared.types.events.Event.TheVariants as event;
     ghost use Rattle.scope_rules.specs.declared.types.events.Expiry.TheVariants.{Fail, MoveOn};
     ghost use Rattle.scope_rules.specs.declared.types.refusals.Refusal.TheVariants.{NotReady};
-    ghost use Rattle.scope_rules.specs.Replies.{binding_reply};
+    ghost use Rattle.scope_rules.specs.Replies.{binding_reply, result_reply};
     ghost use Rattle.share_ledger.specs.declared.steps.RealmStep.TheVariants.{Happened};
     ghost use Rattle.cancel_marks.specs.Seats.{Seen};
     ghost use Rattle.realm_core.specs.Calls.{DoesOrMemory, Reads, RecordsOrMemory, SeesMore};
@@ -44,6 +47,9 @@ pub trait Acts<W>: Scopes {
 
     /// The runtime.
     fn runtime(&self) -> Self::Runtime;
+
+    /// Where its memory comes from.
+    fn alloc(&self) -> Global;
 
     /// A copy of the realm's clock.
     fn clock(&self) -> Self::Time
@@ -69,6 +75,10 @@ pub trait Acts<W>: Scopes {
         ensures sees { SeesMore (Self.token self.old) (Self.token self.new) }
         ensures answer { JoinsFrom Self.Time.reads (Self.time self.old) (Self.token self.old) (Self.token self.new) scope result }
         ensures waited { result ≡ Err NotReady → ⊥ };
+
+    /// The value of the task, which the owner of its scope has after the join (JEP 505, `Subtask.get`).
+    fn result(&mut self, task: TaskId) -> Result<Value, Refusal>
+        ensures { Reads (Self.token self.old) (Self.token self.new) (λ h. result ≡ result_reply h (Self.token self.new).actor task) };
 
     /// Sleeps so many milliseconds, or until a checkpoint would show a mark, which it then returns (Trio, `sleep`).
     fn sleep(&mut self, millis: u64) -> Result<Option<Mark>, Refusal>
@@ -100,6 +110,7 @@ pub trait Acts<W>: Scopes {
 /// The context of a task, with the clock of its realm.
 #[derive(Drop)]
 pub struct Cx<'a, K, S: Spawner<N>, N: RealmName> {
+    pub(crate) alloc: Global,
     pub(crate) clock: SystemClock<K>,
     pub(crate) ctx: &'a mut TaskCtx<AnyEnd, S, N>,
 }
@@ -154,6 +165,10 @@ impl<K: Handle, N: RealmName, W: Answers + Drop, S: Forks<AnyEnd, N, Timed<K, W>
         self.clock.runtime()
     }
 
+    fn alloc(&self) -> Global {
+        self.alloc
+    }
+
     fn clock(&self) -> SystemClock<K> {
         self.clock
     }
@@ -169,19 +184,18 @@ impl<K: Handle, N: RealmName, W: Answers + Drop, S: Forks<AnyEnd, N, Timed<K, W>
     }
 
     fn fork(&mut self, scope: ScopeId, name: Name, job: W) -> Result<ForkReply, Refusal> {
-        let clock = self.clock;
-        fork(
-            &clock.runtime(),
-            self.ctx,
-            scope,
-            name,
-            Timed { clock, job },
-        )
+        let (alloc, clock) = (self.alloc, self.clock);
+        let timed = Timed { alloc, clock, job };
+        fork(&clock.runtime(), self.ctx, scope, name, timed)
     }
 
     fn join(&mut self, scope: ScopeId) -> Result<Joined, Refusal> {
         let mut clock = self.clock;
         self.ctx.join_by(&clock.runtime(), scope, &mut clock)
+    }
+
+    fn result(&mut self, task: TaskId) -> Result<Value, Refusal> {
+        self.ctx.result(&self.clock.runtime(), task)
     }
 
     fn sleep(&mut self, millis: u64) -> Result<Option<Mark>, Refusal> {

@@ -18,9 +18,9 @@ use thread_crew::{Spawner, Spawns};
 /// fork was answered.
 #[derive(Drop)]
 pub struct Slot<J: Yields> {
-    name: Name,
-    reply: ForkReply,
-    place: Arc<Place<J>, Global>,
+    pub(crate) name: Name,
+    pub(crate) reply: ForkReply,
+    pub(crate) place: Arc<Place<J>, Global>,
 }
 
 impl<J: Yields> Model for Slot<J> {
@@ -72,7 +72,7 @@ pub fn fork_typed<
 }
 
 /// A place for what a job answers, for its slot, and a share of it, for its work.
-fn place_and_share<J: Yields>(
+pub(crate) fn place_and_share<J: Yields>(
     alloc: Global,
 ) -> Result<(Arc<Place<J>, Global>, Arc<Place<J>, Global>), AllocError> {
     let place = Arc::new(alloc, Place::new())?;

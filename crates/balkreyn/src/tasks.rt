@@ -25,6 +25,7 @@ pub trait Task: Answers + Drop {
 /// Such a job on its way to a thread, with the realm's clock.
 #[derive(Drop)]
 pub struct Timed<K, W> {
+    pub(crate) alloc: Global,
     pub(crate) clock: SystemClock<K>,
     pub(crate) job: W,
 }
@@ -36,8 +37,8 @@ impl<K, W: Answers> Answers for Timed<K, W> {
 impl<K: Handle, N: RealmName, W: Task, S: Forks<AnyEnd, N, Timed<K, W>>> Job<AnyEnd, S, N>
     for Timed<K, W> {
     fn run<R: Wait>(self, _rt: &R, ctx: &mut TaskCtx<AnyEnd, S, N>) -> End {
-        let Timed { clock, job } = self;
-        job.run(&mut Cx { clock, ctx })
+        let Timed { alloc, clock, job } = self;
+        job.run(&mut Cx { alloc, clock, ctx })
     }
 }
 
@@ -51,6 +52,7 @@ pub trait Serves<W>: Promises {
 /// Such a service, by the context of main.
 #[derive(Drop)]
 struct Acting<W, V> {
+    alloc: Global,
     service: V,
     jobs: PhantomData<W>,
 }
@@ -63,14 +65,20 @@ impl<W, V: Promises> Promises for Acting<W, V> {
     ghost may_answer = { λ acting answer. V.may_answer acting.service answer };
 }
 
-impl<K: Handle, N: RealmName, W: Task, V: Serves<W> + Drop, S: Forks<AnyEnd, N, Timed<K, W>>>
-    Service<S, N, K> for Acting<W, V>
+impl<
+    K: Handle,
+    N: RealmName,
+    W: Task,
+    V: Serves<W> + Drop,
+    S: Forks<AnyEnd, N, Timed<K, W>>,
+> Service<S, N, K> for Acting<W, V>
 where
     V::Error: From<NoTime>,
 {
     fn serve(self, rt: &K, ctx: &mut TaskCtx<AnyEnd, S, N>) -> Result<V::Answer, V::Error> {
+        let Acting { alloc, service, .. } = self;
         let clock = realm_clock(rt)?;
-        self.service.serve(&mut Cx { clock, ctx })
+        service.serve(&mut Cx { alloc, clock, ctx })
     }
 }
 
@@ -85,18 +93,16 @@ pub fn serve<
     W: Task + Send + 'static,
     V: Serves<W> + Drop,
     R: CrewRuntime + SystemTime,
->(
-    rt: &R,
-    alloc: Global,
-    seed: Seed,
-    keep: usize,
-    service: V,
-) -> Result<V::Answer, V::Error>
+>(rt: &R, alloc: Global, seed: Seed, keep: usize, service: V) -> Result<V::Answer, V::Error>
 where
     V::Error: From<NoTime>,
     requires { seed ≡ N.table }
     ensures { IfOk result (λ answer. V.may_answer service answer) }
 {
-    let jobs = PhantomData;
-    serve_on_crew::<N, Timed<R, W>, Acting<W, V>, R>(rt, alloc, seed, keep, Acting { service, jobs })
+    let acting = Acting {
+        alloc,
+        service,
+        jobs: PhantomData,
+    };
+    serve_on_crew::<N, Timed<R, W>, Acting<W, V>, R>(rt, alloc, seed, keep, acting)
 }

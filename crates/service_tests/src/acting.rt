@@ -92,10 +92,17 @@ fn first_of<X: Acts<Shop>>(cx: &mut X) -> Result<Option<i64>, Refusal> {
     let options = cx.fail_after(60_000);
     scope(cx, Joiner::Any, options, |cx, scope| {
         for (price, after) in [(1, 60_000), (2, 10), (3, 60_000)] {
-            cx.fork(scope, Name::literal(b"shop"), Shop::Answers { price, after })?;
+            cx.fork(
+                scope,
+                Name::literal(b"shop"),
+                Shop::Answers { price, after },
+            )?;
         }
         match &cx.join(scope)?.outcome {
-            Outcome::Any { value: Value::Num(price), .. } => Ok(Some(*price)),
+            Outcome::Any {
+                value: Value::Num(price),
+                ..
+            } => Ok(Some(*price)),
             _ => Ok(None),
         }
     })
@@ -120,7 +127,10 @@ fn one<X: Acts<Shop>>(cx: &mut X, job: Shop) -> Result<Option<i64>, Refusal> {
     scope(cx, Joiner::Any, Options::PLAIN, |cx, scope| {
         cx.fork(scope, Name::literal(b"shop"), job)?;
         match &cx.join(scope)?.outcome {
-            Outcome::Any { value: Value::Num(price), .. } => Ok(Some(*price)),
+            Outcome::Any {
+                value: Value::Num(price),
+                ..
+            } => Ok(Some(*price)),
             _ => Ok(None),
         }
     })

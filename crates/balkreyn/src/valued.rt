@@ -1,0 +1,158 @@
+//! Typed jobs that act by one value, and what is done with several of them.
+ghost use Rattle.std.specs.Prelude.{◌≡◌, IfOk, IfSome, pos};
+ghost use Rattle.scope_rules.specs.declared.types.values.Value.TheVariants as value;
+ghost use Rattle.realm_core.specs.Calls.{SeesMore};
+ghost use Rattle.balkreyn.specs.Slots.{ForksInto, Takes, task_of};
+
+use crate::acting::Acts;
+use crate::blocks::scope;
+use crate::jobs::{Typed, Yields};
+use crate::slots::{Slot, place_and_share};
+use job_runner::Answers;
+use join_rules::Joiner;
+use scope_rules::{End, Fault, Name, Options, Outcome, Refusal, ScopeId, TaskId, Value};
+
+/// A job that answers a value of a type of its own, and acts by one value (JEP 505 has a `Callable` of that type).
+pub trait TypedTask<W>: Yields {
+    /// Does the job, which was forked under the name.
+    fn run_typed<X: Acts<W>>(self, cx: &mut X, name: Name) -> Result<Self::Value, Fault>
+        ensures { IfOk result (λ value. Self.may_yield name value) };
+}
+
+impl<J: Yields> Typed<J> {
+    /// Does the job, and puts its value where its slot takes it from. Its task succeeds with the number 0 if there is a
+    /// value, and else fails with the job's fault.
+    pub fn act<W, X: Acts<W>>(self, cx: &mut X) -> End
+    where
+        J: TypedTask<W>,
+        ensures { IfOk result (λ number. number ≡ value.Num (pos 0)) }
+    {
+        let Typed { name, job, place } = self;
+        match job.run_typed(cx, name) {
+            Ok(value) => {
+                place.put(&cx.runtime(), name, value);
+                Ok(Value::Num(0))
+            }
+            Err(fault) => Err(fault),
+        }
+    }
+}
+
+/// Forks the typed job in the actor's scope, under the name, and gives the slot of its value (JEP 505, `fork` and
+/// `Subtask`). The work that carries the job is made of it (`From`).
+///
+/// # Errors
+/// Those of `fork`, and `Memory` if there is none for the slot; the job is dropped.
+pub fn fork_value<J: Yields + Drop, W: Answers + From<Typed<J>> + Drop, X: Acts<W>>(
+    cx: &mut X,
+    scope: ScopeId,
+    name: Name,
+    job: J,
+) -> Result<Slot<J>, Refusal>
+    ensures sees { SeesMore (X.token cx.old) (X.token cx.new) }
+    ensures answer { ForksInto (X.token cx.old) (X.token cx.new) scope name result }
+{
+    let Ok((place, share)) = place_and_share(cx.alloc()) else {
+        return Err(Refusal::Memory);
+    };
+    let work = W::from(Typed {
+        name,
+        job,
+        place: share,
+    });
+    match cx.fork(scope, name, work) {
+        Ok(reply) => Ok(Slot { name, reply, place }),
+        Err(refusal) => Err(refusal),
+    }
+}
+
+impl<J: Yields> Slot<J> {
+    /// The value, as `take` gives it: to the owner of the scope, once, after the join, if the task succeeded.
+    ///
+    /// # Errors
+    /// Those of `take`.
+    pub fn value<W, X: Acts<W>>(&self, cx: &mut X) -> Result<J::Value, Refusal>
+        ensures { Takes (J.may_yield self.now.name) (X.token cx.old) (X.token cx.new) (task_of self.now.reply) result }
+    {
+        match cx.result(self.task()) {
+            Ok(_number) => match self.place.take(&cx.runtime(), self.name) {
+                Some(value) => Ok(value),
+                None => Err(Refusal::Unavailable),
+            },
+            Err(refusal) => Err(refusal),
+        }
+    }
+}
+
+/// Forks all these jobs in the scope under the name, in order, and gives their slots.
+fn fork_all<J: Yields + Drop, W: Answers + From<Typed<J>> + Drop, X: Acts<W>>(
+    cx: &mut X,
+    scope: ScopeId,
+    name: Name,
+    jobs: Vec<J>,
+) -> Result<Vec<Slot<J>>, Refusal> {
+    let mut slots = Vec::new(cx.alloc());
+    for job in jobs {
+        let slot = fork_value(cx, scope, name, job)?;
+        slots.push(slot)?;
+    }
+    Ok(slots)
+}
+
+/// The value in the slot of this task, which is one of them.
+fn value_in<J: Yields, W, X: Acts<W>>(
+    cx: &mut X,
+    slots: &[Slot<J>],
+    task: TaskId,
+) -> Result<J::Value, Refusal> {
+    for slot in slots {
+        if slot.task() == task {
+            return slot.value(cx);
+        }
+    }
+    Err(Refusal::Unavailable)
+}
+
+/// Runs all these jobs in a scope of their own, and gives the value of the first that succeeds; the others are
+/// cancelled then (JEP 505, `anySuccessfulResultOrThrow`). With a deadline among the options it may come first.
+///
+/// # Errors
+/// `Unavailable` if none succeeded by then, and else the refusal of a call.
+pub fn race<J: Yields + Drop, W: Answers + From<Typed<J>> + Drop, X: Acts<W>>(
+    cx: &mut X,
+    name: Name,
+    options: Options,
+    jobs: Vec<J>,
+) -> Result<J::Value, Refusal>
+    ensures { IfOk result (J.may_yield name) }
+{
+    scope(cx, Joiner::Any, options, |cx, scope| {
+        let slots = fork_all(cx, scope, name, jobs)?;
+        match &cx.join(scope)?.outcome {
+            Outcome::Any { task, .. } => value_in(cx, &slots, *task),
+            _ => Err(Refusal::Unavailable),
+        }
+    })
+}
+
+/// Runs all these jobs in a scope of their own, and gives the value of each that succeeded, in order; there is none of
+/// one that failed, or that a deadline among the options cut off.
+///
+/// # Errors
+/// The refusal of a call.
+pub fn all_of<J: Yields + Drop, W: Answers + From<Typed<J>> + Drop, X: Acts<W>>(
+    cx: &mut X,
+    name: Name,
+    options: Options,
+    jobs: Vec<J>,
+) -> Result<Vec<Option<J::Value>>, Refusal> {
+    scope(cx, Joiner::AwaitAll, options, |cx, scope| {
+        let slots = fork_all(cx, scope, name, jobs)?;
+        cx.join(scope)?;
+        let mut values = Vec::new(cx.alloc());
+        for slot in slots.iter() {
+            values.push(slot.value(cx).ok())?;
+        }
+        Ok(values)
+    })
+}
