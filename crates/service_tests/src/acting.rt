@@ -3,7 +3,8 @@ ghost use Rattle.std.specs.Prelude.{◌≡◌};
 
 use balkreyn::{
     Acts, Answers, CrewRuntime, End, Fault, Joiner, Name, Options, Outcome, Promises, RealmName,
-    Refusal, Seed, Serves, ServiceError, Task, Value, bound, scope, serve,
+    Refusal, Seed, Serves, ServiceError, Task, Typed, TypedTask, Value, Yields, all_of, bound,
+    race, scope, serve,
 };
 use std::alloc::Global;
 use std::marker::Brand;
@@ -18,6 +19,43 @@ enum Shop {
     Answers { price: i64, after: u64 },
     Hangs,
     ByRequest,
+    Stock(Typed<AskStock>),
+}
+
+impl From<Typed<AskStock>> for Shop {
+    fn from(typed: Typed<AskStock>) -> Shop {
+        Shop::Stock(typed)
+    }
+}
+
+/// How many pieces there are.
+#[derive(Clone, Copy, PartialEq, Eq)]
+struct Stock {
+    pieces: u32,
+}
+
+/// A job that answers that after so many milliseconds, and fails if there are none.
+#[derive(Clone, Copy)]
+struct AskStock {
+    pieces: u32,
+    after: u64,
+}
+
+impl Yields for AskStock {
+    type Value = Stock;
+
+    ghost may_yield = { λ name stock. Unit {0} };
+
+    ghost is_fact = { λ name stock. Prim.hlevel };
+}
+
+impl TypedTask<Shop> for AskStock {
+    fn run_typed<X: Acts<Shop>>(self, cx: &mut X, name: Name) -> Result<Stock, Fault> {
+        match (cx.sleep(self.after), self.pieces) {
+            (Ok(None), pieces) if pieces > 0 => Ok(Stock { pieces }),
+            _ => Err(Fault(name)),
+        }
+    }
 }
 
 impl Answers for Shop {
@@ -30,6 +68,7 @@ impl Task for Shop {
         match self {
             Shop::Answers { price, after } => asked(cx, price, after),
             Shop::Hangs => asked(cx, 0, u64::MAX),
+            Shop::Stock(typed) => typed.act(cx),
             Shop::ByRequest => match cx.get(&Name::literal(b"request")) {
                 Ok(value) => Ok(value),
                 Err(_) => Err(Fault(Name::literal(b"no-request"))),
@@ -55,6 +94,9 @@ struct Seen {
     timed_out: bool,
     by_request: Option<i64>,
     unbound: bool,
+    raced: Result<Stock, Refusal>,
+    none_won: bool,
+    in_time: (Option<Stock>, Option<Stock>, Option<Stock>),
 }
 
 /// The service.
@@ -77,11 +119,17 @@ impl Serves<Shop> for Shops {
         let request = Name::literal(b"request");
         let by_request = bound(cx, request, Value::Num(7), |cx| one(cx, Shop::ByRequest))?;
         let unbound = cx.get(&request) == Err(Refusal::NotBound);
+        let won = raced(cx, [(0, 0), (5, 60_000), (7, 10)]);
+        let none_won = raced(cx, [(0, 0), (0, 10), (0, 0)]) == Err(Refusal::Unavailable);
+        let in_time = had_in_time(cx)?;
         Ok(Seen {
             first,
             timed_out,
             by_request,
             unbound,
+            raced: won,
+            none_won,
+            in_time,
         })
     }
 }
@@ -136,6 +184,36 @@ fn one<X: Acts<Shop>>(cx: &mut X, job: Shop) -> Result<Option<i64>, Refusal> {
     })
 }
 
+/// The jobs that answer so many pieces after so many milliseconds.
+fn asks<X: Acts<Shop>>(cx: &mut X, shops: [(u32, u64); 3]) -> Result<Vec<AskStock>, Refusal> {
+    let mut jobs = Vec::new(cx.alloc());
+    for (pieces, after) in shops {
+        jobs.push(AskStock { pieces, after })?;
+    }
+    Ok(jobs)
+}
+
+/// The first of three that has some.
+#[tactic(auto, unfolding(scope_rules::specs::NameText::is_name))]
+fn raced<X: Acts<Shop>>(cx: &mut X, shops: [(u32, u64); 3]) -> Result<Stock, Refusal> {
+    let jobs = asks(cx, shops)?;
+    race(cx, Name::literal(b"stock"), Options::PLAIN, jobs)
+}
+
+/// What three say within 200 milliseconds.
+#[tactic(auto, unfolding(scope_rules::specs::NameText::is_name))]
+fn had_in_time<X: Acts<Shop>>(
+    cx: &mut X,
+) -> Result<(Option<Stock>, Option<Stock>, Option<Stock>), Refusal> {
+    let jobs = asks(cx, [(3, 0), (4, 60_000), (0, 0)])?;
+    let options = cx.move_on_after(200);
+    let stocks = all_of(cx, Name::literal(b"stock"), options, jobs)?;
+    match stocks.as_slice() {
+        [first, second, third] => Ok((*first, *second, *third)),
+        _ => Err(Refusal::Unavailable),
+    }
+}
+
 /// Serves.
 fn served<N: RealmName + Send + Sync + 'static, R: CrewRuntime + SystemTime>(
     rt: &R,
@@ -153,5 +231,7 @@ fn a_service_acts_by_one_value(rt: HostRuntime) -> Result<(), Fail> {
     let seen = served::<Brand, _>(&rt, rt.alloc(), seed).map_err(|_| "a refusal")?;
     assert!(rt; seen.first == Some(2) && seen.timed_out);
     assert!(rt; seen.by_request == Some(7) && seen.unbound);
+    assert!(rt; seen.raced == Ok(Stock { pieces: 7 }) && seen.none_won);
+    assert!(rt; seen.in_time == (Some(Stock { pieces: 3 }), None, None));
     Ok(())
 }
