@@ -1,7 +1,7 @@
 -- What is done by a context that knows the realm's time: each wait reads a copy of its clock.
-use Rattle.std.specs.Prelude.{◌≡◌, ◌⊎◌, ℕ, ◌+◌, ◌-◌, ◌^◌, min, Option, None, Some, Result, Ok, Err, IsErrAnd}
+use Rattle.std.specs.Prelude.{◌≡◌, ◌⊎◌, ℕ, ◌+◌, ◌-◌, ◌*◌, ◌^◌, ◌≤◌, min, suc, Option, None, Some, Result, Ok, Err, IsErrAnd}
 use Rattle.std.specs.Borrow.{MutBor}
-use Rattle.std.specs.Fn.{Once}
+use Rattle.std.specs.Fn.{CalledWithState, Mut, Once}
 use Rattle.cancel_marks.specs.declared.marks.Mark.{Mark}
 use Rattle.cancel_marks.specs.Seats.{Seen}
 use Rattle.named_jobs.specs.Clocks.{IsAfter}
@@ -17,6 +17,7 @@ use Rattle.realm_core.specs.Calls.{DoesOrMemory}
 use Rattle.realm_core.specs.declared.joins.Joined.{Joined}
 use Rattle.realm_lock.specs.Waits.{HasPassed, JoinsBy, Stopped, Waited, shown_in}
 use Rattle.job_runner.specs.Marks.{Shows}
+use Rattle.balkreyn.specs.declared.blocks.Backoff.{Backoff}
 
 -- the clock was read, and the options have a deadline so many milliseconds later
 pub record IsSoAfter {K : Type 0} (reads : K → K → ℕ → Type 0) (start : K) (millis : ℕ) (expiry : Expiry) (options : Options) : Type 0 where
@@ -45,6 +46,10 @@ pub record SleepsFor {K : Type 0} (reads : K → K → ℕ → Type 0) (reading 
   pub last : K
   pub slept : Slept reads reading old new begun last (min (now + millis) (2 ^ 64 - 1)) result
   pub shows : Shows seat seat_new (shown_in result)
+
+-- the same of a context with a clock, a token and a seat
+abbrev pub Sleeps : {K X : Type 0} → (K → K → ℕ → Type 0) → (K → Option ℕ) → (X → K) → (X → OwnerValue) → (X → Option Seen) → (millis : ℕ) → X → X → Result (Option Mark) Refusal → Type 0
+Sleeps reads reading time token seat millis old new result = SleepsFor reads reading (time old) (token old) (token new) (seat old) (seat new) millis result
 
 -- ---- a body with a binding
 
@@ -89,3 +94,33 @@ pub record RunsInBinding {F X T E : Type 0} (token : X → OwnerValue) (key : Na
 -- what was done that runs the body with a binding: one of these two
 abbrev pub RunsBound : {F X T E : Type 0} → (X → OwnerValue) → Name → Value → (Refusal → E → Type 0) → Once F (MutBor X × Unit {0}) (Result T E × (MutBor X × Unit {0})) → F → X → X → Result T E → Type 0
 RunsBound token key value makes calls body old new result = StaysUnbound (Binds token key value) makes old new result ⊎ RunsInBinding token key value makes calls body old new result
+
+-- ---- tries
+
+-- so many tries failed, one after the other, and behind each the actor slept to the end, the first time for the first
+-- pause, and then for twice as long each time
+pub data Failed {F X T E : Type 0} (calls : Mut F (MutBor X × (ℕ × Unit {0})) (Result T E × (MutBor X × Unit {0}))) (sleeps : ℕ → X → X → Result (Option Mark) Refusal → Type 0) (first : ℕ) (body : F) (old : X) : ℕ → ℕ → F → X → Type 0 where
+  none : Failed calls sleeps first body old 0 first body old
+  more : {number pause : ℕ} {state state_new : F} {begun ended after : X} {error : E} → Failed calls sleeps first body old number pause state begun → CalledWithState calls state begun number (Err error) state_new ended → sleeps pause ended after (Ok None) → Failed calls sleeps first body old (suc number) (min (pause * 2) (2 ^ 64 - 1)) state_new after
+
+-- what is answered behind the last try: what that found, if it succeeded, was the last that may be, or a mark was shown
+-- in the pause behind it; or the pause was refused
+abbrev pub EndsTries : {X T E : Type 0} → (Refusal → E → Type 0) → (X → X → Result (Option Mark) Refusal → Type 0) → (is_last : Type 0) → Result T E → (ended new : X) → Result T E → Type 0
+EndsTries makes sleeps is_last (Ok value) ended new result = (result ≡ Ok value) × (new ≡ ended)
+EndsTries makes sleeps is_last (Err error) ended new result = (is_last × (result ≡ Err error) × (new ≡ ended))
+    ⊎ ((mark : Mark) × sleeps ended new (Ok (Some mark)) × (result ≡ Err error))
+    ⊎ ((refusal : Refusal) × sleeps ended new (Err refusal) × IsErrAnd result (makes refusal))
+
+-- the body was tried until it succeeded, or there was no try left, or a cancel came: each try but the last failed
+pub record Retries {F X T E : Type 0} (calls : Mut F (MutBor X × (ℕ × Unit {0})) (Result T E × (MutBor X × Unit {0}))) (sleeps : ℕ → X → X → Result (Option Mark) Refusal → Type 0) (makes : Refusal → E → Type 0) (backoff : Backoff) (body : F) (old new : X) (result : Result T E) : Type 0 where
+  pub number : ℕ
+  pub pause : ℕ
+  pub state : F
+  pub begun : X
+  pub failed : Failed calls sleeps backoff.pause body old number pause state begun
+  pub within : number ≤ backoff.retries
+  pub found : Result T E
+  pub state_new : F
+  pub ended : X
+  pub called : CalledWithState calls state begun number found state_new ended
+  pub ends : EndsTries makes (sleeps pause) (number ≡ backoff.retries) found ended new result

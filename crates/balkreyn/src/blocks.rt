@@ -1,6 +1,9 @@
 //! Bodies that run in a scope, under a shield or with a binding, by one value.
+ghost use Rattle.std.specs.Prelude.{None, true};
 ghost use Rattle.join_rules.specs.Joiners.{policy_of};
-ghost use Rattle.balkreyn.specs.Acting.{RunsBound};
+ghost use Rattle.join_rules.specs.declared.joiners.Joiner.TheVariants as joiner;
+ghost use Rattle.scope_rules.specs.declared.types.events.Expiry.TheVariants.{Fail};
+ghost use Rattle.balkreyn.specs.Acting.{Retries, RunsBound, Sleeps};
 ghost use Rattle.balkreyn.specs.Bodies.{ClosesFrom, Opens, RunsWithin};
 
 use crate::acting::Acts;
@@ -46,4 +49,61 @@ pub fn bound<W, X: Acts<W>, T: Drop, E: From<Refusal> + Drop, F: FnOnce(&mut X) 
     let found = body(cx);
     cx.unbind()?;
     found
+}
+
+/// Runs the body in a scope with a shield, which no cancel from outside reaches (Trio, a shielded cancel scope).
+///
+/// # Errors
+/// Those of `within`.
+pub fn shielded<
+    W,
+    X: Acts<W>,
+    T: Drop,
+    E: From<Refusal> + Drop,
+    F: FnOnce(&mut X, ScopeId) -> Result<T, E>,
+>(cx: &mut X, body: F) -> Result<T, E>
+    requires { F.IsAlwaysCallable body }
+    ensures { RunsWithin (Opens X.token X.left_by_open (policy_of joiner.AwaitAll) (record { deadline = None; shield = true; expiry = Fail })) (ClosesFrom X.token X.left_by_close X.Time.reads (X.time cx.old)) E.from_gives F.FnOnce body cx.old cx.new result }
+{
+    scope(cx, Joiner::AwaitAll, Options::PLAIN.shielded(), body)
+}
+
+/// How a body that fails is tried again.
+#[derive(Clone, Copy)]
+pub struct Backoff {
+    /// How many times at most, behind the first.
+    pub retries: u32,
+    /// The first pause, in milliseconds; each one after it is twice as long.
+    pub pause: u64,
+}
+
+/// Calls the body, with the number of its try from 0, until it succeeds, and sleeps between two tries. If a cancel ends
+/// the sleep, it tries no more.
+///
+/// # Errors
+/// What the last try failed with; or what `E` makes of the refusal of a sleep.
+pub fn retry<
+    W,
+    X: Acts<W>,
+    T: Drop,
+    E: From<Refusal> + Drop,
+    F: FnMut(&mut X, u32) -> Result<T, E> + Drop,
+>(cx: &mut X, backoff: Backoff, mut body: F) -> Result<T, E>
+    requires { F.IsAlwaysCallable body }
+    ensures { Retries F.FnMut (λ millis old new slept. Sleeps X.Time.reads X.Time.reading X.time X.token X.seat millis old new slept) E.from_gives backoff body cx.old cx.new result }
+{
+    let mut pause = backoff.pause;
+    let mut number = 0u32;
+    while number < backoff.retries {
+        let error = match body(cx, number) {
+            Ok(value) => return Ok(value),
+            Err(error) => error,
+        };
+        if cx.sleep(pause)?.is_some() {
+            return Err(error);
+        }
+        pause = pause.saturating_mul(2);
+        number += 1;
+    }
+    body(cx, number)
 }

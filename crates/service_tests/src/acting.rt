@@ -2,9 +2,9 @@
 ghost use Rattle.std.specs.Prelude.{◌≡◌};
 
 use balkreyn::{
-    Acts, Answers, CrewRuntime, End, Fault, Joiner, Name, Options, Outcome, Promises, RealmName,
-    Refusal, Seed, Serves, ServiceError, Task, Typed, TypedTask, Value, Yields, all_of, bound,
-    race, scope, serve,
+    Acts, Answers, Backoff, CrewRuntime, End, Fault, Joiner, Name, Options, Outcome, Promises,
+    RealmName, Refusal, Seed, Serves, ServiceError, Task, Typed, TypedTask, Value, Worker,
+    Yields, all_of, bound, map_at_most, race, retry, scope, serve,
 };
 use std::alloc::Global;
 use std::marker::Brand;
@@ -20,6 +20,13 @@ enum Shop {
     Hangs,
     ByRequest,
     Stock(Typed<AskStock>),
+    Stocks(Worker<AskStock>),
+}
+
+impl From<Worker<AskStock>> for Shop {
+    fn from(worker: Worker<AskStock>) -> Shop {
+        Shop::Stocks(worker)
+    }
 }
 
 impl From<Typed<AskStock>> for Shop {
@@ -69,6 +76,7 @@ impl Task for Shop {
             Shop::Answers { price, after } => asked(cx, price, after),
             Shop::Hangs => asked(cx, 0, u64::MAX),
             Shop::Stock(typed) => typed.act(cx),
+            Shop::Stocks(worker) => worker.act(cx),
             Shop::ByRequest => match cx.get(&Name::literal(b"request")) {
                 Ok(value) => Ok(value),
                 Err(_) => Err(Fault(Name::literal(b"no-request"))),
@@ -97,6 +105,8 @@ struct Seen {
     raced: Result<Stock, Refusal>,
     none_won: bool,
     in_time: (Option<Stock>, Option<Stock>, Option<Stock>),
+    tried: (Result<u32, Refusal>, Result<u32, Refusal>),
+    mapped: bool,
 }
 
 /// The service.
@@ -122,6 +132,8 @@ impl Serves<Shop> for Shops {
         let won = raced(cx, [(0, 0), (5, 60_000), (7, 10)]);
         let none_won = raced(cx, [(0, 0), (0, 10), (0, 0)]) == Err(Refusal::Unavailable);
         let in_time = had_in_time(cx)?;
+        let tried = (tried_until(cx, 2), tried_until(cx, 9));
+        let mapped = mapped(cx)?;
         Ok(Seen {
             first,
             timed_out,
@@ -130,6 +142,8 @@ impl Serves<Shop> for Shops {
             raced: won,
             none_won,
             in_time,
+            tried,
+            mapped,
         })
     }
 }
@@ -214,6 +228,39 @@ fn had_in_time<X: Acts<Shop>>(
     }
 }
 
+/// What a body comes to that succeeds at this try, if it is tried four times.
+fn tried_until<X: Acts<Shop>>(cx: &mut X, enough: u32) -> Result<u32, Refusal> {
+    let backoff = Backoff {
+        retries: 3,
+        pause: 1,
+    };
+    retry(cx, backoff, |_cx, number| {
+        if number >= enough {
+            Ok(number)
+        } else {
+            Err(Refusal::Unavailable)
+        }
+    })
+}
+
+/// Whether a hundred jobs, eight at a time, are each answered in order, and whether one that fails ends it.
+#[tactic(auto, unfolding(scope_rules::specs::NameText::is_name))]
+fn mapped<X: Acts<Shop>>(cx: &mut X) -> Result<bool, Refusal> {
+    let name = Name::literal(b"stock");
+    let mut jobs = Vec::new(cx.alloc());
+    for pieces in 1..=100u32 {
+        jobs.push(AskStock { pieces, after: 1 })?;
+    }
+    let stocks = map_at_most(cx, name, Options::PLAIN, 8, jobs)?;
+    let in_order = stocks
+        .iter()
+        .zip(1..=100u32)
+        .all(|(stock, pieces)| stock.pieces == pieces);
+    let some = asks(cx, [(1, 0), (0, 0), (3, 0)])?;
+    let failed = map_at_most(cx, name, Options::PLAIN, 1, some);
+    Ok(stocks.len() == 100 && in_order && failed.err() == Some(Refusal::NotSuccess))
+}
+
 /// Serves.
 fn served<N: RealmName + Send + Sync + 'static, R: CrewRuntime + SystemTime>(
     rt: &R,
@@ -232,6 +279,7 @@ fn a_service_acts_by_one_value(rt: HostRuntime) -> Result<(), Fail> {
     assert!(rt; seen.first == Some(2) && seen.timed_out);
     assert!(rt; seen.by_request == Some(7) && seen.unbound);
     assert!(rt; seen.raced == Ok(Stock { pieces: 7 }) && seen.none_won);
+    assert!(rt; seen.tried == (Ok(2), Err(Refusal::Unavailable)) && seen.mapped);
     assert!(rt; seen.in_time == (Some(Stock { pieces: 3 }), None, None));
     Ok(())
 }

@@ -1,0 +1,107 @@
+//! Many typed jobs, of which so many run at a time.
+ghost use Rattle.std.specs.Prelude.{IfOk};
+
+use crate::acting::Acts;
+use crate::blocks::scope;
+use crate::jobs::Yields;
+use crate::places::Place;
+use crate::valued::TypedTask;
+use job_runner::Answers;
+use join_rules::Joiner;
+use scope_rules::{End, Fault, Name, Options, Outcome, Refusal, Value};
+use std::alloc::Global;
+use std::sync::{Arc, Mutex, Wait};
+
+/// The jobs that no worker has taken, the first of them last, and where each puts its value.
+#[derive(Drop)]
+struct Batch<J: Yields> {
+    jobs: Mutex<Vec<(usize, J)>>,
+    places: Vec<Place<J>>,
+}
+
+/// What does one job of a batch after the other, until there is none left, or one fails. It is a job of the service,
+/// whose type is made of it (`From`).
+#[derive(Drop)]
+pub struct Worker<J: Yields> {
+    name: Name,
+    batch: Arc<Batch<J>, Global>,
+}
+
+impl<J: Yields + Drop> Worker<J> {
+    /// Does the jobs that it takes. Its task succeeds with the number 0 once there is none left.
+    pub fn act<W, X: Acts<W>>(self, cx: &mut X) -> End
+    where
+        J: TypedTask<W>,
+    {
+        let rt = cx.runtime();
+        for _ in rt.forever() {
+            let Some((place, job)) = self.batch.jobs.lock(&rt).pop() else {
+                return Ok(Value::Num(0));
+            };
+            let value = job.run_typed(cx, self.name)?;
+            if let Some(place) = self.batch.places.get(place) {
+                place.put(&rt, self.name, value);
+            }
+        }
+        unreachable!()
+    }
+}
+
+/// Runs all these jobs in a scope of their own, so many at a time, in order, and gives the value of each (Trio, a
+/// `CapacityLimiter` in a nursery). The first that fails ends it: then no job begins any more.
+///
+/// # Errors
+/// `NotSuccess` if a job failed, `Unavailable` if a cancel or a deadline came first, and else the refusal of a call.
+pub fn map_at_most<J: Yields + Drop, W: Answers + From<Worker<J>> + Drop, X: Acts<W>>(
+    cx: &mut X,
+    name: Name,
+    options: Options,
+    at_once: u32,
+    jobs: Vec<J>,
+) -> Result<Vec<J::Value>, Refusal> {
+    let batch = batch_of(cx.alloc(), jobs)?;
+    scope(cx, Joiner::AwaitOk, options, |cx, scope| {
+        for _ in 0..at_once.max(1) {
+            let batch = Arc::try_clone(&batch)?;
+            cx.fork(scope, name, W::from(Worker { name, batch }))?;
+        }
+        match &cx.join(scope)?.outcome {
+            Outcome::Done => values_of(cx, name, &batch),
+            Outcome::Failed { .. } => Err(Refusal::NotSuccess),
+            _ => Err(Refusal::Unavailable),
+        }
+    })
+}
+
+/// A batch of these jobs.
+fn batch_of<J: Yields + Drop>(
+    alloc: Global,
+    jobs: Vec<J>,
+) -> Result<Arc<Batch<J>, Global>, Refusal> {
+    let mut left = Vec::new(alloc);
+    let mut places = Vec::new(alloc);
+    for (place, job) in jobs.into_iter().enumerate() {
+        left.push((place, job))?;
+        places.push(Place::new())?;
+    }
+    left.reverse();
+    let jobs = Mutex::new(left);
+    Ok(Arc::new(alloc, Batch { jobs, places })?)
+}
+
+/// The values of a batch whose jobs have all ended.
+fn values_of<J: Yields, W, X: Acts<W>>(
+    cx: &mut X,
+    name: Name,
+    batch: &Batch<J>,
+) -> Result<Vec<J::Value>, Refusal> {
+    let rt = cx.runtime();
+    let mut values = Vec::new(cx.alloc());
+    for place in batch.places.iter() {
+        match place.take(&rt, name) {
+            Some(value) => values.push(value)?,
+            None => return Err(Refusal::Unavailable),
+        }
+    }
+    Ok(values)
+}
