@@ -17,7 +17,7 @@ use Rattle.realm_core.specs.Calls.{DoesOrMemory}
 use Rattle.realm_core.specs.declared.joins.Joined.{Joined}
 use Rattle.realm_lock.specs.Waits.{HasPassed, JoinsBy, Stopped, Waited, shown_in}
 use Rattle.job_runner.specs.Marks.{Shows}
-use Rattle.balkreyn.specs.declared.blocks.Backoff.{Backoff}
+use Rattle.balkreyn.specs.declared.act.blocks.Backoff.{Backoff}
 
 -- the clock was read, and the options have a deadline so many milliseconds later
 pub record IsSoAfter {K : Type 0} (reads : K → K → ℕ → Type 0) (start : K) (millis : ℕ) (expiry : Expiry) (options : Options) : Type 0 where

@@ -5,11 +5,9 @@
 //! from any thread shows the tree of what is open, and the script of what happened.
 #![tactic(auto)]
 
-mod acting;
+mod act;
 mod aliases;
-mod batches;
 mod baton;
-mod blocks;
 mod by_token;
 mod copies;
 mod errors;
@@ -27,43 +25,36 @@ mod rotation;
 mod scoped;
 mod services;
 mod slots;
-mod tasks;
-mod valued;
 
-pub use acting::{Acts, Cx};
+pub use act::*;
 pub use aliases::{Forks, Handle};
-pub use batches::{Worker, map_at_most};
-pub use blocks::{Backoff, bound, retry, scope, shielded};
 pub use by_token::ShowsByToken;
 pub use errors::{NoTime, ServiceError};
 pub use forks::fork;
 pub use guards::Opened;
 pub use handles::{By, JobBy};
-pub use jobs::{Typed, TypedJob, Yields};
-pub use pictures::Shows;
-pub use requests::{Requests, Side, Turned};
-pub use rooms::Need;
-pub use rotation::{Stopped, Turns, rotate};
-pub use scoped::{Scopes, within, within_by};
-pub use services::{Promises, Service, realm_clock, serve_on_crew};
-pub use slots::{Slot, fork_typed};
-pub use tasks::{Serves, Task, Timed, serve};
-pub use valued::{TypedTask, all_of, fork_value, race};
-
 pub use job_runner::{
     Answers, Clock, ForkRefusal, Job, JobWork, NamedJob, SetClock, SystemClock, TaskCtx,
     fail_after, move_on_after, pulse,
 };
+pub use jobs::{Typed, TypedJob, Yields};
 pub use join_rules::{CompletionTest, Joiner, UntilTest};
+pub use pictures::Shows;
 pub use realm_lock::{
     ActorToken, BareOutcome, CloseReport, Joined, Mark, Realm, RealmName, Seed, View,
 };
+pub use requests::{Requests, Side, Turned};
+pub use rooms::Need;
+pub use rotation::{Stopped, Turns, rotate};
 pub use scope_log::{LogEntry, ScopeLog};
 pub use scope_rules::{
     AnyEnd, Cancelling, Catalog, Completion, Due, Effective, End, Event, Expiry, Fault, ForkReply,
     Label, Limits, Name, Options, Outcome, Refusal, Rule, ScopeId, State, TaskId, TaskState,
     TaskStates, TaskValue, TaskValues, Value, Verdict,
 };
+pub use scoped::{Scopes, within, within_by};
+pub use services::{Promises, Service, realm_clock, serve_on_crew};
+pub use slots::{Slot, fork_typed};
 pub use std::marker::Brand;
 pub use std::sync::Wait;
 pub use thread_crew::{Crew, CrewRuntime, OsThreads, Recalls, Spawner, Spawns};

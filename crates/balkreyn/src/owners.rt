@@ -9,9 +9,9 @@ use crate::requests::{Requests, Side, Turned};
 use crate::rooms::Room;
 use crate::rotation::Turns;
 use crate::{
-    Answers, AnyEnd, CloseReport, ForkRefusal, ForkReply, Forks, Handle, Joiner, Label, Limits, NamedJob,
-    Opened, Options, Promises, RealmName, Refusal, Service, ServiceError, Spawner, SystemClock,
-    TaskCtx, Wait, realm_clock,
+    Answers, AnyEnd, CloseReport, ForkRefusal, ForkReply, Forks, Handle, Joiner, Label, Limits,
+    NamedJob, Opened, Options, Promises, RealmName, Refusal, Service, ServiceError, Spawner,
+    SystemClock, TaskCtx, Wait, realm_clock,
 };
 
 /// An owner: the side and the limits of its realm, and how long it has the baton.

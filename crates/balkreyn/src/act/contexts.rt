@@ -3,10 +3,10 @@ ghost use Rattle.std.specs.Prelude.{◌≡◌, MatchResult};
 ghost use Rattle.thread_crew.specs.Teams.{AreGone};
 ghost use Rattle.job_runner.specs.Lists.{ListsBelow, ListsOne};
 
+use crate::act::tasks::Timed;
 use crate::aliases::{Forks, Handle};
 use crate::forks::fork;
 use crate::scoped::Scopes;
-use crate::tasks::Timed;
 use job_runner::{Answers, Clock, SystemClock, TaskCtx, fail_after, move_on_after};
 use join_rules::Joiner;
 use realm_lock::{Joined, Mark, RealmName};

@@ -1,11 +1,11 @@
 //! Many typed jobs, of which so many run at a time.
 ghost use Rattle.std.specs.Prelude.{IfOk};
 
-use crate::acting::Acts;
-use crate::blocks::scope;
+use crate::act::blocks::scope;
+use crate::act::contexts::Acts;
+use crate::act::valued::TypedTask;
 use crate::jobs::Yields;
 use crate::places::Place;
-use crate::valued::TypedTask;
 use job_runner::Answers;
 use join_rules::Joiner;
 use scope_rules::{End, Fault, Name, Options, Outcome, Refusal, Value};

@@ -6,7 +6,7 @@ ghost use Rattle.scope_rules.specs.declared.types.events.Expiry.TheVariants.{Fai
 ghost use Rattle.balkreyn.specs.Acting.{Retries, RunsBound, Sleeps};
 ghost use Rattle.balkreyn.specs.Bodies.{ClosesFrom, Opens, RunsWithin};
 
-use crate::acting::Acts;
+use crate::act::contexts::Acts;
 use crate::scoped::within_by;
 use join_rules::Joiner;
 use scope_rules::{Name, Options, Refusal, ScopeId, Value};

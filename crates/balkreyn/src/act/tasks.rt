@@ -1,7 +1,7 @@
 //! Jobs and services that act by one value.
 ghost use Rattle.std.specs.Prelude.{◌≡◌, IfOk};
 
-use crate::acting::{Acts, Cx};
+use crate::act::contexts::{Acts, Cx};
 use crate::aliases::{Forks, Handle};
 use crate::errors::NoTime;
 use crate::services::{Promises, Service, realm_clock, serve_on_crew};

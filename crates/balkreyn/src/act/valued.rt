@@ -4,8 +4,8 @@ ghost use Rattle.scope_rules.specs.declared.types.values.Value.TheVariants as va
 ghost use Rattle.realm_core.specs.Calls.{SeesMore};
 ghost use Rattle.balkreyn.specs.Slots.{ForksInto, Takes, task_of};
 
-use crate::acting::Acts;
-use crate::blocks::scope;
+use crate::act::blocks::scope;
+use crate::act::contexts::Acts;
 use crate::jobs::{Typed, Yields};
 use crate::slots::{Slot, place_and_share};
 use job_runner::Answers;
