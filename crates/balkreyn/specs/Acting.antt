@@ -9,6 +9,7 @@ use Rattle.scope_rules.specs.declared.types.events.Event.TheVariants.{Bind, Unbi
 use Rattle.scope_rules.specs.declared.types.events.Expiry.{Expiry}
 use Rattle.scope_rules.specs.declared.types.events.Options.{Options}
 use Rattle.scope_rules.specs.declared.types.names.Name.{Name}
+use Rattle.scope_rules.specs.declared.types.outcomes.Outcome.TheVariants.{Any}
 use Rattle.scope_rules.specs.declared.types.refusals.Refusal.{Refusal}
 use Rattle.scope_rules.specs.declared.types.values.Value.{Value}
 use Rattle.share_ledger.specs.declared.steps.RealmStep.TheVariants.{Happened}
@@ -17,6 +18,7 @@ use Rattle.realm_core.specs.Calls.{DoesOrMemory}
 use Rattle.realm_core.specs.declared.joins.Joined.{Joined}
 use Rattle.realm_lock.specs.Waits.{HasPassed, JoinsBy, Stopped, Waited, shown_in}
 use Rattle.job_runner.specs.Marks.{Shows}
+use Rattle.balkreyn.specs.Slots.{Takes}
 use Rattle.balkreyn.specs.declared.act.blocks.Backoff.{Backoff}
 
 -- the clock was read, and the options have a deadline so many milliseconds later
@@ -50,6 +52,17 @@ pub record SleepsFor {K : Type 0} (reads : K → K → ℕ → Type 0) (reading 
 -- the same of a context with a clock, a token and a seat
 abbrev pub Sleeps : {K X : Type 0} → (K → K → ℕ → Type 0) → (K → Option ℕ) → (X → K) → (X → OwnerValue) → (X → Option Seen) → (millis : ℕ) → X → X → Result (Option Mark) Refusal → Type 0
 Sleeps reads reading time token seat millis old new result = SleepsFor reads reading (time old) (token old) (token new) (seat old) (seat new) millis result
+
+-- the join of scope s answered that this task was the first to succeed, and the value is that which this task's slot gives
+pub record Won {K V : Type 0} (reads : K → K → ℕ → Type 0) (may : Name → V → Type 0) (start : K) (old new : OwnerValue) (s : ℕ) (value : V) : Type 0 where
+  pub joined : Joined
+  pub there : OwnerValue
+  pub joins : JoinsFrom reads start old there s (Ok joined)
+  pub task : ℕ
+  pub number : Value
+  pub first : joined.outcome ≡ Any task number
+  pub name : Name
+  pub takes : Takes (may name) there new task (Ok value)
 
 -- ---- a body with a binding
 

@@ -1,13 +1,10 @@
 //! One value to act by: a task's context with the realm's time.
-ghost use Rattle.std.specs.Prelude.{◌≡◌, MatchResult};
-ghost use Rattle.thread_crew.specs.Teams.{AreGone};
-ghost use Rattle.job_runner.specs.Lists.{ListsBelow, ListsOne};
 
 use crate::act::tasks::Timed;
 use crate::aliases::{Forks, Handle};
 use crate::forks::fork;
 use crate::scoped::Scopes;
-use job_runner::{Answers, Clock, SystemClock, TaskCtx, fail_after, move_on_after};
+use job_runner::{Answers, Clock, SystemClock, TaskCtx};
 use join_rules::Joiner;
 use realm_lock::{Joined, Mark, RealmName};
 use scope_rules::{
@@ -175,12 +172,12 @@ impl<K: Handle, N: RealmName, W: Answers + Drop, S: Forks<AnyEnd, N, Timed<K, W>
 
     fn fail_after(&self, millis: u64) -> Options {
         let mut clock = self.clock;
-        fail_after(&mut clock, millis)
+        Options::by(clock.now().saturating_add(millis))
     }
 
     fn move_on_after(&self, millis: u64) -> Options {
         let mut clock = self.clock;
-        move_on_after(&mut clock, millis)
+        Options::by(clock.now().saturating_add(millis)).moving_on()
     }
 
     fn fork(&mut self, scope: ScopeId, name: Name, job: W) -> Result<ForkReply, Refusal> {

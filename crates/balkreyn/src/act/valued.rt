@@ -1,7 +1,8 @@
 //! Typed jobs that act by one value, and what is done with several of them.
-ghost use Rattle.std.specs.Prelude.{◌≡◌, IfOk, IfSome, pos};
+ghost use Rattle.std.specs.Prelude.{◌≡◌, IfOk, Ok, pos};
 ghost use Rattle.scope_rules.specs.declared.types.values.Value.TheVariants as value;
 ghost use Rattle.realm_core.specs.Calls.{SeesMore};
+ghost use Rattle.balkreyn.specs.Acting.{Won};
 ghost use Rattle.balkreyn.specs.Slots.{ForksInto, Takes, task_of};
 
 use crate::act::blocks::scope;
@@ -99,12 +100,29 @@ fn fork_all<J: Yields + Drop, W: Answers + From<Typed<J>> + Drop, X: Acts<W>>(
     Ok(slots)
 }
 
+/// Joins the scope, and gives the value in the slot of the task that was the first to succeed.
+fn won<J: Yields, W, X: Acts<W>>(
+    cx: &mut X,
+    scope: ScopeId,
+    slots: &[Slot<J>],
+) -> Result<J::Value, Refusal>
+    ensures { IfOk result (Won X.Time.reads J.may_yield (X.time cx.old) (X.token cx.old) (X.token cx.new) scope) }
+{
+    let joined = cx.join(scope)?;
+    match &joined.outcome {
+        Outcome::Any { task, .. } => value_in(cx, slots, *task),
+        _ => Err(Refusal::Unavailable),
+    }
+}
+
 /// The value in the slot of this task, which is one of them.
 fn value_in<J: Yields, W, X: Acts<W>>(
     cx: &mut X,
     slots: &[Slot<J>],
     task: TaskId,
-) -> Result<J::Value, Refusal> {
+) -> Result<J::Value, Refusal>
+    ensures { IfOk result (λ value. (name : _) × Takes (J.may_yield name) (X.token cx.old) (X.token cx.new) task (Ok value)) }
+{
     for slot in slots {
         if slot.task() == task {
             return slot.value(cx);
@@ -123,15 +141,10 @@ pub fn race<J: Yields + Drop, W: Answers + From<Typed<J>> + Drop, X: Acts<W>>(
     name: Name,
     options: Options,
     jobs: Vec<J>,
-) -> Result<J::Value, Refusal>
-    ensures { IfOk result (J.may_yield name) }
-{
+) -> Result<J::Value, Refusal> {
     scope(cx, Joiner::Any, options, |cx, scope| {
         let slots = fork_all(cx, scope, name, jobs)?;
-        match &cx.join(scope)?.outcome {
-            Outcome::Any { task, .. } => value_in(cx, &slots, *task),
-            _ => Err(Refusal::Unavailable),
-        }
+        won(cx, scope, &slots)
     })
 }
 

@@ -1,0 +1,28 @@
+use Rattle.std.proofs.Common.{rules, refl, inr}
+use Rattle.balkreyn.proofs.act.blocks.bound.Goals as goal
+
+-- the key was bound, the body came back, and the unbind was refused
+pub returns-in_err-unbind : goal.returns-in_err-unbind
+returns-in_err-unbind g c = inr (record {
+  begun = c.bind.new.self;
+  ended = c.body-found.new.arg1;
+  found = c.body-found.result;
+  unbound = c.unbind.result;
+  bound = c.bind.ensures;
+  ran = record { lent = _; given = refl; back = _; left = refl; met = c.body-found.ensures };
+  taken = c.unbind.ensures;
+  answers = search rules;
+})
+
+-- and here it was not
+pub returns : goal.returns
+returns g c = inr (record {
+  begun = c.bind.new.self;
+  ended = c.body-found.new.arg1;
+  found = c.body-found.result;
+  unbound = c.unbind.result;
+  bound = c.bind.ensures;
+  ran = record { lent = _; given = refl; back = _; left = refl; met = c.body-found.ensures };
+  taken = c.unbind.ensures;
+  answers = search rules;
+})
