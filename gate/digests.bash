@@ -27,9 +27,7 @@ with_those_below() {
 sum() { sha256sum | cut -d ' ' -f 1; }
 
 # files PATH..: each file at or below these paths of crates/ with its digest; a path may be missing.
-files() {
-    (cd "$top/crates" && { find "$@" -type f -print0 2>/dev/null || true; } | LC_ALL=C sort -z | xargs -0 -r sha256sum)
-}
+files() { (cd "$top/crates" && { find "$@" -type f -print0 2>/dev/null || true; } | LC_ALL=C sort -z | xargs -0 -r sha256sum); }
 
 # sources NAME..: the lines of crates.txt of these crates, and each file that a proof of one of them reads.
 sources() {

@@ -44,3 +44,25 @@ notes() {
     refused=$(grep -c '^refused ' "$1" || true) bad_words=$(grep -c '^refused 18 ' "$1" || true)
     ((refused == 0)) || echo "scopectl: lines refused: $refused, of which no commands: $bad_words"
 }
+
+# plays PAGE: each command that the page shows behind a `$` says what stands below it, up to a line that isn't indented;
+# lines up to END belong to a command that ends with <<'END'
+plays() {
+    local page=$1 line command='' inside='' wanted='' played=0
+    while IFS= read -r line; do
+        if [[ $line == '    $ '* ]]; then
+            command=${line#'    $ '} wanted=''
+            [[ $line != *"<<'END'" ]] || inside=yes
+        elif [[ -n $inside ]]; then
+            command+=$'\n'${line#'    '}
+            [[ $line != '    END' ]] || inside=''
+        elif [[ -n $command && $line == '    '* ]]; then
+            wanted+=${line#'    '}$'\n'
+        elif [[ -n $command ]]; then
+            eval "${command//.\/scopectl/\"\$program\"}" </dev/null >"$room/written" 2>&1 || true
+            [[ $(<"$room/written")$'\n' == "$wanted" ]] || complain "${command%%$'\n'*} of $page says '$(<"$room/written")', not '$wanted'"
+            command='' played=$((played + 1))
+        fi
+    done < <(cat "$page" && echo)
+    ((played > 0)) || complain "plays nothing of $page"
+}
