@@ -5,7 +5,7 @@
 //! from any thread shows the tree of what is open, and the script of what happened.
 #![tactic(auto)]
 
-mod act;
+pub mod act;
 mod aliases;
 mod baton;
 mod by_token;
@@ -26,7 +26,6 @@ mod scoped;
 mod services;
 mod slots;
 
-pub use act::*;
 pub use aliases::{Forks, Handle};
 pub use by_token::ShowsByToken;
 pub use errors::{NoTime, ServiceError};

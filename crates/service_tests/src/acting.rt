@@ -1,10 +1,13 @@
 //! A service whose jobs and helpers act by one value: no clock, no runtime and no name of a realm in their signatures.
 ghost use Rattle.std.specs.Prelude.{◌≡◌};
 
+use balkreyn::act::{
+    Acts, Backoff, Serves, Task, TypedTask, Worker, all_of, bound, map_at_most, race, retry, scope,
+    serve,
+};
 use balkreyn::{
-    Acts, Answers, Backoff, CrewRuntime, End, Fault, Joiner, Name, Options, Outcome, Promises,
-    RealmName, Refusal, Seed, Serves, ServiceError, Task, Typed, TypedTask, Value, Worker,
-    Yields, all_of, bound, map_at_most, race, retry, scope, serve,
+    Answers, CrewRuntime, End, Fault, Joiner, Name, Options, Outcome, Promises, RealmName, Refusal,
+    Seed, ServiceError, Typed, Value, Yields,
 };
 use std::alloc::Global;
 use std::marker::Brand;

@@ -1,14 +1,14 @@
 //! Many typed jobs, of which so many run at a time.
 ghost use Rattle.std.specs.Prelude.{IfOk};
 
-use crate::act::blocks::scope;
+use crate::act::blocks::{entered, left};
 use crate::act::contexts::Acts;
 use crate::act::valued::TypedTask;
 use crate::jobs::Yields;
 use crate::places::Place;
 use job_runner::Answers;
 use join_rules::Joiner;
-use scope_rules::{End, Fault, Name, Options, Outcome, Refusal, Value};
+use scope_rules::{End, Fault, Name, Options, Outcome, Refusal, ScopeId, Value};
 use std::alloc::Global;
 use std::sync::{Arc, Mutex, Wait};
 
@@ -60,17 +60,28 @@ pub fn map_at_most<J: Yields + Drop, W: Answers + From<Worker<J>> + Drop, X: Act
     jobs: Vec<J>,
 ) -> Result<Vec<J::Value>, Refusal> {
     let batch = batch_of(cx.alloc(), jobs)?;
-    scope(cx, Joiner::AwaitOk, options, |cx, scope| {
-        for _ in 0..at_once.max(1) {
-            let batch = Arc::try_clone(&batch)?;
-            cx.fork(scope, name, W::from(Worker { name, batch }))?;
-        }
-        match &cx.join(scope)?.outcome {
-            Outcome::Done => values_of(cx, name, &batch),
-            Outcome::Failed { .. } => Err(Refusal::NotSuccess),
-            _ => Err(Refusal::Unavailable),
-        }
-    })
+    let scope = entered(cx, Joiner::AwaitOk, options)?;
+    let found = mapped(cx, scope, name, at_once, &batch);
+    left(cx, scope, found)
+}
+
+/// Forks so many workers in the scope, joins it, and gives the values that they put.
+fn mapped<J: Yields + Drop, W: Answers + From<Worker<J>> + Drop, X: Acts<W>>(
+    cx: &mut X,
+    scope: ScopeId,
+    name: Name,
+    at_once: u32,
+    batch: &Arc<Batch<J>, Global>,
+) -> Result<Vec<J::Value>, Refusal> {
+    for _ in 0..at_once.max(1) {
+        let batch = Arc::try_clone(batch)?;
+        cx.fork(scope, name, W::from(Worker { name, batch }))?;
+    }
+    match &cx.join(scope)?.outcome {
+        Outcome::Done => values_of(cx, name, batch),
+        Outcome::Failed { .. } => Err(Refusal::NotSuccess),
+        _ => Err(Refusal::Unavailable),
+    }
 }
 
 /// A batch of these jobs.

@@ -1,10 +1,10 @@
 //! Bodies that run in a scope, under a shield or with a binding, by one value.
-ghost use Rattle.std.specs.Prelude.{None, true};
+ghost use Rattle.std.specs.Prelude.{◌≡◌, None, true};
 ghost use Rattle.join_rules.specs.Joiners.{policy_of};
-ghost use Rattle.join_rules.specs.declared.joiners.Joiner.TheVariants as joiner;
 ghost use Rattle.scope_rules.specs.declared.types.events.Expiry.TheVariants.{Fail};
+ghost use Rattle.scope_rules.specs.declared.types.joiners.Policy.TheVariants as policy;
 ghost use Rattle.balkreyn.specs.Acting.{Retries, RunsBound, Sleeps};
-ghost use Rattle.balkreyn.specs.Bodies.{ClosesFrom, Opens, RunsWithin};
+ghost use Rattle.balkreyn.specs.Bodies.{ClosesFrom, Opens, RunsWithin, Settles};
 
 use crate::act::contexts::Acts;
 use crate::scoped::within_by;
@@ -29,6 +29,32 @@ pub fn scope<
     let rt = cx.runtime();
     let clock = cx.clock();
     within_by(&rt, cx, joiner, options, clock, body)
+}
+
+/// Opens a scope for what `left` closes.
+pub(crate) fn entered<W, X: Acts<W>>(
+    cx: &mut X,
+    joiner: Joiner,
+    options: Options,
+) -> Result<ScopeId, Refusal>
+    ensures { Opens X.token X.left_by_open (policy_of joiner) options cx.old cx.new result }
+{
+    let rt = cx.runtime();
+    cx.open_scope(&rt, joiner, options)
+}
+
+/// Closes the scope by the realm's clock, whatever was found in it. A refused close comes first.
+pub(crate) fn left<W, X: Acts<W>, T: Drop>(
+    cx: &mut X,
+    scope: ScopeId,
+    found: Result<T, Refusal>,
+) -> Result<T, Refusal>
+    ensures { (closed : _) × ClosesFrom X.token X.left_by_close X.Time.reads (X.time cx.old) cx.old cx.new scope closed × Settles (λ refusal error. error ≡ refusal) found closed result }
+{
+    let rt = cx.runtime();
+    let mut clock = cx.clock();
+    cx.close_opened_by(&rt, scope, &mut clock)?;
+    found
 }
 
 /// Runs the body with the key bound to the value, and takes that binding away on each way out (JEP 506, `where`).
@@ -63,7 +89,7 @@ pub fn shielded<
     F: FnOnce(&mut X, ScopeId) -> Result<T, E>,
 >(cx: &mut X, body: F) -> Result<T, E>
     requires { F.IsAlwaysCallable body }
-    ensures { RunsWithin (Opens X.token X.left_by_open (policy_of joiner.AwaitAll) (record { deadline = None; shield = true; expiry = Fail })) (ClosesFrom X.token X.left_by_close X.Time.reads (X.time cx.old)) E.from_gives F.FnOnce body cx.old cx.new result }
+    ensures { RunsWithin (Opens X.token X.left_by_open policy.AwaitAll (record { deadline = None; shield = true; expiry = Fail })) (ClosesFrom X.token X.left_by_close X.Time.reads (X.time cx.old)) E.from_gives F.FnOnce body cx.old cx.new result }
 {
     scope(cx, Joiner::AwaitAll, Options::PLAIN.shielded(), body)
 }

@@ -18,7 +18,7 @@ use thread_crew::Spawner;
 /// What a service and its jobs act by: the context of a task, which knows the realm's time. A helper has one bound,
 /// `X: Acts<W>`, where `W` is the type of its jobs. Each wait is by the realm's clock, so it ends at a deadline.
 pub trait Acts<W>: Scopes {
-    ghost use Rattle.std.specs.Prelude.{◌≡◌, ℕ, ⊥, Err, Option};
+    ghost use Rattle.std.specs.Prelude.{◌≡◌, ℕ, Err, Option};
     ghost use Rattle.scope_rules.specs.declared.types.events.Event.TheVariants as event;
     ghost use Rattle.scope_rules.specs.declared.types.events.Expiry.TheVariants.{Fail, MoveOn};
     ghost use Rattle.scope_rules.specs.declared.types.refusals.Refusal.TheVariants.{NotReady};
@@ -110,6 +110,17 @@ pub struct Cx<'a, K, S: Spawner<N>, N: RealmName> {
     pub(crate) alloc: Global,
     pub(crate) clock: SystemClock<K>,
     pub(crate) ctx: &'a mut TaskCtx<AnyEnd, S, N>,
+}
+
+impl<'a, K, S: Spawner<N>, N: RealmName> Cx<'a, K, S, N> {
+    /// This context, with its realm's clock.
+    pub(crate) fn new(
+        alloc: Global,
+        clock: SystemClock<K>,
+        ctx: &'a mut TaskCtx<AnyEnd, S, N>,
+    ) -> Cx<'a, K, S, N> {
+        Cx { alloc, clock, ctx }
+    }
 }
 
 impl<K, S: Spawner<N>, N: RealmName> Scopes for Cx<'_, K, S, N> {

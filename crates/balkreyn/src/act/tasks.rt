@@ -38,7 +38,7 @@ impl<K: Handle, N: RealmName, W: Task, S: Forks<AnyEnd, N, Timed<K, W>>> Job<Any
     for Timed<K, W> {
     fn run<R: Wait>(self, _rt: &R, ctx: &mut TaskCtx<AnyEnd, S, N>) -> End {
         let Timed { alloc, clock, job } = self;
-        job.run(&mut Cx { alloc, clock, ctx })
+        job.run(&mut Cx::new(alloc, clock, ctx))
     }
 }
 
@@ -78,7 +78,7 @@ where
     fn serve(self, rt: &K, ctx: &mut TaskCtx<AnyEnd, S, N>) -> Result<V::Answer, V::Error> {
         let Acting { alloc, service, .. } = self;
         let clock = realm_clock(rt)?;
-        service.serve(&mut Cx { alloc, clock, ctx })
+        service.serve(&mut Cx::new(alloc, clock, ctx))
     }
 }
 

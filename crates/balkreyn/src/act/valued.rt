@@ -5,7 +5,7 @@ ghost use Rattle.realm_core.specs.Calls.{SeesMore};
 ghost use Rattle.balkreyn.specs.Acting.{Won};
 ghost use Rattle.balkreyn.specs.Slots.{ForksInto, Takes, task_of};
 
-use crate::act::blocks::scope;
+use crate::act::blocks::{entered, left};
 use crate::act::contexts::Acts;
 use crate::jobs::{Typed, Yields};
 use crate::slots::{Slot, place_and_share};
@@ -142,10 +142,20 @@ pub fn race<J: Yields + Drop, W: Answers + From<Typed<J>> + Drop, X: Acts<W>>(
     options: Options,
     jobs: Vec<J>,
 ) -> Result<J::Value, Refusal> {
-    scope(cx, Joiner::Any, options, |cx, scope| {
-        let slots = fork_all(cx, scope, name, jobs)?;
-        won(cx, scope, &slots)
-    })
+    let scope = entered(cx, Joiner::Any, options)?;
+    let found = raced(cx, scope, name, jobs);
+    left(cx, scope, found)
+}
+
+/// Forks all these jobs in the scope, and gives the value of the first that succeeds.
+fn raced<J: Yields + Drop, W: Answers + From<Typed<J>> + Drop, X: Acts<W>>(
+    cx: &mut X,
+    scope: ScopeId,
+    name: Name,
+    jobs: Vec<J>,
+) -> Result<J::Value, Refusal> {
+    let slots = fork_all(cx, scope, name, jobs)?;
+    won(cx, scope, &slots)
 }
 
 /// Runs all these jobs in a scope of their own, and gives the value of each that succeeded, in order; there is none of
@@ -159,13 +169,23 @@ pub fn all_of<J: Yields + Drop, W: Answers + From<Typed<J>> + Drop, X: Acts<W>>(
     options: Options,
     jobs: Vec<J>,
 ) -> Result<Vec<Option<J::Value>>, Refusal> {
-    scope(cx, Joiner::AwaitAll, options, |cx, scope| {
-        let slots = fork_all(cx, scope, name, jobs)?;
-        cx.join(scope)?;
-        let mut values = Vec::new(cx.alloc());
-        for slot in slots.iter() {
-            values.push(slot.value(cx).ok())?;
-        }
-        Ok(values)
-    })
+    let scope = entered(cx, Joiner::AwaitAll, options)?;
+    let found = gathered(cx, scope, name, jobs);
+    left(cx, scope, found)
+}
+
+/// Forks all these jobs in the scope, joins it, and gives the value of each that succeeded.
+fn gathered<J: Yields + Drop, W: Answers + From<Typed<J>> + Drop, X: Acts<W>>(
+    cx: &mut X,
+    scope: ScopeId,
+    name: Name,
+    jobs: Vec<J>,
+) -> Result<Vec<Option<J::Value>>, Refusal> {
+    let slots = fork_all(cx, scope, name, jobs)?;
+    cx.join(scope)?;
+    let mut values = Vec::new(cx.alloc());
+    for slot in slots.iter() {
+        values.push(slot.value(cx).ok())?;
+    }
+    Ok(values)
 }
