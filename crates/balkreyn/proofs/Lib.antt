@@ -1,3 +1,4 @@
+mod Acted
 pub mod Shown
 mod Tried
 pub mod Waited

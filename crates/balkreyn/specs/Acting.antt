@@ -1,5 +1,5 @@
 -- What is done by a context that knows the realm's time: each wait reads a copy of its clock.
-use Rattle.std.specs.Prelude.{◌≡◌, ◌⊎◌, ℕ, ◌+◌, ◌-◌, ◌*◌, ◌^◌, ◌≤◌, min, suc, Option, None, Some, Result, Ok, Err, IsErrAnd}
+use Rattle.std.specs.Prelude.{◌≡◌, ◌⊎◌, ℕ, ◌+◌, ◌-◌, ◌*◌, ◌^◌, ◌≤◌, min, Option, None, Some, Result, Ok, Err, IsErrAnd}
 use Rattle.std.specs.Borrow.{MutBor}
 use Rattle.std.specs.Fn.{CalledWithState, Mut, Once}
 use Rattle.cancel_marks.specs.declared.marks.Mark.{Mark}
@@ -114,7 +114,7 @@ RunsBound token key value makes calls body old new result = StaysUnbound (Binds 
 -- pause, and then for twice as long each time
 pub data Failed {F X T E : Type 0} (calls : Mut F (MutBor X × (ℕ × Unit {0})) (Result T E × (MutBor X × Unit {0}))) (sleeps : ℕ → X → X → Result (Option Mark) Refusal → Type 0) (first : ℕ) (body : F) (old : X) : ℕ → ℕ → F → X → Type 0 where
   none : Failed calls sleeps first body old 0 first body old
-  more : {number pause : ℕ} {state state_new : F} {begun ended after : X} {error : E} → Failed calls sleeps first body old number pause state begun → CalledWithState calls state begun number (Err error) state_new ended → sleeps pause ended after (Ok None) → Failed calls sleeps first body old (suc number) (min (pause * 2) (2 ^ 64 - 1)) state_new after
+  more : {number pause twice : ℕ} {state state_new : F} {begun ended after : X} {error : E} → Failed calls sleeps first body old number pause state begun → CalledWithState calls state begun number (Err error) state_new ended → sleeps pause ended after (Ok None) → twice ≡ min (pause * 2) (2 ^ 64 - 1) → Failed calls sleeps first body old (number + 1) twice state_new after
 
 -- what is answered behind the last try: what that found, if it succeeded, was the last that may be, or a mark was shown
 -- in the pause behind it; or the pause was refused

@@ -1,5 +1,5 @@
 //! Typed jobs that act by one value, and what is done with several of them.
-ghost use Rattle.std.specs.Prelude.{◌≡◌, IfOk, Ok, pos};
+ghost use Rattle.std.specs.Prelude.{◌≡◌, IfOk, IfSome, Ok, pos};
 ghost use Rattle.scope_rules.specs.declared.types.values.Value.TheVariants as value;
 ghost use Rattle.realm_core.specs.Calls.{SeesMore};
 ghost use Rattle.balkreyn.specs.Acting.{Won};
@@ -123,12 +123,22 @@ fn value_in<J: Yields, W, X: Acts<W>>(
 ) -> Result<J::Value, Refusal>
     ensures { IfOk result (λ value. (name : _) × Takes (J.may_yield name) (X.token cx.old) (X.token cx.new) task (Ok value)) }
 {
+    match slot_of(slots, task) {
+        Some(slot) => slot.value(cx),
+        None => Err(Refusal::Unavailable),
+    }
+}
+
+/// The slot of this task, if it is one of them.
+fn slot_of<J: Yields>(slots: &[Slot<J>], task: TaskId) -> Option<&Slot<J>>
+    ensures { IfSome result (λ slot. task_of slot.now.reply ≡ task) }
+{
     for slot in slots {
         if slot.task() == task {
-            return slot.value(cx);
+            return Some(slot);
         }
     }
-    Err(Refusal::Unavailable)
+    None
 }
 
 /// Runs all these jobs in a scope of their own, and gives the value of the first that succeeds; the others are

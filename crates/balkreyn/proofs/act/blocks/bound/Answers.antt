@@ -5,10 +5,10 @@ use Rattle.balkreyn.proofs.act.blocks.bound.Goals as goal
 pub returns-in_err-unbind : goal.returns-in_err-unbind
 returns-in_err-unbind g c = inr (record {
   begun = c.bind.new.self;
-  ended = c.body-found.new.arg1;
+  ended = c.body-found.new.arg2;
   found = c.body-found.result;
   unbound = c.unbind.result;
-  bound = c.bind.ensures;
+  bound = search rules;
   ran = record { lent = _; given = refl; back = _; left = refl; met = c.body-found.ensures };
   taken = c.unbind.ensures;
   answers = search rules;
@@ -18,10 +18,10 @@ returns-in_err-unbind g c = inr (record {
 pub returns : goal.returns
 returns g c = inr (record {
   begun = c.bind.new.self;
-  ended = c.body-found.new.arg1;
+  ended = c.body-found.new.arg2;
   found = c.body-found.result;
   unbound = c.unbind.result;
-  bound = c.bind.ensures;
+  bound = search rules;
   ran = record { lent = _; given = refl; back = _; left = refl; met = c.body-found.ensures };
   taken = c.unbind.ensures;
   answers = search rules;

@@ -1,0 +1,5 @@
+use Rattle.std.proofs.Common.{rules}
+use Rattle.balkreyn.proofs.act.contexts.CxActs.move_on_after.Goals as goal
+
+pub returns : goal.returns
+returns g c = record { last = c.now.new.self; now = c.now.result; read = c.now.ensures.read; after = search rules }

@@ -1,0 +1,14 @@
+use Rattle.std.proofs.Common.{rules}
+use Rattle.balkreyn.proofs.Acted.{slept}
+use Rattle.balkreyn.proofs.act.contexts.CxActs.sleep.Goals as goal
+
+-- the moment until which it sleeps is that of the first reading and the milliseconds
+pub returns-clause-answer : goal.returns-clause-answer
+returns-clause-answer g c = record {
+  begun = c.now.new.self;
+  now = c.now.result;
+  read = c.now.ensures.read;
+  last = c.sleep_by.new.clock;
+  slept = slept _ (λ clock. clock.last) _ _ _ _ _ _ (search rules) c.sleep_by.result c.sleep_by.ensures.answer c.sleep_by.ensures.slept;
+  shows = c.sleep_by.ensures.shows;
+}
