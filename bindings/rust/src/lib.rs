@@ -32,7 +32,7 @@
 //! reaches, which deadline is next: each is one call of the library, and its answer is the rules' by proof. This crate
 //! starts the threads, waits, tells the time and keeps the results; it is tested, not proved. What happened can be
 //! written as a journal ([`Look::journal`]), and the proved program `scopectl replay --strict` says whether the run
-//! kept the rules.
+//! kept the rules. A realm that notes ([`Realm::noted`]) writes its answers too ([`Look::notes`]).
 //!
 //! # Who acts
 //!
@@ -54,6 +54,7 @@
 
 mod context;
 mod ffi;
+mod notes;
 mod options;
 mod outcome;
 mod realm;
@@ -64,6 +65,7 @@ mod task;
 mod threads;
 
 pub use context::{Cancelled, Context, Value};
+pub use notes::Notes;
 pub use options::{Joiner, Options};
 pub use outcome::{Cause, Outcome, ScopeError, ScopeId, TaskId};
 pub use realm::{Limits, Look, Realm};

@@ -1,6 +1,7 @@
 //! What the threads of a realm share: the book behind its lock, the clock, and the bells.
 
 use crate::ffi::Book;
+use crate::notes::Notes;
 use crate::options::Options;
 use crate::refusal::Refusal;
 use std::alloc::{handle_alloc_error, Layout};
@@ -25,6 +26,16 @@ pub(crate) struct Bell {
     pub(crate) sleepers: Condvar,
 }
 
+/// How a task begins or ends.
+pub(crate) enum Event {
+    Start,
+    /// No thread runs it.
+    Reject,
+    /// It gives a value, by its measure.
+    Finish(i64),
+    Fail(&'static str),
+}
+
 /// A scope that is open, as its owner and its jobs know it.
 #[derive(Clone)]
 pub(crate) struct Around {
@@ -39,6 +50,18 @@ pub(crate) struct Inner {
     bells: HashMap<u32, Arc<Bell>>,
     /// How many of the book's cancelled scopes were told to their bells.
     told: usize,
+    /// What was asked and answered, where the realm notes it.
+    pub(crate) notes: Option<Box<Notes>>,
+}
+
+impl Inner {
+    /// Notes what was asked and answered, where the realm notes it. The lock is held from the call to its note, so
+    /// that the notes are in the order of the book.
+    pub(crate) fn note(&mut self, write: impl FnOnce(&mut Notes, &mut Book)) {
+        if let Some(notes) = &mut self.notes {
+            write(notes, &mut self.book);
+        }
+    }
 }
 
 /// What the threads of a realm share.
@@ -46,13 +69,27 @@ pub(crate) struct Shared {
     inner: Mutex<Inner>,
     /// The next deadline of the realm in milliseconds, as the book said last.
     next: AtomicU64,
+    /// Whether the realm notes.
+    notes: AtomicBool,
     began: Instant,
 }
 
 impl Shared {
     pub(crate) fn new(book: Book) -> Shared {
-        let inner = Inner { book, bells: HashMap::new(), told: 0 };
-        Shared { inner: Mutex::new(inner), next: AtomicU64::new(NEVER), began: Instant::now() }
+        let inner = Inner { book, bells: HashMap::new(), told: 0, notes: None };
+        let (next, notes) = (AtomicU64::new(NEVER), AtomicBool::new(false));
+        Shared { inner: Mutex::new(inner), next, notes, began: Instant::now() }
+    }
+
+    /// Notes what is asked and answered from now on.
+    pub(crate) fn begin_notes(&self) {
+        self.quietly().notes.get_or_insert_with(Box::default);
+        self.notes.store(true, Ordering::Relaxed);
+    }
+
+    /// Whether the realm notes. It takes no lock.
+    pub(crate) fn is_noting(&self) -> bool {
+        self.notes.load(Ordering::Relaxed)
     }
 
     /// The book, for a question that passes no deadline. A job's panic never comes while the lock is held, so a
@@ -78,7 +115,10 @@ impl Shared {
     pub(crate) fn pass_deadlines(&self, inner: &mut Inner) {
         if self.is_due() {
             // A refusal (the load's limit) leaves the deadline standing: the next call tries again.
-            let _ = inner.book.tick(self.now());
+            let now = self.now();
+            if inner.book.tick(now).is_ok() {
+                inner.note(|notes, _| notes.line(format_args!("tick {now}"), format_args!("moment {now}")));
+            }
             self.settle(inner);
         }
     }
@@ -151,6 +191,7 @@ impl Shared {
         let deadline = options.within.map(|duration| self.after(duration));
         let answer = inner.book.open_scope(actor, joiner, bound, options.flags(), deadline.unwrap_or(0))?;
         let around = Around { scope: answer as u32, bell: Arc::default() };
+        inner.note(|notes, _| notes.open(actor, options.words(deadline), around.scope));
         inner.bells.insert(around.scope, Arc::clone(&around.bell));
         if deadline.is_some() {
             self.note_next(&mut inner);
@@ -165,16 +206,22 @@ impl Shared {
         let mut inner = self.lock();
         if inner.book.retire(MAIN).is_ok() {
             inner.told = 0;
+            inner.note(|notes, _| notes.retire());
         }
     }
 
     /// Sets the scope's deadline so long after now, or takes it away. Who waits learns it.
     pub(crate) fn move_deadline(&self, scope: u32, within: Option<Duration>) -> Result<(), Refusal> {
         let mut inner = self.lock();
-        match within {
-            Some(duration) => inner.book.move_deadline(scope, self.after(duration))?,
+        let moment = within.map(|duration| self.after(duration));
+        match moment {
+            Some(moment) => inner.book.move_deadline(scope, moment)?,
             None => inner.book.move_never(scope)?,
         };
+        inner.note(|notes, _| match moment {
+            Some(moment) => notes.line(format_args!("move {scope} {moment}"), "moved"),
+            None => notes.line(format_args!("move {scope} never"), "moved"),
+        });
         self.note_next(&mut inner);
         self.settle(&mut inner);
         self.pass_deadlines(&mut inner);
@@ -188,9 +235,11 @@ impl Shared {
     /// Cancels the scope: whether it was not cancelled before.
     pub(crate) fn cancel(&self, scope: u32) -> Result<bool, Refusal> {
         let mut inner = self.lock();
-        let answer = inner.book.cancel(scope)?;
+        let is_first = inner.book.cancel(scope)? == 0;
+        let answer = if is_first { "cancelled" } else { "already" };
+        inner.note(|notes, _| notes.line(format_args!("cancel {scope}"), answer));
         self.settle(&mut inner);
-        Ok(answer == 0)
+        Ok(is_first)
     }
 
     /// Begins to close the scope, which cancels what still runs in it.
@@ -198,6 +247,9 @@ impl Shared {
         let mut inner = self.lock();
         let answer = surely(inner.book.begin_close(actor, scope));
         debug_assert!(answer.is_ok(), "the owner closes its innermost scope: {answer:?}");
+        if answer == Ok(0) {
+            inner.note(|notes, _| notes.line(format_args!("close {actor} {scope}"), "closing"));
+        }
         self.settle(&mut inner);
     }
 
@@ -206,25 +258,43 @@ impl Shared {
         let mut inner = self.lock();
         let answer = surely(inner.book.end_close(actor, scope));
         inner.bells.remove(&scope);
-        self.settle(&mut inner);
-        match answer? {
-            2 => Err(Refusal::NotJoined),
-            3 => Err(Refusal::Structure),
-            _ => Ok(()),
+        let (verdict, words) = match answer {
+            Ok(2) => (Err(Refusal::NotJoined), "closed not-joined"),
+            Ok(3) => (Err(Refusal::Structure), "closed violated"),
+            Ok(_) => (Ok(()), "closed"),
+            Err(refusal) => (Err(refusal), ""),
+        };
+        if answer.is_ok() {
+            inner.note(|notes, _| notes.line(format_args!("closed {actor} {scope}"), words));
         }
+        self.settle(&mut inner);
+        verdict
     }
 
-    /// Notes how a task began.
-    pub(crate) fn record(&self, event: impl FnOnce(&mut Book) -> Result<i64, Refusal>) -> MutexGuard<'_, Inner> {
+    /// Tells the book how a task began or ended.
+    pub(crate) fn record(&self, task: u32, event: &Event) -> MutexGuard<'_, Inner> {
         let mut inner = self.lock();
-        let answer = surely(event(&mut inner.book));
+        let answer = surely(match event {
+            Event::Start => inner.book.start(task),
+            Event::Reject => inner.book.reject(task),
+            Event::Finish(value) => inner.book.finish(task, *value),
+            Event::Fail(fault) => inner.book.fail(task, fault),
+        });
         debug_assert!(answer.is_ok(), "each task begins and ends once: {answer:?}");
+        if answer.is_ok() {
+            inner.note(|notes, _| match event {
+                Event::Start => notes.line(format_args!("start {task}"), "started"),
+                Event::Reject => notes.line(format_args!("reject {task}"), "rejected"),
+                Event::Finish(value) => notes.line(format_args!("ok {task} {value}"), "finished"),
+                Event::Fail(fault) => notes.line(format_args!("fail {task} {fault}"), "finished"),
+            });
+        }
         inner
     }
 
-    /// Notes how a task ended, and tells the owner of its scope where nothing is left to wait for.
-    pub(crate) fn record_end(&self, around: &Around, event: impl FnOnce(&mut Book) -> Result<i64, Refusal>) {
-        let mut inner = self.record(event);
+    /// Tells the book how a task ended, and the owner of its scope where nothing is left to wait for.
+    pub(crate) fn record_end(&self, around: &Around, task: u32, event: &Event) {
+        let mut inner = self.record(task, event);
         self.settle(&mut inner);
         if inner.book.is_quiet(around.scope) {
             around.bell.owner.notify_all();
