@@ -30,13 +30,9 @@ final class Demo {
                 var scope = StructuredTaskScope.open(noted)) {
             scope.fork(noted.task("nested", Demo::first));
             scope.fork(noted.task("sold-out", () -> shop(-1, 50)));
-            try {
-                scope.join();
-            } catch (StructuredTaskScope.FailedException failed) {
-                scope.fork(noted.task("late", () -> shop(1, 0)));
-            }
-        } catch (IllegalStateException joined) {
-            // A fork after the join is refused by Java, before its joiner hears of it.
+            scope.join();
+        } catch (StructuredTaskScope.FailedException failed) {
+            System.err.println(failed.getCause().getMessage());
         }
     }
 

@@ -5,6 +5,8 @@ final class Journal {
     private final StringBuilder lines = new StringBuilder();
     /** Who acts on this thread: 0 is main, and k is task k. */
     final ThreadLocal<Integer> actor = ThreadLocal.withInitial(() -> 0);
+    /** Whether this thread runs a task that, by the rules, never runs. */
+    final ThreadLocal<Boolean> isSilent = ThreadLocal.withInitial(() -> false);
     /** The innermost scope around this thread. */
     final ThreadLocal<JournalJoiner<?, ?>> innermost = new ThreadLocal<>();
     int scopes, tasks;

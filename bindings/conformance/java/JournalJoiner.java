@@ -36,6 +36,8 @@ final class JournalJoiner<T, R> implements Joiner<T, R>, AutoCloseable {
     private final Joiner<T, R> joiner;
     private final JournalJoiner<?, ?> around;
     private final int actor, scope;
+    /** Whether this was opened by a task that, by the rules, never runs. */
+    private final boolean isSilent;
     private final Map<Subtask<? extends T>, Forked> tasks = new IdentityHashMap<>();
     /** What {@link #task} made and the owner has not forked yet. */
     private Forked next;
@@ -47,8 +49,9 @@ final class JournalJoiner<T, R> implements Joiner<T, R>, AutoCloseable {
         synchronized (journal) {
             actor = journal.actor.get();
             around = journal.innermost.get();
-            scope = ++journal.scopes;
-            journal.say("open " + actor + " " + word);
+            isSilent = journal.isSilent.get();
+            scope = isSilent ? 0 : ++journal.scopes;
+            say("open " + actor + " " + word);
         }
         journal.innermost.set(this);
     }
@@ -59,6 +62,7 @@ final class JournalJoiner<T, R> implements Joiner<T, R>, AutoCloseable {
         next = task;
         return () -> {
             journal.actor.set(task.number);
+            journal.isSilent.set(task.isSilent);
             journal.innermost.set(this);
             synchronized (journal) {
                 start(task);
@@ -72,11 +76,11 @@ final class JournalJoiner<T, R> implements Joiner<T, R>, AutoCloseable {
         synchronized (journal) {
             var task = next == null ? new Forked("task") : next;
             next = null;
-            task.number = ++journal.tasks;
-            // By the rules it never runs then. In Java it may, where only a scope around this one is cancelled.
-            task.isSilent = isCancelled();
+            task.number = isSilent ? 0 : ++journal.tasks;
+            // By the rules it never runs then. In Java it does if only a scope around this one is cancelled.
+            task.isSilent = isSilent || isCancelled();
             tasks.put(subtask, task);
-            journal.say("fork " + actor + " " + scope + " " + task.name);
+            say("fork " + actor + " " + scope + " " + task.name);
             boolean cancels = joiner.onFork(subtask);
             isCancelled |= cancels;
             return cancels;
@@ -103,7 +107,7 @@ final class JournalJoiner<T, R> implements Joiner<T, R>, AutoCloseable {
     @Override
     public R result() throws Throwable {
         synchronized (journal) {
-            journal.say("join " + actor + " " + scope);
+            say("join " + actor + " " + scope);
         }
         return joiner.result();
     }
@@ -112,15 +116,15 @@ final class JournalJoiner<T, R> implements Joiner<T, R>, AutoCloseable {
     @Override
     public void close() {
         synchronized (journal) {
-            journal.say("close " + actor + " " + scope);
+            say("close " + actor + " " + scope);
             for (var task : tasks.values()) {
                 if (task.hasStarted) {
                     end(task, "fail", "cancelled");
                 } else if (!task.isSilent) {
-                    journal.say("reject " + task.number);
+                    say("reject " + task.number);
                 }
             }
-            journal.say("closed " + actor + " " + scope);
+            say("closed " + actor + " " + scope);
         }
         journal.innermost.set(around);
     }
@@ -132,14 +136,20 @@ final class JournalJoiner<T, R> implements Joiner<T, R>, AutoCloseable {
     private void start(Forked task) {
         if (!task.isSilent && !task.hasStarted) {
             task.hasStarted = true;
-            journal.say("start " + task.number);
+            say("start " + task.number);
         }
     }
 
     private void end(Forked task, String word, String end) {
         if (!task.isSilent && !task.hasEnded) {
             task.hasEnded = true;
-            journal.say(word + " " + task.number + " " + end);
+            say(word + " " + task.number + " " + end);
+        }
+    }
+
+    private void say(String line) {
+        if (!isSilent) {
+            journal.say(line);
         }
     }
 }
