@@ -2,6 +2,7 @@
 //! program says whether the rules answer the same.
 
 use balkreyn::{Canceller, Context, Joiner, Options, Realm, Refusal};
+use std::io::Write;
 use std::num::NonZeroUsize;
 use std::path::{Path, PathBuf};
 use std::process::{Command, Stdio};
@@ -146,7 +147,7 @@ impl Judge {
         let program = env::var_os("SCOPECTL").map_or_else(|| top.join("carried/scopectl"), PathBuf::from);
         let check = top.join("bindings/conformance/check");
         if !program.is_file() || !check.is_file() {
-            println!("left out: what the rules answer, as no scopectl is at hand");
+            say("left out: what the rules answer, as no scopectl is at hand");
             return None;
         }
         let folder = env::temp_dir().join(format!("balkreyn-{name}-{}", std::process::id()));
@@ -169,6 +170,11 @@ impl Judge {
     }
 }
 
+/// Says it also where the test passes, and its output is captured.
+fn say(text: &str) {
+    let _ = writeln!(std::io::stderr(), "{text}");
+}
+
 fn is_question(line: &str) -> bool {
     ["result ", "fault ", "state ", "cause ", "get "].iter().any(|question| line.starts_with(question))
 }
@@ -187,7 +193,8 @@ fn each_answer_in_a_storm_is_that_of_the_rules() {
             judge.hears(&notes.journal, Some(&notes.answers));
         }
     }
-    println!("{seed} realms, {events} events, {questions} questions");
+    let judged = if judge.is_some() { "answered as by the rules" } else { "not judged" };
+    say(&format!("a storm of {seed} realms, {events} events and {questions} questions: {judged}"));
     if let Some(judge) = judge {
         judge.ends();
     }
