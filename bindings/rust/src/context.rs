@@ -6,14 +6,14 @@ use crate::outcome::ScopeError;
 use crate::realm::Look;
 use crate::refusal::Refusal;
 use crate::scope::Scope;
-use crate::shared::{surely, Around, Inner, Shared, MAIN};
+use crate::shared::{surely, Around, Inner, Shared, Waiting, MAIN};
 use std::cell::{Cell, RefCell};
 use std::error::Error;
 use std::fmt;
 use std::marker::PhantomData;
 use std::panic::{catch_unwind, resume_unwind, AssertUnwindSafe};
 use std::sync::atomic::Ordering;
-use std::sync::{Arc, Condvar};
+use std::sync::Arc;
 use std::thread;
 use std::time::{Duration, Instant};
 
@@ -88,7 +88,7 @@ pub struct Context {
     /// opened or bound either, until main lets the past go, and they are taken away before that.
     owed: Cell<u32>,
     /// Where nothing is around: main waits here, and nobody rings.
-    silent: Condvar,
+    silent: Waiting,
     on_its_thread: PhantomData<*const ()>,
 }
 
@@ -115,7 +115,7 @@ impl Context {
 
     fn new(shared: Arc<Shared>, actor: u32, around: Vec<Around>) -> Context {
         let around = RefCell::new(around);
-        Context { shared, actor, around, owed: Cell::new(0), silent: Condvar::new(), on_its_thread: PhantomData }
+        Context { shared, actor, around, owed: Cell::new(0), silent: Waiting::default(), on_its_thread: PhantomData }
     }
 
     /// Opens a scope, runs the body, and closes the scope on every way out of it: what still runs is cancelled, and

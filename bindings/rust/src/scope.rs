@@ -109,9 +109,9 @@ impl<'scope, 'env> Scope<'scope, 'env> {
             let (shared, around, left) = (Arc::clone(&self.shared), self.around.clone(), Arc::clone(&slot));
             let run = move |may_run: bool| {
                 if may_run && !around.bell.cancelled.load(Ordering::Acquire) {
-                    run_job(&shared, id, around, &left, measure, job);
+                    run_job(&shared, id, around, &left, measure, job)
                 } else {
-                    shared.record_end(&around, id, &Event::Reject);
+                    shared.record_end(&around, id, &Event::Reject)
                 }
             };
             self.crew.get_or_init(|| Threads::new(self.thread_limit)).run(self.threads, Box::new(run));
@@ -125,6 +125,10 @@ impl<'scope, 'env> Scope<'scope, 'env> {
     /// [`Refusal::AlreadyJoined`].
     pub fn join(&self) -> Result<Outcome, Refusal> {
         let scope = self.around.scope;
+        // Nothing is forked after a join, so a thread that finds no more jobs may end while the owner waits.
+        if let Some(crew) = self.crew.get() {
+            crew.close();
+        }
         let mut inner = self.shared.lock();
         loop {
             match inner.book.join(self.actor, scope) {

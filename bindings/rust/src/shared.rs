@@ -6,7 +6,7 @@ use crate::options::Options;
 use crate::refusal::Refusal;
 use std::alloc::{handle_alloc_error, Layout};
 use std::collections::HashMap;
-use std::sync::atomic::{AtomicBool, AtomicU64, Ordering};
+use std::sync::atomic::{AtomicBool, AtomicU64, AtomicUsize, Ordering};
 use std::sync::{Arc, Condvar, Mutex, MutexGuard, PoisonError};
 use std::time::{Duration, Instant};
 
@@ -21,9 +21,51 @@ pub(crate) struct Bell {
     /// Whether the book said that the scope is cancelled.
     pub(crate) cancelled: AtomicBool,
     /// The owner waits here for its join.
-    pub(crate) owner: Condvar,
+    pub(crate) owner: Waiting,
     /// Those who sleep in the scope wait here for its cancel.
-    pub(crate) sleepers: Condvar,
+    pub(crate) sleepers: Waiting,
+}
+
+/// Where threads wait that hold the realm's lock. To ring for nobody costs nothing.
+#[derive(Default)]
+pub(crate) struct Waiting {
+    wakes: Condvar,
+    /// How many wait. It is written and read under the lock.
+    count: AtomicUsize,
+}
+
+impl Waiting {
+    /// Waits, at most so long.
+    fn wait<'lock>(&self, inner: MutexGuard<'lock, Inner>, limit: Option<Duration>) -> MutexGuard<'lock, Inner> {
+        self.count.fetch_add(1, Ordering::Relaxed);
+        let inner = match limit {
+            None => self.wakes.wait(inner).unwrap_or_else(PoisonError::into_inner),
+            Some(limit) => self.wakes.wait_timeout(inner, limit).unwrap_or_else(PoisonError::into_inner).0,
+        };
+        self.count.fetch_sub(1, Ordering::Relaxed);
+        inner
+    }
+
+    /// Whether somebody waits. The lock is held.
+    fn is_waited(&self) -> bool {
+        self.count.load(Ordering::Relaxed) > 0
+    }
+
+    /// Wakes all. The lock is held.
+    fn ring(&self) {
+        if self.is_waited() {
+            self.wakes.notify_all();
+        }
+    }
+}
+
+/// Wakes the owner of a scope, whose tasks have all ended, at its drop.
+pub(crate) struct Wake(Arc<Bell>);
+
+impl Drop for Wake {
+    fn drop(&mut self) {
+        self.0.owner.wakes.notify_one();
+    }
 }
 
 /// How a task begins or ends.
@@ -129,8 +171,8 @@ impl Shared {
             inner.told += 1;
             if let Some(bell) = inner.bells.get(&scope) {
                 bell.cancelled.store(true, Ordering::Release);
-                bell.owner.notify_all();
-                bell.sleepers.notify_all();
+                bell.owner.ring();
+                bell.sleepers.ring();
             }
         }
         if self.next.load(Ordering::Relaxed) != NEVER {
@@ -142,11 +184,11 @@ impl Shared {
         self.next.store(inner.book.next_deadline().unwrap_or(NEVER), Ordering::Relaxed);
     }
 
-    /// Waits until the bell rings, a deadline that counts for the scope is due, or the end that is given has come.
+    /// Waits until it is rung there, a deadline that counts for the scope is due, or the end that is given has come.
     pub(crate) fn wait<'lock>(
         &self,
         mut inner: MutexGuard<'lock, Inner>,
-        bell: &Condvar,
+        waiting: &Waiting,
         scope: Option<u32>,
         end: Option<Instant>,
     ) -> MutexGuard<'lock, Inner> {
@@ -157,13 +199,7 @@ impl Shared {
             (Some(deadline), Some(end)) => Some(deadline.min(end)),
             (deadline, end) => deadline.or(end),
         };
-        let mut inner = match limit {
-            None => bell.wait(inner).unwrap_or_else(PoisonError::into_inner),
-            Some(limit) => {
-                let left = limit.saturating_duration_since(Instant::now());
-                bell.wait_timeout(inner, left).unwrap_or_else(PoisonError::into_inner).0
-            }
-        };
+        let mut inner = waiting.wait(inner, limit.map(|limit| limit.saturating_duration_since(Instant::now())));
         self.pass_deadlines(&mut inner);
         inner
     }
@@ -226,8 +262,8 @@ impl Shared {
         self.settle(&mut inner);
         self.pass_deadlines(&mut inner);
         for bell in inner.bells.values() {
-            bell.owner.notify_all();
-            bell.sleepers.notify_all();
+            bell.owner.ring();
+            bell.sleepers.ring();
         }
         Ok(())
     }
@@ -292,13 +328,13 @@ impl Shared {
         inner
     }
 
-    /// Tells the book how a task ended, and the owner of its scope where nothing is left to wait for.
-    pub(crate) fn record_end(&self, around: &Around, task: u32, event: &Event) {
+    /// Tells the book how a task ended. Where its owner waits, and for nothing more, the caller wakes it.
+    #[must_use]
+    pub(crate) fn record_end(&self, around: &Around, task: u32, event: &Event) -> Option<Wake> {
         let mut inner = self.record(task, event);
         self.settle(&mut inner);
-        if inner.book.is_quiet(around.scope) {
-            around.bell.owner.notify_all();
-        }
+        let wakes = around.bell.owner.is_waited() && inner.book.is_quiet(around.scope);
+        wakes.then(|| Wake(Arc::clone(&around.bell)))
     }
 }
 

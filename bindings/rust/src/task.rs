@@ -3,7 +3,7 @@
 use crate::context::Context;
 use crate::outcome::TaskId;
 use crate::refusal::Refusal;
-use crate::shared::{Around, Event, Shared};
+use crate::shared::{Around, Event, Shared, Wake};
 use std::any::Any;
 use std::error::Error;
 use std::fmt;
@@ -114,7 +114,7 @@ pub(crate) fn run_job<T, E>(
     slot: &Slot<T, E>,
     measure: impl FnOnce(&T) -> i64,
     job: impl FnOnce(&Context) -> Result<T, E>,
-) {
+) -> Option<Wake> {
     drop(shared.record(id, &Event::Start));
     let cx = Context::of_task(Arc::clone(shared), id, around.clone());
     let ended = catch_unwind(AssertUnwindSafe(|| job(&cx).map(|value| (measure(&value), value))));
@@ -125,5 +125,5 @@ pub(crate) fn run_job<T, E>(
         Err(panic) => (Left::Panic(panic), Event::Fail("panicked")),
     };
     *slot.lock().unwrap_or_else(PoisonError::into_inner) = Some(left);
-    shared.record_end(&around, id, &end);
+    shared.record_end(&around, id, &end)
 }
