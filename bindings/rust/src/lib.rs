@@ -29,10 +29,11 @@
 //! # What is proved, and what is tested
 //!
 //! Whether a fork may run, whether a join is ready and what it answers, whether a result counts, what a cancel
-//! reaches, which deadline is next: each is one call of the library, and its answer is the rules' by proof. This crate
-//! starts the threads, waits, tells the time and keeps the results; it is tested, not proved. What happened can be
-//! written as a journal ([`Look::journal`]), and the proved program `scopectl replay --strict` says whether the run
-//! kept the rules. A realm that notes ([`Realm::noted`]) writes its answers too ([`Look::notes`]).
+//! reaches, which deadline is next: each is one call of the library, whose answer is proved to be that of the rules.
+//! This crate starts the threads, waits, reads the clock and stores the results; it is tested, not proved. What
+//! happened can be written as a journal ([`Look::journal`]), and the proved program `scopectl replay --strict` says
+//! whether the rules refuse a line of it. A realm that notes ([`Realm::noted`]) writes its answers too
+//! ([`Look::notes`]), so that the program can compare them with those of the rules.
 //!
 //! # Who acts
 //!
