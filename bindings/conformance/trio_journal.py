@@ -1,8 +1,9 @@
-"""A journal of a Trio program: a script, of which `scopectl replay --strict` refuses no line.
+"""A journal of a Trio program, and what Trio answered: see README.md.
 
     journal = TrioJournal()
     journal.run(main)                # as trio.run(main); the options of trio.run go by name
-    print(journal.text())
+    print(journal.text())            # a script, of which `scopectl replay --strict` refuses no line
+    print(journal.answers())         # what Trio says to each of its lines
 
 An instrument of Trio hears when tasks are spawned, take a step and exit. What it finds between two steps, it says:
 
@@ -17,9 +18,10 @@ An instrument of Trio hears when tasks are spawned, take a step and exit. What i
     a body that fails, or scope.cancel()    cancel S
     a deadline that passed                  tick N, in microseconds since the journal began
     a deadline that is set                  move S N
-    the end of a nursery or cancel scope    join A S where tasks were forked in it, close A S, closed A S
+    the end of a nursery or cancel scope    join A S if tasks were forked in it, cause S, close A S, closed A S
 
-What the script can't say, or this doesn't, is in bindings/conformance/README.md. It wraps each task's coroutine, as
+The answers to `fork`, `join` and `cause` are Trio's: whether the nursery was cancelled at the fork, and by what a scope
+was cancelled when it ended. What the script can't say, or this doesn't, is in README.md. It wraps each task's coroutine, as
 Trio tells an instrument no ends, and reads private fields of Trio 0.22: `Task._cancel_status`, its `_scope` and
 `_parent`, and `CancelScope._cancel_called`.
 """
@@ -33,11 +35,21 @@ import trio
 class _Open:
     """A cancel scope that is open: its number, its owner, and what the journal said of it last."""
 
-    def __init__(self, number, owner, status, is_nursery):
-        self.number, self.owner, self.status, self.is_nursery = number, owner, status, is_nursery
+    def __init__(self, number, owner, status, around):
+        self.number, self.owner, self.status, self.around = number, owner, status, around
         self.scope = status._scope
         self.deadline, self.shield = self.scope.deadline, self.scope.shield
-        self.is_cancelled = self.has_tasks = False
+        self.has_tasks = self.has_failure = False
+        #: By which scope's cancel it was cancelled, and how; and the first child that failed, if that was by it.
+        self.cause = self.failed = None
+
+    def is_new(self):
+        """Whether Trio has cancelled it, and the journal doesn't say so yet."""
+        return self.cause is None and self.status.effectively_cancelled
+
+    def has_passed(self, moment):
+        """Whether its own deadline cancelled it by then."""
+        return self.scope._cancel_called and not self.has_failure and self.scope.deadline <= moment
 
 
 class _Actor:
@@ -72,7 +84,11 @@ class TrioJournal(trio.abc.Instrument):
 
     def text(self):
         """The journal so far."""
-        return "".join(line + "\n" for line in self._lines)
+        return "".join(f"{line}\n" for line, _ in self._lines)
+
+    def answers(self):
+        """What Trio answered to each line so far."""
+        return "".join(f"{answer}\n" for _, answer in self._lines if answer)
 
     def __enter__(self):
         self._main = trio.lowlevel.current_task()
@@ -99,7 +115,7 @@ class TrioJournal(trio.abc.Instrument):
         actor = self._actors.get(task)
         if actor is not None and task is not self._main and not actor.has_started:
             actor.has_started = True
-            self._say(f"start {actor.number}")
+            self._say(f"start {actor.number}", "started")
 
     def after_task_step(self, task):
         self._look(task)
@@ -109,16 +125,18 @@ class TrioJournal(trio.abc.Instrument):
         if actor is None or task is self._main:
             return
         word, end = actor.end
-        if word == "fail":  # Its scope was cancelled by that, which the joiner does.
-            self._scopes[actor.nursery.cancel_scope].is_cancelled = True
+        parent = self._scopes[actor.nursery.cancel_scope]
+        parent.has_failure = word == "fail" and parent.cause is None
         self._look(task)
-        self._say(f"{word} {actor.number} {end}")
+        if parent.cause == (parent.number, "joiner"):
+            parent.failed = parent.failed or (actor.number, end)
+        self._say(f"{word} {actor.number} {end}", "finished")
         del self._actors[task]
 
     # ---- what the journal says
 
-    def _say(self, line):
-        self._lines.append(line)
+    def _say(self, line, answer):
+        self._lines.append((line, answer))
 
     def _number(self, kind):
         self._count[kind] += 1
@@ -129,11 +147,13 @@ class TrioJournal(trio.abc.Instrument):
 
     def _fork(self, task, parent):
         number = self._number("task")
-        self._say(f"fork {parent.owner.number} {parent.number} {_name(task.name.split('.')[-1])}")
+        is_late = task.parent_nursery._cancel_status.effectively_cancelled
+        line = f"fork {parent.owner.number} {parent.number} {_name(task.name.split('.')[-1])}"
+        self._say(line, f"task {number} {'none' if is_late else 'thread'}")
         parent.has_tasks = True
         # By the rules a task that is forked in a cancelled scope never runs. Trio runs it up to its first checkpoint,
         # of which nothing is said.
-        if not task.parent_nursery._cancel_status.effectively_cancelled:
+        if not is_late:
             self._actors[task] = _Actor(number, task.parent_nursery._cancel_status, task.parent_nursery)
 
     async def _noted(self, task, coroutine):
@@ -169,7 +189,8 @@ class TrioJournal(trio.abc.Instrument):
             chain.append(status)
             status = status._parent
         while actor.open and actor.open[-1].status not in chain:
-            self._hear_changes()
+            if actor.open[-1].is_new():  # A cancel came before the end; others may have come after it.
+                self._hear_changes()
             self._close(actor)
         for status in reversed(chain[: len(chain) - len(actor.open)]):
             self._enter(task, actor, status)
@@ -177,13 +198,14 @@ class TrioJournal(trio.abc.Instrument):
 
     def _enter(self, task, actor, status):
         is_nursery = any(nursery.cancel_scope is status._scope for nursery in task.child_nurseries)
-        opened = _Open(self._number("scope"), actor, status, is_nursery)
+        around = status._parent and self._scopes.get(status._parent._scope)
+        opened = _Open(self._number("scope"), actor, status, around)
         words = ["await-ok"] if is_nursery else ["await"]
         if opened.deadline < math.inf:
             words.append(f"deadline={self._moment_of(opened.deadline)}")
         words += [] if is_nursery else ["move-on"]
         words += ["shield"] if opened.shield else []
-        self._say(f"open {actor.number} {' '.join(words)}")
+        self._say(f"open {actor.number} {' '.join(words)}", f"scope {opened.number}")
         actor.open.append(opened)
         self._scopes[opened.scope] = opened
 
@@ -191,15 +213,30 @@ class TrioJournal(trio.abc.Instrument):
         closed = actor.open.pop()
         del self._scopes[closed.scope]
         if closed.has_tasks:
-            self._say(f"join {actor.number} {closed.number}")
-        self._say(f"close {actor.number} {closed.number}")
-        self._say(f"closed {actor.number} {closed.number}")
+            self._say(f"join {actor.number} {closed.number}", self._outcome(closed))
+        by, kind = closed.cause or (None, None)
+        why = "live"
+        if closed.status.effectively_cancelled:
+            why = f"cancelled {by} {kind}" if kind else "cancelled"  # By nothing that the journal has.
+        self._say(f"cause {closed.number}", why)
+        self._say(f"close {actor.number} {closed.number}", "closing")
+        self._say(f"closed {actor.number} {closed.number}", "closed")
+
+    def _outcome(self, closed):
+        by, kind = closed.cause or (None, None)
+        if kind is None:
+            return "outcome done"
+        if by == closed.number and kind == "joiner":
+            return "outcome failed {} {}".format(*closed.failed)
+        if by == closed.number and kind == "deadline":
+            return "outcome timeout"
+        return f"outcome cancelled {by}"
 
     def _moved(self, task, actor):
         """After `started()` the task of `nursery.start` lies in another nursery: the journal has it as two tasks."""
         while actor.open:
             self._close(actor)
-        self._say(f"ok {actor.number} 0")
+        self._say(f"ok {actor.number} 0", "finished")
         del self._actors[task]
         parent = self._scopes.get(task.parent_nursery.cancel_scope)
         if parent is None:
@@ -209,29 +246,45 @@ class TrioJournal(trio.abc.Instrument):
         if moved is None:
             return _Actor(0, task._cancel_status, None)
         moved.has_started = True
-        self._say(f"start {moved.number}")
+        self._say(f"start {moved.number}", "started")
         return moved
 
     def _hear_changes(self):
         """Says which deadlines were set, and which scopes were cancelled by a call or by their deadline."""
-        now = trio.current_time()
         for opened in self._scopes.values():
             scope = opened.scope
-            if scope.deadline != opened.deadline:
+            if scope._cancel_status is not None and scope.deadline != opened.deadline:
                 opened.deadline = scope.deadline
                 moment = "never" if scope.deadline == math.inf else self._moment_of(scope.deadline)
-                self._say(f"move {opened.number} {moment}")
+                self._say(f"move {opened.number} {moment}", "moved")
             if scope.shield != opened.shield:
                 opened.shield = scope.shield
-                self._say(f"# the shield of scope {opened.number} changed, which no line says")
-        cancelled = [opened for opened in self._scopes.values() if opened.scope._cancel_called and not opened.is_cancelled]
-        for opened in cancelled:
-            opened.is_cancelled = True
-            if opened.scope.deadline <= now:
-                self._moment = max(self._moment, self._moment_of(opened.scope.deadline))
-                self._say(f"tick {self._moment}")
-            elif not opened.status.parent_cancellation_is_visible_to_us:
-                self._say(f"cancel {opened.number}")
+                self._say(f"# the shield of scope {opened.number} changed, which no line says", None)
+        self._reach()
+        now = trio.current_time()
+        for deadline in sorted({new.scope.deadline for new in self._new() if new.has_passed(now)}):
+            if self._moment_of(deadline) > self._moment:
+                self._moment = self._moment_of(deadline)
+                self._say(f"tick {self._moment}", f"moment {self._moment}")
+            for new in self._new():
+                if new.has_passed(deadline):
+                    new.cause = new.number, "deadline"
+            self._reach()
+        for new in self._new():
+            if new.is_new() and new.scope._cancel_called:
+                new.cause = new.number, "joiner" if new.has_failure else "call"
+                if not new.has_failure:
+                    self._say(f"cancel {new.number}", "cancelled")
+                self._reach()
+
+    def _new(self):
+        return [opened for opened in self._scopes.values() if opened.is_new()]
+
+    def _reach(self):
+        """Cancels reach the scopes inside, the outer ones first, up to shields."""
+        for new in self._new():
+            if new.around is not None and not new.shield:
+                new.cause = new.around.cause
 
 
 def _name(text):

@@ -146,13 +146,13 @@ PROGRAMS = [
 
 
 def journal_of(program, *arguments):
-    """The journal of the program, under a clock that jumps ahead."""
+    """The journal of the program, under a clock that jumps ahead, and its answers."""
     journal = TrioJournal()
     journal.run(program, *arguments, clock=MockClock(autojump_threshold=0))
-    return journal.text()
+    return journal.text(), journal.answers()
 
 
 if __name__ == "__main__":
     for program in PROGRAMS:
         print(f"# {program.__name__}")
-        print(journal_of(program))
+        print(journal_of(program)[0])
