@@ -20,10 +20,10 @@ An instrument of Trio hears when tasks are spawned, take a step and exit. What i
     a deadline that is set                  move S N
     the end of a nursery or cancel scope    join A S if tasks were forked in it, cause S, close A S, closed A S
 
-The answers to `fork`, `join` and `cause` are Trio's: whether the nursery was cancelled at the fork, and by what a scope
-was cancelled when it ended. What the script can't say, or this doesn't, is in README.md. It wraps each task's coroutine, as
-Trio tells an instrument no ends, and reads private fields of Trio 0.22: `Task._cancel_status`, its `_scope` and
-`_parent`, and `CancelScope._cancel_called`.
+The answers to `fork`, `join` and `cause` rest on Trio's flags: whether the nursery was cancelled at the fork, and the
+scope when it ended. What the script can't say, or this doesn't, is in README.md. It wraps each task's coroutine, as Trio
+tells an instrument no ends, and reads private fields of Trio 0.22: `Task._cancel_status`, its `_scope` and `_parent`, and
+`_cancel_called` and `_cancel_status` of a `CancelScope`.
 """
 
 import math
