@@ -293,7 +293,7 @@ impl Book {
         self.text(|book, text, room| unsafe { balkreyn_dump(book, text, room) })
     }
 
-    /// The line that a script is replied for the join of the scope, without its line feed.
+    /// The reply of a script to the join of the scope, without its line feed.
     pub(crate) fn outcome_line(&mut self, scope: u32) -> Result<String, Refusal> {
         // SAFETY: as `dump`.
         let line = self.text(|book, text, room| unsafe { balkreyn_outcome_line(book, scope, text, room) })?;

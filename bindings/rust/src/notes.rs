@@ -4,10 +4,10 @@ use crate::ffi::Book;
 use crate::outcome::{Cause, Outcome};
 use std::fmt::{Display, Write};
 
-/// What a realm was asked, and what it answered: `docs/SCRIPT.md` has the lines.
+/// What a realm was asked, and what it answered. The lines are those of `docs/SCRIPT.md`.
 ///
-/// The answers are those that the caller was given, not those that the library gave this crate. So the replay of the
-/// journal finds a fault of either.
+/// The answers are those that the caller got, not those that this crate got from the library. So a replay of the journal
+/// can find a fault of either.
 #[derive(Clone, Debug, Default, PartialEq, Eq)]
 pub struct Notes {
     /// A script: the calls that were not refused, in the order in which they took the realm's lock.
@@ -39,7 +39,7 @@ impl Notes {
         self.line(format_args!("fork {actor} {scope} {name}"), format_args!("task {task} {thread}"));
     }
 
-    /// Notes that main let the past go.
+    /// Notes that main dropped the past.
     pub(crate) fn retire(&mut self) {
         let answer = format!("retired {} {}", self.scopes, self.tasks);
         self.line("retire 0", answer);

@@ -26,11 +26,11 @@ pub(crate) struct Bell {
     pub(crate) sleepers: Waiting,
 }
 
-/// Where threads wait that hold the realm's lock. To ring for nobody costs nothing.
+/// Threads wait here with the realm's lock. A ring for which nobody waits makes no system call.
 #[derive(Default)]
 pub(crate) struct Waiting {
     wakes: Condvar,
-    /// How many wait. It is written and read under the lock.
+    /// How many wait: written and read under the lock.
     count: AtomicUsize,
 }
 
@@ -59,7 +59,7 @@ impl Waiting {
     }
 }
 
-/// Wakes the owner of a scope, whose tasks have all ended, at its drop.
+/// Wakes the owner of a scope when it is dropped: all tasks of the scope have ended, and the owner waits for that.
 pub(crate) struct Wake(Arc<Bell>);
 
 impl Drop for Wake {
@@ -92,13 +92,13 @@ pub(crate) struct Inner {
     bells: HashMap<u32, Arc<Bell>>,
     /// How many of the book's cancelled scopes were told to their bells.
     told: usize,
-    /// What was asked and answered, where the realm notes it.
+    /// What was asked and answered, if the realm notes it.
     pub(crate) notes: Option<Box<Notes>>,
 }
 
 impl Inner {
-    /// Notes what was asked and answered, where the realm notes it. The lock is held from the call to its note, so
-    /// that the notes are in the order of the book.
+    /// Notes what was asked and answered, if the realm notes. The lock is held from the call to its note, so that the
+    /// notes are in the book's order.
     pub(crate) fn note(&mut self, write: impl FnOnce(&mut Notes, &mut Book)) {
         if let Some(notes) = &mut self.notes {
             write(notes, &mut self.book);
@@ -184,7 +184,7 @@ impl Shared {
         self.next.store(inner.book.next_deadline().unwrap_or(NEVER), Ordering::Relaxed);
     }
 
-    /// Waits until it is rung there, a deadline that counts for the scope is due, or the end that is given has come.
+    /// Waits for a ring, for a deadline that counts for the scope, or for the given end.
     pub(crate) fn wait<'lock>(
         &self,
         mut inner: MutexGuard<'lock, Inner>,
@@ -283,8 +283,9 @@ impl Shared {
         let mut inner = self.lock();
         let answer = surely(inner.book.begin_close(actor, scope));
         debug_assert!(answer.is_ok(), "the owner closes its innermost scope: {answer:?}");
-        if answer == Ok(0) {
-            inner.note(|notes, _| notes.line(format_args!("close {actor} {scope}"), "closing"));
+        if let Ok(done) = answer {
+            let words = if done == 0 { "closing" } else { "already" };
+            inner.note(|notes, _| notes.line(format_args!("close {actor} {scope}"), words));
         }
         self.settle(&mut inner);
     }
@@ -328,7 +329,7 @@ impl Shared {
         inner
     }
 
-    /// Tells the book how a task ended. Where its owner waits, and for nothing more, the caller wakes it.
+    /// Tells the book how a task ended. If the owner waits, and for nothing more, the caller wakes it.
     #[must_use]
     pub(crate) fn record_end(&self, around: &Around, task: u32, event: &Event) -> Option<Wake> {
         let mut inner = self.record(task, event);

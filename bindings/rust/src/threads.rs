@@ -6,11 +6,12 @@ use std::collections::VecDeque;
 use std::sync::{Arc, Condvar, Mutex, MutexGuard, PoisonError};
 use std::thread;
 
-/// A job, told whether it may still run. Where it may not, it says so to the book. It may leave the owner to be woken.
+/// A job, told whether it may still run. Where it may not, it says so to the book. It may return a wake of the owner.
 pub(crate) type Job<'scope> = Box<dyn FnOnce(bool) -> Option<Wake> + Send + 'scope>;
 
 thread_local! {
-    /// The wake of the owner that this thread leaves as its last act, once its scope counts it no more.
+    /// A wake that is due when this thread ends. The scope no longer counts the thread then, so the owner that wakes
+    /// has nothing more to wait for.
     static LAST: Cell<Option<Wake>> = const { Cell::new(None) };
 }
 
@@ -90,8 +91,8 @@ impl<'scope> Threads<'scope> {
                 let wake = job(true);
                 state = self.lock();
                 if wake.is_some() && state.is_closed && state.queue.is_empty() {
-                    // The scope ends once its threads have: an owner that is woken now would wait once more. It is
-                    // woken where the thread's own values are dropped, which comes after that.
+                    // An owner that is woken now would wait once more, for the end of this thread. The drop of the
+                    // thread's own values comes after that.
                     LAST.with(|last| last.set(wake));
                     return;
                 }
