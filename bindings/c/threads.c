@@ -1,9 +1,10 @@
 /*
- * Scopes on POSIX threads: each task has a thread, which opens a scope of its own, and one lock stands around each
- * call. Two realms run side by side, each under its own lock. ThreadSanitizer watches this program, and what the
- * library takes and frees; it doesn't see what the library reads and writes itself.
+ * Scopes on POSIX threads: each task has a thread, which opens a scope of its own, and each call is made under one
+ * lock. Two realms run side by side, each under its own lock. An argument says how many rounds.
  *
- * Built as example.c is, with -D_POSIX_C_SOURCE=200809L -pthread -fsanitize=thread instead.
+ * Built as example.c is, with -D_POSIX_C_SOURCE=200809L -pthread -fsanitize=thread instead. ThreadSanitizer doesn't
+ * see what the library itself reads and writes. Helgrind of Valgrind does: it takes the program without a sanitizer,
+ * with --suppressions=pthread.supp.
  */
 #include <balkreyn.h>
 
@@ -22,7 +23,6 @@
 
 #define MAIN 0u
 #define REALMS 2
-#define ROUNDS 60
 #define WIDTH 4
 #define DEPTH 3
 
@@ -43,6 +43,8 @@ typedef struct job {
     pthread_t thread;
     bool has_thread;
 } job;
+
+static uint32_t rounds = 60;
 
 static uint32_t next(uint32_t *seed)
 {
@@ -126,7 +128,7 @@ static void *serve(void *given)
 {
     realm *r = given;
 
-    for (uint32_t round = 0; round < ROUNDS; round++) {
+    for (uint32_t round = 0; round < rounds; round++) {
         tree(r, MAIN, round * 7919u + 1, round % DEPTH);
         pthread_mutex_lock(&r->lock);
         CHECK(balkreyn_retire(&r->book, MAIN) == BALKREYN_DONE);
@@ -135,12 +137,14 @@ static void *serve(void *given)
     return NULL;
 }
 
-int main(void)
+int main(int count, char **words)
 {
     static realm realms[REALMS];
     pthread_t threads[REALMS];
     long joins = 0;
 
+    if (count > 1)
+        rounds = (uint32_t)strtoul(words[1], NULL, 10);
     for (int i = 0; i < REALMS; i++) {
         realms[i] = (realm){.lock = PTHREAD_MUTEX_INITIALIZER, .ended = PTHREAD_COND_INITIALIZER, .book = BALKREYN_BOOK};
         CHECK(balkreyn_book_open(&realms[i].book, BALKREYN_SCOPE_LIMIT, BALKREYN_TASK_LIMIT, BALKREYN_LOAD_LIMIT) == BALKREYN_DONE);
