@@ -73,7 +73,7 @@ class Scopes(unittest.TestCase):
             s.fork("slow", self.nap, LONG)
             self.assertEqual(s.join().kind, "timeout")
             self.assertGreaterEqual(time.monotonic() - began, 0.04)
-        with self.realm.scope(ALL, within=0.25, move_on=True) as s:
+        with self.realm.scope(ALL, within=1.5, move_on=True) as s:
             quick = s.fork("quick", int, 7)
             s.fork("slow", self.nap, LONG)
             self.assertEqual(s.join().kind, "partial")

@@ -8,10 +8,10 @@
 //! use balkreyn::{Context, Joiner, Options, Outcome, Realm, Refusal};
 //! use std::time::Duration;
 //!
-//! let shops = [("slow", 200), ("quick", 5)];
+//! let shops = [("slow", 20_000), ("quick", 5)];
 //! let mut realm = Realm::new()?;
 //! let first = realm.run(|cx| {
-//!     cx.try_scope(Options::new(Joiner::Any).within(Duration::from_millis(300)), |s| {
+//!     cx.try_scope(Options::new(Joiner::Any).within(Duration::from_secs(10)), |s| {
 //!         let mut offers = Vec::new();
 //!         for (name, pause) in &shops {
 //!             offers.push(s.fork("shop", |cx: &Context| cx.sleep(Duration::from_millis(*pause)).map(|()| *name))?);
