@@ -7,8 +7,8 @@ source "$top/gate/digests.bash"
 
 give_up() { echo "$(basename "$0"): $1" >&2 && exit 4; }
 
-# is_of_line PROGRAM LINE: whether the program is that of the line.
-is_of_line() { [[ -x $1 && -f $2 && $(sum <"$1") == "$(cut -d ' ' -f 1 "$2")" ]]; }
+# is_of_line FILE LINE: whether the file, a program or an archive, is that of the line.
+is_of_line() { [[ -x $1 || $1 == *.a ]] && [[ -f $1 && -f $2 && $(sum <"$1") == "$(cut -d ' ' -f 1 "$2")" ]]; }
 
 # sources_of_line LINE: the digest of the sources, or nothing if there is no line.
 sources_of_line() { [[ ! -f $1 ]] || cut -d ' ' -f 2 "$1"; }

@@ -10,7 +10,7 @@ from typing import Optional
 from ._library import Book, NotJoined, Refused, name
 
 _MAIN = 0
-_STRUCTURE, _TOO_MANY, _NOT_READY, _NOT_BOUND, _FAILED = 6, 10, 11, 12, 14
+_STRUCTURE, _TOO_MANY, _NOT_READY, _NOT_BOUND, _UNAVAILABLE, _FAILED = 6, 10, 11, 12, 13, 14
 
 
 class Cancelled(Exception):
@@ -64,6 +64,12 @@ class Outcome:
         return Outcome(kind)
 
 
+    def _head(self):
+        """How the line of a script's reply begins, up to the values and the list."""
+        numbers = {"any": f" {self.task}=", "failed": f" {self.task} ", "cancelled": f" {self.scope}"}
+        return f"outcome {self.kind}" + numbers.get(self.kind, "")
+
+
 class _Around:
     """A scope that is open: its number, its mark, and where is waited for it."""
 
@@ -79,16 +85,17 @@ class Realm:
     """A realm of task scopes. The thread that makes it is main; the threads of tasks act as their tasks.
 
     `scopes`, `tasks` and `load` are the limits of one request: main lets the past go where it opens a scope and has no
-    other open.
+    other open. With `notes=True` the realm notes each call that is not refused, with the answer that was given.
     """
 
-    def __init__(self, scopes=4096, tasks=65536, load=1048576):
+    def __init__(self, scopes=4096, tasks=65536, load=1048576, notes=False):
         self._lock = threading.Lock()
         self._book = Book(scopes, tasks, load)
         self._bells = {}
         self._told = 0
         self._next = None
         self._began = time.monotonic()
+        self._notes = [] if notes else None
         self._here = threading.local()
         self._act_as(_MAIN, [])
 
@@ -101,9 +108,11 @@ class Realm:
         around = self._around()
         if around is None:
             return False
-        if not around.is_cancelled and self._is_due():
+        if self._notes is not None or (not around.is_cancelled and self._is_due()):
             with self._lock:
                 self._pass_deadlines()
+                self._note_mark(around)
+                return around.is_cancelled
         return around.is_cancelled
 
     def checkpoint(self):
@@ -118,8 +127,10 @@ class Realm:
         with self._lock:
             while True:
                 self._pass_deadlines()
-                if around is not None and around.is_cancelled:
-                    raise Cancelled
+                if around is not None:
+                    self._note_mark(around)
+                    if around.is_cancelled:
+                        raise Cancelled
                 if time.monotonic() >= end:
                     return
                 if around is None:
@@ -136,9 +147,10 @@ class Realm:
         actor = self._actor()
         with self._lock:
             words = self._book.line_unless(_NOT_BOUND, f"get {actor} {name(key)}")
-        if words is None:
-            return default
-        return words[1] if words[1][0].isalpha() else int(words[1])
+            value = words and (words[1] if words[1][0].isalpha() else int(words[1]))
+            if words:
+                self._note(f"get {actor} {key}", f"value {value}")
+        return value if words else default
 
     def dump(self):
         """The tree of the scopes that are not closed, as JSON. Any thread may ask."""
@@ -150,6 +162,15 @@ class Realm:
         may ask."""
         with self._lock:
             return self._book.journal()
+
+    def notes(self):
+        """A script of all calls that were not refused, in the order in which they took the realm's lock, and the
+        answers that were given: one line for each of its lines. Any thread may ask."""
+        if self._notes is None:
+            raise RuntimeError("this realm doesn't note: Realm(notes=True) does")
+        with self._lock:
+            noted = list(self._notes)
+        return tuple("".join(f"{note[part]}\n" for note in noted) for part in (0, 1))
 
     # ---- who acts
 
@@ -181,7 +202,7 @@ class Realm:
         return upcoming is not None and self._now() >= upcoming
 
     def _pass_deadlines(self):
-        if self._is_due() and self._book.line_unless(_TOO_MANY, f"tick {self._now()}"):
+        if self._is_due() and self._do_unless(_TOO_MANY, f"tick {self._now()}"):
             self._settle()
 
     def _settle(self):
@@ -198,9 +219,40 @@ class Realm:
                 around.sleepers.notify_all()
         self._next = self._book.next_deadline()
 
+    def _note(self, line, answer):
+        """Notes a line of a script and its answer. The lock is held from the call to its note, so that the notes are
+        in the order of the book."""
+        if self._notes is not None:
+            self._notes.append((line, answer))
+
+    def _note_mark(self, around):
+        """Notes whether the scope is cancelled, as its mark says. The cause behind that is the library's."""
+        if self._notes is not None:
+            cause = "live"
+            if around.is_cancelled:
+                words = self._book.line(f"cause {around.scope}")
+                cause = " ".join(words) if words[0] == "cancelled" else "cancelled"
+            self._note(f"cause {around.scope}", cause)
+
+    def _note_join(self, actor, scope, outcome, words):
+        """Notes what a join answered. The values and the list behind that are the library's."""
+        whole, head = " ".join(words), outcome._head()
+        self._note(f"join {actor} {scope}", whole if whole.startswith(head) else head)
+
+    def _do(self, line):
+        words = self._book.line(line)
+        self._note(line, " ".join(words))
+        return words
+
+    def _do_unless(self, number, line):
+        words = self._book.line_unless(number, line)
+        if words:
+            self._note(line, " ".join(words))
+        return words
+
     def _perform(self, line):
         self._pass_deadlines()
-        words = self._book.line(line)
+        words = self._do(line)
         self._settle()
         return words
 
@@ -226,13 +278,13 @@ class Realm:
     def _let_past_go(self):
         """Main, with no scope open, lets the past go, and takes away the bindings that the load's limit kept."""
         if self._actor() == _MAIN and not self._here.around:
-            if self._book.line_unless(_STRUCTURE, "retire 0"):
+            if self._do_unless(_STRUCTURE, "retire 0"):
                 self._told = 0
             self._unbind_owed()
 
     def _unbind_owed(self):
         while self._here.owed:
-            if not self._book.line_unless(_TOO_MANY, f"unbind {self._actor()}"):
+            if not self._do_unless(_TOO_MANY, f"unbind {self._actor()}"):
                 return
             self._here.owed -= 1
 
@@ -253,9 +305,9 @@ class _Binding:
         realm = self._realm
         line = f"bind {realm._actor()} {self._key} {self._value}"
         with realm._lock:
-            if not realm._book.line_unless(_TOO_MANY, line):
+            if not realm._do_unless(_TOO_MANY, line):
                 realm._let_past_go()
-                realm._book.line(line)
+                realm._do(line)
         return self
 
     def __exit__(self, *_):
@@ -274,13 +326,22 @@ class Task:
     def __init__(self, realm, number):
         self._realm = realm
         self._left = None
+        self._end = None
         self.id = number
 
     def result(self):
         """The value, read by the owner of the scope after the join. Raises what the task raised, or `Refused` where
         the book tells no result."""
-        with self._realm._lock:
-            succeeded = self._realm._book.line_unless(_FAILED, f"result {self._realm._actor()} {self.id}")
+        realm, actor = self._realm, self._realm._actor()
+        with realm._lock:
+            try:
+                succeeded = realm._book.line_unless(_FAILED, f"result {actor} {self.id}")
+            except Refused as refused:
+                if refused.number == _UNAVAILABLE:
+                    realm._note(f"state {self.id}", "state unavailable")
+                raise
+            question, kind = ("result", "value") if succeeded else ("fault", "fault")
+            realm._note(f"{question} {actor} {self.id}", f"{kind} {self._end}")
         if succeeded:
             return self._left
         raise self._left
@@ -312,7 +373,7 @@ class Scope:
             if self._within is not None:
                 words.append(f"deadline={realm._moment_after(self._within)}")
             realm._pass_deadlines()
-            self._around.scope = int(realm._book.line(" ".join(words + self._flags))[1])
+            self._around.scope = int(realm._do(" ".join(words + self._flags))[1])
             realm._bells[self.id] = self._around
             realm._settle()
             realm._pass_deadlines()
@@ -348,8 +409,10 @@ class Scope:
                 realm._pass_deadlines()
                 words = realm._book.line_unless(_NOT_READY, f"join {actor} {self.id}")
                 if words:
+                    outcome = Outcome._of(words)
+                    realm._note_join(actor, self.id, outcome, words)
                     realm._settle()
-                    return Outcome._of(words)
+                    return outcome
                 realm._wait(self._around, self._around.owner)
 
     def cancel(self):
@@ -410,15 +473,15 @@ class Scope:
         realm._act_as(task.id, [around])
         try:
             task._left = function(*arguments, **named)
-            end = f"ok {task.id} {_measured(measure(task._left))}"
+            task._end, word = _measured(measure(task._left)), "ok"
             if len(realm._here.around) > 1:
                 raise RuntimeError("the task left a scope open")
         except BaseException as error:  # What a task raises is its failure; its owner reads it.
             task._left = error
-            end = f"fail {task.id} {_fault(error)}"
+            task._end, word = _fault(error), "fail"
         for left_open in reversed(realm._here.around[1:]):
             left_open.block.__exit__(RuntimeError, None, None)
-        realm._record(around, end)
+        realm._record(around, f"{word} {task.id} {task._end}")
 
 
 def _measured(number):

@@ -1,8 +1,10 @@
 """Scopes on threads over the proved library: BALKREYN_LIBRARY names libbalkreyn.so."""
 
+import contextlib
 import os
 import random
 import subprocess
+import tempfile
 import threading
 import time
 import unittest
@@ -71,7 +73,7 @@ class Scopes(unittest.TestCase):
             s.fork("slow", self.nap, LONG)
             self.assertEqual(s.join().kind, "timeout")
             self.assertGreaterEqual(time.monotonic() - began, 0.04)
-        with self.realm.scope(ALL, within=0.25, move_on=True) as s:
+        with self.realm.scope(ALL, within=1.5, move_on=True) as s:
             quick = s.fork("quick", int, 7)
             s.fork("slow", self.nap, LONG)
             self.assertEqual(s.join().kind, "partial")
@@ -261,44 +263,104 @@ class Scopes(unittest.TestCase):
             self.assertIsNone(small.get("kept"))
 
 
+class Notes(unittest.TestCase):
+    def test_notes_are_a_script_with_its_answers(self):
+        realm = Realm(notes=True)
+        for _ in range(2):
+            with realm.bind("tenant", "acme"), realm.scope(until_ok(2), shield=True) as s:
+                seven = s.fork_measured("seven", lambda value: value, int, 7)
+                self.assertEqual(s.join().kind, "list")
+                self.assertRaises(Refused, s.join)
+                self.assertEqual((seven.result(), realm.get("tenant"), realm.get("other")), (7, "acme", None))
+                self.assertEqual((s.cancel(), realm.is_cancelled()), (True, True))
+        journal, answers = (text.splitlines() for text in realm.notes())
+        lines = [f"{line}: {told}" for line, told in zip(journal, answers)]
+        expected = [
+            "bind 0 tenant acme: bound",
+            "retire 0: retired 1 1",
+            "open 0 until:ok:2 shield: scope 2",
+            "fork 0 2 seven: task 2 thread",
+            "start 2: started",
+            "ok 2 7: finished",
+            "join 0 2: outcome list 2=ok:7",
+            "result 0 2: value 7",
+            "get 0 tenant: value acme",
+            "cancel 2: cancelled",
+            "cause 2: cancelled 2 call",
+            "close 0 2: closing",
+            "closed 0 2: closed",
+            "unbind 0: unbound",
+        ]
+        self.assertEqual(lines[len(lines) // 2 :], expected)
+        self.assertRaises(RuntimeError, Realm().notes)
+
+
 class Storm(unittest.TestCase):
-    """Random trees on threads, whose journal the proved replay takes whole."""
+    """Random trees on threads. The realm notes what it answered, and the proved program says what the rules answer."""
 
     def tree(self, realm, seed, depth=0):
         chance = random.Random(seed)
         joiner = chance.choice([ALL, ANY, AWAIT, AWAIT_OK, until_ok(2), until_failed(1), until_sum(5)])
         within = chance.choice([None, None, 0.002, 0.01])
         with realm.scope(joiner, within, move_on=chance.random() < 0.3, shield=chance.random() < 0.2) as s:
+            tasks = []
             for _ in range(chance.randrange(4)):
-                s.fork_measured("job", lambda value: value, self.job, realm, chance.random(), depth)
+                job = (self.job, realm, chance.random(), depth, s)
+                tasks.append(s.fork_measured("job", lambda value: value, *job))
             if chance.random() < 0.1:
                 s.cancel()
+            elif chance.random() < 0.1:
+                s.move_deadline(chance.choice([None, 0.002]))
             s.join()
+            s.cause()
+            for task in tasks:
+                with contextlib.suppress(Refused, LookupError, Cancelled, OverflowError):
+                    task.result()
 
-    def job(self, realm, seed, depth):
+    def job(self, realm, seed, depth, outer):
         chance = random.Random(seed)
         realm.sleep(chance.random() * 0.003)
         if depth < 3 and chance.random() < 0.6:
             with realm.bind("depth", depth):
                 self.tree(realm, chance.random(), depth + 1)
+        if chance.random() < 0.1:
+            outer.cancel()
         if chance.random() < 0.2:
             raise LookupError
+        self.assertIsNone(realm.get("none"))
         return chance.randrange(5)
 
-    def test_a_storm_keeps_the_rules(self):
-        carried = Path(__file__).resolve().parents[3] / "carried" / "scopectl"
-        program = Path(os.environ.get("SCOPECTL", carried))
-        if not program.is_file():
-            self.skipTest("no scopectl at hand")
-        for seed in range(10):
-            realm = Realm()
+    def storm(self, realm, seed):
+        for request in range(2):
             with realm.scope(AWAIT) as s:
                 for branch in range(4):
-                    s.fork("branch", self.tree, realm, seed * 10 + branch)
+                    s.fork("branch", self.tree, realm, seed * 10 + request * 5 + branch)
                 self.assertEqual(s.join().kind, "done")
-            journal = realm.journal()
-            replay = subprocess.run([program, "replay", "--strict"], input=journal.encode(), stdout=subprocess.DEVNULL)
-            self.assertEqual(replay.returncode, 0, journal)
+
+    def judged(self, *texts):
+        """Asks the proved program whether the rules answer so; where there is none at hand, the test is skipped."""
+        top = Path(__file__).resolve().parents[3]
+        check = top / "bindings" / "conformance" / "check"
+        if not check.is_file() or not Path(os.environ.get("SCOPECTL", top / "carried" / "scopectl")).is_file():
+            self.skipTest("no scopectl at hand")
+        with tempfile.TemporaryDirectory() as folder:
+            files = [Path(folder, name) for name in ("journal", "answers")][: len(texts)]
+            for file, text in zip(files, texts):
+                file.write_text(text)
+            said = subprocess.run([check, *files], stdout=subprocess.PIPE, stderr=subprocess.STDOUT, text=True)
+        self.assertEqual(said.returncode, 0, said.stdout)
+
+    def test_each_answer_in_a_storm_is_that_of_the_rules(self):
+        for seed in range(12):
+            realm = Realm(notes=True)
+            self.storm(realm, seed)
+            self.judged(*realm.notes())
+
+    def test_a_storm_without_notes_keeps_the_rules(self):
+        for seed in range(6):
+            realm = Realm()
+            self.storm(realm, seed)
+            self.judged(realm.journal())
 
 
 if __name__ == "__main__":

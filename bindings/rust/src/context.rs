@@ -6,14 +6,14 @@ use crate::outcome::ScopeError;
 use crate::realm::Look;
 use crate::refusal::Refusal;
 use crate::scope::Scope;
-use crate::shared::{surely, Around, Shared, MAIN};
+use crate::shared::{surely, Around, Inner, Shared, Waiting, MAIN};
 use std::cell::{Cell, RefCell};
 use std::error::Error;
 use std::fmt;
 use std::marker::PhantomData;
 use std::panic::{catch_unwind, resume_unwind, AssertUnwindSafe};
 use std::sync::atomic::Ordering;
-use std::sync::{Arc, Condvar};
+use std::sync::Arc;
 use std::thread;
 use std::time::{Duration, Instant};
 
@@ -37,6 +37,16 @@ pub enum Value {
     Number(i64),
     /// A text.
     Text(String),
+}
+
+impl Value {
+    /// As a script says it.
+    fn word(&self) -> String {
+        match self {
+            Value::Number(number) => number.to_string(),
+            Value::Text(text) => text.clone(),
+        }
+    }
 }
 
 impl From<i64> for Value {
@@ -78,7 +88,7 @@ pub struct Context {
     /// opened or bound either, until main lets the past go, and they are taken away before that.
     owed: Cell<u32>,
     /// Where nothing is around: main waits here, and nobody rings.
-    silent: Condvar,
+    silent: Waiting,
     on_its_thread: PhantomData<*const ()>,
 }
 
@@ -105,7 +115,7 @@ impl Context {
 
     fn new(shared: Arc<Shared>, actor: u32, around: Vec<Around>) -> Context {
         let around = RefCell::new(around);
-        Context { shared, actor, around, owed: Cell::new(0), silent: Condvar::new(), on_its_thread: PhantomData }
+        Context { shared, actor, around, owed: Cell::new(0), silent: Waiting::default(), on_its_thread: PhantomData }
     }
 
     /// Opens a scope, runs the body, and closes the scope on every way out of it: what still runs is cancelled, and
@@ -167,6 +177,9 @@ impl Context {
     pub fn is_cancelled(&self) -> bool {
         let around = self.around.borrow();
         let Some(innermost) = around.last() else { return false };
+        if self.shared.is_noting() {
+            return self.noted_mark(&mut self.shared.lock(), innermost);
+        }
         if innermost.bell.cancelled.load(Ordering::Acquire) {
             return true;
         }
@@ -174,6 +187,13 @@ impl Context {
             drop(self.shared.lock());
             innermost.bell.cancelled.load(Ordering::Acquire)
         }
+    }
+
+    /// Whether the scope is cancelled, as its mark says. The lock is held, so that the mark can be noted.
+    fn noted_mark(&self, inner: &mut Inner, around: &Around) -> bool {
+        let is_cancelled = around.bell.cancelled.load(Ordering::Acquire);
+        inner.note(|notes, book| notes.mark(around.scope, is_cancelled, book));
+        is_cancelled
     }
 
     /// Returns at once, unless the scope around the caller is cancelled.
@@ -198,7 +218,7 @@ impl Context {
         let sleepers = around.as_ref().map_or(&self.silent, |innermost| &innermost.bell.sleepers);
         let mut inner = self.shared.lock();
         loop {
-            if around.as_ref().is_some_and(|innermost| innermost.bell.cancelled.load(Ordering::Acquire)) {
+            if around.as_ref().is_some_and(|innermost| self.noted_mark(&mut inner, innermost)) {
                 return Err(Cancelled);
             }
             if end.is_some_and(|end| Instant::now() >= end) {
@@ -240,9 +260,13 @@ impl Context {
     fn unbind_owed(&self) -> bool {
         while self.owed.get() > 0 {
             // What was opened after a bind is closed before its end, so only the limit refuses.
-            if surely(self.shared.lock().book.unbind(self.actor)) == Err(Refusal::TooMany) {
-                return false;
+            let mut inner = self.shared.lock();
+            match surely(inner.book.unbind(self.actor)) {
+                Ok(_) => inner.note(|notes, _| notes.line(format_args!("unbind {}", self.actor), "unbound")),
+                Err(Refusal::TooMany) => return false,
+                Err(_) => {}
             }
+            drop(inner);
             self.owed.set(self.owed.get() - 1);
         }
         true
@@ -250,19 +274,26 @@ impl Context {
 
     fn bind_once(&self, key: &str, value: &Value) -> Result<i64, Refusal> {
         let mut inner = self.shared.lock();
-        match value {
+        let answer = match value {
             Value::Number(number) => inner.book.bind(self.actor, key, *number),
             Value::Text(text) => inner.book.bind_text(self.actor, key, text),
-        }
+        }?;
+        inner.note(|notes, _| notes.line(format_args!("bind {} {key} {}", self.actor, value.word()), "bound"));
+        Ok(answer)
     }
 
     /// What the key is bound to: the caller's own last binding, or else what its forker saw at the fork. `None` where
     /// nothing is bound, and where the key is no name.
     pub fn get(&self, key: &str) -> Option<Value> {
-        match self.shared.quietly().book.binding(self.actor, key).ok()? {
-            Bound::Number(number) => Some(Value::Number(number)),
-            Bound::Text(text) => Some(Value::Text(text)),
-        }
+        let mut inner = self.shared.quietly();
+        let value = match inner.book.binding(self.actor, key).ok()? {
+            Bound::Number(number) => Value::Number(number),
+            Bound::Text(text) => Value::Text(text),
+        };
+        inner.note(|notes, _| {
+            notes.line(format_args!("get {} {key}", self.actor), format_args!("value {}", value.word()))
+        });
+        Some(value)
     }
 
     /// A look at the realm, for any thread.

@@ -77,6 +77,7 @@ extern "C" {
         text: *mut u8,
         room: usize,
     ) -> i64;
+    fn balkreyn_outcome_line(book: *mut Raw, scope: u32, text: *mut u8, room: usize) -> i64;
     fn balkreyn_next_deadline(book: *mut Raw, moment: *mut u64) -> i64;
     fn balkreyn_nth_cancelled(book: *mut Raw, index: usize) -> i64;
     fn balkreyn_dump(book: *mut Raw, text: *mut u8, room: usize) -> i64;
@@ -288,20 +289,29 @@ impl Book {
 
     /// The tree of the scopes that are not closed, as JSON.
     pub(crate) fn dump(&mut self) -> Result<String, Refusal> {
-        self.text(balkreyn_dump)
+        // SAFETY: as `command`; the text has the room that is told.
+        self.text(|book, text, room| unsafe { balkreyn_dump(book, text, room) })
+    }
+
+    /// The reply of a script to the join of the scope, without its line feed.
+    pub(crate) fn outcome_line(&mut self, scope: u32) -> Result<String, Refusal> {
+        // SAFETY: as `dump`.
+        let line = self.text(|book, text, room| unsafe { balkreyn_outcome_line(book, scope, text, room) })?;
+        Ok(line.trim_end().to_owned())
     }
 
     /// What happened since the last retirement, as a script.
     pub(crate) fn journal(&mut self) -> Result<String, Refusal> {
-        self.text(balkreyn_journal)
+        // SAFETY: as `dump`.
+        self.text(|book, text, room| unsafe { balkreyn_journal(book, text, room) })
     }
 
     /// A text of any length: asked for its length first, then for itself.
-    fn text(&mut self, ask: unsafe extern "C" fn(*mut Raw, *mut u8, usize) -> i64) -> Result<String, Refusal> {
+    fn text(&mut self, ask: impl Fn(*mut Raw, *mut u8, usize) -> i64) -> Result<String, Refusal> {
         let mut text = Vec::new();
         loop {
-            // SAFETY: as `command`; the vector has the room that is told, at an address that is never null.
-            let length = told(unsafe { ask(&mut self.raw, text.as_mut_ptr(), text.len()) })? as usize;
+            // The vector has the room that is told, at an address that is never null.
+            let length = told(ask(&mut self.raw, text.as_mut_ptr(), text.len()))? as usize;
             if length <= text.len() {
                 text.truncate(length);
                 return Ok(String::from_utf8_lossy(&text).into_owned());

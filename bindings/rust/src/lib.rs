@@ -8,10 +8,10 @@
 //! use balkreyn::{Context, Joiner, Options, Outcome, Realm, Refusal};
 //! use std::time::Duration;
 //!
-//! let shops = [("slow", 200), ("quick", 5)];
+//! let shops = [("slow", 20_000), ("quick", 5)];
 //! let mut realm = Realm::new()?;
 //! let first = realm.run(|cx| {
-//!     cx.try_scope(Options::new(Joiner::Any).within(Duration::from_millis(300)), |s| {
+//!     cx.try_scope(Options::new(Joiner::Any).within(Duration::from_secs(10)), |s| {
 //!         let mut offers = Vec::new();
 //!         for (name, pause) in &shops {
 //!             offers.push(s.fork("shop", |cx: &Context| cx.sleep(Duration::from_millis(*pause)).map(|()| *name))?);
@@ -29,10 +29,11 @@
 //! # What is proved, and what is tested
 //!
 //! Whether a fork may run, whether a join is ready and what it answers, whether a result counts, what a cancel
-//! reaches, which deadline is next: each is one call of the library, and its answer is the rules' by proof. This crate
-//! starts the threads, waits, tells the time and keeps the results; it is tested, not proved. What happened can be
-//! written as a journal ([`Look::journal`]), and the proved program `scopectl replay --strict` says whether the run
-//! kept the rules.
+//! reaches, which deadline is next: each is one call of the library, whose answer is proved to be that of the rules.
+//! This crate starts the threads, waits, reads the clock and stores the results; it is tested, not proved. What
+//! happened can be written as a journal ([`Look::journal`]), and the proved program `scopectl replay --strict` says
+//! whether the rules refuse a line of it. A realm that notes ([`Realm::noted`]) writes its answers too
+//! ([`Look::notes`]), so that the program can compare them with those of the rules.
 //!
 //! # Who acts
 //!
@@ -54,6 +55,7 @@
 
 mod context;
 mod ffi;
+mod notes;
 mod options;
 mod outcome;
 mod realm;
@@ -64,6 +66,7 @@ mod task;
 mod threads;
 
 pub use context::{Cancelled, Context, Value};
+pub use notes::Notes;
 pub use options::{Joiner, Options};
 pub use outcome::{Cause, Outcome, ScopeError, ScopeId, TaskId};
 pub use realm::{Limits, Look, Realm};

@@ -97,6 +97,23 @@ impl Options {
         }
     }
 
+    /// The words of an `open` of a script, with the deadline as the book was told it.
+    pub(crate) fn words(&self, deadline: Option<u64>) -> String {
+        let joiner = match self.joiner {
+            Joiner::AwaitOk => "await-ok".into(),
+            Joiner::All => "all".into(),
+            Joiner::Any => "any".into(),
+            Joiner::Await => "await".into(),
+            Joiner::UntilFailed(count) => format!("until:fail:{count}"),
+            Joiner::UntilOk(count) => format!("until:ok:{count}"),
+            Joiner::UntilSum(sum) => format!("until:sum:{sum}"),
+        };
+        let deadline = deadline.map_or_else(String::new, |moment| format!(" deadline={moment}"));
+        let moves_on = if self.moves_on { " move-on" } else { "" };
+        let shielded = if self.shielded { " shield" } else { "" };
+        format!("{joiner}{deadline}{moves_on}{shielded}")
+    }
+
     /// The flags, as the book takes them.
     pub(crate) fn flags(&self) -> u32 {
         u32::from(self.within.is_some()) | u32::from(self.moves_on) << 1 | u32::from(self.shielded) << 2

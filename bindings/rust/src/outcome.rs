@@ -66,6 +66,21 @@ impl Outcome {
             kind => return Err(Refusal::Unknown(i64::from(kind))),
         })
     }
+
+    /// How the line of a script's reply begins, up to the values and the list.
+    pub(crate) fn head(&self) -> String {
+        match self {
+            Outcome::All => "outcome all".into(),
+            Outcome::Any(task) => format!("outcome any {}=", task.0),
+            Outcome::Empty => "outcome empty".into(),
+            Outcome::Done => "outcome done".into(),
+            Outcome::Failed(task) => format!("outcome failed {}", task.0),
+            Outcome::List => "outcome list".into(),
+            Outcome::Timeout => "outcome timeout".into(),
+            Outcome::Partial => "outcome partial".into(),
+            Outcome::Cancelled(scope) => format!("outcome cancelled {}", scope.0),
+        }
+    }
 }
 
 /// Why a scope is cancelled.
@@ -92,6 +107,17 @@ impl Cause {
             4 => Cause::Deadline(scope),
             kind => return Err(Refusal::Unknown(i64::from(kind))),
         })
+    }
+
+    /// The line of a script's reply.
+    pub(crate) fn line(&self) -> String {
+        let (scope, kind) = match self {
+            Cause::Call(scope) => (scope, "call"),
+            Cause::Close(scope) => (scope, "close"),
+            Cause::Joiner(scope) => (scope, "joiner"),
+            Cause::Deadline(scope) => (scope, "deadline"),
+        };
+        format!("cancelled {} {kind}", scope.0)
     }
 }
 

@@ -2,6 +2,7 @@
 
 use crate::context::Context;
 use crate::ffi::Book;
+use crate::notes::Notes;
 use crate::refusal::Refusal;
 use crate::shared::Shared;
 use std::fmt;
@@ -52,6 +53,14 @@ impl Realm {
         Ok(Realm { shared: Arc::new(Shared::new(book)) })
     }
 
+    /// The realm, which notes each call from now on with the answer that was given: [`Look::notes`] reads them. Call
+    /// it before the first [`Realm::run`], as the notes are a script from its start. They grow as long as the realm
+    /// lives, and each look at a mark takes the lock.
+    pub fn noted(self) -> Realm {
+        self.shared.begin_notes();
+        self
+    }
+
     /// Runs the body as main of the realm.
     pub fn run<R>(&mut self, body: impl FnOnce(&Context) -> R) -> R {
         body(&Context::of_main(Arc::clone(&self.shared)))
@@ -95,6 +104,11 @@ impl Look {
     /// [`Refusal::Memory`].
     pub fn journal(&self) -> Result<String, Refusal> {
         self.shared.quietly().book.journal()
+    }
+
+    /// The notes so far; `None` where the realm doesn't note ([`Realm::noted`]).
+    pub fn notes(&self) -> Option<Notes> {
+        self.shared.quietly().notes.as_deref().cloned()
     }
 }
 

@@ -3,7 +3,7 @@
 use crate::context::Context;
 use crate::outcome::{Cause, Outcome, ScopeId, TaskId};
 use crate::refusal::Refusal;
-use crate::shared::{Around, Shared};
+use crate::shared::{Around, Event, Shared};
 use crate::task::{run_job, Slot, Task, TaskError};
 use crate::threads::Threads;
 use std::cell::OnceCell;
@@ -98,15 +98,20 @@ impl<'scope, 'env> Scope<'scope, 'env> {
         T: Send + 'scope,
         E: Send + 'scope,
     {
-        let (id, has_thread) = self.shared.lock().book.fork(self.actor, self.around.scope, name)?;
+        let (id, has_thread) = {
+            let mut inner = self.shared.lock();
+            let (id, has_thread) = inner.book.fork(self.actor, self.around.scope, name)?;
+            inner.note(|notes, _| notes.fork(self.actor, self.around.scope, name, id, has_thread));
+            (id, has_thread)
+        };
         let slot = Slot::default();
         if has_thread {
             let (shared, around, left) = (Arc::clone(&self.shared), self.around.clone(), Arc::clone(&slot));
             let run = move |may_run: bool| {
                 if may_run && !around.bell.cancelled.load(Ordering::Acquire) {
-                    run_job(&shared, id, around, &left, measure, job);
+                    run_job(&shared, id, around, &left, measure, job)
                 } else {
-                    shared.record_end(&around, |book| book.reject(id));
+                    shared.record_end(&around, id, &Event::Reject)
                 }
             };
             self.crew.get_or_init(|| Threads::new(self.thread_limit)).run(self.threads, Box::new(run));
@@ -120,13 +125,19 @@ impl<'scope, 'env> Scope<'scope, 'env> {
     /// [`Refusal::AlreadyJoined`].
     pub fn join(&self) -> Result<Outcome, Refusal> {
         let scope = self.around.scope;
+        // Nothing is forked after a join, so a thread that finds no more jobs may end while the owner waits.
+        if let Some(crew) = self.crew.get() {
+            crew.close();
+        }
         let mut inner = self.shared.lock();
         loop {
             match inner.book.join(self.actor, scope) {
                 Err(Refusal::NotReady) => inner = self.shared.wait(inner, &self.around.bell.owner, Some(scope), None),
                 told => {
+                    let outcome = Outcome::of_pair(&told?)?;
+                    inner.note(|notes, book| notes.join(self.actor, scope, outcome, book));
                     self.shared.settle(&mut inner);
-                    return Outcome::of_pair(&told?);
+                    return Ok(outcome);
                 }
             }
         }
@@ -137,8 +148,26 @@ impl<'scope, 'env> Scope<'scope, 'env> {
     /// # Errors
     /// [`TaskError`].
     pub fn result<T, E>(&self, task: Task<'scope, T, E>) -> Result<T, TaskError<E>> {
-        let succeeded = self.shared.quietly().book.succeeded(self.actor, task.id().0).map_err(TaskError::Refused)?;
-        task.take(succeeded)
+        let (actor, id) = (self.actor, task.id().0);
+        let mut inner = self.shared.quietly();
+        let told = inner.book.succeeded(actor, id);
+        let (result, end) = match told {
+            Ok(succeeded) => task.take(succeeded),
+            Err(refusal) => (Err(TaskError::Refused(refusal)), None),
+        };
+        inner.note(|notes, _| match (&result, end) {
+            (_, Some(Event::Finish(value))) => {
+                notes.line(format_args!("result {actor} {id}"), format_args!("value {value}"))
+            }
+            (_, Some(Event::Fail(fault))) => {
+                notes.line(format_args!("fault {actor} {id}"), format_args!("fault {fault}"))
+            }
+            (Err(TaskError::Refused(Refusal::NoResult)), _) => {
+                notes.line(format_args!("state {id}"), "state unavailable")
+            }
+            _ => {}
+        });
+        result
     }
 
     /// The result of each task, in the order given.
@@ -179,8 +208,11 @@ impl<'scope, 'env> Scope<'scope, 'env> {
     /// # Errors
     /// None that an open scope gives.
     pub fn cause(&self) -> Result<Option<Cause>, Refusal> {
-        let pair = self.shared.lock().book.cause(self.around.scope)?;
-        pair.as_ref().map(Cause::of_pair).transpose()
+        let mut inner = self.shared.lock();
+        let pair = inner.book.cause(self.around.scope)?;
+        let cause = pair.as_ref().map(Cause::of_pair).transpose()?;
+        inner.note(|notes, _| notes.cause(self.around.scope, cause));
+        Ok(cause)
     }
 
     /// Sets the deadline so long after now, or takes it away.

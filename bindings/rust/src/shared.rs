@@ -1,11 +1,12 @@
 //! What the threads of a realm share: the book behind its lock, the clock, and the bells.
 
 use crate::ffi::Book;
+use crate::notes::Notes;
 use crate::options::Options;
 use crate::refusal::Refusal;
 use std::alloc::{handle_alloc_error, Layout};
 use std::collections::HashMap;
-use std::sync::atomic::{AtomicBool, AtomicU64, Ordering};
+use std::sync::atomic::{AtomicBool, AtomicU64, AtomicUsize, Ordering};
 use std::sync::{Arc, Condvar, Mutex, MutexGuard, PoisonError};
 use std::time::{Duration, Instant};
 
@@ -20,9 +21,61 @@ pub(crate) struct Bell {
     /// Whether the book said that the scope is cancelled.
     pub(crate) cancelled: AtomicBool,
     /// The owner waits here for its join.
-    pub(crate) owner: Condvar,
+    pub(crate) owner: Waiting,
     /// Those who sleep in the scope wait here for its cancel.
-    pub(crate) sleepers: Condvar,
+    pub(crate) sleepers: Waiting,
+}
+
+/// Threads wait here with the realm's lock. A ring for which nobody waits makes no system call.
+#[derive(Default)]
+pub(crate) struct Waiting {
+    wakes: Condvar,
+    /// How many wait: written and read under the lock.
+    count: AtomicUsize,
+}
+
+impl Waiting {
+    /// Waits, at most so long.
+    fn wait<'lock>(&self, inner: MutexGuard<'lock, Inner>, limit: Option<Duration>) -> MutexGuard<'lock, Inner> {
+        self.count.fetch_add(1, Ordering::Relaxed);
+        let inner = match limit {
+            None => self.wakes.wait(inner).unwrap_or_else(PoisonError::into_inner),
+            Some(limit) => self.wakes.wait_timeout(inner, limit).unwrap_or_else(PoisonError::into_inner).0,
+        };
+        self.count.fetch_sub(1, Ordering::Relaxed);
+        inner
+    }
+
+    /// Whether somebody waits. The lock is held.
+    fn is_waited(&self) -> bool {
+        self.count.load(Ordering::Relaxed) > 0
+    }
+
+    /// Wakes all. The lock is held.
+    fn ring(&self) {
+        if self.is_waited() {
+            self.wakes.notify_all();
+        }
+    }
+}
+
+/// Wakes the owner of a scope when it is dropped: all tasks of the scope have ended, and the owner waits for that.
+pub(crate) struct Wake(Arc<Bell>);
+
+impl Drop for Wake {
+    fn drop(&mut self) {
+        self.0.owner.wakes.notify_one();
+    }
+}
+
+/// How a task begins or ends.
+pub(crate) enum Event {
+    Start,
+    /// No thread runs it.
+    Reject,
+    /// It gives a value, by its measure.
+    Finish(i64),
+    Fail(&'static str),
 }
 
 /// A scope that is open, as its owner and its jobs know it.
@@ -39,6 +92,18 @@ pub(crate) struct Inner {
     bells: HashMap<u32, Arc<Bell>>,
     /// How many of the book's cancelled scopes were told to their bells.
     told: usize,
+    /// What was asked and answered, if the realm notes it.
+    pub(crate) notes: Option<Box<Notes>>,
+}
+
+impl Inner {
+    /// Notes what was asked and answered, if the realm notes. The lock is held from the call to its note, so that the
+    /// notes are in the book's order.
+    pub(crate) fn note(&mut self, write: impl FnOnce(&mut Notes, &mut Book)) {
+        if let Some(notes) = &mut self.notes {
+            write(notes, &mut self.book);
+        }
+    }
 }
 
 /// What the threads of a realm share.
@@ -46,13 +111,27 @@ pub(crate) struct Shared {
     inner: Mutex<Inner>,
     /// The next deadline of the realm in milliseconds, as the book said last.
     next: AtomicU64,
+    /// Whether the realm notes.
+    notes: AtomicBool,
     began: Instant,
 }
 
 impl Shared {
     pub(crate) fn new(book: Book) -> Shared {
-        let inner = Inner { book, bells: HashMap::new(), told: 0 };
-        Shared { inner: Mutex::new(inner), next: AtomicU64::new(NEVER), began: Instant::now() }
+        let inner = Inner { book, bells: HashMap::new(), told: 0, notes: None };
+        let (next, notes) = (AtomicU64::new(NEVER), AtomicBool::new(false));
+        Shared { inner: Mutex::new(inner), next, notes, began: Instant::now() }
+    }
+
+    /// Notes what is asked and answered from now on.
+    pub(crate) fn begin_notes(&self) {
+        self.quietly().notes.get_or_insert_with(Box::default);
+        self.notes.store(true, Ordering::Relaxed);
+    }
+
+    /// Whether the realm notes. It takes no lock.
+    pub(crate) fn is_noting(&self) -> bool {
+        self.notes.load(Ordering::Relaxed)
     }
 
     /// The book, for a question that passes no deadline. A job's panic never comes while the lock is held, so a
@@ -78,7 +157,10 @@ impl Shared {
     pub(crate) fn pass_deadlines(&self, inner: &mut Inner) {
         if self.is_due() {
             // A refusal (the load's limit) leaves the deadline standing: the next call tries again.
-            let _ = inner.book.tick(self.now());
+            let now = self.now();
+            if inner.book.tick(now).is_ok() {
+                inner.note(|notes, _| notes.line(format_args!("tick {now}"), format_args!("moment {now}")));
+            }
             self.settle(inner);
         }
     }
@@ -89,8 +171,8 @@ impl Shared {
             inner.told += 1;
             if let Some(bell) = inner.bells.get(&scope) {
                 bell.cancelled.store(true, Ordering::Release);
-                bell.owner.notify_all();
-                bell.sleepers.notify_all();
+                bell.owner.ring();
+                bell.sleepers.ring();
             }
         }
         if self.next.load(Ordering::Relaxed) != NEVER {
@@ -102,11 +184,11 @@ impl Shared {
         self.next.store(inner.book.next_deadline().unwrap_or(NEVER), Ordering::Relaxed);
     }
 
-    /// Waits until the bell rings, a deadline that counts for the scope is due, or the end that is given has come.
+    /// Waits for a ring, for a deadline that counts for the scope, or for the given end.
     pub(crate) fn wait<'lock>(
         &self,
         mut inner: MutexGuard<'lock, Inner>,
-        bell: &Condvar,
+        waiting: &Waiting,
         scope: Option<u32>,
         end: Option<Instant>,
     ) -> MutexGuard<'lock, Inner> {
@@ -117,13 +199,7 @@ impl Shared {
             (Some(deadline), Some(end)) => Some(deadline.min(end)),
             (deadline, end) => deadline.or(end),
         };
-        let mut inner = match limit {
-            None => bell.wait(inner).unwrap_or_else(PoisonError::into_inner),
-            Some(limit) => {
-                let left = limit.saturating_duration_since(Instant::now());
-                bell.wait_timeout(inner, left).unwrap_or_else(PoisonError::into_inner).0
-            }
-        };
+        let mut inner = waiting.wait(inner, limit.map(|limit| limit.saturating_duration_since(Instant::now())));
         self.pass_deadlines(&mut inner);
         inner
     }
@@ -151,6 +227,7 @@ impl Shared {
         let deadline = options.within.map(|duration| self.after(duration));
         let answer = inner.book.open_scope(actor, joiner, bound, options.flags(), deadline.unwrap_or(0))?;
         let around = Around { scope: answer as u32, bell: Arc::default() };
+        inner.note(|notes, _| notes.open(actor, options.words(deadline), around.scope));
         inner.bells.insert(around.scope, Arc::clone(&around.bell));
         if deadline.is_some() {
             self.note_next(&mut inner);
@@ -165,22 +242,28 @@ impl Shared {
         let mut inner = self.lock();
         if inner.book.retire(MAIN).is_ok() {
             inner.told = 0;
+            inner.note(|notes, _| notes.retire());
         }
     }
 
     /// Sets the scope's deadline so long after now, or takes it away. Who waits learns it.
     pub(crate) fn move_deadline(&self, scope: u32, within: Option<Duration>) -> Result<(), Refusal> {
         let mut inner = self.lock();
-        match within {
-            Some(duration) => inner.book.move_deadline(scope, self.after(duration))?,
+        let moment = within.map(|duration| self.after(duration));
+        match moment {
+            Some(moment) => inner.book.move_deadline(scope, moment)?,
             None => inner.book.move_never(scope)?,
         };
+        inner.note(|notes, _| match moment {
+            Some(moment) => notes.line(format_args!("move {scope} {moment}"), "moved"),
+            None => notes.line(format_args!("move {scope} never"), "moved"),
+        });
         self.note_next(&mut inner);
         self.settle(&mut inner);
         self.pass_deadlines(&mut inner);
         for bell in inner.bells.values() {
-            bell.owner.notify_all();
-            bell.sleepers.notify_all();
+            bell.owner.ring();
+            bell.sleepers.ring();
         }
         Ok(())
     }
@@ -188,9 +271,11 @@ impl Shared {
     /// Cancels the scope: whether it was not cancelled before.
     pub(crate) fn cancel(&self, scope: u32) -> Result<bool, Refusal> {
         let mut inner = self.lock();
-        let answer = inner.book.cancel(scope)?;
+        let is_first = inner.book.cancel(scope)? == 0;
+        let answer = if is_first { "cancelled" } else { "already" };
+        inner.note(|notes, _| notes.line(format_args!("cancel {scope}"), answer));
         self.settle(&mut inner);
-        Ok(answer == 0)
+        Ok(is_first)
     }
 
     /// Begins to close the scope, which cancels what still runs in it.
@@ -198,6 +283,10 @@ impl Shared {
         let mut inner = self.lock();
         let answer = surely(inner.book.begin_close(actor, scope));
         debug_assert!(answer.is_ok(), "the owner closes its innermost scope: {answer:?}");
+        if let Ok(done) = answer {
+            let words = if done == 0 { "closing" } else { "already" };
+            inner.note(|notes, _| notes.line(format_args!("close {actor} {scope}"), words));
+        }
         self.settle(&mut inner);
     }
 
@@ -206,29 +295,47 @@ impl Shared {
         let mut inner = self.lock();
         let answer = surely(inner.book.end_close(actor, scope));
         inner.bells.remove(&scope);
-        self.settle(&mut inner);
-        match answer? {
-            2 => Err(Refusal::NotJoined),
-            3 => Err(Refusal::Structure),
-            _ => Ok(()),
+        let (verdict, words) = match answer {
+            Ok(2) => (Err(Refusal::NotJoined), "closed not-joined"),
+            Ok(3) => (Err(Refusal::Structure), "closed violated"),
+            Ok(_) => (Ok(()), "closed"),
+            Err(refusal) => (Err(refusal), ""),
+        };
+        if answer.is_ok() {
+            inner.note(|notes, _| notes.line(format_args!("closed {actor} {scope}"), words));
         }
+        self.settle(&mut inner);
+        verdict
     }
 
-    /// Notes how a task began.
-    pub(crate) fn record(&self, event: impl FnOnce(&mut Book) -> Result<i64, Refusal>) -> MutexGuard<'_, Inner> {
+    /// Tells the book how a task began or ended.
+    pub(crate) fn record(&self, task: u32, event: &Event) -> MutexGuard<'_, Inner> {
         let mut inner = self.lock();
-        let answer = surely(event(&mut inner.book));
+        let answer = surely(match event {
+            Event::Start => inner.book.start(task),
+            Event::Reject => inner.book.reject(task),
+            Event::Finish(value) => inner.book.finish(task, *value),
+            Event::Fail(fault) => inner.book.fail(task, fault),
+        });
         debug_assert!(answer.is_ok(), "each task begins and ends once: {answer:?}");
+        if answer.is_ok() {
+            inner.note(|notes, _| match event {
+                Event::Start => notes.line(format_args!("start {task}"), "started"),
+                Event::Reject => notes.line(format_args!("reject {task}"), "rejected"),
+                Event::Finish(value) => notes.line(format_args!("ok {task} {value}"), "finished"),
+                Event::Fail(fault) => notes.line(format_args!("fail {task} {fault}"), "finished"),
+            });
+        }
         inner
     }
 
-    /// Notes how a task ended, and tells the owner of its scope where nothing is left to wait for.
-    pub(crate) fn record_end(&self, around: &Around, event: impl FnOnce(&mut Book) -> Result<i64, Refusal>) {
-        let mut inner = self.record(event);
+    /// Tells the book how a task ended. If the owner waits, and for nothing more, the caller wakes it.
+    #[must_use]
+    pub(crate) fn record_end(&self, around: &Around, task: u32, event: &Event) -> Option<Wake> {
+        let mut inner = self.record(task, event);
         self.settle(&mut inner);
-        if inner.book.is_quiet(around.scope) {
-            around.bell.owner.notify_all();
-        }
+        let wakes = around.bell.owner.is_waited() && inner.book.is_quiet(around.scope);
+        wakes.then(|| Wake(Arc::clone(&around.bell)))
     }
 }
 

@@ -1,10 +1,9 @@
 //! A task, what its job left, and how its thread runs it.
 
 use crate::context::Context;
-use crate::ffi::Book;
 use crate::outcome::TaskId;
 use crate::refusal::Refusal;
-use crate::shared::{Around, Shared};
+use crate::shared::{Around, Event, Shared, Wake};
 use std::any::Any;
 use std::error::Error;
 use std::fmt;
@@ -60,7 +59,8 @@ impl<E: fmt::Debug + fmt::Display> Error for TaskError<E> {}
 
 /// What a job left.
 pub(crate) enum Left<T, E> {
-    Value(T),
+    /// The value, and its measure.
+    Value(T, i64),
     Failure(E),
     Panic(Box<dyn Any + Send>),
 }
@@ -81,14 +81,16 @@ impl<T, E> Task<'_, T, E> {
         Task { id, slot, of_its_scope: PhantomData }
     }
 
-    /// Takes what the job left, of which the book said whether it is a success.
-    pub(crate) fn take(&self, succeeded: bool) -> Result<T, TaskError<E>> {
+    /// Takes what the job left, of which the book said whether it is a success; and with it how the job ended.
+    pub(crate) fn take(&self, succeeded: bool) -> (Result<T, TaskError<E>>, Option<Event>) {
         let left = self.slot.lock().unwrap_or_else(PoisonError::into_inner).take();
         match (left, succeeded) {
-            (Some(Left::Value(value)), true) => Ok(value),
-            (Some(Left::Failure(error)), false) => Err(TaskError::Failed(error)),
-            (Some(Left::Panic(panic)), false) => Err(TaskError::Panicked(Panic(panic))),
-            _ => Err(TaskError::Refused(Refusal::NoResult)),
+            (Some(Left::Value(value, measured)), true) => (Ok(value), Some(Event::Finish(measured))),
+            (Some(Left::Failure(error)), false) => (Err(TaskError::Failed(error)), Some(Event::Fail("failed"))),
+            (Some(Left::Panic(panic)), false) => {
+                (Err(TaskError::Panicked(Panic(panic))), Some(Event::Fail("panicked")))
+            }
+            _ => (Err(TaskError::Refused(Refusal::NoResult)), None),
         }
     }
 
@@ -112,31 +114,16 @@ pub(crate) fn run_job<T, E>(
     slot: &Slot<T, E>,
     measure: impl FnOnce(&T) -> i64,
     job: impl FnOnce(&Context) -> Result<T, E>,
-) {
-    drop(shared.record(|book| book.start(id)));
+) -> Option<Wake> {
+    drop(shared.record(id, &Event::Start));
     let cx = Context::of_task(Arc::clone(shared), id, around.clone());
     let ended = catch_unwind(AssertUnwindSafe(|| job(&cx).map(|value| (measure(&value), value))));
     drop(cx);
-    let (left, end): (_, End) = match ended {
-        Ok(Ok((measured, value))) => (Left::Value(value), End::Value(measured)),
-        Ok(Err(error)) => (Left::Failure(error), End::Fault("failed")),
-        Err(panic) => (Left::Panic(panic), End::Fault("panicked")),
+    let (left, end) = match ended {
+        Ok(Ok((measured, value))) => (Left::Value(value, measured), Event::Finish(measured)),
+        Ok(Err(error)) => (Left::Failure(error), Event::Fail("failed")),
+        Err(panic) => (Left::Panic(panic), Event::Fail("panicked")),
     };
     *slot.lock().unwrap_or_else(PoisonError::into_inner) = Some(left);
-    shared.record_end(&around, |book| end.tell(book, id));
-}
-
-/// How a job ended, as the book hears it.
-enum End {
-    Value(i64),
-    Fault(&'static str),
-}
-
-impl End {
-    fn tell(&self, book: &mut Book, task: u32) -> Result<i64, Refusal> {
-        match self {
-            End::Value(measured) => book.finish(task, *measured),
-            End::Fault(fault) => book.fail(task, fault),
-        }
-    }
+    shared.record_end(&around, id, &end)
 }

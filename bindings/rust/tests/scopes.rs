@@ -365,3 +365,47 @@ fn what_any_thread_may_hold_can_be_sent() {
     is_shared::<Look>();
     is_shared::<Canceller>();
 }
+
+#[test]
+fn notes_are_a_script_with_its_answers() {
+    let mut realm = Realm::new().unwrap().noted();
+    realm.run(|cx| {
+        for _ in 0..2 {
+            cx.bind("tenant", "acme", |cx| {
+                cx.scope(Options::new(Joiner::UntilOk(2)).shield(), |s| {
+                    let seven = s.fork_measured("seven", |value| *value, |_: &Context| Ok::<_, Refusal>(7)).unwrap();
+                    assert_eq!(s.join(), Ok(Outcome::List));
+                    assert_eq!(s.join(), Err(Refusal::AlreadyJoined));
+                    assert_eq!(s.result(seven).unwrap(), 7);
+                    assert_eq!(cx.get("tenant"), Some(Value::Text("acme".into())));
+                    assert_eq!((s.cancel(), cx.is_cancelled(), cx.is_cancelled()), (Ok(true), true, true));
+                })
+                .unwrap();
+            })
+            .unwrap();
+        }
+    });
+    let notes = realm.look().notes().unwrap();
+    let lines: Vec<_> =
+        notes.journal.lines().zip(notes.answers.lines()).map(|(line, told)| format!("{line}: {told}")).collect();
+    let second = &lines[lines.len() / 2..];
+    let expected = [
+        "bind 0 tenant acme: bound",
+        "retire 0: retired 1 1",
+        "open 0 until:ok:2 shield: scope 2",
+        "fork 0 2 seven: task 2 thread",
+        "start 2: started",
+        "ok 2 7: finished",
+        "join 0 2: outcome list 2=ok:7",
+        "result 0 2: value 7",
+        "get 0 tenant: value acme",
+        "cancel 2: cancelled",
+        "cause 2: cancelled 2 call",
+        "cause 2: cancelled 2 call",
+        "close 0 2: closing",
+        "closed 0 2: closed",
+        "unbind 0: unbound",
+    ];
+    assert_eq!(second, expected);
+    assert!(Realm::new().unwrap().look().notes().is_none());
+}

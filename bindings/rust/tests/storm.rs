@@ -1,15 +1,18 @@
-//! Random trees of scopes on many threads. The proved replay says whether each realm kept the rules.
+//! Random trees of scopes on many threads. Each realm notes what it was asked and what it answered, and the proved
+//! program says whether the rules answer the same.
 
-use balkreyn::{Context, Joiner, Options, Outcome, Realm, Refusal, Scope, TaskError};
+use balkreyn::{Canceller, Context, Joiner, Options, Realm, Refusal};
 use std::io::Write;
 use std::num::NonZeroUsize;
 use std::path::{Path, PathBuf};
 use std::process::{Command, Stdio};
-use std::sync::atomic::{AtomicUsize, Ordering};
-use std::sync::Mutex;
 use std::time::Duration;
+use std::{env, fs};
 
-const REALMS: u64 = 24;
+/// How many events the noted realms have at least.
+const EVENTS: usize = 100_000;
+/// How many requests such a realm serves: main lets the past go before each.
+const REQUESTS: u64 = 6;
 const DEEPEST: u32 = 4;
 
 /// A seeded generator (splitmix64).
@@ -27,14 +30,6 @@ impl Chance {
     fn below(&mut self, limit: u64) -> u64 {
         self.next() % limit
     }
-}
-
-/// What the storm saw: the joins it made, and what the book told it of each task after a join.
-#[derive(Default)]
-struct Seen {
-    joins: AtomicUsize,
-    /// Lines of the script that ask again what was answered live, with that answer.
-    answers: Mutex<Vec<(String, String)>>,
 }
 
 fn options(chance: &mut Chance) -> Options {
@@ -63,19 +58,20 @@ fn options(chance: &mut Chance) -> Options {
     options
 }
 
-/// One job: it sleeps, binds, fails, panics or opens scopes of its own.
-fn job(cx: &Context, seed: u64, depth: u32, seen: &Seen) -> Result<i64, String> {
+/// One job: it sleeps, asks, binds, cancels, fails, panics or opens scopes of its own.
+fn job(cx: &Context, seed: u64, depth: u32, outer: &Canceller) -> Result<i64, String> {
     let mut chance = Chance(seed);
     for _ in 0..chance.below(3) {
-        match chance.below(6) {
+        match chance.below(8) {
             0 => drop(cx.sleep(Duration::from_micros(chance.below(3000)))),
             1 => cx.checkpoint().map_err(|cancelled| cancelled.to_string())?,
             2 => {
                 let seed = chance.next();
-                cx.bind("seed", (seed >> 1) as i64, |cx| tree(cx, seed, depth + 1, seen)).map_err(|r| r.to_string())?;
+                cx.bind("seed", (seed >> 1) as i64, |cx| tree(cx, seed, depth + 1)).map_err(|r| r.to_string())?;
             }
             3 => assert!(cx.get("root").is_some()),
-            _ => tree(cx, chance.next(), depth + 1, seen),
+            4 if chance.below(4) == 0 => drop(outer.cancel()),
+            _ => tree(cx, chance.next(), depth + 1),
         }
     }
     match chance.below(12) {
@@ -86,7 +82,7 @@ fn job(cx: &Context, seed: u64, depth: u32, seen: &Seen) -> Result<i64, String> 
 }
 
 /// A scope with a few jobs, joined or not, cancelled or not.
-fn tree(cx: &Context, seed: u64, depth: u32, seen: &Seen) {
+fn tree(cx: &Context, seed: u64, depth: u32) {
     if depth > DEEPEST {
         return;
     }
@@ -94,8 +90,8 @@ fn tree(cx: &Context, seed: u64, depth: u32, seen: &Seen) {
     let opened = cx.scope(options(&mut chance), |s| {
         let mut tasks = Vec::new();
         for _ in 0..chance.below(4) {
-            let seed = chance.next();
-            let task = s.fork_measured("job", |value| *value, move |cx: &Context| job(cx, seed, depth, seen));
+            let (seed, canceller) = (chance.next(), s.canceller());
+            let task = s.fork_measured("job", |value| *value, move |cx: &Context| job(cx, seed, depth, &canceller));
             tasks.push(task.expect("the limits are not met"));
         }
         match chance.below(12) {
@@ -103,108 +99,117 @@ fn tree(cx: &Context, seed: u64, depth: u32, seen: &Seen) {
             1 => drop(s.move_deadline(Some(Duration::from_millis(chance.below(4))))),
             2 => drop(s.move_deadline(None)),
             3 => return,
-            4 => tree(cx, chance.next(), depth + 1, seen),
+            4 => tree(cx, chance.next(), depth + 1),
             _ => {}
         }
-        let outcome = s.join().expect("a first join of the owner");
-        seen.joins.fetch_add(1, Ordering::Relaxed);
-        note(s, outcome, tasks, seen);
+        // Whatever the realm answers here: the rules say whether it may.
+        let _ = s.join();
+        drop(s.results(tasks));
+        let _ = s.cause();
     });
     drop(opened);
 }
 
-/// Notes what the book said of each task after the join.
-fn note<'scope>(s: &Scope<'scope, '_>, outcome: Outcome, tasks: Vec<balkreyn::Task<'scope, i64, String>>, seen: &Seen) {
-    let count = tasks.len();
-    let mut read = 0;
-    for task in tasks {
-        let line = format!("state {}", task.id().number());
-        let state = match s.result(task) {
-            Ok(_) => "state success",
-            Err(TaskError::Failed(_) | TaskError::Panicked(_)) => "state failed",
-            Err(TaskError::Refused(Refusal::NoResult)) => "state unavailable",
-            Err(other) => panic!("{other:?}"),
-        };
-        read += usize::from(state == "state success");
-        seen.answers.lock().unwrap().push((line, state.into()));
-    }
-    match outcome {
-        Outcome::All => assert_eq!(read, count),
-        Outcome::Any(_) => assert!(read >= 1),
-        _ => {}
-    }
-}
-
-/// The proved program, where it is at hand.
-fn scopectl() -> Option<PathBuf> {
-    let carried = Path::new(env!("CARGO_MANIFEST_DIR")).join("../../carried/scopectl");
-    std::env::var_os("SCOPECTL").map(PathBuf::from).into_iter().chain([carried]).find(|path| path.is_file())
-}
-
-/// The replies of the strict replay, which refuses no line.
-fn replay(program: &Path, script: String) -> String {
-    let mut child = Command::new(program)
-        .args(["replay", "--strict"])
-        .stdin(Stdio::piped())
-        .stdout(Stdio::piped())
-        .spawn()
-        .expect("scopectl starts");
-    let mut input = child.stdin.take().unwrap();
-    let writer = std::thread::spawn(move || input.write_all(script.as_bytes()));
-    let output = child.wait_with_output().unwrap();
-    writer.join().unwrap().unwrap();
-    assert!(output.status.success(), "the replay refused a line: {}", output.status);
-    String::from_utf8(output.stdout).unwrap()
-}
-
-/// One realm with six trees at a time: its journal.
-fn storm(seed: u64, seen: &Seen) -> String {
-    let trees = move |cx: &Context, index: u64| -> Result<(), Refusal> {
-        (0..3).for_each(|turn| tree(cx, seed * 100 + index * 10 + turn, 1, seen));
+/// Serves so many requests of six threads of trees each.
+fn storm(mut realm: Realm, seed: u64, requests: u64) -> Realm {
+    let trees = move |cx: &Context, seed: u64| -> Result<(), Refusal> {
+        (0..3).for_each(|turn| tree(cx, seed * 10 + turn, 1));
         Ok(())
     };
-    let mut realm = Realm::new().unwrap();
     realm.run(|cx| {
         let bound = cx.bind("root", 1, |cx| {
-            cx.scope(Joiner::Await, |s| {
-                for index in 0..6 {
-                    s.fork("root", move |cx: &Context| trees(cx, index)).unwrap();
-                }
-                assert_eq!(s.join(), Ok(Outcome::Done));
-            })
-            .unwrap();
-            cx.look().journal().unwrap()
+            for request in 0..requests {
+                let served = cx.scope(Joiner::Await, |s| {
+                    for index in 0..6 {
+                        let seed = (seed * requests + request) * 10 + index;
+                        s.fork("root", move |cx: &Context| trees(cx, seed)).unwrap();
+                    }
+                    s.join().map(drop)
+                });
+                drop(served);
+            }
         });
-        bound.unwrap()
-    })
+        bound.unwrap();
+    });
+    realm
 }
 
-/// Asks the replay of the journal for each state that was answered live.
-fn compare(program: &Path, journal: &str, answers: &[(String, String)]) {
-    let questions: String = answers.iter().map(|(line, _)| format!("{line}\n")).collect();
-    let told = replay(program, format!("{journal}{questions}"));
-    let told: Vec<_> = told.lines().skip(told.lines().count() - answers.len()).collect();
-    let live: Vec<_> = answers.iter().map(|(_, state)| state.as_str()).collect();
-    assert_eq!(told, live);
+/// Asks the proved program whether the rules answer each line so. Where they don't, the two files stay.
+struct Judge {
+    check: PathBuf,
+    folder: PathBuf,
+}
+
+impl Judge {
+    /// `None` where the program is not at hand.
+    fn find(name: &str) -> Option<Judge> {
+        let top = Path::new(env!("CARGO_MANIFEST_DIR")).join("../..");
+        let program = env::var_os("SCOPECTL").map_or_else(|| top.join("carried/scopectl"), PathBuf::from);
+        let check = top.join("bindings/conformance/check");
+        if !program.is_file() || !check.is_file() {
+            say("left out: what the rules answer, as no scopectl is at hand");
+            return None;
+        }
+        let folder = env::temp_dir().join(format!("balkreyn-{name}-{}", std::process::id()));
+        fs::create_dir_all(&folder).unwrap();
+        Some(Judge { check, folder })
+    }
+
+    fn hears(&self, journal: &str, answers: Option<&str>) {
+        let files = [Some(journal), answers].into_iter().flatten().zip(["journal", "answers"]).map(|(text, name)| {
+            let file = self.folder.join(name);
+            fs::write(&file, text).unwrap();
+            file
+        });
+        let status = Command::new(&self.check).args(files).stdout(Stdio::null()).status().unwrap();
+        assert!(status.success(), "the rules answer otherwise: {}", self.folder.display());
+    }
+
+    fn ends(self) {
+        fs::remove_dir_all(self.folder).unwrap();
+    }
+}
+
+/// Says it also where the test passes, and its output is captured.
+fn say(text: &str) {
+    let _ = writeln!(std::io::stderr(), "{text}");
+}
+
+fn is_question(line: &str) -> bool {
+    ["result ", "fault ", "state ", "cause ", "get "].iter().any(|question| line.starts_with(question))
 }
 
 #[test]
-fn a_storm_keeps_the_rules() {
-    let program = scopectl();
-    let (mut joins, mut events, mut states) = (0, 0, 0);
-    for seed in 0..REALMS {
-        let seen = Seen::default();
-        let journal = storm(seed, &seen);
-        joins += seen.joins.load(Ordering::Relaxed);
-        events += journal.lines().count();
-        if let Some(program) = &program {
-            let answers = seen.answers.into_inner().unwrap();
-            states += answers.len();
-            compare(program, &journal, &answers);
+fn each_answer_in_a_storm_is_that_of_the_rules() {
+    let judge = Judge::find("storm");
+    let (mut seed, mut events, mut questions) = (0, 0, 0);
+    while events < EVENTS {
+        let notes = storm(Realm::new().unwrap().noted(), seed, REQUESTS).look().notes().unwrap();
+        let asked = notes.journal.lines().filter(|line| is_question(line)).count();
+        events += notes.journal.lines().count() - asked;
+        questions += asked;
+        seed += 1;
+        if let Some(judge) = &judge {
+            judge.hears(&notes.journal, Some(&notes.answers));
         }
     }
-    match program {
-        Some(_) => println!("{REALMS} realms, {joins} joins, {events} events, {states} states: as the replay has them"),
-        None => println!("left out: no scopectl at hand; {REALMS} realms, {joins} joins, {events} events"),
+    let judged = if judge.is_some() { "answered as by the rules" } else { "not judged" };
+    say(&format!("a storm of {seed} realms, {events} events and {questions} questions: {judged}"));
+    if let Some(judge) = judge {
+        judge.ends();
+    }
+}
+
+#[test]
+fn a_storm_without_notes_keeps_the_rules() {
+    let judge = Judge::find("plain");
+    for seed in 0..24 {
+        let journal = storm(Realm::new().unwrap(), seed, 1).look().journal().unwrap();
+        if let Some(judge) = &judge {
+            judge.hears(&journal, None);
+        }
+    }
+    if let Some(judge) = judge {
+        judge.ends();
     }
 }

@@ -31,7 +31,7 @@ fn a_deadline_passes_while_the_owner_waits() {
 #[test]
 fn a_scope_that_moves_on_keeps_what_had_come() {
     Realm::new().unwrap().run(|cx| {
-        cx.scope(Options::new(Joiner::All).within(millis(250)).move_on(), |s| {
+        cx.scope(Options::new(Joiner::All).within(millis(1500)).move_on(), |s| {
             let quick = s.fork("quick", |_: &Context| Ok::<_, Refusal>(1)).unwrap();
             let slow = s.fork("slow", |cx: &Context| cx.sleep(LONG)).unwrap();
             assert_eq!(s.join(), Ok(Outcome::Partial));
@@ -85,8 +85,8 @@ fn a_moved_deadline_counts_for_who_sleeps_already() {
             assert!(s.result(sleeper).is_err());
         })
         .unwrap();
-        cx.scope(Options::new(Joiner::Await).within(millis(150)), |s| {
-            s.fork("sleeper", |cx: &Context| cx.sleep(millis(200))).unwrap();
+        cx.scope(Options::new(Joiner::Await).within(millis(1500)), |s| {
+            s.fork("sleeper", |cx: &Context| cx.sleep(millis(1700))).unwrap();
             s.move_deadline(None).unwrap();
             assert_eq!(s.join(), Ok(Outcome::Done));
             assert_eq!(s.move_deadline(None), Err(Refusal::AlreadyJoined));
