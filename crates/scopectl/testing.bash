@@ -42,7 +42,7 @@ ends() {
 notes() {
     local refused bad_words
     refused=$(grep -c '^refused ' "$1" || true) bad_words=$(grep -c '^refused 18 ' "$1" || true)
-    ((refused == 0)) || echo "scopectl: lines refused: $refused, of which no commands: $bad_words"
+    ((refused == 0)) || echo "scopectl: lines refused: $refused, not a command: $bad_words"
 }
 
 # plays PAGE: each command that the page shows behind a `$` says what stands below it, up to a line that isn't indented;

@@ -48,15 +48,15 @@ kind_text kind.Deadline = codes "N"
 kind_text kind.Name = codes "NAME"
 kind_text kind.Value = codes "VALUE"
 
--- what a field of the kind is to be
+-- what a field of the kind must be
 abbrev pub wanted_text : FieldKind → List ℕ
-wanted_text kind.Actor = codes "number"
-wanted_text kind.Scope = codes "number"
-wanted_text kind.Task = codes "number"
-wanted_text kind.Moment = codes "moment"
-wanted_text kind.Deadline = codes "moment and not never"
-wanted_text kind.Name = codes "name"
-wanted_text kind.Value = codes "value"
+wanted_text kind.Actor = codes "a number from 0 to 4294967295"
+wanted_text kind.Scope = codes "a number from 0 to 4294967295"
+wanted_text kind.Task = codes "a number from 0 to 4294967295"
+wanted_text kind.Moment = codes "a number from 0 to 18446744073709551615"
+wanted_text kind.Deadline = codes "a number from 0 to 18446744073709551615, or never"
+wanted_text kind.Name = codes "1 to 24 of a..z, 0..9, -, _ and ., and begin with a..z"
+wanted_text kind.Value = codes "a 64-bit integer or a name"
 
 -- the form of this shape, of which the first field is the word
 abbrev pub form_text : List (List ℕ) → Shape → List ℕ
@@ -72,12 +72,12 @@ stray_text words = shown_text (field_at (left_over (behind (behind words))) 0)
 
 -- why a line with these fields is no command
 unfoldable pub fault_text : List (List ℕ) → WordFault → List ℕ
-fault_text words (fault.TooLong bytes) = codes "a line has at most 200 bytes, and this one has " ++ decimal bytes
-fault_text words fault.NoForm = codes "no form begins with " ++ shown_text (field_at words 0)
-fault_text words (fault.Wrong s n k) = form_text words s ++ (codes ": " ++ (kind_text k ++ (codes " is no " ++ (wanted_text k ++ (codes ": " ++ field_text words n)))))
+fault_text words (fault.TooLong bytes) = codes "the line has " ++ (decimal bytes ++ codes " bytes, and the limit is 200")
+fault_text words fault.NoForm = codes "unknown command: " ++ shown_text (field_at words 0)
+fault_text words (fault.Wrong s n k) = form_text words s ++ (codes ": " ++ (kind_text k ++ (codes " is " ++ (field_text words n ++ (codes ", but must be " ++ wanted_text k)))))
 fault_text words (fault.Missing s k) = form_text words s ++ (codes ": " ++ (kind_text k ++ codes " is missing"))
-fault_text words (fault.Extra s n) = form_text words s ++ (codes ": one field too many: " ++ field_text words n)
-fault_text words fault.Stray = form_text words shape.Open ++ (codes ": none of these, out of order or twice: " ++ stray_text words)
+fault_text words (fault.Extra s n) = form_text words s ++ (codes ": unexpected field: " ++ field_text words n)
+fault_text words fault.Stray = form_text words shape.Open ++ (codes ": unexpected, repeated or out of order: " ++ stray_text words)
 
 -- the same of a line
 abbrev pub line_fault_text : List ℕ → WordFault → List ℕ

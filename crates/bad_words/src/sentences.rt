@@ -61,7 +61,7 @@ impl fmt::Display for ShownKind {
     }
 }
 
-/// What a field of the kind is to be.
+/// What a field of the kind must be.
 #[derive(Clone, Copy)]
 struct ShownWanted(FieldKind);
 
@@ -70,11 +70,13 @@ impl fmt::Display for ShownWanted {
 
     fn fmt<W: fmt::Write>(&self, f: &mut fmt::Formatter<W>) -> fmt::Result {
         f.write_str(match self.0 {
-            FieldKind::Actor | FieldKind::Scope | FieldKind::Task => "number",
-            FieldKind::Moment => "moment",
-            FieldKind::Deadline => "moment and not never",
-            FieldKind::Name => "name",
-            FieldKind::Value => "value",
+            FieldKind::Actor | FieldKind::Scope | FieldKind::Task => {
+                "a number from 0 to 4294967295"
+            }
+            FieldKind::Moment => "a number from 0 to 18446744073709551615",
+            FieldKind::Deadline => "a number from 0 to 18446744073709551615, or never",
+            FieldKind::Name => "1 to 24 of a..z, 0..9, -, _ and ., and begin with a..z",
+            FieldKind::Value => "a 64-bit integer or a name",
         })
     }
 }
@@ -150,17 +152,16 @@ impl fmt::Display for ShownFault<'_> {
     fn fmt<W: fmt::Write>(&self, f: &mut fmt::Formatter<W>) -> fmt::Result {
         let line = self.line;
         match self.fault {
-            WordFault::TooLong { bytes } => write!(
-                f,
-                "a line has at most 200 bytes, and this one has {bytes}"
-            ),
-            WordFault::NoForm => write!(f, "no form begins with {}", ShownWord(line)),
+            WordFault::TooLong { bytes } => {
+                write!(f, "the line has {bytes} bytes, and the limit is 200")
+            }
+            WordFault::NoForm => write!(f, "unknown command: {}", ShownWord(line)),
             WordFault::Wrong { shape, index, kind } => {
                 let form = ShownForm { line, shape };
                 let field = ShownField { line, index };
                 let wanted = ShownWanted(kind);
                 let kind = ShownKind(kind);
-                write!(f, "{form}: {kind} is no {wanted}: {field}")
+                write!(f, "{form}: {kind} is {field}, but must be {wanted}")
             }
             WordFault::Missing { shape, kind } => {
                 let form = ShownForm { line, shape };
@@ -170,13 +171,13 @@ impl fmt::Display for ShownFault<'_> {
             WordFault::Extra { shape, index } => {
                 let form = ShownForm { line, shape };
                 let field = ShownField { line, index };
-                write!(f, "{form}: one field too many: {field}")
+                write!(f, "{form}: unexpected field: {field}")
             }
             WordFault::Stray => {
                 let shape = Shape::Open;
                 let form = ShownForm { line, shape };
                 let field = ShownStray(line);
-                write!(f, "{form}: none of these, out of order or twice: {field}")
+                write!(f, "{form}: unexpected, repeated or out of order: {field}")
             }
         }
     }

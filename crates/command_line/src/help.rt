@@ -16,11 +16,11 @@ pub const HELP: &str = "Replays scripts of commands on task scopes, by proved ru
 Usage: scopectl <COMMAND>
 
 Commands:
-  replay    Reads a script of commands from standard input, and writes the replies
-  dump      Reads a script of commands from standard input, and writes what it leaves as JSON
-  tree      Reads a script of commands from standard input, and writes what it leaves as text
-  timeline  Reads a script of commands from standard input, and draws its run as an SVG picture
-  quote     Reads a plan of offers from standard input, asks them on threads, and writes the answer
+  replay    Replay a script from standard input and write the replies
+  dump      Replay a script from standard input and write what is open at its end, as JSON
+  tree      Replay a script from standard input and write what is open at its end, as text
+  timeline  Replay a script from standard input and draw the run as an SVG picture
+  quote     Ask the offers of a plan from standard input, on threads, and write the answer
   help      Print this message or the help of a command
 
 Options:
@@ -28,12 +28,12 @@ Options:
   -V, --version  Print version
 
 Exit status:
-  0  the script was read to its end, also where commands were refused; or the plan has its answer
-  1  standard error has one line that names the fault, as scopectl: read
-  2  the command line is not understood
-  3  with --strict, the script was read to its end, and lines were refused
+  0  the script was read to its end, even if commands were refused; or the plan was answered
+  1  standard error has one line that names the fault, such as scopectl: read
+  2  the command line was not understood
+  3  with --strict: the script was read to its end, and lines were refused
 
-Try 'scopectl replay --help', or that of another command, for an example.
+For an example, try 'scopectl replay --help' or the help of another command.
 ";
 
 /// The help of a job that runs a script: what it does and how it is called, its options, those of this job
@@ -47,7 +47,7 @@ Options:
       --scopes <N>  How many scopes may be opened, from 1 to 4096 [default: 4096]
       --tasks <N>   How many tasks may be forked, from 1 to 65536 [default: 65536]
       --load <N>    How much load the realm takes, from 1 to 1048576 units [default: 1048576]
-      --strict      End with status 3 where lines were refused
+      --strict      End with status 3 if lines were refused
 ",
             $options,
             "  -h, --help        Print help
@@ -55,12 +55,12 @@ Options:
             $example,
             "
 Exit status:
-  0  the script was read to its end, also where commands were refused
+  0  the script was read to its end, even if commands were refused
   1  standard error has one line: scopectl: read, scopectl: write or scopectl: memory
-  2  the command line is not understood
-  3  with --strict, the script was read to its end, and lines were refused
+  2  the command line was not understood
+  3  with --strict: the script was read to its end, and lines were refused
 
-Where lines were refused, standard error says how many, and how many of them are no commands.
+If lines were refused, standard error says how many, and how many of them are not commands.
 "
         )
     };
@@ -68,16 +68,16 @@ Where lines were refused, standard error says how many, and how many of them are
 
 /// What `scopectl replay --help` writes.
 pub const REPLAY_HELP: &str = script_help!(
-    "Reads a script of commands from standard input, one a line, and writes one reply a line to
-standard output. A line that is empty or begins with # has no reply.
+    "Reads a script from standard input, one command per line, and writes one reply per line to
+standard output. A line that is empty or begins with # gets no reply.
 
 Usage: scopectl replay [OPTIONS]
 ",
-    "      --explain     Say on standard error of each refused line why it was refused
-      --trace       Say on standard error of each line what it was answered
+    "      --explain     Explain each refused line on standard error
+      --trace       Report each line with its reply on standard error
 ",
     "
-Example: the script on the left has the replies on the right.
+Example: the script on the left gets the replies on the right.
 
   open 0 await    scope 1
   fork 0 1 a      task 1 thread
@@ -91,9 +91,9 @@ Example: the script on the left has the replies on the right.
 
 /// What `scopectl dump --help` writes.
 pub const DUMP_HELP: &str = script_help!(
-    "Reads a script of commands from standard input, one a line, and writes no replies, but in the end
-one line of JSON: the tree of the scopes that are not closed, each with its tasks, what lies inside
-it and inside them, and why it is cancelled.
+    "Reads a script from standard input, one command per line, and writes no replies. At the end it
+writes one line of JSON: the tree of the scopes that are not closed. The tree shows the tasks of
+each scope, the scopes inside it and inside its tasks, and why a scope is cancelled.
 
 Usage: scopectl dump [OPTIONS]
 ",
@@ -104,7 +104,7 @@ Example: the script
   open 0 all deadline=100
   fork 0 1 a
 
-has the dump (one line, which is broken here)
+has this dump (one line, broken here to fit)
 
   {\"moment\":0,\"root\":{\"cause\":null,\"deadline\":100,\"expiry\":\"fail\",\"id\":1,\"inner\":null,
   \"joined\":false,\"joiner\":\"all\",\"owner\":0,\"shield\":false,\"stage\":\"open\",\"tasks\":[
@@ -114,8 +114,8 @@ has the dump (one line, which is broken here)
 
 /// What `scopectl tree --help` writes.
 pub const TREE_HELP: &str = script_help!(
-    "Reads a script of commands from standard input, one a line, and writes no replies, but in the end
-the tree of the scopes that are not closed, as text: a line a scope or task, indented.
+    "Reads a script from standard input, one command per line, and writes no replies. At the end it
+writes the tree of the scopes that are not closed, as text: one indented line per scope or task.
 
 Usage: scopectl tree [OPTIONS]
 ",
@@ -126,7 +126,7 @@ Example: the script
   open 0 all deadline=100
   fork 0 1 a
 
-has the tree
+has this tree
 
   moment 0
   scope 1 open, of main, joins all, deadline 100, awaits 1 of 1
@@ -136,14 +136,14 @@ has the tree
 
 /// What `scopectl timeline --help` writes.
 pub const TIMELINE_HELP: &str = script_help!(
-    "Reads a script of commands from standard input, one a line, and writes no replies, but in the end
-a picture of the run, as SVG: a band a scope and a lane a task, with events from left to right.
+    "Reads a script from standard input, one command per line, and writes no replies. At the end it
+draws the run as an SVG picture: a band per scope, a lane per task, and events from left to right.
 
 Usage: scopectl timeline [OPTIONS]
 ",
     "",
     "
-Example: the journal of a service is a script, too.
+Example: the journal of a service is a script too.
 
   scopectl timeline < FILE > run.svg
 "
@@ -151,39 +151,39 @@ Example: the journal of a service is a script, too.
 
 /// What `scopectl quote --help` writes.
 pub const QUOTE_HELP: &str =
-    "Reads a plan from standard input, to its end: a mode, and offers, each of a price or a fault. Asks
-each offer in a task of its own, on threads, in one scope, and writes the answer as one line.
+    "Reads a plan from standard input: a mode, and offers, each with a price or a fault. Asks each
+offer in a task of its own, on threads, in one scope, and writes the answer as one line.
 
 Usage: scopectl quote [OPTIONS]
 
 Options:
-      --deadline <MS>    Answers by what is there after so many milliseconds: partial NAME=PRICE ..
-      --after <NAME=MS>  The job of the offer NAME takes so many milliseconds (to try a deadline)
+      --deadline <MS>    After MS milliseconds, answer with the prices so far: partial NAME=PRICE ..
+      --after <NAME=MS>  Make the job of offer NAME take MS milliseconds, to try a deadline
   -h, --help             Print help
 
-A plan says one of these modes, and then up to 64 offers, whose names differ. A line that is empty
-or begins with # says nothing. A price is a number up to 999999999999.
+A plan is one of these modes, then up to 64 offers with different names. A line that is empty or
+begins with # is skipped. A price is a number from 0 to 999999999999.
 
-  mode best               the least price: best NAME PRICE; none where there is no price
+  mode best               the least price: best NAME PRICE; none if there is no price
   mode all                all prices: all NAME=PRICE ..; or an offer that fails: failed NAME FAULT
-  mode first              any price: first NAME PRICE; where there is none, an offer that fails:
-                          failed NAME FAULT; empty where there are no offers
+  mode first              any price: first NAME PRICE; if there is none, an offer that fails:
+                          failed NAME FAULT; empty if there are no offers
   offer NAME PRICE
   offer NAME fail FAULT
 
-Example: the plan on the left has the answer on the right.
+Example: the plan on the left gets the answer on the right.
 
   mode best       best b 899
   offer a 1200
   offer b 899
 
-Example: with --deadline 50 --after b=600 the same plan has the answer partial a=1200.
+Example: with --deadline 50 --after b=600 the same plan gets the answer partial a=1200.
 
 Exit status:
-  0  the plan was served, and its answer written
-  1  standard error has one line: scopectl: plan line N: bad-word where line N is the first that may
-     not stand there, and else scopectl: read, write, memory, time, rejected, cancelled or lost
-  2  the command line is not understood
+  0  the plan was answered
+  1  standard error has one line: scopectl: plan line N: bad-word: CAUSE, if line N is the first bad
+     one; or else scopectl: read, write, memory, time, rejected, cancelled or lost
+  2  the command line was not understood
 ";
 
 /// The help that the words ask for, of which the first is the program's name.

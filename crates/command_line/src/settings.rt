@@ -275,7 +275,7 @@ fn refused_value(alloc: Global, setting: Setting, text: &str) -> LineFault
     let wanted = setting.wanted();
     let greatest = setting.greatest();
     let message = format!(in alloc;
-        "error: invalid value '{text}' for '--{name} <{value}>': {wanted} from 1 to {greatest} is wanted\n\nFor more information, try '--help'.\n"
+        "error: invalid value '{text}' for '--{name} <{value}>': expected {wanted} from 1 to {greatest}\n\nFor more information, try '--help'.\n"
     );
     match message {
         Ok(message) => LineFault::Usage(message),

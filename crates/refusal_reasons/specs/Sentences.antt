@@ -29,22 +29,22 @@ stage_text Running = codes "running"
 stage_text Finished = codes "finished"
 
 abbrev pub innermost_text : ℕ → ℕ → Option ℕ → List ℕ
-innermost_text s a None = actor_text a ++ codes " has no scope that is not closed"
-innermost_text s a (Some inside) = codes "scope " ++ (decimal inside ++ (codes " is the innermost one of " ++ (actor_text a ++ (codes ", not scope " ++ decimal s))))
+innermost_text s a None = codes "all scopes of " ++ (actor_text a ++ codes " are closed")
+innermost_text s a (Some inside) = codes "the innermost scope of " ++ (actor_text a ++ (codes " is scope " ++ (decimal inside ++ (codes ", not scope " ++ decimal s))))
 
 -- what is so of scope s
 abbrev pub scope_sentence : ℕ → ScopeObstacle → List ℕ
-scope_sentence s (scope_is.Unknown opened) = codes "there is no scope " ++ (decimal s ++ (codes ", " ++ (decimal opened ++ codes " were opened")))
-scope_sentence s (scope_is.LetGo last) = codes "scope " ++ (decimal s ++ (codes " is from before the last retire, as all up to " ++ decimal last))
-scope_sentence s (scope_is.Owned owner actor) = codes "scope " ++ (decimal s ++ (codes " is of " ++ (actor_text owner ++ (codes ", not of " ++ actor_text actor))))
-scope_sentence s (scope_is.Closing event) = codes "scope " ++ (decimal s ++ (codes " is closing since event " ++ decimal event))
-scope_sentence s (scope_is.Closed event) = codes "scope " ++ (decimal s ++ (codes " is closed since event " ++ decimal event))
-scope_sentence s (scope_is.ClosingAround actor event) = codes "scope " ++ (decimal s ++ (codes ", the innermost one of " ++ (actor_text actor ++ (codes ", is closing since event " ++ decimal event))))
+scope_sentence s (scope_is.Unknown opened) = codes "there is no scope " ++ (decimal s ++ (codes " (scopes opened so far: " ++ (decimal opened ++ codes ")")))
+scope_sentence s (scope_is.LetGo last) = codes "scope " ++ (decimal s ++ (codes " was discarded by a retire, as were all scopes up to " ++ decimal last))
+scope_sentence s (scope_is.Owned owner actor) = codes "scope " ++ (decimal s ++ (codes " is owned by " ++ (actor_text owner ++ (codes ", not by " ++ actor_text actor))))
+scope_sentence s (scope_is.Closing event) = codes "scope " ++ (decimal s ++ (codes " has been closing since event " ++ decimal event))
+scope_sentence s (scope_is.Closed event) = codes "scope " ++ (decimal s ++ (codes " was closed by event " ++ decimal event))
+scope_sentence s (scope_is.ClosingAround actor event) = codes "scope " ++ (decimal s ++ (codes ", the innermost scope of " ++ (actor_text actor ++ (codes ", has been closing since event " ++ decimal event))))
 scope_sentence s (scope_is.Joined event) = codes "scope " ++ (decimal s ++ (codes " was joined by event " ++ decimal event))
 scope_sentence s scope_is.NotClosing = codes "the close of scope " ++ (decimal s ++ codes " has not begun")
-scope_sentence s (scope_is.Awaits task stage) = codes "task " ++ (decimal task ++ (codes " of scope " ++ (decimal s ++ (codes " is " ++ stage_text stage))))
-scope_sentence s (scope_is.BoundOtherwise actor pairs) = codes "the own pairs of " ++ (actor_text actor ++ (codes ", now " ++ (decimal pairs ++ (codes ", are not those of the opening of scope " ++ decimal s))))
-scope_sentence s (scope_is.Unclosed actor) = codes "scope " ++ (decimal s ++ (codes " of " ++ (actor_text actor ++ codes " is not closed")))
+scope_sentence s (scope_is.Awaits task stage) = codes "task " ++ (decimal task ++ (codes " of scope " ++ (decimal s ++ (codes " is still " ++ stage_text stage))))
+scope_sentence s (scope_is.BoundOtherwise actor pairs) = codes "the bindings of " ++ (actor_text actor ++ (codes " have changed since it opened scope " ++ (decimal s ++ (codes " (own bindings now: " ++ (decimal pairs ++ codes ")")))))
+scope_sentence s (scope_is.Unclosed actor) = actor_text actor ++ (codes " has not closed its scope " ++ decimal s)
 scope_sentence s (scope_is.NotInnermost actor innermost) = innermost_text s actor innermost
 
 abbrev pub unreadable_text : ℕ → ℕ → Stage → List ℕ
@@ -53,11 +53,11 @@ unreadable_text k s stage = codes "task " ++ (decimal k ++ (codes " is " ++ (sta
 
 -- what is so of task k
 abbrev pub task_sentence : ℕ → TaskObstacle → List ℕ
-task_sentence k (task_is.Unknown forked) = codes "there is no task " ++ (decimal k ++ (codes ", " ++ (decimal forked ++ codes " were forked")))
-task_sentence k (task_is.LetGo last) = codes "task " ++ (decimal k ++ (codes " is from before the last retire, as all up to " ++ decimal last))
+task_sentence k (task_is.Unknown forked) = codes "there is no task " ++ (decimal k ++ (codes " (tasks forked so far: " ++ (decimal forked ++ codes ")")))
+task_sentence k (task_is.LetGo last) = codes "task " ++ (decimal k ++ (codes " was discarded by a retire, as were all tasks up to " ++ decimal last))
 task_sentence k (task_is.AtStage stage wanted) = codes "task " ++ (decimal k ++ (codes " is " ++ (stage_text stage ++ (codes ", not " ++ stage_text wanted))))
-task_sentence k (task_is.Owned scope owner actor) = codes "task " ++ (decimal k ++ (codes " is of scope " ++ (decimal scope ++ (codes ", which is of " ++ (actor_text owner ++ (codes ", not of " ++ actor_text actor))))))
-task_sentence k (task_is.NotJoined scope) = codes "scope " ++ (decimal scope ++ (codes " of task " ++ (decimal k ++ codes " is not joined")))
+task_sentence k (task_is.Owned scope owner actor) = codes "task " ++ (decimal k ++ (codes " was forked in scope " ++ (decimal scope ++ (codes ", which is owned by " ++ (actor_text owner ++ (codes ", not by " ++ actor_text actor))))))
+task_sentence k (task_is.NotJoined scope) = codes "task " ++ (decimal k ++ (codes " was forked in scope " ++ (decimal scope ++ codes ", which is not joined yet")))
 task_sentence k (task_is.Unreadable scope stage) = unreadable_text k scope stage
 task_sentence k (task_is.Failed fault) = codes "task " ++ (decimal k ++ (codes " failed with " ++ fault_text fault))
 task_sentence k (task_is.Succeeded value) = codes "task " ++ (decimal k ++ (codes " succeeded with " ++ value_text value))
@@ -65,18 +65,18 @@ task_sentence k (task_is.Succeeded value) = codes "task " ++ (decimal k ++ (code
 -- what is so of an actor
 abbrev pub actor_sentence : ℕ → ActorObstacle → List ℕ
 actor_sentence a actor_is.NotMain = codes "only main may retire, not " ++ actor_text a
-actor_sentence a actor_is.NoPair = actor_text a ++ codes " has no pair of its own"
-actor_sentence a (actor_is.HeldPair pairs) = codes "a scope of " ++ (actor_text a ++ (codes " that is not closed was opened over the last of its pairs, which are " ++ decimal pairs))
-actor_sentence a (actor_is.Unbound key) = actor_text a ++ (codes " sees nothing bound to " ++ text_of key)
+actor_sentence a actor_is.NoPair = actor_text a ++ codes " has no binding of its own"
+actor_sentence a (actor_is.HeldPair pairs) = actor_text a ++ (codes " opened a scope after its last binding and has not closed it (own bindings: " ++ (decimal pairs ++ codes ")"))
+actor_sentence a (actor_is.Unbound key) = actor_text a ++ (codes " sees no binding for " ++ text_of key)
 
 -- where there is no room
 abbrev pub room_sentence : RoomObstacle → List ℕ
-room_sentence (room_is.Scopes opened limit) = decimal opened ++ (codes " of " ++ (decimal limit ++ codes " scopes are opened"))
-room_sentence room_is.ScopeNumbers = codes "the last number of a scope is given"
-room_sentence (room_is.Tasks forked limit) = decimal forked ++ (codes " of " ++ (decimal limit ++ codes " tasks are forked"))
-room_sentence room_is.TaskNumbers = codes "the last number of a task is given"
-room_sentence (room_is.Load used limit wanted) = decimal used ++ (codes " of " ++ (decimal limit ++ (codes " units of load are used, and this takes " ++ decimal wanted)))
-room_sentence (room_is.Levels level) = codes "the scope would have the level " ++ decimal level
+room_sentence (room_is.Scopes opened limit) = codes "the limit of scopes is reached: " ++ (decimal opened ++ (codes " of " ++ decimal limit))
+room_sentence room_is.ScopeNumbers = codes "no scope number is left"
+room_sentence (room_is.Tasks forked limit) = codes "the limit of tasks is reached: " ++ (decimal forked ++ (codes " of " ++ decimal limit))
+room_sentence room_is.TaskNumbers = codes "no task number is left"
+room_sentence (room_is.Load used limit wanted) = decimal used ++ (codes " of " ++ (decimal limit ++ (codes " units of load are used, and this needs " ++ decimal wanted)))
+room_sentence (room_is.Levels level) = codes "the scope would be at level " ++ (decimal level ++ codes ", and the limit is 16")
 
 -- the sentence of a reason
 abbrev pub sentence : Reason → List ℕ
@@ -84,4 +84,4 @@ sentence (reason.Scope scope obstacle) = scope_sentence scope obstacle
 sentence (reason.Task task obstacle) = task_sentence task obstacle
 sentence (reason.Actor actor obstacle) = actor_sentence actor obstacle
 sentence (reason.Room obstacle) = room_sentence obstacle
-sentence (reason.ClockBack wanted present) = codes "moment " ++ (decimal wanted ++ (codes " is before " ++ decimal present))
+sentence (reason.ClockBack wanted present) = codes "time " ++ (decimal wanted ++ (codes " is before the present time " ++ decimal present))

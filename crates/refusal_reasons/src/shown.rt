@@ -52,10 +52,10 @@ impl fmt::Display for ShownInnermost {
     fn fmt<W: fmt::Write>(&self, f: &mut fmt::Formatter<W>) -> fmt::Result {
         let actor = ShownActor(self.actor);
         match self.innermost {
-            None => write!(f, "{actor} has no scope that is not closed"),
+            None => write!(f, "all scopes of {actor} are closed"),
             Some(innermost) => write!(
                 f,
-                "scope {innermost} is the innermost one of {actor}, not scope {}",
+                "the innermost scope of {actor} is scope {innermost}, not scope {}",
                 self.scope
             ),
         }
@@ -75,28 +75,29 @@ impl fmt::Display for ShownScope {
     fn fmt<W: fmt::Write>(&self, f: &mut fmt::Formatter<W>) -> fmt::Result {
         let scope = self.scope;
         match self.obstacle {
-            ScopeObstacle::Unknown { opened } => {
-                write!(f, "there is no scope {scope}, {opened} were opened")
-            }
+            ScopeObstacle::Unknown { opened } => write!(
+                f,
+                "there is no scope {scope} (scopes opened so far: {opened})"
+            ),
             ScopeObstacle::LetGo { last } => write!(
                 f,
-                "scope {scope} is from before the last retire, as all up to {last}"
+                "scope {scope} was discarded by a retire, as were all scopes up to {last}"
             ),
             ScopeObstacle::Owned { owner, actor } => write!(
                 f,
-                "scope {scope} is of {}, not of {}",
+                "scope {scope} is owned by {}, not by {}",
                 ShownActor(owner),
                 ShownActor(actor)
             ),
             ScopeObstacle::Closing { event } => {
-                write!(f, "scope {scope} is closing since event {event}")
+                write!(f, "scope {scope} has been closing since event {event}")
             }
             ScopeObstacle::Closed { event } => {
-                write!(f, "scope {scope} is closed since event {event}")
+                write!(f, "scope {scope} was closed by event {event}")
             }
             ScopeObstacle::ClosingAround { actor, event } => write!(
                 f,
-                "scope {scope}, the innermost one of {}, is closing since event {event}",
+                "scope {scope}, the innermost scope of {}, has been closing since event {event}",
                 ShownActor(actor)
             ),
             ScopeObstacle::Joined { event } => {
@@ -105,15 +106,15 @@ impl fmt::Display for ShownScope {
             ScopeObstacle::NotClosing => { write!(f, "the close of scope {scope} has not begun") }
             ScopeObstacle::Awaits { task, stage } => {
                 let stage = ShownStage(stage);
-                write!(f, "task {task} of scope {scope} is {stage}")
+                write!(f, "task {task} of scope {scope} is still {stage}")
             }
             ScopeObstacle::BoundOtherwise { actor, pairs } => write!(
                 f,
-                "the own pairs of {}, now {pairs}, are not those of the opening of scope {scope}",
+                "the bindings of {} have changed since it opened scope {scope} (own bindings now: {pairs})",
                 ShownActor(actor)
             ),
             ScopeObstacle::Unclosed { actor } => {
-                write!(f, "scope {scope} of {} is not closed", ShownActor(actor))
+                write!(f, "{} has not closed its scope {scope}", ShownActor(actor))
             }
             ScopeObstacle::NotInnermost { actor, innermost } => {
                 let shown = ShownInnermost {
@@ -166,11 +167,11 @@ impl fmt::Display for ShownTask {
         let task = self.task;
         match self.obstacle {
             TaskObstacle::Unknown { forked } => {
-                write!(f, "there is no task {task}, {forked} were forked")
+                write!(f, "there is no task {task} (tasks forked so far: {forked})")
             }
             TaskObstacle::LetGo { last } => write!(
                 f,
-                "task {task} is from before the last retire, as all up to {last}"
+                "task {task} was discarded by a retire, as were all tasks up to {last}"
             ),
             TaskObstacle::AtStage { stage, wanted } => {
                 let stage = ShownStage(stage);
@@ -183,13 +184,14 @@ impl fmt::Display for ShownTask {
                 actor,
             } => write!(
                 f,
-                "task {task} is of scope {scope}, which is of {}, not of {}",
+                "task {task} was forked in scope {scope}, which is owned by {}, not by {}",
                 ShownActor(owner),
                 ShownActor(actor)
             ),
-            TaskObstacle::NotJoined { scope } => {
-                write!(f, "scope {scope} of task {task} is not joined")
-            }
+            TaskObstacle::NotJoined { scope } => write!(
+                f,
+                "task {task} was forked in scope {scope}, which is not joined yet"
+            ),
             TaskObstacle::Unreadable { scope, stage } => {
                 let shown = ShownUnreadable { task, scope, stage };
                 write!(f, "{shown}")
@@ -214,12 +216,12 @@ impl fmt::Display for ShownActing {
         let actor = ShownActor(self.actor);
         match self.obstacle {
             ActorObstacle::NotMain => write!(f, "only main may retire, not {actor}"),
-            ActorObstacle::NoPair => write!(f, "{actor} has no pair of its own"),
+            ActorObstacle::NoPair => write!(f, "{actor} has no binding of its own"),
             ActorObstacle::HeldPair { pairs } => write!(
                 f,
-                "a scope of {actor} that is not closed was opened over the last of its pairs, which are {pairs}"
+                "{actor} opened a scope after its last binding and has not closed it (own bindings: {pairs})"
             ),
-            ActorObstacle::Unbound { key } => write!(f, "{actor} sees nothing bound to {key}"),
+            ActorObstacle::Unbound { key } => write!(f, "{actor} sees no binding for {key}"),
         }
     }
 }
@@ -230,24 +232,25 @@ impl fmt::Display for RoomObstacle {
     fn fmt<W: fmt::Write>(&self, f: &mut fmt::Formatter<W>) -> fmt::Result {
         match *self {
             RoomObstacle::Scopes { opened, limit } => {
-                write!(f, "{opened} of {limit} scopes are opened")
+                write!(f, "the limit of scopes is reached: {opened} of {limit}")
             }
-            RoomObstacle::ScopeNumbers => write!(f, "the last number of a scope is given"),
+            RoomObstacle::ScopeNumbers => write!(f, "no scope number is left"),
             RoomObstacle::Tasks { forked, limit } => {
-                write!(f, "{forked} of {limit} tasks are forked")
+                write!(f, "the limit of tasks is reached: {forked} of {limit}")
             }
-            RoomObstacle::TaskNumbers => write!(f, "the last number of a task is given"),
+            RoomObstacle::TaskNumbers => write!(f, "no task number is left"),
             RoomObstacle::Load {
                 used,
                 limit,
                 wanted,
             } => write!(
                 f,
-                "{used} of {limit} units of load are used, and this takes {wanted}"
+                "{used} of {limit} units of load are used, and this needs {wanted}"
             ),
-            RoomObstacle::Levels { level } => {
-                write!(f, "the scope would have the level {level}")
-            }
+            RoomObstacle::Levels { level } => write!(
+                f,
+                "the scope would be at level {level}, and the limit is 16"
+            ),
         }
     }
 }
@@ -265,7 +268,7 @@ impl fmt::Display for Reason {
             }
             Reason::Room(obstacle) => write!(f, "{obstacle}"),
             Reason::ClockBack { wanted, present } => {
-                write!(f, "moment {wanted} is before {present}")
+                write!(f, "time {wanted} is before the present time {present}")
             }
         }
     }

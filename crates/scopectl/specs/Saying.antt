@@ -14,7 +14,7 @@ IsSaid text said said_new failed =
 
 -- the line that says how many they are
 abbrev pub tally_line : Tally → List ℕ
-tally_line tally = codes "scopectl: lines refused: " ++ decimal tally.refused ++ codes ", of which no commands: " ++ decimal tally.bad_words ++ 10 ∷ []
+tally_line tally = codes "scopectl: lines refused: " ++ decimal tally.refused ++ codes ", not a command: " ++ decimal tally.bad_words ++ 10 ∷ []
 
 -- the same, or nothing where there are none
 abbrev pub refusals_text : Tally → List ℕ

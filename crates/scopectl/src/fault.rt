@@ -134,7 +134,7 @@ pub fn tally_line(tally: Tally) -> ArrayString<LINE_ROOM>
     let mut line = ArrayString::new();
     line.push_str("scopectl: lines refused: ");
     line.push_str(digits.format(tally.refused));
-    line.push_str(", of which no commands: ");
+    line.push_str(", not a command: ");
     line.push_str(digits.format(tally.bad_words));
     line.push_str("\n");
     line

@@ -3,7 +3,7 @@ use command_line::Job;
 
 /// The one line that is said where a job reads a terminal.
 pub const GREETING: &str =
-    "scopectl: reading from the terminal, a line each; Ctrl-D ends it. 'scopectl help' says more.\n";
+    "scopectl: reading from the terminal, line by line; Ctrl-D ends the input. For help: scopectl help\n";
 
 /// Whether the words, of which the first is the program's name, say a job and ask for no help: then standard
 /// input is read.

@@ -29,5 +29,5 @@ command_why realm c = why_if (command_reason realm c)
 abbrev pub why_text : List ℕ → Why → List ℕ
 why_text line (why.Refused r) = sentence r
 why_text line (why.BadWord (Some fault)) = line_fault_text line fault
-why_text line (why.BadWord None) = codes "the line is in no form"
-why_text line why.Cut = codes "the line is cut: no line feed ends it"
+why_text line (why.BadWord None) = codes "the line is not a command"
+why_text line why.Cut = codes "the line does not end with a line feed"

@@ -68,8 +68,8 @@ impl fmt::Display for ShownWhy<'_> {
         match self.why {
             Why::Refused(reason) => write!(f, "{reason}"),
             Why::BadWord(Some(fault)) => write!(f, "{}", ShownFault { line, fault }),
-            Why::BadWord(None) => write!(f, "the line is in no form"),
-            Why::Cut => write!(f, "the line is cut: no line feed ends it"),
+            Why::BadWord(None) => write!(f, "the line is not a command"),
+            Why::Cut => write!(f, "the line does not end with a line feed"),
         }
     }
 }
