@@ -1,5 +1,6 @@
 //! A service by one value: its jobs and helpers act by a context that knows the realm's time, so that they name no
-//! clock, no runtime and no realm.
+//! clock, no runtime and no realm. Not finished, and used by nothing yet: the check of a caller does not pass a closure
+//! over a generic context to `scope`, `bound`, `shielded` or `retry`.
 
 mod batches;
 mod blocks;
