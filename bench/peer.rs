@@ -123,8 +123,12 @@ struct Scope {
     closed: bool,
     violated: bool,
     counts: [u32; 4],
-    inside: Vec<u32>,
-    tasks: Vec<u32>,
+    /// The latest scope opened right inside, and the one opened before this one in the same place; 0 for none.
+    inside: u32,
+    beside: u32,
+    /// The first and the latest task; 0 for none.
+    first_task: u32,
+    last_task: u32,
 }
 
 #[derive(Clone, Copy, PartialEq)]
@@ -139,15 +143,22 @@ struct Task {
     scope: u32,
     stage: usize,
     state: State,
+    /// The next task of the scope; 0 for none.
+    next: u32,
 }
 
-type Pairs = Vec<(Word, Word)>;
+/// Pairs that do not change any more, above those of the forker.
+#[derive(Default)]
+struct Pairs {
+    pairs: Vec<(Word, Word)>,
+    below: Option<Rc<Pairs>>,
+}
 
-/// What an actor has bound, what its forker had, and its innermost scope.
+/// What an actor has bound since its last fork, what lies below that, and its innermost scope.
 #[derive(Default)]
 struct Actor {
-    own: Pairs,
-    seen: Rc<Pairs>,
+    own: Vec<(Word, Word)>,
+    seen: Option<Rc<Pairs>>,
     innermost: u32,
 }
 
@@ -189,10 +200,12 @@ impl Book {
         if let Some(deadline) = it.deadline.take() {
             self.deadlines.remove(&(deadline, scope));
         }
-        for inner in self.scope(scope).inside.clone() {
+        let mut inner = self.scope(scope).inside;
+        while inner > self.scopes_before {
             if !self.scope(inner).shield {
                 self.cancel(inner, by, kind);
             }
+            inner = self.scope(inner).beside;
         }
     }
 
@@ -226,12 +239,16 @@ impl Book {
             closed: false,
             violated: false,
             counts: [0; 4],
-            inside: Vec::new(),
-            tasks: Vec::new(),
+            inside: 0,
+            beside: 0,
+            first_task: 0,
+            last_task: 0,
         });
         if around > 0 {
-            self.scope(around).inside.push(number);
-            let cut = self.scope(around).cut;
+            let it = self.scope(around);
+            let (beside, cut) = (it.inside, it.cut);
+            it.inside = number;
+            self.scope(number).beside = beside;
             if !shield {
                 self.scope(number).cut = cut;
             }
@@ -252,21 +269,27 @@ impl Book {
         let number = self.tasks_before + self.tasks.len() as u32 + 1;
         let never = self.scope(scope).cut.is_some();
         let stage = if never { NEVER } else { WAITING };
-        self.scope(scope).counts[stage] += 1;
-        self.scope(scope).tasks.push(number);
+        let it = self.scope(scope);
+        it.counts[stage] += 1;
+        let before = it.last_task;
+        it.last_task = number;
+        if before == 0 {
+            it.first_task = number;
+        } else {
+            self.task(before).next = number;
+        }
         self.tasks.push(Task {
             scope,
             stage,
             state: State::Unavailable,
+            next: 0,
         });
         let forker = self.actor(actor);
-        let seen = if forker.own.is_empty() {
-            Rc::clone(&forker.seen)
-        } else {
-            let mut all = forker.own.clone();
-            all.extend(forker.seen.iter().cloned());
-            Rc::new(all)
-        };
+        if !forker.own.is_empty() {
+            let (pairs, below) = (std::mem::take(&mut forker.own), forker.seen.take());
+            forker.seen = Some(Rc::new(Pairs { pairs, below }));
+        }
+        let seen = forker.seen.clone();
         self.actors.push(Actor {
             seen,
             ..Actor::default()
@@ -325,13 +348,16 @@ impl Book {
             return;
         }
         out.extend_from_slice(b"outcome all");
-        for task in self.scope(scope).tasks.clone() {
-            if let State::Success(value) = self.task(task).state {
+        let mut task = self.scope(scope).first_task;
+        while task > 0 {
+            let it = self.task(task);
+            if let State::Success(value) = it.state {
                 out.push(b' ');
                 task.append(out);
                 out.push(b'=');
                 value.text().append(out);
             }
+            task = self.task(task).next;
         }
         out.push(b'\n');
     }
@@ -351,7 +377,7 @@ impl Book {
         let it = self.scope(scope);
         it.closed = true;
         let (below, violated) = (it.below, it.violated);
-        let unjoined = !it.joined && !it.tasks.is_empty();
+        let unjoined = !it.joined && it.first_task > 0;
         self.actor(actor).innermost = below;
         let how: &[u8] = match (violated, unjoined) {
             (true, _) => b"closed violated",
@@ -414,11 +440,15 @@ impl Book {
             }
             [b"get", actor, key] => {
                 let (key, actor) = (Word::new(key), self.actor(id(actor)?));
-                let own = actor.own.iter().rev();
-                let pair = own
-                    .chain(actor.seen.iter().rev())
-                    .find(|pair| pair.0 == key)?;
-                say!(out, b"value ", pair.1.text());
+                let (mut pairs, mut below) = (&actor.own, &actor.seen);
+                let value = loop {
+                    if let Some(pair) = pairs.iter().rev().find(|pair| pair.0 == key) {
+                        break pair.1;
+                    }
+                    let next = below.as_ref()?;
+                    (pairs, below) = (&next.pairs, &next.below);
+                };
+                say!(out, b"value ", value.text());
             }
             _ => return None,
         }
