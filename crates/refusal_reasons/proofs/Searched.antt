@@ -1,9 +1,12 @@
 -- What searches find.
-use Rattle.std.proofs.Common.{◌≡◌, ℕ, zero, suc, ◌+◌, ◌<◌, ◌≤◌, Bool, true, false, cond, Option, Some, None, List, [], ◌∷◌, ◌++◌, length, slice_get, take, refl, ap, sym, ◌∙◌, arith}
+use Rattle.std.proofs.Common.{◌≡◌, ℕ, zero, suc, ◌+◌, ◌<◌, ◌≤◌, Bool, true, false, cond, Option, Some, None, List, [], ◌∷◌, ◌++◌, length, slice_get, take, option_map, ◌||◌, refl, ap, sym, ◌∙◌, arith}
 use Rattle.std.proofs.lemmas.List.{length-take}
 use Rattle.std.proofs.lemmas.List.Sums.{count_by-le-length, length-filter}
 use Rattle.std.proofs.lemmas.List.FromFn.{length-range_with_len}
-use Rattle.std.specs.List.{find}
+use Rattle.std.specs.List.{find, list_any, position, position_from}
+use Rattle.std.proofs.lemmas.Iterator.Adapters.{position_from-zero}
+use Rattle.scope_rules.specs.declared.types.events.Event.{Event}
+use Rattle.scope_rules.specs.Scopes.{ends, closed}
 use Rattle.scope_rules.specs.Completions.{is_task_of}
 use Rattle.scope_rules.specs.Nests.{tasks_of}
 use Rattle.scope_rules.specs.declared.types.records.Opening.{Opening}
@@ -12,7 +15,7 @@ use Rattle.scope_rules.specs.History.{History, before, opening, forked_count, ta
 use Rattle.scope_rules.proofs.Searching.{earliest_none_step, earliest_found}
 use Rattle.scope_rules.proofs.Earlier.{opening_before, opening_since, opening_within}
 use Rattle.scope_rules.proofs.Prefixes.{take_at, take_whole}
-use Rattle.refusal_reasons.specs.Places.{place_if, first_place}
+use Rattle.refusal_reasons.specs.Places.{place_if, first_place, is_before, closed_place}
 
 -- ---- places
 
@@ -27,6 +30,39 @@ place_passed test i none fails = earliest_none_step (place_if test) i none (ap (
 pub place_found : (test : ℕ → Bool) (i n : ℕ) → first_place test i ≡ None → test i ≡ true → i < n → first_place test n ≡ Some i
 unfolding first_place
 place_found test i n none here within = earliest_found (place_if test) i i n none (ap (λ b. cond b (Some i) None) here) within
+
+-- ---- what comes before the first place
+
+from_least : {A : Type 0} (p : A → Bool) (xs : List A) (n e : ℕ) → position_from p n xs ≡ Some e → n ≤ e
+from_least p [] n e at = absurd cc
+from_least p (x ∷ xs) n e at = by (p x) at (from_least p xs (n + 1) e)
+  where
+    by : (b : Bool) → cond b (Some n) (position_from p (n + 1) xs) ≡ Some e → (position_from p (n + 1) xs ≡ Some e → n + 1 ≤ e) → n ≤ e
+    by true at more = let same : n ≡ e = cc in omega (arith, same)
+    by false at more = omega (arith, more at)
+
+any_from : {A : Type 0} (p : A → Bool) (xs : List A) (n i : ℕ) → list_any p (take i xs) ≡ is_before (position_from p n xs) (n + i)
+any_from p [] n zero = refl
+any_from p [] n (suc i) = refl
+any_from p (x ∷ xs) n zero = by (p x) (position_from p (n + 1) xs) (from_least p xs (n + 1))
+  where
+    by : (b : Bool) (o : Option ℕ) → ((e : ℕ) → o ≡ Some e → n + 1 ≤ e) → false ≡ is_before (cond b (Some n) o) (n + 0)
+    by true o least = grind arith
+    by false None least = refl
+    by false (Some e) least = grind (arith, least e refl)
+any_from p (x ∷ xs) n (suc i) = by (p x) (any_from p xs (n + 1) i)
+  where
+    by : (b : Bool) → list_any p (take i xs) ≡ is_before (position_from p (n + 1) xs) (n + 1 + i) → (b || list_any p (take i xs)) ≡ is_before (cond b (Some n) (position_from p (n + 1) xs)) (n + suc i)
+    by true is = grind arith
+    by false is = is ∙ ap (is_before (position_from p (n + 1) xs)) (omega arith)
+
+any_before : {A : Type 0} (p : A → Bool) (xs : List A) (i : ℕ) → list_any p (take i xs) ≡ is_before (position p xs) i
+any_before p xs i = any_from p xs 0 i ∙ (ap (is_before (position_from p 0 xs)) (omega arith) ∙ ap (λ o. is_before o i) (sym (position_from-zero p xs)))
+
+-- the scope was closed before the place just where the place of its close is an earlier one
+pub closed_by : (h : History) (s i : ℕ) (place : Option ℕ) → place ≡ closed_place h.events s → is_before place i ≡ closed (before h i) s
+unfolding closed
+closed_by h s i place is = ap (λ o. is_before o i) is ∙ sym (any_before (ends s) h.events i)
 
 -- ---- elements
 

@@ -1,5 +1,5 @@
 -- By which event a scope came to stand as it does. Places are counted from 0 since the base, events from 1.
-use Rattle.std.specs.Prelude.{ℕ, ◌+◌, Bool, not, Option, Some, None, List, length, if◌then◌else◌}
+use Rattle.std.specs.Prelude.{ℕ, ◌+◌, Bool, false, not, nat_lt, Option, Some, None, List, length, if◌then◌else◌}
 use Rattle.std.specs.List.{find, position}
 use Rattle.scope_rules.specs.declared.types.events.Event.{Event}
 use Rattle.scope_rules.specs.Search.{earliest}
@@ -23,6 +23,11 @@ closing_place h s = first_place (closing_at h s) (length h.events)
 -- the place of the event that closed scope s
 abbrev pub closed_place : List Event → ℕ → Option ℕ
 closed_place events s = position (ends s) events
+
+-- there is an earlier place, and it comes before place i
+abbrev pub is_before : Option ℕ → ℕ → Bool
+is_before None i = false
+is_before (Some earlier) i = nat_lt earlier i
 
 -- the place of the event that joined scope s
 abbrev pub joined_place : List Event → ℕ → Option ℕ

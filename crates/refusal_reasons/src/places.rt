@@ -1,10 +1,9 @@
 //! By which event a scope came to stand as it does, and which task it waits for.
 
-ghost use Rattle.std.specs.Prelude.{◌≡◌, ◌<◌, IfSome, length, take};
-ghost use Rattle.std.specs.List.{list_any};
+ghost use Rattle.std.specs.Prelude.{◌≡◌, ◌<◌, ℕ, IfSome, length};
 ghost use Rattle.scope_rules.specs.Checks.{scope_check};
-ghost use Rattle.scope_rules.specs.History.{before, opening};
-ghost use Rattle.scope_rules.specs.Scopes.{joins, ends, closing_at, begins_closing, have_one_opener, covers};
+ghost use Rattle.scope_rules.specs.History.{History, before, opening};
+ghost use Rattle.scope_rules.specs.Scopes.{joins, ends, closed, closing_at, begins_closing, have_one_opener, covers};
 ghost use Rattle.scope_checks.specs.Passes.{Passes};
 ghost use Rattle.refusal_reasons.specs.Places.{closed_place, joined_place, closing_place, is_pending, pending_task};
 
@@ -48,7 +47,8 @@ pub(crate) fn closed_place(events: &[Event], scope: ScopeId) -> Option<usize>
     events.iter().position(|event| ends(event, scope))
 }
 
-/// The place of the event that began a close that covers the scope, the first such.
+/// The place of the event that began a close that covers the scope, the first such. It looks at each event at most
+/// twice.
 #[tactic(auto, using(crate::proofs::Searched::place_found, crate::proofs::Searched::place_passed, crate::proofs::Searched::place_none), unfolding(crate::specs::Places::closing_place))]
 pub(crate) fn closing_place<R: Readings>(
     readings: &R,
@@ -59,8 +59,9 @@ pub(crate) fn closing_place<R: Readings>(
     ensures place { result ≡ closing_place (R.history readings.now) scope }
     ensures within { IfSome result (λ place. place < length events.now) }
 {
+    let close = closed_place(events, scope);
     for place in 0..events.len() {
-        if closing_at(readings, events, place, scope) {
+        if closing_at(readings, events, place, scope, close) {
             return Some(place);
         }
     }
@@ -68,12 +69,19 @@ pub(crate) fn closing_place<R: Readings>(
 }
 
 /// Whether the event at the place begins a close that covers the scope.
-fn closing_at<R: Readings>(readings: &R, events: &[Event], place: usize, scope: ScopeId) -> bool
-    requires { events.now ≡ (R.history readings.now).events }
+fn closing_at<R: Readings>(
+    readings: &R,
+    events: &[Event],
+    place: usize,
+    scope: ScopeId,
+    close: Option<usize>,
+) -> bool
+    requires events { events.now ≡ (R.history readings.now).events }
+    requires close { close ≡ closed_place (R.history readings.now).events scope }
     ensures { result ≡ closing_at (R.history readings.now) scope place }
 {
     match events.get(place) {
-        Some(event) => begins_closing(readings, events, place, event, scope),
+        Some(event) => begins_closing(readings, place, event, scope, close),
         None => false,
     }
 }
@@ -81,53 +89,55 @@ fn closing_at<R: Readings>(readings: &R, events: &[Event], place: usize, scope: 
 /// Whether the event, which stands at the place, begins a close that covers the scope.
 fn begins_closing<R: Readings>(
     readings: &R,
-    events: &[Event],
     place: usize,
     event: &Event,
     scope: ScopeId,
+    close: Option<usize>,
 ) -> bool
-    requires events { events.now ≡ (R.history readings.now).events }
-    requires within { place < length events.now }
+    requires { close ≡ closed_place (R.history readings.now).events scope }
     ensures { result ≡ begins_closing (before (R.history readings.now) place) scope event.now }
 {
     match *event {
-        Event::BeginClose { scope: closed, .. } => covers(readings, events, place, closed, scope),
+        Event::BeginClose { scope: closing, .. } => {
+            covers(readings, place, closing, scope, close)
+        }
         _ => false,
     }
 }
 
 /// Whether the beginning of the close of the scope at the place covers the other one: it is that, or its
 /// owner opened it later and had not closed it.
-#[tactic(auto, unfolding(scope_rules::specs::Scopes::covers, scope_rules::specs::Scopes::closed))]
+#[tactic(auto, unfolding(scope_rules::specs::Scopes::covers))]
 fn covers<R: Readings>(
     readings: &R,
-    events: &[Event],
     place: usize,
-    closed: ScopeId,
+    closing: ScopeId,
     scope: ScopeId,
+    close: Option<usize>,
 ) -> bool
-    requires events { events.now ≡ (R.history readings.now).events }
-    requires within { place < length events.now }
-    ensures { result ≡ covers (before (R.history readings.now) place) closed scope }
+    requires { close ≡ closed_place (R.history readings.now).events scope }
+    ensures { result ≡ covers (before (R.history readings.now) place) closing scope }
 {
-    if closed == scope {
+    if closing == scope {
         return true;
     }
-    if scope <= closed || closed_before(events, place, scope) {
+    if scope <= closing || is_closed_by(close, place) {
         return false;
     }
     have_one_opener(
-        opening_before(readings, place, closed),
+        opening_before(readings, place, closing),
         opening_before(readings, place, scope),
     )
 }
 
-/// Whether the scope was closed before the place.
-fn closed_before(events: &[Event], place: usize, scope: ScopeId) -> bool
-    requires { place < length events.now }
-    ensures { result ≡ list_any (ends scope) (take place events.now) }
+/// Whether a scope that was closed there was closed before the place.
+fn is_closed_by(close: Option<usize>, place: usize) -> bool
+    ensures { (h : History) (s : ℕ) → close ≡ closed_place h.events s → result ≡ closed (before h place) s }
 {
-    events[..place].iter().any(|event| ends(event, scope))
+    match close {
+        Some(close) => close < place,
+        None => false,
+    }
 }
 
 /// Whether the two openings are of one actor.

@@ -1,7 +1,6 @@
 mod Answered
-mod Counted
 mod Floats
 mod Walked
 mod Retiring
-mod TextAnswered
+mod Sent
 mod TextWalked

@@ -4,3 +4,4 @@ pub mod Words
 pub mod Retiring
 pub mod TextLines
 pub mod TextTree
+pub mod Sent

@@ -39,7 +39,7 @@
 
 mod book;
 pub mod laws;
-mod objects;
+mod members;
 mod text_lines;
 mod text_walk;
 pub mod told;

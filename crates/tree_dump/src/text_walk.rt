@@ -1,29 +1,17 @@
 //! The walk over the tree.
-ghost use Rattle.std.specs.Prelude.{◌≡◌, ◌≤◌, ◌+◌, ◌++◌, IfOk, IfSome, OnOk, string_bytes, option_and_then};
+ghost use Rattle.std.specs.Prelude.{◌≡◌, ◌≤◌, ◌+◌, ◌++◌, IfOk, OnOk, string_bytes};
 ghost use Rattle.scope_checks.specs.Passes.{Passes};
 ghost use Rattle.scope_rules.specs.Checks.{scope_check};
-ghost use Rattle.scope_rules.specs.Nests.{info};
 ghost use Rattle.tree_dump.specs.TextTree.{nested, scope_line, task_line, tree_text};
 
 use crate::text_lines::{Indent, ShownScope, ShownTask};
-use scope_checks::{Readings, questions};
+use crate::told::info_at;
+use scope_checks::Readings;
 use scope_rules::types::capacity::LEVEL_LIMIT;
 use scope_rules::types::infos::ScopeInfo;
 use scope_rules::types::values::MAIN;
 use scope_rules::{ScopeId, TaskId};
 use std::alloc::{AllocError, Global};
-
-/// What there is to say of the scope, if there is one and it was opened since the base.
-#[tactic(auto, using(crate::proofs::TextAnswered::info_ok, crate::proofs::TextAnswered::info_err, crate::proofs::TextAnswered::info_passes))]
-fn info_at<R: Readings>(readings: &R, place: Option<ScopeId>) -> Option<ScopeInfo>
-    ensures info { result ≡ option_and_then (info (R.history readings.now)) place }
-    ensures passes { IfSome result (λ i. Passes (scope_check (R.history readings.now) i.scope)) }
-{
-    match questions::info(readings, place?) {
-        Ok(info) => Some(info),
-        Err(_) => None,
-    }
-}
 
 /// Appends the line of the scope at this depth. It is refused for memory alone.
 fn append_scope_line<R: Readings>(

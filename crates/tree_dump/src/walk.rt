@@ -1,57 +1,151 @@
-//! The walk over the tree.
-ghost use Rattle.std.specs.Prelude.{◌≡◌, IfOk, string_bytes};
-ghost use Rattle.serde_json.specs.View.{view};
-ghost use Rattle.tree_dump.specs.Tree.{nested, dump_data, dump_text};
+//! The walk over the tree, which is sent to a serializer as it goes.
+ghost use Rattle.std.specs.Prelude.{◌≡◌, IfOk, OnOk, string_bytes, length};
+ghost use Rattle.scope_rules.specs.Checks.{scope_check};
+ghost use Rattle.scope_rules.specs.Nests.{tasks_of};
+ghost use Rattle.scope_checks.specs.Passes.{Passes};
+ghost use Rattle.serde_json.specs.Data.{array};
+ghost use Rattle.serde_json.specs.Events.{SendsValue};
+ghost use Rattle.tree_dump.specs.Tree.{nested, task_shown, tasks_shown, dump_data, dump_text};
 
-use crate::objects::{nothing, scope_object, task_object};
-use crate::told::{info_at, inner_of, told_at};
+use crate::members::{send_cause, send_flag, send_joiner, send_number, send_text, send_time};
+use crate::told::{TaskTold, info_at, task_told};
+use crate::words::{expiry_word, scope_stage_word};
 use scope_checks::Readings;
-use scope_rules::ScopeId;
 use scope_rules::types::values::MAIN;
-use serde_json::{Value, json};
+use scope_rules::{ScopeId, TaskId};
+use serde::{Described, Serialize, Serializer};
 use std::alloc::{AllocError, Global};
 
 /// How many levels of scopes there can be.
 const LEVELS: u8 = 16;
 
-/// What stands where the scope may lie: the scope with what lies inside it, down to so many levels, or
-/// `null`. It is refused for memory alone.
-#[tactic(auto, using(crate::proofs::Walked::nested_none, crate::proofs::Walked::nested_absent, crate::proofs::Walked::info_there))]
-fn nested<R: Readings>(
+/// Sends what stands where the scope may lie: the scope with what lies inside it, down to so many levels, or null.
+#[cycle(send_scope)]
+fn send_scope<R: Readings, S: Serializer>(
     readings: &R,
     alloc: Global,
+    out: &mut S,
     levels: u8,
     place: Option<ScopeId>,
-) -> Result<Value, AllocError>
-    ensures { IfOk result (λ value. view value ≡ nested (R.history readings.now) levels place) }
+) -> Result<(), S::Error>
+    ensures { OnOk result (SendsValue (nested (R.history readings.now) levels place) (S.written out.old) (S.written out.new)) }
 {
     if levels == 0 {
-        return Ok(nothing());
+        return out.unit();
     }
     let Some(info) = info_at(readings, place) else {
-        return Ok(nothing());
+        return out.unit();
     };
-    let mut tasks = Vec::new(alloc);
-    while let Some(told) = told_at(readings, info.scope, tasks.len()) {
-        let inside = nested(readings, alloc, levels - 1, told.inner)?;
-        tasks.push(task_object(alloc, told, inside)?)?;
-    }
-    let inner = nested(readings, alloc, levels - 1, inner_of(readings, info.scope))?;
-    scope_object(alloc, info, inner, tasks)
+    out.begin_map(Some(11))?;
+    send_cause(out, "cause", info.cause)?;
+    send_time(out, "deadline", info.deadline)?;
+    send_text(out, "expiry", expiry_word(info.expiry))?;
+    send_number(out, "id", info.scope)?;
+    out.key("inner")?;
+    send_scope(readings, alloc, out, levels - 1, readings.inner(info.scope))?;
+    send_flag(out, "joined", info.joined)?;
+    send_joiner(alloc, out, "joiner", info.policy)?;
+    send_number(out, "owner", info.owner)?;
+    send_flag(out, "shield", info.shield)?;
+    send_text(out, "stage", scope_stage_word(info.stage))?;
+    out.key("tasks")?;
+    send_tasks(readings, alloc, out, levels - 1, info.scope)?;
+    out.end_map()
 }
 
-/// The tree as a value.
-fn dump_value<R: Readings>(readings: &R, alloc: Global) -> Result<Value, AllocError>
-    ensures { IfOk result (λ value. view value ≡ dump_data (R.history readings.now)) }
+/// How many tasks were forked in the scope.
+#[tactic(auto, using(crate::proofs::Sent::tasks_counted))]
+fn task_count<R: Readings>(readings: &R, scope: ScopeId) -> usize
+    requires { Passes (scope_check (R.history readings.now) scope) }
+    ensures { result ≡ length (tasks_of (R.history readings.now) scope) }
 {
-    let root = nested(readings, alloc, LEVELS, readings.outermost(MAIN))?;
-    json!(in alloc; {"moment": readings.moment(), "root": root})
+    let counts = readings.counts(scope);
+    counts.never as usize
+        + counts.waiting as usize
+        + counts.running as usize
+        + counts.finished as usize
+}
+
+/// Sends the list of the scope's tasks, in fork order.
+#[cycle(send_scope)]
+fn send_tasks<R: Readings, S: Serializer>(
+    readings: &R,
+    alloc: Global,
+    out: &mut S,
+    levels: u8,
+    scope: ScopeId,
+) -> Result<(), S::Error>
+    requires { Passes (scope_check (R.history readings.now) scope) }
+    ensures { OnOk result (SendsValue (array (tasks_shown (R.history readings.now) (nested (R.history readings.now) levels) scope)) (S.written out.old) (S.written out.new)) }
+{
+    let count = task_count(readings, scope);
+    out.begin_seq(Some(count))?;
+    for index in 0..count {
+        let Some(task) = readings.task_at(scope, index) else {
+            unreachable!()
+        };
+        send_task(readings, alloc, out, levels, task)?;
+    }
+    out.end_seq()
+}
+
+/// Sends the task with what lies inside it, down to so many levels; null if it was not forked since the base.
+#[cycle(send_scope)]
+fn send_task<R: Readings, S: Serializer>(
+    readings: &R,
+    alloc: Global,
+    out: &mut S,
+    levels: u8,
+    task: TaskId,
+) -> Result<(), S::Error>
+    ensures { OnOk result (SendsValue (task_shown (R.history readings.now) (nested (R.history readings.now) levels) task) (S.written out.old) (S.written out.new)) }
+{
+    let Some(told) = task_told(readings, task) else {
+        return out.unit();
+    };
+    out.begin_map(Some(5))?;
+    send_number(out, "id", told.task)?;
+    out.key("inner")?;
+    send_scope(readings, alloc, out, levels, told.inner)?;
+    send_text(out, "name", told.label.name.as_str())?;
+    send_text(out, "stage", told.stage.word())?;
+    send_text(out, "state", told.state.word())?;
+    out.end_map()
+}
+
+/// The tree of what is read.
+#[derive(Drop)]
+struct Tree<'a, R> {
+    readings: &'a R,
+    alloc: Global,
+}
+
+impl<R: Readings> Described for Tree<'_, R> {
+    ghost writes = { λ tree. SendsValue (dump_data (R.history tree.readings.now)) };
+}
+
+impl<R: Readings> Serialize for Tree<'_, R> {
+    fn serialize<S: Serializer>(&self, out: &mut S) -> Result<(), S::Error> {
+        out.begin_map(Some(2))?;
+        send_time(out, "moment", Some(self.readings.moment()))?;
+        out.key("root")?;
+        send_scope(
+            self.readings,
+            self.alloc,
+            out,
+            LEVELS,
+            self.readings.outermost(MAIN),
+        )?;
+        out.end_map()
+    }
 }
 
 /// The tree of what was read, as JSON without blanks. It is refused for memory alone.
-#[tactic(auto, using(crate::proofs::Floats::dump_whole), unfolding(crate::specs::Tree::dump_text))]
 pub fn dump_of<R: Readings>(alloc: Global, readings: &R) -> Result<String, AllocError>
     ensures { IfOk result (λ text. string_bytes text ≡ dump_text (R.history readings.now)) }
 {
-    dump_value(readings, alloc)?.to_string(alloc)
+    match serde_json::to_string(alloc, &Tree { readings, alloc }) {
+        Ok(text) => Ok(text),
+        Err(_) => Err(AllocError),
+    }
 }

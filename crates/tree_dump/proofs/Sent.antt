@@ -1,0 +1,98 @@
+-- How an object's members and a list's items follow one another, and how many tasks a scope has.
+use Rattle.std.proofs.Common.{◌≡◌, ℕ, suc, ◌+◌, ◌-◌, ◌<◌, ◌≤◌, ◌&&◌, Bool, true, false, cond, List, [], ◌∷◌, map, length, drop, Option, Some, None, slice_get, count_by, codes, refl, sym, ap, ◌∙◌, subst, arith}
+use Rattle.std.proofs.lemmas.List.{drop_more, drop_all}
+use Rattle.std.proofs.lemmas.List.Sums.{sum_by-cons, length-filter}
+use Rattle.std.proofs.lemmas.Option.{slice_get_within, get_or_from_slice_get}
+use Rattle.serde.specs.Event.{Log, Logs, map_begins, map_ends, seq_ends}
+use Rattle.serde_json.specs.Data.{Data, Items, Members, member, object, array, boolean, number, string, unsigned}
+use Rattle.serde_json.specs.View.{items_of}
+use Rattle.serde_json.specs.Events.{SendsValue, SendsItems, SendsMembers, items_len, members_len}
+use Rattle.scope_rules.specs.declared.types.answers.Stage.{Stage}
+use Rattle.scope_rules.specs.declared.types.answers.Stage.TheVariants.{Never, Waiting, Running, Finished}
+use Rattle.scope_rules.specs.declared.types.infos.ScopeInfo.{ScopeInfo}
+use Rattle.scope_rules.specs.Completions.{is_task_of}
+use Rattle.scope_rules.specs.History.{History, task_numbers}
+use Rattle.scope_rules.specs.Nests.{tasks_of}
+use Rattle.scope_rules.specs.Tasks.{stage, is_at, is_stage, counts}
+use Rattle.scope_rules.specs.Names.{text_of}
+use Rattle.scope_rules.specs.Texts.{stage_word, state_word}
+use Rattle.script_words.specs.Spelling.{policy_word}
+use Rattle.tree_dump.specs.Objects.{number_or_null, cause_or_null, scope_object, task_object}
+use Rattle.tree_dump.specs.Words.{expiry_word, scope_stage_word}
+use Rattle.tree_dump.specs.declared.told.TaskTold.{TaskTold}
+use Rattle.tree_dump.specs.Sent.{SendsMember}
+
+-- ---- members and items
+
+pub member_sent : (key : List ℕ) (value : Data) (rest : Members) (old mid new : Log) → SendsMember key value old mid → SendsMembers rest mid new → SendsMembers (member key value rest) old new
+member_sent key value rest old mid new one more = (one.0, mid, one.1, one.2, more)
+
+pub object_sent : (ms : Members) (n : ℕ) (old first new : Log) → n ≡ members_len ms → Logs old first (map_begins (Some n)) → SendsMembers ms first new → SendsValue (object ms) old new
+object_sent ms n old first new many begun more = (first, subst (λ k. Logs old first (map_begins (Some k))) many begun, more)
+
+-- one item more is sent
+pub item_sent : (f : ℕ → Data) (ks : List ℕ) (i k : ℕ) (old mid end : Log) → slice_get ks i ≡ Some k → SendsValue (f k) old mid →
+    SendsItems (items_of (map f (drop (i + 1) ks))) mid end → SendsItems (items_of (map f (drop i ks))) old end
+item_sent f ks i k old mid end at one more =
+    let first = drop_more ks i k (slice_get_within ks i k at) ∙ ap (λ x. x ∷ drop (i + 1) ks) (get_or_from_slice_get ks i k k at) in
+    subst (λ xs. SendsItems (items_of (map f xs)) old end) (sym first) (mid, one, more)
+
+-- where none is left, the list ends
+pub items_end : (f : ℕ → Data) (ks : List ℕ) (i : ℕ) (old end : Log) → length ks ≤ i → Logs old end seq_ends → SendsItems (items_of (map f (drop i ks))) old end
+items_end f ks i old end past last = subst (λ xs. SendsItems (items_of (map f xs)) old end) (sym (drop_all i ks past)) last
+
+member_as : (key : List ℕ) (value other : Data) (old new : Log) → value ≡ other → SendsMember key value old new → SendsMember key other old new
+member_as key value other old new same sent = subst (λ d. SendsMember key d old new) same sent
+
+-- ---- the objects
+
+pub scope_sent : (i : ScopeInfo) (inside : Data) (tasks : Items) (expiry how : List ℕ) (old l0 l1 l2 l3 l4 l5 l6 l7 l8 l9 l10 l11 new : Log) →
+    expiry ≡ expiry_word i.expiry → how ≡ scope_stage_word i.stage → Logs old l0 (map_begins (Some 11)) →
+    SendsMember (codes "cause") (cause_or_null i.cause) l0 l1 → SendsMember (codes "deadline") (number_or_null i.deadline) l1 l2 →
+    SendsMember (codes "expiry") (string expiry) l2 l3 → SendsMember (codes "id") (number (unsigned i.scope)) l3 l4 → SendsMember (codes "inner") inside l4 l5 →
+    SendsMember (codes "joined") (boolean i.joined) l5 l6 → SendsMember (codes "joiner") (string (policy_word i.policy)) l6 l7 →
+    SendsMember (codes "owner") (number (unsigned i.owner)) l7 l8 → SendsMember (codes "shield") (boolean i.shield) l8 l9 →
+    SendsMember (codes "stage") (string how) l9 l10 → SendsMember (codes "tasks") (array tasks) l10 l11 → Logs l11 new map_ends →
+    SendsValue (scope_object i inside tasks) old new
+unfolding scope_object
+scope_sent i inside tasks expiry how old l0 l1 l2 l3 l4 l5 l6 l7 l8 l9 l10 l11 new e s begun cause deadline by id inner joined joiner owner shield at list ended =
+    let by : SendsMember (codes "expiry") (string (expiry_word i.expiry)) l2 l3 = member_as (codes "expiry") _ _ l2 l3 (ap string e) by in
+    let at : SendsMember (codes "stage") (string (scope_stage_word i.stage)) l9 l10 = member_as (codes "stage") _ _ l9 l10 (ap string s) at in
+    (l0, begun, (cause.0, l1, cause.1, cause.2, (deadline.0, l2, deadline.1, deadline.2, (by.0, l3, by.1, by.2, (id.0, l4, id.1, id.2, (inner.0, l5, inner.1, inner.2, (joined.0, l6, joined.1, joined.2, (joiner.0, l7, joiner.1, joiner.2, (owner.0, l8, owner.1, owner.2, (shield.0, l9, shield.1, shield.2, (at.0, l10, at.1, at.2, (list.0, l11, list.1, list.2, ended))))))))))))
+
+pub task_sent : (t : TaskTold) (inside : Data) (name how state : List ℕ) (old l0 l1 l2 l3 l4 l5 new : Log) →
+    name ≡ text_of t.label.name → how ≡ stage_word t.stage → state ≡ state_word t.state → Logs old l0 (map_begins (Some 5)) →
+    SendsMember (codes "id") (number (unsigned t.task)) l0 l1 → SendsMember (codes "inner") inside l1 l2 → SendsMember (codes "name") (string name) l2 l3 →
+    SendsMember (codes "stage") (string how) l3 l4 → SendsMember (codes "state") (string state) l4 l5 → Logs l5 new map_ends →
+    SendsValue (task_object t inside) old new
+unfolding task_object
+task_sent t inside name how state old l0 l1 l2 l3 l4 l5 new n g s begun id inner named staged stated ended =
+    let named : SendsMember (codes "name") (string (text_of t.label.name)) l2 l3 = member_as (codes "name") _ _ l2 l3 (ap string n) named in
+    let staged : SendsMember (codes "stage") (string (stage_word t.stage)) l3 l4 = member_as (codes "stage") _ _ l3 l4 (ap string g) staged in
+    let stated : SendsMember (codes "state") (string (state_word t.state)) l4 l5 = member_as (codes "state") _ _ l4 l5 (ap string s) stated in
+    (l0, begun, (id.0, l1, id.1, id.2, (inner.0, l2, inner.1, inner.2, (named.0, l3, named.1, named.2, (staged.0, l4, staged.1, staged.2, (stated.0, l5, stated.1, stated.2, ended))))))
+
+-- ---- how many there are
+
+pub shown_len : (f : ℕ → Data) (ks : List ℕ) → items_len (items_of (map f ks)) ≡ length ks
+shown_len f [] = refl
+shown_len f (k ∷ ks) = ap suc (shown_len f ks)
+
+
+one : (b : Bool) (x : Stage) → cond (b && is_stage Never x) 1 0 + (cond (b && is_stage Waiting x) 1 0 + (cond (b && is_stage Running x) 1 0 + cond (b && is_stage Finished x) 1 0)) ≡ cond {A = ℕ} b 1 0
+one false x = refl
+one true Never = refl
+one true Waiting = refl
+one true Running = refl
+one true Finished = refl
+
+each_at_one : (h : History) (s : ℕ) (ks : List ℕ) → count_by (is_at h s Never) ks + (count_by (is_at h s Waiting) ks + (count_by (is_at h s Running) ks + count_by (is_at h s Finished) ks)) ≡ count_by (is_task_of h s) ks
+each_at_one h s [] = refl
+each_at_one h s (k ∷ ks) =
+    omega (arith, sum_by-cons (λ x. cond (is_at h s Never x) 1 0) k ks, sum_by-cons (λ x. cond (is_at h s Waiting x) 1 0) k ks, sum_by-cons (λ x. cond (is_at h s Running x) 1 0) k ks,
+    sum_by-cons (λ x. cond (is_at h s Finished x) 1 0) k ks, sum_by-cons (λ x. cond (is_task_of h s x) 1 0) k ks, one (is_task_of h s k) (stage h k), each_at_one h s ks)
+
+-- the counts of a scope's stages are those of its tasks
+pub tasks_counted : (h : History) (s : ℕ) → (counts h s).never + (counts h s).waiting + (counts h s).running + (counts h s).finished ≡ length (tasks_of h s)
+unfolding counts tasks_of
+tasks_counted h s = omega (arith, each_at_one h s (task_numbers h), length-filter (is_task_of h s) (task_numbers h))

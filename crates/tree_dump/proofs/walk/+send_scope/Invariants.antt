@@ -1,0 +1,23 @@
+use Rattle.std.proofs.Common.{◌≡◌, ◌+◌, ◌*◌, drop, map}
+use Rattle.scope_rules.specs.Nests.{tasks_of}
+use Rattle.serde.specs.Event.{Log}
+use Rattle.serde_json.specs.View.{items_of}
+use Rattle.serde_json.specs.Events.{SendsItems}
+use Rattle.tree_dump.specs.Tree.{nested, task_shown}
+use Rattle.tree_dump.proofs.walk.+send_scope.Given as goal
+
+abbrev pub decreases-send_scope : goal.decreases-send_scope
+decreases-send_scope g l = 3 * l.levels
+
+abbrev pub decreases-send_task : goal.decreases-send_task
+decreases-send_task g l = 3 * l.levels + 1
+
+abbrev pub decreases-send_tasks : goal.decreases-send_tasks
+decreases-send_tasks g l = 3 * l.levels + 2
+
+-- whatever ends the list well from here ends it well from the start
+abbrev pub invariant-send_tasks-loop-index : goal.invariant-send_tasks-loop-index
+invariant-send_tasks-loop-index g l =
+    let h = g.R.Readings.history l.readings in
+    let shown = task_shown h (nested h l.levels) in
+    (end : Log) → SendsItems (items_of (map shown (drop l.index (tasks_of h l.scope)))) (g.S.Serializer.written l.out) end → SendsItems (items_of (map shown (tasks_of h l.scope))) (g.S.Serializer.written l.initial.out) end
