@@ -2,3 +2,5 @@ mod Searched
 mod Found
 mod Fits
 mod RowsFit
+mod Truth
+mod RowsTrue

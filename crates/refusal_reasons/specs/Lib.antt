@@ -3,3 +3,4 @@ pub mod Obstacles
 pub mod Rows
 pub mod Sentences
 pub mod Fits
+pub mod Truth

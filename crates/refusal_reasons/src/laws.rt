@@ -1,6 +1,7 @@
 //! That the reasons are those of the refusals. The function does nothing: its contract is the law.
 
 ghost use Rattle.refusal_reasons.specs.Fits.{EventsFit, RetirementsFit, QuestionsFit};
+ghost use Rattle.refusal_reasons.specs.Truth.{EventsAreTrue, RetirementsAreTrue, QuestionsAreTrue};
 
 /// A command has a reason just where its checks refuse it, whatever the history, and the reason is of that
 /// refusal.
@@ -9,4 +10,12 @@ pub fn reasons_fit()
     ensures events { EventsFit }
     ensures retirements { RetirementsFit }
     ensures questions { QuestionsFit }
+{}
+
+/// Whatever a reason says is so of the history, for every command and every history.
+#[tactic(auto, using(crate::proofs::RowsTrue::events_true, crate::proofs::RowsTrue::retirements_true, crate::proofs::RowsTrue::questions_true))]
+pub fn reasons_are_true()
+    ensures events { EventsAreTrue }
+    ensures retirements { RetirementsAreTrue }
+    ensures questions { QuestionsAreTrue }
 {}
