@@ -78,7 +78,6 @@ pub shown_len : (f : ℕ → Data) (ks : List ℕ) → items_len (items_of (map 
 shown_len f [] = refl
 shown_len f (k ∷ ks) = ap suc (shown_len f ks)
 
-
 one : (b : Bool) (x : Stage) → cond (b && is_stage Never x) 1 0 + (cond (b && is_stage Waiting x) 1 0 + (cond (b && is_stage Running x) 1 0 + cond (b && is_stage Finished x) 1 0)) ≡ cond {A = ℕ} b 1 0
 one false x = refl
 one true Never = refl
@@ -89,8 +88,16 @@ one true Finished = refl
 each_at_one : (h : History) (s : ℕ) (ks : List ℕ) → count_by (is_at h s Never) ks + (count_by (is_at h s Waiting) ks + (count_by (is_at h s Running) ks + count_by (is_at h s Finished) ks)) ≡ count_by (is_task_of h s) ks
 each_at_one h s [] = refl
 each_at_one h s (k ∷ ks) =
-    omega (arith, sum_by-cons (λ x. cond (is_at h s Never x) 1 0) k ks, sum_by-cons (λ x. cond (is_at h s Waiting x) 1 0) k ks, sum_by-cons (λ x. cond (is_at h s Running x) 1 0) k ks,
-    sum_by-cons (λ x. cond (is_at h s Finished x) 1 0) k ks, sum_by-cons (λ x. cond (is_task_of h s x) 1 0) k ks, one (is_task_of h s k) (stage h k), each_at_one h s ks)
+    omega (
+      arith,
+      sum_by-cons (λ x. cond (is_at h s Never x) 1 0) k ks,
+      sum_by-cons (λ x. cond (is_at h s Waiting x) 1 0) k ks,
+      sum_by-cons (λ x. cond (is_at h s Running x) 1 0) k ks,
+      sum_by-cons (λ x. cond (is_at h s Finished x) 1 0) k ks,
+      sum_by-cons (λ x. cond (is_task_of h s x) 1 0) k ks,
+      one (is_task_of h s k) (stage h k),
+      each_at_one h s ks,
+    )
 
 -- the counts of a scope's stages are those of its tasks
 pub tasks_counted : (h : History) (s : ℕ) → (counts h s).never + (counts h s).waiting + (counts h s).running + (counts h s).finished ≡ length (tasks_of h s)

@@ -12,11 +12,7 @@ use serde::Serializer;
 use std::alloc::Global;
 
 /// Sends a member that is a number.
-pub(crate) fn send_number<S: Serializer>(
-    out: &mut S,
-    key: &str,
-    value: u32,
-) -> Result<(), S::Error>
+pub(crate) fn send_number<S: Serializer>(out: &mut S, key: &str, value: u32) -> Result<(), S::Error>
     ensures { OnOk result (SendsMember key.now (number (unsigned value)) (S.written out.old) (S.written out.new)) }
 {
     out.key(key)?;

@@ -67,5 +67,8 @@ send_tasks-returns g t c =
     let ks = tasks_of h c.args.scope in
     let shown = task_shown h (nested h c.args.levels) in
     let many = c.task_count-count.ensures ∙ sym (shown_len shown ks) in
-    on_ok_weaker c.end_seq.result (λ e. (w c.begin_seq.new.self, subst (λ n. Logs (w c.args.out.now) (w c.begin_seq.new.self) (seq_begins (Some n))) many c.in_ok-begin_seq.ensures,
-    c.loop-index.invariant (w c.end_seq.new.self) (items_end shown ks c.loop-index.index (w c.loop-index.out) (w c.end_seq.new.self) (omega (arith, c.task_count-count.ensures)) e))) c.end_seq.ensures
+    on_ok_weaker c.end_seq.result (λ e. (
+      w c.begin_seq.new.self,
+      subst (λ n. Logs (w c.args.out.now) (w c.begin_seq.new.self) (seq_begins (Some n))) many c.in_ok-begin_seq.ensures,
+      c.loop-index.invariant (w c.end_seq.new.self) (items_end shown ks c.loop-index.index (w c.loop-index.out) (w c.end_seq.new.self) (omega (arith, c.task_count-count.ensures)) e),
+    )) c.end_seq.ensures
