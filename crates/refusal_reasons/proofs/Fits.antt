@@ -1,21 +1,17 @@
 -- Each check is that of its twin: it refuses just where the twin has a reason, which is of that refusal.
-use Rattle.std.proofs.Common.{◌≡◌, ℕ, zero, suc, ◌+◌, ◌==◌, ◌<◌, ◌&&◌, ◌||◌, Bool, true, false, not, cond, is_some, nat_le, nat_lt, Option, Some, None, Result, Ok, Err, List, [], ◌∷◌, length, refl, ap, sym, ◌∙◌, arith}
-use Rattle.std.specs.List.{list_any, find, filter, position, position_or_len}
-use Rattle.std.specs.Option.{option_map_or, option_or}
-use Rattle.scope_rules.specs.declared.types.capacity.Limits.{Limits}
+use Rattle.std.proofs.Common.{◌≡◌, ℕ, ◌+◌, ◌==◌, ◌&&◌, Bool, true, false, not, cond, is_some, nat_le, nat_lt, Option, Some, None, Ok, Err, List, [], ◌∷◌, refl, ap, sym, ◌∙◌}
+use Rattle.std.specs.Option.{option_map_or}
 use Rattle.scope_rules.specs.declared.types.refusals.Refusal.{Refusal}
 use Rattle.scope_rules.specs.declared.types.refusals.Refusal.TheVariants as refusal
-use Rattle.scope_rules.specs.Search.{earliest, some_below}
 use Rattle.scope_rules.specs.History.{History, opening, forking, scopes, tasks}
-use Rattle.scope_rules.specs.Scopes.{joins, ends, joined, closed, closing, closing_at, innermost}
 use Rattle.scope_rules.specs.Tasks.{stage, is_running}
-use Rattle.scope_rules.specs.Checks.{Checked, refuse_if, then_check, checks, scope_check, task_check, actor_check, owns, owner_check, refuse_closing, refuse_joined, in_closing}
+use Rattle.scope_rules.specs.Checks.{Checked, refuse_if, then_check, checks, scope_check, task_check, actor_check, owns, owner_check, refuse_closing}
 use Rattle.refusal_reasons.specs.declared.reasons.Reason.{Reason}
 use Rattle.refusal_reasons.specs.declared.reasons.Reason.TheVariants as reason
 use Rattle.refusal_reasons.specs.declared.reasons.ScopeObstacle.TheVariants as scope_is
 use Rattle.refusal_reasons.specs.declared.reasons.TaskObstacle.TheVariants as task_is
-use Rattle.refusal_reasons.specs.Places.{place_if, first_place, closing_place, closed_place, joined_place}
-use Rattle.refusal_reasons.specs.Obstacles.{Explained, stopped_if, stopped_by, then_reason, first_reason, scope_known, task_known, runs, acts, owned, owner_of, closing_reason, stands}
+use Rattle.refusal_reasons.specs.Places.{closing_place, closed_place}
+use Rattle.refusal_reasons.specs.Obstacles.{Explained, stopped_if, stopped_by, then_reason, first_reason, scope_known, task_known, runs, acts, owned, closing_reason, stands}
 use Rattle.refusal_reasons.specs.Fits.{refusal_of, refusing}
 use Rattle.refusal_reasons.proofs.Found.{closing_is}
 

@@ -1,5 +1,5 @@
 -- Each row refuses just where its reasons say so.
-use Rattle.std.proofs.Common.{◌≡◌, ℕ, ◌==◌, ◌||◌, Bool, true, false, not, cond, is_some, nat_le, nat_lt, Option, Some, None, ok_or, Result, Ok, Err, List, [], ◌∷◌, length, refl, ap, sym, ◌∙◌}
+use Rattle.std.proofs.Common.{◌≡◌, ℕ, ◌||◌, Bool, true, false, not, cond, is_some, nat_le, Option, Some, None, ok_or, Result, Ok, Err, [], ◌∷◌, refl, ap, sym, ◌∙◌}
 use Rattle.std.specs.Option.{option_map_or}
 use Rattle.scope_rules.specs.declared.types.answers.State.{State}
 use Rattle.scope_rules.specs.declared.types.answers.State.TheVariants as state_is
@@ -13,11 +13,11 @@ use Rattle.scope_rules.specs.declared.types.refusals.Refusal.TheVariants as refu
 use Rattle.scope_rules.specs.declared.types.values.Value.{Value}
 use Rattle.scope_rules.specs.History.{History, opened_count, forked_count, scopes, tasks}
 use Rattle.scope_rules.specs.Load.{over_load, over_scopes, over_tasks}
-use Rattle.scope_rules.specs.Scopes.{joined, closed, closing, innermost}
+use Rattle.scope_rules.specs.Scopes.{closed, closing, innermost}
 use Rattle.scope_rules.specs.Cancels.{is_cancelled}
 use Rattle.scope_rules.specs.Tasks.{state, ready, settled}
 use Rattle.scope_rules.specs.Bindings.{bindings, bound_to}
-use Rattle.scope_rules.specs.Checks.{Checked, refuse_if, checks, refuse_full, actor_check, refuse_joined, in_closing, then_check}
+use Rattle.scope_rules.specs.Checks.{Checked, refuse_if, refuse_full, actor_check, refuse_joined, in_closing}
 use Rattle.scope_rules.specs.Table.{check_of, retire_check, reading_check, until_check, value_shown, fault_shown, checked_then}
 use Rattle.scope_rules.specs.Replies.{result_reply, fault_reply, binding_reply}
 use Rattle.script_words.specs.declared.commands.Question.{Question}
@@ -26,11 +26,11 @@ use Rattle.refusal_reasons.specs.declared.reasons.Reason.{Reason}
 use Rattle.refusal_reasons.specs.declared.reasons.Reason.TheVariants as reason
 use Rattle.refusal_reasons.specs.declared.reasons.ActorObstacle.TheVariants as actor_is
 use Rattle.refusal_reasons.specs.Places.{closing_place, closed_place, joined_place, pending_task}
-use Rattle.refusal_reasons.specs.Obstacles.{Explained, stopped_if, stopped_by, first_reason, then_reason, acts, not_closed, not_joined, no_pending, may_join, stands_around, innermost_stands, all_closed, load_fits, scope_fits, task_fits, shows_value, shows_fault, sees}
+use Rattle.refusal_reasons.specs.Obstacles.{Explained, stopped_if, first_reason, then_reason, acts, not_closed, not_joined, no_pending, may_join, stands_around, innermost_stands, all_closed, load_fits, scope_fits, task_fits, shows_value, shows_fault, sees}
 use Rattle.refusal_reasons.specs.Rows.{event_reason, retire_reason, reading_reason, question_reason}
 use Rattle.refusal_reasons.specs.Fits.{refusal_of, refusing, refused_alone, question_check}
 use Rattle.refusal_reasons.proofs.Found.{joined_is, closed_is, closing_is, settled_is}
-use Rattle.refusal_reasons.proofs.Fits.{fits_if, fits_by, fits_either, fits_end, fits_more, scope_known_fits, task_known_fits, acts_fits, owned_fits, stands_fits}
+use Rattle.refusal_reasons.proofs.Fits.{fits_if, fits_by, fits_end, fits_more, scope_known_fits, task_known_fits, acts_fits, owned_fits, stands_fits}
 
 -- ---- the checks that are found otherwise
 

@@ -1,5 +1,5 @@
 -- Each row says what is so: the first of its twins that has a reason does, and those before it passed.
-use Rattle.std.proofs.Common.{◌≡◌, ℕ, Bool, true, false, cond, Result, Ok, Err, List, [], ◌∷◌, refl, sym}
+use Rattle.std.proofs.Common.{◌≡◌, ℕ, Bool, true, false, cond, Ok, [], ◌∷◌, refl, sym}
 use Rattle.scope_rules.specs.declared.types.capacity.Limits.{Limits}
 use Rattle.scope_rules.specs.declared.types.capacity.TheConstants.{OPEN_LOAD, FORK_LOAD, STEP_LOAD}
 use Rattle.scope_rules.specs.declared.types.events.Event.{Event}
@@ -10,8 +10,7 @@ use Rattle.scope_rules.specs.Load.{weight}
 use Rattle.scope_rules.specs.Tasks.{state}
 use Rattle.script_words.specs.declared.commands.Question.{Question}
 use Rattle.script_words.specs.declared.commands.Question.TheVariants as question
-use Rattle.refusal_reasons.specs.declared.reasons.Reason.{Reason}
-use Rattle.refusal_reasons.specs.Obstacles.{Explained, first_reason, scope_known, task_known, waits, runs, acts, owned, task_owned, is_main, stands, not_closed, is_closing, not_joined, scope_joined, no_pending, may_join, innermost_stands, all_closed, innermost_is, has_level, bound_alike, has_pair, frees_pair, sees, load_fits, scope_fits, task_fits, is_later, shows_value, shows_fault}
+use Rattle.refusal_reasons.specs.Obstacles.{Explained, scope_known, task_known, waits, runs, acts, owned, task_owned, is_main, stands, not_closed, is_closing, not_joined, scope_joined, no_pending, may_join, innermost_stands, all_closed, innermost_is, has_level, bound_alike, has_pair, frees_pair, sees, load_fits, scope_fits, task_fits, is_later, shows_value, shows_fault}
 use Rattle.refusal_reasons.specs.Rows.{event_reason, retire_reason, reading_reason, question_reason}
 use Rattle.refusal_reasons.specs.Truth.{asker, questioner, IsSo, EventsAreTrue, RetirementsAreTrue, QuestionsAreTrue}
 use Rattle.refusal_reasons.proofs.Truth.{Says, says_ok, says_end, says_more, first_passes, rest_passes, scope_known_says, task_known_says, waits_says, runs_says, acts_says, owned_says, task_owned_says, is_main_says, main_acts, stands_says, not_closed_says, is_closing_says, not_joined_says, scope_joined_says, no_pending_says, may_join_says, innermost_stands_says, all_closed_says, innermost_is_says, has_level_says, bound_alike_says, has_pair_says, frees_pair_says, sees_says, load_fits_says, scope_fits_says, task_fits_says, is_later_says, shows_value_says, shows_fault_says}

@@ -1,5 +1,5 @@
 -- What stands in the way of a command where a check refuses it: each definition is the twin of a check.
-use Rattle.std.specs.Prelude.{ℕ, ◌+◌, ◌==◌, ◌&&◌, Bool, not, nat_le, nat_lt, Option, Some, None, Result, Ok, Err, is_some, List, [], ◌∷◌, length, if◌then◌else◌}
+use Rattle.std.specs.Prelude.{ℕ, ◌+◌, ◌==◌, ◌&&◌, Bool, not, nat_le, nat_lt, Option, Result, Ok, Err, is_some, List, [], ◌∷◌, length, if◌then◌else◌}
 use Rattle.std.specs.Option.{option_map_or}
 use Rattle.scope_rules.specs.declared.types.answers.Stage.{Stage}
 use Rattle.scope_rules.specs.declared.types.answers.Stage.TheVariants.{Waiting, Running}
@@ -12,7 +12,7 @@ use Rattle.scope_rules.specs.History.{History, opening, forking, moment, scopes,
 use Rattle.scope_rules.specs.Load.{load, over_load}
 use Rattle.scope_rules.specs.Scopes.{closing, innermost, next_level}
 use Rattle.scope_rules.specs.Cancels.{is_cancelled}
-use Rattle.scope_rules.specs.Tasks.{stage, state, is_running, is_waiting}
+use Rattle.scope_rules.specs.Tasks.{stage, is_running, is_waiting}
 use Rattle.scope_rules.specs.Bindings.{stack, bindings, bound_to, bound_as_opened, holds_last}
 use Rattle.scope_rules.specs.Checks.{owns, is_innermost}
 use Rattle.scope_rules.specs.Table.{owns_task, task_joined}

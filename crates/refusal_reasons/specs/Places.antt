@@ -1,5 +1,5 @@
 -- By which event a scope came to stand as it does. Places are counted from 0 since the base, events from 1.
-use Rattle.std.specs.Prelude.{ℕ, ◌+◌, Bool, false, not, nat_lt, Option, Some, None, List, length, if◌then◌else◌}
+use Rattle.std.specs.Prelude.{ℕ, Bool, false, not, nat_lt, Option, Some, None, List, length, if◌then◌else◌}
 use Rattle.std.specs.List.{find, position}
 use Rattle.scope_rules.specs.declared.types.events.Event.{Event}
 use Rattle.scope_rules.specs.Search.{earliest}

@@ -1,5 +1,5 @@
 -- That a reason tells the truth of a history, said by its events, openings and stages and not by the checks.
-use Rattle.std.specs.Prelude.{◌≡◌, ℕ, ◌+◌, ◌≤◌, ◌<◌, Bool, true, false, Option, Some, None, Result, Err, length, slice_get, IfSome}
+use Rattle.std.specs.Prelude.{◌≡◌, ℕ, ◌+◌, ◌≤◌, ◌<◌, Bool, true, false, Some, None, Err, length, slice_get, IfSome}
 use Rattle.scope_rules.specs.declared.types.answers.State.TheVariants as state_is
 use Rattle.scope_rules.specs.declared.types.capacity.Limits.{Limits}
 use Rattle.scope_rules.specs.declared.types.capacity.TheConstants.{LEVEL_LIMIT, GREATEST_NUMBER}

@@ -4,3 +4,4 @@ mod Walked
 mod Retiring
 mod Sent
 mod TextWalked
+mod RetiringText

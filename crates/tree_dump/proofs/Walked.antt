@@ -1,15 +1,15 @@
 -- What the walk finds at a place.
-use Rattle.std.proofs.Common.{◌≡◌, ℕ, zero, suc, ◌<◌, ◌+◌, ◌-◌, List, [], ◌∷◌, ◌++◌, Option, Some, None, IsSome, option_map, option_and_then, refl, ap, sym, ◌∙◌, subst, arith}
+use Rattle.std.proofs.Common.{◌≡◌, ℕ, zero, suc, Option, Some, None, IsSome, option_map, option_and_then, refl, ap, sym, ◌∙◌, arith}
 use Rattle.std.specs.Option.{option_map_or}
 use Rattle.scope_rules.specs.declared.types.infos.ScopeInfo.{ScopeInfo}
 use Rattle.scope_rules.specs.declared.types.records.Opening.{Opening}
 use Rattle.scope_rules.specs.History.{History, opening}
-use Rattle.scope_rules.specs.Nests.{inner, info, info_of, tasks_of}
+use Rattle.scope_rules.specs.Nests.{inner, info, info_of}
 use Rattle.serde_json.specs.Data.{Data, null}
 use Rattle.tree_dump.specs.Objects.{scope_object}
 use Rattle.tree_dump.specs.Tree.{nested, scope_shown, tasks_shown}
 
-info_scope : (h : History) (s : ℕ) (i : ScopeInfo) → info h s ≡ Some i → i.scope ≡ s
+pub info_scope : (h : History) (s : ℕ) (i : ScopeInfo) → info h s ≡ Some i → i.scope ≡ s
 unfolding info
 info_scope h s i is = by (opening h s) is
   where

@@ -5,3 +5,4 @@ pub mod Retiring
 pub mod TextLines
 pub mod TextTree
 pub mod Sent
+pub mod RetiringText

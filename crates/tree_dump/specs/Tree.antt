@@ -1,5 +1,5 @@
 -- The tree of the scopes that are not closed, as JSON.
-use Rattle.std.specs.Prelude.{ℕ, zero, suc, List, map, Option, None, Some, option_map, codes}
+use Rattle.std.specs.Prelude.{ℕ, zero, suc, List, map, Option, option_map, codes}
 use Rattle.std.specs.Option.{option_map_or}
 use Rattle.scope_rules.specs.History.{History, moment}
 use Rattle.scope_rules.specs.Nests.{outermost, inner, tasks_of, label, info}

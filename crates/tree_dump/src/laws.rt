@@ -1,10 +1,13 @@
-//! The law of retirement over dumps. The function does nothing: its contract is the law.
+//! The law of retirement over dumps and trees. The function does nothing: its contract is the law.
 
 ghost use Rattle.tree_dump.specs.Retiring.{DumpStays};
+ghost use Rattle.tree_dump.specs.RetiringText.{TreeStays};
 
-/// A retirement changes nothing that a dump shows. Where a list of commands without its retirements
-/// meets no limit, and no command behind an accepted retirement names a number that was let go, the dump
-/// of what it leaves is the same with the retirements.
+/// A retirement changes nothing that a dump or a tree shows. If a list of commands without its retirements meets no
+/// limit, and no command behind an accepted retirement names a discarded number, then what it leaves is shown the same
+/// with the retirements.
+#[tactic(auto, using(crate::proofs::Retiring::dump_stays, crate::proofs::RetiringText::tree_stays))]
 pub fn retired()
-    ensures { DumpStays }
+    ensures dump { DumpStays }
+    ensures tree { TreeStays }
 {}

@@ -1,13 +1,12 @@
 -- What was sent is the object of what stands there.
-use Rattle.std.proofs.Common.{◌≡◌, ◌-◌, ◌<◌, ◌+◌, suc, length, map, drop, Some, None, sym, ap, ◌∙◌, subst, arith}
+use Rattle.std.proofs.Common.{◌≡◌, ◌-◌, suc, Some, sym, ap, ◌∙◌, subst, arith}
 use Rattle.std.proofs.lemmas.Result.{on_ok_weaker}
 use Rattle.std.specs.Option.{option_map_or}
 use Rattle.scope_rules.specs.Nests.{inner, tasks_of}
 use Rattle.serde.specs.Event.{Logs, seq_begins}
 use Rattle.serde_json.specs.Data.{null}
-use Rattle.serde_json.specs.View.{items_of}
-use Rattle.serde_json.specs.Events.{SendsValue, SendsItems}
-use Rattle.tree_dump.specs.Objects.{scope_object, task_object}
+use Rattle.serde_json.specs.Events.{SendsValue}
+use Rattle.tree_dump.specs.Objects.{task_object}
 use Rattle.tree_dump.specs.Tree.{nested, task_shown, tasks_shown}
 use Rattle.tree_dump.proofs.Sent.{scope_sent, task_sent, item_sent, items_end, shown_len}
 use Rattle.tree_dump.proofs.Walked.{nested_none, nested_absent, nested_shown}

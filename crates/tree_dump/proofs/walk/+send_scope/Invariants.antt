@@ -1,4 +1,4 @@
-use Rattle.std.proofs.Common.{◌≡◌, ◌+◌, ◌*◌, drop, map}
+use Rattle.std.proofs.Common.{◌+◌, ◌*◌, drop, map}
 use Rattle.scope_rules.specs.Nests.{tasks_of}
 use Rattle.serde.specs.Event.{Log}
 use Rattle.serde_json.specs.View.{items_of}

@@ -1,0 +1,12 @@
+-- The text of what a list of commands leaves, with its retirements and without them.
+use Rattle.std.specs.Prelude.{◌≡◌, List}
+use Rattle.scope_rules.specs.declared.types.capacity.Limits.{Limits}
+use Rattle.script_words.specs.declared.commands.Command.{Command}
+use Rattle.scope_script.specs.Replying.{realm_after_all}
+use Rattle.scope_script.specs.Retiring.{without_retirements, fresh, RetiresFreely}
+use Rattle.tree_dump.specs.TextTree.{tree_text}
+
+-- where a list of commands without its retirements meets no limit, and no command behind an accepted
+-- retirement names a number that was let go, the tree of what it leaves is the same with the retirements
+abbrev pub TreeStays : Type 0
+TreeStays = (L : Limits) (commands : List Command) → RetiresFreely L commands → tree_text (realm_after_all (fresh L) (without_retirements commands)).history ≡ tree_text (realm_after_all (fresh L) commands).history
