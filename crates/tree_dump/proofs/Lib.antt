@@ -5,3 +5,4 @@ mod Retiring
 mod Sent
 mod TextWalked
 mod RetiringText
+mod Shows

@@ -6,3 +6,4 @@ pub mod TextLines
 pub mod TextTree
 pub mod Sent
 pub mod RetiringText
+pub mod Shows

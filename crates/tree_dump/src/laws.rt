@@ -1,7 +1,8 @@
-//! The law of retirement over dumps and trees. The function does nothing: its contract is the law.
+//! Laws of dumps and trees. The functions do nothing: their contracts are the laws.
 
 ghost use Rattle.tree_dump.specs.Retiring.{DumpStays};
 ghost use Rattle.tree_dump.specs.RetiringText.{TreeStays};
+ghost use Rattle.tree_dump.specs.Shows.{TreeShowsEach};
 
 /// A retirement changes nothing that a dump or a tree shows. If a list of commands without its retirements meets no
 /// limit, and no command behind an accepted retirement names a discarded number, then what it leaves is shown the same
@@ -10,4 +11,11 @@ ghost use Rattle.tree_dump.specs.RetiringText.{TreeStays};
 pub fn retired()
     ensures dump { DumpStays }
     ensures tree { TreeStays }
+{}
+
+/// The tree of a legal history has a line for each scope that is not closed, and one level deeper a line for each of its
+/// tasks.
+#[tactic(auto, using(crate::proofs::Shows::shows_each))]
+pub fn tree_shows_each()
+    ensures { TreeShowsEach }
 {}
