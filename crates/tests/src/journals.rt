@@ -11,11 +11,13 @@ use std::process::Abort;
 use std::test::Fail;
 use tree_dump::dump;
 
-/// Runs of which each ends behind a retirement, so that their histories begin with a base. ` / ` parts the lines.
-const RETIRED: [&str; 3] = [
+/// Runs of which each ends behind a retirement, so that their histories begin with a base. The last one retires more
+/// scopes than tasks. ` / ` parts the lines.
+const RETIRED: [&str; 4] = [
     "open 0 / fork 0 1 a / reject 1 / join 0 1 / close 0 1 / closed 0 1 / retire 0",
     "bind 0 user ann / tick 3 / open 0 await / fork 0 1 a / start 1 / ok 1 1 / join 0 1 / close 0 1 / closed 0 1 / retire 0 / open 0 all / fork 0 2 b",
     "tick 9 / open 0 / close 0 1 / closed 0 1 / retire 0 / bind 0 depth -1 / open 0 await / close 0 2 / closed 0 2 / retire 0 / retire 0 / unbind 0",
+    "open 0 await / open 0 await / fork 0 2 a / reject 1 / close 0 1 / closed 0 2 / closed 0 1 / retire 0 / open 0 await / fork 0 3 b / start 2 / open 2 all deadline=9 / fork 2 4 c / cancel 4 / tick 3",
 ];
 
 #[test]
