@@ -1,6 +1,5 @@
 //! A service by one value: its jobs and helpers act by a context that knows the realm's time, so that they name no
-//! clock, no runtime and no realm. Not finished, and used by nothing yet: the check of a caller does not pass a closure
-//! over a generic context to `scope`, `bound`, `shielded` or `retry`.
+//! clock, no runtime and no realm.
 
 mod batches;
 mod blocks;

@@ -5,7 +5,7 @@
 //! from any thread shows the tree of what is open, and the script of what happened.
 #![tactic(auto)]
 
-pub mod act;
+mod act;
 mod aliases;
 mod baton;
 mod by_token;
@@ -16,6 +16,7 @@ mod guards;
 mod handles;
 mod intake;
 mod jobs;
+mod literals;
 mod owners;
 mod pictures;
 mod places;
@@ -26,6 +27,10 @@ mod scoped;
 mod services;
 mod slots;
 
+pub use act::{
+    Acts, Backoff, Cx, Serves, Task, Timed, TypedTask, Worker, all_of, bound, fork_value,
+    map_at_most, race, retry, scope, serve, shielded,
+};
 pub use aliases::{Forks, Handle};
 pub use by_token::ShowsByToken;
 pub use errors::{NoTime, ServiceError};
@@ -38,6 +43,7 @@ pub use job_runner::{
 };
 pub use jobs::{Typed, TypedJob, Yields};
 pub use join_rules::{CompletionTest, Joiner, UntilTest};
+pub use literals::named;
 pub use pictures::Shows;
 pub use realm_lock::{
     ActorToken, BareOutcome, CloseReport, Joined, Mark, Realm, RealmName, Seed, View,

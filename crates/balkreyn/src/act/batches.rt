@@ -1,16 +1,14 @@
 //! Many typed jobs, of which so many run at a time.
 ghost use Rattle.std.specs.Prelude.{IfOk};
 
-use crate::act::blocks::{entered, left};
 use crate::act::contexts::Acts;
 use crate::act::valued::TypedTask;
 use crate::jobs::Yields;
 use crate::places::Place;
-use job_runner::Answers;
 use join_rules::Joiner;
 use scope_rules::{End, Fault, Name, Options, Outcome, Refusal, ScopeId, Value};
 use std::alloc::Global;
-use std::sync::{Arc, Mutex, Wait};
+use std::sync::{Arc, Mutex};
 
 /// The jobs that no worker has taken, the first of them last, and where each puts its value.
 #[derive(Drop)]
@@ -33,17 +31,19 @@ impl<J: Yields + Drop> Worker<J> {
     where
         J: TypedTask<W>,
     {
-        let rt = cx.runtime();
-        for _ in rt.forever() {
-            let Some((place, job)) = self.batch.jobs.lock(&rt).pop() else {
+        for _ in 0..self.batch.places.len() {
+            if cx.checkpoint().is_some() {
+                return Err(Fault(self.name));
+            }
+            let Some((place, job)) = self.batch.jobs.lock(cx).pop() else {
                 return Ok(Value::Num(0));
             };
             let value = job.run_typed(cx, self.name)?;
             if let Some(place) = self.batch.places.get(place) {
-                place.put(&rt, self.name, value);
+                place.put(cx, self.name, value);
             }
         }
-        unreachable!()
+        Ok(Value::Num(0))
     }
 }
 
@@ -52,7 +52,7 @@ impl<J: Yields + Drop> Worker<J> {
 ///
 /// # Errors
 /// `NotSuccess` if a job failed, `Unavailable` if a cancel or a deadline came first, and else the refusal of a call.
-pub fn map_at_most<J: Yields + Drop, W: Answers + From<Worker<J>> + Drop, X: Acts<W>>(
+pub fn map_at_most<J: Yields + Drop, W: From<Worker<J>>, X: Acts<W>>(
     cx: &mut X,
     name: Name,
     options: Options,
@@ -60,13 +60,14 @@ pub fn map_at_most<J: Yields + Drop, W: Answers + From<Worker<J>> + Drop, X: Act
     jobs: Vec<J>,
 ) -> Result<Vec<J::Value>, Refusal> {
     let batch = batch_of(cx.alloc(), jobs)?;
-    let scope = entered(cx, Joiner::AwaitOk, options)?;
+    let scope = cx.open(Joiner::AwaitOk, options)?;
     let found = mapped(cx, scope, name, at_once, &batch);
-    left(cx, scope, found)
+    cx.close(scope)?;
+    found
 }
 
 /// Forks so many workers in the scope, joins it, and gives the values that they put.
-fn mapped<J: Yields + Drop, W: Answers + From<Worker<J>> + Drop, X: Acts<W>>(
+fn mapped<J: Yields + Drop, W: From<Worker<J>>, X: Acts<W>>(
     cx: &mut X,
     scope: ScopeId,
     name: Name,
@@ -106,10 +107,9 @@ fn values_of<J: Yields, W, X: Acts<W>>(
     name: Name,
     batch: &Batch<J>,
 ) -> Result<Vec<J::Value>, Refusal> {
-    let rt = cx.runtime();
     let mut values = Vec::new(cx.alloc());
     for place in batch.places.iter() {
-        match place.take(&rt, name) {
+        match place.take(cx, name) {
             Some(value) => values.push(value)?,
             None => return Err(Refusal::Unavailable),
         }

@@ -5,11 +5,9 @@ ghost use Rattle.realm_core.specs.Calls.{SeesMore};
 ghost use Rattle.balkreyn.specs.Acting.{Won};
 ghost use Rattle.balkreyn.specs.Slots.{ForksInto, Takes, task_of};
 
-use crate::act::blocks::{entered, left};
 use crate::act::contexts::Acts;
 use crate::jobs::{Typed, Yields};
 use crate::slots::{Slot, place_and_share};
-use job_runner::Answers;
 use join_rules::Joiner;
 use scope_rules::{End, Fault, Name, Options, Outcome, Refusal, ScopeId, TaskId, Value};
 
@@ -31,7 +29,7 @@ impl<J: Yields> Typed<J> {
         let Typed { name, job, place } = self;
         match job.run_typed(cx, name) {
             Ok(value) => {
-                place.put(&cx.runtime(), name, value);
+                place.put(cx, name, value);
                 Ok(Value::Num(0))
             }
             Err(fault) => Err(fault),
@@ -44,7 +42,7 @@ impl<J: Yields> Typed<J> {
 ///
 /// # Errors
 /// Those of `fork`, and `Memory` if there is none for the slot; the job is dropped.
-pub fn fork_value<J: Yields + Drop, W: Answers + From<Typed<J>> + Drop, X: Acts<W>>(
+pub fn fork_value<J: Yields + Drop, W: From<Typed<J>>, X: Acts<W>>(
     cx: &mut X,
     scope: ScopeId,
     name: Name,
@@ -76,7 +74,7 @@ impl<J: Yields> Slot<J> {
         ensures { Takes (J.may_yield self.now.name) (X.token cx.old) (X.token cx.new) (task_of self.now.reply) result }
     {
         match cx.result(self.task()) {
-            Ok(_number) => match self.place.take(&cx.runtime(), self.name) {
+            Ok(_number) => match self.place.take(cx, self.name) {
                 Some(value) => Ok(value),
                 None => Err(Refusal::Unavailable),
             },
@@ -86,7 +84,7 @@ impl<J: Yields> Slot<J> {
 }
 
 /// Forks all these jobs in the scope under the name, in order, and gives their slots.
-fn fork_all<J: Yields + Drop, W: Answers + From<Typed<J>> + Drop, X: Acts<W>>(
+fn fork_all<J: Yields + Drop, W: From<Typed<J>>, X: Acts<W>>(
     cx: &mut X,
     scope: ScopeId,
     name: Name,
@@ -106,7 +104,7 @@ fn won<J: Yields, W, X: Acts<W>>(
     scope: ScopeId,
     slots: &[Slot<J>],
 ) -> Result<J::Value, Refusal>
-    ensures { IfOk result (Won X.Time.reads J.may_yield (X.time cx.old) (X.token cx.old) (X.token cx.new) scope) }
+    ensures { IfOk result (Won X.reads J.may_yield (X.time cx.old) (X.token cx.old) (X.token cx.new) scope) }
 {
     let joined = cx.join(scope)?;
     match &joined.outcome {
@@ -146,19 +144,20 @@ fn slot_of<J: Yields>(slots: &[Slot<J>], task: TaskId) -> Option<&Slot<J>>
 ///
 /// # Errors
 /// `Unavailable` if none succeeded by then, and else the refusal of a call.
-pub fn race<J: Yields + Drop, W: Answers + From<Typed<J>> + Drop, X: Acts<W>>(
+pub fn race<J: Yields + Drop, W: From<Typed<J>>, X: Acts<W>>(
     cx: &mut X,
     name: Name,
     options: Options,
     jobs: Vec<J>,
 ) -> Result<J::Value, Refusal> {
-    let scope = entered(cx, Joiner::Any, options)?;
+    let scope = cx.open(Joiner::Any, options)?;
     let found = raced(cx, scope, name, jobs);
-    left(cx, scope, found)
+    cx.close(scope)?;
+    found
 }
 
 /// Forks all these jobs in the scope, and gives the value of the first that succeeds.
-fn raced<J: Yields + Drop, W: Answers + From<Typed<J>> + Drop, X: Acts<W>>(
+fn raced<J: Yields + Drop, W: From<Typed<J>>, X: Acts<W>>(
     cx: &mut X,
     scope: ScopeId,
     name: Name,
@@ -173,19 +172,20 @@ fn raced<J: Yields + Drop, W: Answers + From<Typed<J>> + Drop, X: Acts<W>>(
 ///
 /// # Errors
 /// The refusal of a call.
-pub fn all_of<J: Yields + Drop, W: Answers + From<Typed<J>> + Drop, X: Acts<W>>(
+pub fn all_of<J: Yields + Drop, W: From<Typed<J>>, X: Acts<W>>(
     cx: &mut X,
     name: Name,
     options: Options,
     jobs: Vec<J>,
 ) -> Result<Vec<Option<J::Value>>, Refusal> {
-    let scope = entered(cx, Joiner::AwaitAll, options)?;
+    let scope = cx.open(Joiner::AwaitAll, options)?;
     let found = gathered(cx, scope, name, jobs);
-    left(cx, scope, found)
+    cx.close(scope)?;
+    found
 }
 
 /// Forks all these jobs in the scope, joins it, and gives the value of each that succeeded.
-fn gathered<J: Yields + Drop, W: Answers + From<Typed<J>> + Drop, X: Acts<W>>(
+fn gathered<J: Yields + Drop, W: From<Typed<J>>, X: Acts<W>>(
     cx: &mut X,
     scope: ScopeId,
     name: Name,
