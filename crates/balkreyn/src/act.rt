@@ -4,11 +4,13 @@
 mod batches;
 mod blocks;
 mod contexts;
+mod periods;
 mod tasks;
 mod valued;
 
 pub use batches::{Worker, map_at_most};
 pub use blocks::{Backoff, bound, retry, scope, shielded};
 pub use contexts::{Acts, Cx};
+pub use periods::every;
 pub use tasks::{Serves, Task, Timed, serve};
 pub use valued::{TypedTask, all_of, fork_value, race};

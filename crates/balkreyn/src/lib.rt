@@ -28,7 +28,7 @@ mod services;
 mod slots;
 
 pub use act::{
-    Acts, Backoff, Cx, Serves, Task, Timed, TypedTask, Worker, all_of, bound, fork_value,
+    Acts, Backoff, Cx, Serves, Task, Timed, TypedTask, Worker, all_of, bound, every, fork_value,
     map_at_most, race, retry, scope, serve, shielded,
 };
 pub use aliases::{Forks, Handle};

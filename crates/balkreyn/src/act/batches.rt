@@ -1,7 +1,11 @@
 //! Many typed jobs, of which so many run at a time.
-ghost use Rattle.std.specs.Prelude.{IfOk};
+ghost use Rattle.std.specs.Prelude.{◌≡◌, IfOk, max};
+ghost use Rattle.scope_rules.specs.declared.types.joiners.Policy.TheVariants as policy;
+ghost use Rattle.balkreyn.specs.Acting.{ClosesNow, Forked, RunsJobs, Staffs};
+ghost use Rattle.balkreyn.specs.Bodies.{Opens};
 
 use crate::act::contexts::Acts;
+use crate::act::tasks::Task;
 use crate::act::valued::TypedTask;
 use crate::jobs::Yields;
 use crate::places::Place;
@@ -47,6 +51,13 @@ impl<J: Yields + Drop> Worker<J> {
     }
 }
 
+/// A service whose only jobs are the workers of one batch needs no type for them.
+impl<J: TypedTask<Worker<J>> + Drop> Task for Worker<J> {
+    fn run<X: Acts<Worker<J>>>(self, cx: &mut X) -> End {
+        self.act(cx)
+    }
+}
+
 /// Runs all these jobs in a scope of their own, so many at a time, in order, and gives the value of each (Trio, a
 /// `CapacityLimiter` in a nursery). The first that fails ends it: then no job begins any more.
 ///
@@ -58,10 +69,12 @@ pub fn map_at_most<J: Yields + Drop, W: From<Worker<J>>, X: Acts<W>>(
     options: Options,
     at_once: u32,
     jobs: Vec<J>,
-) -> Result<Vec<J::Value>, Refusal> {
+) -> Result<Vec<J::Value>, Refusal>
+    ensures { IfOk result (RunsJobs (Opens X.token X.left_by_open policy.AwaitOk options) (ClosesNow X.token X.left_by_close X.reads X.time) (λ scope begun ended values. Staffs X.token X.reads X.time name (max at_once 1) scope begun ended) cx.old cx.new) }
+{
     let batch = batch_of(cx.alloc(), jobs)?;
     let scope = cx.open(Joiner::AwaitOk, options)?;
-    let found = mapped(cx, scope, name, at_once, &batch);
+    let found = mapped(cx, scope, name, at_once.max(1), &batch);
     cx.close(scope)?;
     found
 }
@@ -71,18 +84,37 @@ fn mapped<J: Yields + Drop, W: From<Worker<J>>, X: Acts<W>>(
     cx: &mut X,
     scope: ScopeId,
     name: Name,
-    at_once: u32,
+    workers: u32,
     batch: &Arc<Batch<J>, Global>,
-) -> Result<Vec<J::Value>, Refusal> {
-    for _ in 0..at_once.max(1) {
-        let batch = Arc::try_clone(batch)?;
-        cx.fork(scope, name, W::from(Worker { name, batch }))?;
-    }
-    match &cx.join(scope)?.outcome {
+) -> Result<Vec<J::Value>, Refusal>
+    ensures { IfOk result (λ values. Staffs X.token X.reads X.time name workers scope cx.old cx.new) }
+{
+    staffed(cx, scope, name, workers, batch)?;
+    let joined = cx.join(scope)?;
+    match &joined.outcome {
         Outcome::Done => values_of(cx, name, batch),
         Outcome::Failed { .. } => Err(Refusal::NotSuccess),
         _ => Err(Refusal::Unavailable),
     }
+}
+
+/// Forks so many workers in the scope.
+fn staffed<J: Yields + Drop, W: From<Worker<J>>, X: Acts<W>>(
+    cx: &mut X,
+    scope: ScopeId,
+    name: Name,
+    workers: u32,
+    batch: &Arc<Batch<J>, Global>,
+) -> Result<(), Refusal>
+    ensures { IfOk result (λ _. Forked X.token scope name cx.old workers cx.new) }
+{
+    let mut number = 0u32;
+    while number < workers {
+        let batch = Arc::try_clone(batch)?;
+        cx.fork(scope, name, W::from(Worker { name, batch }))?;
+        number += 1;
+    }
+    Ok(())
 }
 
 /// A batch of these jobs.

@@ -3,8 +3,8 @@ ghost use Rattle.std.specs.Prelude.{◌≡◌, None, true};
 ghost use Rattle.join_rules.specs.Joiners.{policy_of};
 ghost use Rattle.scope_rules.specs.declared.types.events.Expiry.TheVariants.{Fail};
 ghost use Rattle.scope_rules.specs.declared.types.joiners.Policy.TheVariants as policy;
-ghost use Rattle.balkreyn.specs.Acting.{Retries, RunsBound, Sleeps};
-ghost use Rattle.balkreyn.specs.Bodies.{ClosesFrom, Opens, RunsWithin};
+ghost use Rattle.balkreyn.specs.Acting.{ClosesNow, Retries, RunsBound, Sleeps};
+ghost use Rattle.balkreyn.specs.Bodies.{Opens, RunsWithin};
 
 use crate::act::contexts::Acts;
 use join_rules::Joiner;
@@ -23,7 +23,7 @@ pub fn scope<
     F: FnOnce(&mut X, ScopeId) -> Result<T, E>,
 >(cx: &mut X, joiner: Joiner, options: Options, body: F) -> Result<T, E>
     requires { F.IsAlwaysCallable body }
-    ensures { RunsWithin (Opens X.token X.left_by_open (policy_of joiner) options) (ClosesFrom X.token X.left_by_close X.reads (X.time cx.old)) E.from_gives F.FnOnce body cx.old cx.new result }
+    ensures { RunsWithin (Opens X.token X.left_by_open (policy_of joiner) options) (ClosesNow X.token X.left_by_close X.reads X.time) E.from_gives F.FnOnce body cx.old cx.new result }
 {
     let scope = cx.open(joiner, options)?;
     let found = body(cx, scope);
@@ -63,7 +63,7 @@ pub fn shielded<
     F: FnOnce(&mut X, ScopeId) -> Result<T, E>,
 >(cx: &mut X, body: F) -> Result<T, E>
     requires { F.IsAlwaysCallable body }
-    ensures { RunsWithin (Opens X.token X.left_by_open policy.AwaitAll (record { deadline = None; shield = true; expiry = Fail })) (ClosesFrom X.token X.left_by_close X.reads (X.time cx.old)) E.from_gives F.FnOnce body cx.old cx.new result }
+    ensures { RunsWithin (Opens X.token X.left_by_open policy.AwaitAll (record { deadline = None; shield = true; expiry = Fail })) (ClosesNow X.token X.left_by_close X.reads X.time) E.from_gives F.FnOnce body cx.old cx.new result }
 {
     scope(cx, Joiner::AwaitAll, Options::PLAIN.shielded(), body)
 }

@@ -31,8 +31,8 @@ pub trait Acts<W>: Scopes + Wait {
     ghost use Rattle.cancel_marks.specs.Seats.{Seen};
     ghost use Rattle.realm_core.specs.Calls.{DoesOrMemory, Reads, RecordsOrMemory, SeesMore};
     ghost use Rattle.job_runner.specs.Marks.{Shows};
-    ghost use Rattle.balkreyn.specs.Acting.{IsSoAfter, JoinsFrom, SleepsFor};
-    ghost use Rattle.balkreyn.specs.Bodies.{ClosesFrom, Opens};
+    ghost use Rattle.balkreyn.specs.Acting.{ClosesNow, IsSoAfter, JoinsFrom, SleepsFor};
+    ghost use Rattle.balkreyn.specs.Bodies.{Opens};
     ghost use Rattle.balkreyn.specs.Slots.{ForksUnder};
 
     /// The clock of the realm's time, as the prover sees it.
@@ -69,7 +69,7 @@ pub trait Acts<W>: Scopes + Wait {
 
     /// Cancels what still runs in the scope, waits for it by the realm's clock, and closes the scope (JEP 505, `close`).
     fn close(&mut self, scope: ScopeId) -> Result<Verdict, Refusal>
-        ensures { ClosesFrom Self.token Self.left_by_close Self.reads (Self.time self.old) self.old self.new scope result };
+        ensures { ClosesNow Self.token Self.left_by_close Self.reads Self.time self.old self.new scope result };
 
     /// Forks the job under the name in the actor's scope, as `fork` does (JEP 505, `fork`).
     fn fork(&mut self, scope: ScopeId, name: Name, job: W) -> Result<ForkReply, Refusal>

@@ -1,11 +1,14 @@
 //! Typed jobs that act by one value, and what is done with several of them.
 ghost use Rattle.std.specs.Prelude.{◌≡◌, IfOk, IfSome, Ok, pos};
+ghost use Rattle.scope_rules.specs.declared.types.joiners.Policy.TheVariants as policy;
 ghost use Rattle.scope_rules.specs.declared.types.values.Value.TheVariants as value;
 ghost use Rattle.realm_core.specs.Calls.{SeesMore};
-ghost use Rattle.balkreyn.specs.Acting.{Won};
+ghost use Rattle.balkreyn.specs.Acting.{ClosesNow, Races, RunsJobs, Won};
+ghost use Rattle.balkreyn.specs.Bodies.{Opens};
 ghost use Rattle.balkreyn.specs.Slots.{ForksInto, Takes, task_of};
 
 use crate::act::contexts::Acts;
+use crate::act::tasks::Task;
 use crate::jobs::{Typed, Yields};
 use crate::slots::{Slot, place_and_share};
 use join_rules::Joiner;
@@ -34,6 +37,13 @@ impl<J: Yields> Typed<J> {
             }
             Err(fault) => Err(fault),
         }
+    }
+}
+
+/// A service whose only jobs are of one type that answers a value needs no type for them.
+impl<J: TypedTask<Typed<J>> + Drop> Task for Typed<J> {
+    fn run<X: Acts<Typed<J>>>(self, cx: &mut X) -> End {
+        self.act(cx)
     }
 }
 
@@ -149,7 +159,9 @@ pub fn race<J: Yields + Drop, W: From<Typed<J>>, X: Acts<W>>(
     name: Name,
     options: Options,
     jobs: Vec<J>,
-) -> Result<J::Value, Refusal> {
+) -> Result<J::Value, Refusal>
+    ensures { IfOk result (RunsJobs (Opens X.token X.left_by_open policy.Any options) (ClosesNow X.token X.left_by_close X.reads X.time) (Races X.token X.reads X.time J.may_yield) cx.old cx.new) }
+{
     let scope = cx.open(Joiner::Any, options)?;
     let found = raced(cx, scope, name, jobs);
     cx.close(scope)?;
@@ -162,7 +174,9 @@ fn raced<J: Yields + Drop, W: From<Typed<J>>, X: Acts<W>>(
     scope: ScopeId,
     name: Name,
     jobs: Vec<J>,
-) -> Result<J::Value, Refusal> {
+) -> Result<J::Value, Refusal>
+    ensures { IfOk result (Races X.token X.reads X.time J.may_yield scope cx.old cx.new) }
+{
     let slots = fork_all(cx, scope, name, jobs)?;
     won(cx, scope, &slots)
 }
