@@ -50,3 +50,8 @@ mark_of P None some p = absurd (true≢false (sym some))
 pub none_of : (P : Option Mark → Type 0) (shown : Option Mark) → is_some shown ≡ false → P shown → P None
 none_of P None none p = p
 none_of P (Some mark) none p = absurd (true≢false none)
+
+-- a mark was shown, and it is what is answered
+pub shown_of : {E : Type 0} (P : Option Mark → Type 0) (shown : Option Mark) (result : Result (Option Mark) E) → is_some shown ≡ true → result ≡ Ok shown → P shown → (mark : Mark) × P (Some mark) × (result ≡ Ok (Some mark))
+shown_of P (Some mark) result some same p = (mark, p, same)
+shown_of P None result some same p = absurd (true≢false (sym some))
