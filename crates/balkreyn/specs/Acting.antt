@@ -206,3 +206,21 @@ pub record Staffs {X K : Type 0} (token : X → OwnerValue) (reads : K → K →
   pub last : X
   pub joins : JoinsFrom reads (time there) (token there) (token last) s (Ok joined)
   pub done : joined.outcome ≡ Done
+
+-- ---- a body with a permit
+
+-- what is answered where the body found this
+abbrev pub limited_to : {T E : Type 0} → Result T E → Result (Option T) E
+limited_to (Ok value) = Ok (Some value)
+limited_to (Err error) = Err error
+
+-- the body ran once, and last of all
+pub record RunsHolding {F X T E : Type 0} (calls : Once F (MutBor X × Unit {0}) (Result T E × (MutBor X × Unit {0}))) (body : F) (new : X) (result : Result (Option T) E) : Type 0 where
+  pub begun : X
+  pub found : Result T E
+  pub ran : RanBound calls body begun new found
+  pub answers : result ≡ limited_to found
+
+-- the body ran with a permit; or it was not called: a cancel came before a permit, or the wait was refused
+abbrev pub RunsLimited : {F X T E : Type 0} → Once F (MutBor X × Unit {0}) (Result T E × (MutBor X × Unit {0})) → (Refusal → E → Type 0) → F → X → Result (Option T) E → Type 0
+RunsLimited calls makes body new result = RunsHolding calls body new result ⊎ (result ≡ Ok None) ⊎ ((refusal : Refusal) × IsErrAnd result (makes refusal))

@@ -4,6 +4,7 @@
 mod batches;
 mod blocks;
 mod contexts;
+mod limits;
 mod periods;
 mod tasks;
 mod valued;
@@ -11,6 +12,7 @@ mod valued;
 pub use batches::{Worker, map_at_most};
 pub use blocks::{Backoff, bound, retry, scope, shielded};
 pub use contexts::{Acts, Cx};
+pub use limits::{Limiter, limited};
 pub use periods::every;
 pub use tasks::{Serves, Task, Timed, serve};
 pub use valued::{TypedTask, all_of, fork_value, race};

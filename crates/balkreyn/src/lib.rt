@@ -28,8 +28,8 @@ mod services;
 mod slots;
 
 pub use act::{
-    Acts, Backoff, Cx, Serves, Task, Timed, TypedTask, Worker, all_of, bound, every, fork_value,
-    map_at_most, race, retry, scope, serve, shielded,
+    Acts, Backoff, Cx, Limiter, Serves, Task, Timed, TypedTask, Worker, all_of, bound, every,
+    fork_value, limited, map_at_most, race, retry, scope, serve, shielded,
 };
 pub use aliases::{Forks, Handle};
 pub use by_token::ShowsByToken;

@@ -1,9 +1,9 @@
 //! A service whose jobs and helpers act by one value: no clock, no runtime and no name of a realm in their signatures.
 
 use balkreyn::{
-    Acts, Backoff, End, Fault, Joiner, Name, Options, Outcome, Promises, Refusal, ScopeId, Serves,
-    ServiceError, Task, Typed, TypedTask, Value, Worker, Yields, all_of, bound, fork_value,
-    map_at_most, named, race, retry, scope, serve, shielded,
+    Acts, Backoff, End, Fault, Joiner, Limiter, Name, Options, Outcome, Promises, Refusal, ScopeId,
+    Serves, ServiceError, Task, Typed, TypedTask, Value, Worker, Yields, all_of, bound, every,
+    fork_value, limited, map_at_most, named, race, retry, scope, serve, shielded,
 };
 use std::process::Abort;
 use std::test::Fail;
@@ -97,6 +97,8 @@ struct Seen {
     tried: (Result<u32, Refusal>, Result<u32, Refusal>),
     mapped: (bool, bool),
     mapping: u128,
+    limits: (Option<bool>, bool, Option<u32>),
+    rounds: (u64, bool, u64, bool),
 }
 
 /// The service, with a handle that reads the time for the test.
@@ -137,6 +139,8 @@ impl Serves<Shop> for Shops {
             tried,
             mapped: (mapped, failed(cx)?),
             mapping: mapping.as_millis(),
+            limits: limits(cx)?,
+            rounds: rounds(cx)?,
         })
     }
 }
@@ -292,6 +296,47 @@ fn failed<X: Acts<Shop>>(cx: &mut X) -> Result<bool, Refusal> {
     Ok(failed.err() == Some(Refusal::NotSuccess))
 }
 
+/// Whether a deadline ends the wait for the one permit, which is held; whether a body that failed gave it back; and what
+/// the next body answers.
+fn limits<X: Acts<Shop>>(cx: &mut X) -> Result<(Option<bool>, bool, Option<u32>), Refusal> {
+    let limiter = Limiter::new(1);
+    let held = limited(cx, &limiter, |cx| waited_for(cx, &limiter))?;
+    let failed: Result<Option<u32>, Refusal> =
+        limited(cx, &limiter, |_cx| Err(Refusal::Unavailable));
+    let next = limited(cx, &limiter, |_cx| Ok::<u32, Refusal>(7))?;
+    Ok((held, failed.is_err(), next))
+}
+
+/// Whether no permit comes within 50 milliseconds.
+fn waited_for<X: Acts<Shop>>(cx: &mut X, limiter: &Limiter) -> Result<bool, Refusal> {
+    let options = cx.move_on_after(50);
+    scope(cx, Joiner::AwaitAll, options, |cx, _scope| {
+        let second = limited(cx, limiter, |_cx| Ok::<u32, Refusal>(1))?;
+        Ok(second.is_none())
+    })
+}
+
+/// How many rounds are done of three, and whether no cancel came; how many in a scope that the third cancels, and whether
+/// that was shown.
+fn rounds<X: Acts<Shop>>(cx: &mut X) -> Result<(u64, bool, u64, bool), Refusal> {
+    let mut all = 0u64;
+    let ended = every(cx, 1, 3, |_cx, number| {
+        all = number.saturating_add(1);
+        Ok::<(), Refusal>(())
+    })?;
+    let mut some = 0u64;
+    let cancelled = scope(cx, Joiner::AwaitAll, Options::PLAIN, |cx, scope| {
+        every(cx, 1, u64::MAX, |cx, number| {
+            some = number.saturating_add(1);
+            if number == 2 {
+                cx.cancel(scope)?;
+            }
+            Ok::<(), Refusal>(())
+        })
+    })?;
+    Ok((all, ended.is_none(), some, cancelled.is_some()))
+}
+
 #[test]
 fn a_service_acts_by_one_value(rt: HostRuntime) -> Result<(), Fail> {
     let seen = serve::<Shop, Shops, _>(&rt, rt.alloc(), 4, Shops(rt)).map_err(|_| "a refusal")?;
@@ -304,5 +349,7 @@ fn a_service_acts_by_one_value(rt: HostRuntime) -> Result<(), Fail> {
     assert!(rt; seen.tried == (Ok(2), Err(Refusal::Unavailable)));
     assert!(rt; seen.in_time == (Some(Stock { pieces: 3 }), None, None));
     assert!(rt; seen.mapped == (true, true) && seen.mapping >= 40);
+    assert!(rt; seen.limits == (Some(true), true, Some(7)));
+    assert!(rt; seen.rounds == (3, true, 3, true));
     Ok(())
 }
