@@ -59,7 +59,11 @@ impl Yields for Replica {
 impl TypedTask<Work> for Replica {
     fn run_typed<X: Acts<Work>>(self, cx: &mut X, name: Name) -> Result<i64, Fault> {
         let slept = cx.sleep(self.takes);
-        match (slept, cx.get(&named(b"request")), number_in(&self.io, self.file)) {
+        match (
+            slept,
+            cx.get(&named(b"request")),
+            number_in(&self.io, self.file),
+        ) {
             (Ok(None), Ok(Value::Num(request)), Some(number)) if !self.down => {
                 Ok(number.saturating_mul(request))
             }
@@ -164,7 +168,10 @@ impl Request {
         }
         let options = cx.move_on_after(500);
         let found = all_of(cx, named(b"backend"), options, backends)?;
-        let audited = shielded(cx, |cx, _scope| Ok::<bool, Refusal>(cx.sleep(10)?.is_none()))?;
+        let audited = shielded(
+            cx,
+            |cx, _scope| Ok::<bool, Refusal>(cx.sleep(10)?.is_none()),
+        )?;
         match found.as_slice() {
             [stock, price, rating, delivery] => Ok(Answer {
                 stock: *stock,
@@ -193,7 +200,9 @@ impl Serves<Work> for FanOut {
         let mut requests = Vec::new(cx.alloc());
         for number in 1..=6i64 {
             let io = self.0;
-            requests.push(Request { io, number }).map_err(Refusal::from)?;
+            requests
+                .push(Request { io, number })
+                .map_err(Refusal::from)?;
         }
         Ok(map_at_most(cx, named(b"request"), Options::PLAIN, 3, requests)?)
     }
@@ -204,7 +213,13 @@ pub fn show<R: CrewRuntime + SystemTime>(rt: &R, io: HostRuntime) -> std::io::Re
     match serve::<Work, FanOut, R>(rt, io.alloc(), 8, FanOut(io)) {
         Ok(answers) => {
             for answer in answers {
-                let Answer { stock, price, rating, delivery, audited } = answer;
+                let Answer {
+                    stock,
+                    price,
+                    rating,
+                    delivery,
+                    audited,
+                } = answer;
                 println!(io; "{stock:?} {price:?} {rating:?} {delivery:?} {audited}")?;
             }
             Ok(())

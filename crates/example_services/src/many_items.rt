@@ -45,7 +45,11 @@ impl Serves<Worker<Square>> for Sum {
             items.push(Square { of, limit }).map_err(Refusal::from)?;
         }
         let squares = map_at_most(cx, named(b"square"), Options::PLAIN, 8, items)?;
-        Ok(squares.iter().fold(0u64, |sum, square| sum.saturating_add(*square)))
+        Ok(
+            squares
+                .iter()
+                .fold(0u64, |sum, square| sum.saturating_add(*square)),
+        )
     }
 }
 

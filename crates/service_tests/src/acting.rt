@@ -301,8 +301,11 @@ fn failed<X: Acts<Shop>>(cx: &mut X) -> Result<bool, Refusal> {
 fn limits<X: Acts<Shop>>(cx: &mut X) -> Result<(Option<bool>, bool, Option<u32>), Refusal> {
     let limiter = Limiter::new(1);
     let held = limited(cx, &limiter, |cx| waited_for(cx, &limiter))?;
-    let failed: Result<Option<u32>, Refusal> =
-        limited(cx, &limiter, |_cx| Err(Refusal::Unavailable));
+    let failed: Result<Option<u32>, Refusal> = limited(
+        cx,
+        &limiter,
+        |_cx| Err(Refusal::Unavailable),
+    );
     let next = limited(cx, &limiter, |_cx| Ok::<u32, Refusal>(7))?;
     Ok((held, failed.is_err(), next))
 }

@@ -61,13 +61,11 @@ fn permitted<W, X: Acts<W>>(cx: &mut X, limiter: &Limiter) -> Result<Option<Perm
 ///
 /// # Errors
 /// What the body failed with; or what `E` makes of the refusal of the wait.
-pub fn limited<
-    W,
-    X: Acts<W>,
-    T: Drop,
-    E: From<Refusal> + Drop,
-    F: FnOnce(&mut X) -> Result<T, E>,
->(cx: &mut X, limiter: &Limiter, body: F) -> Result<Option<T>, E>
+pub fn limited<W, X: Acts<W>, T: Drop, E: From<Refusal> + Drop, F: FnOnce(&mut X) -> Result<T, E>>(
+    cx: &mut X,
+    limiter: &Limiter,
+    body: F,
+) -> Result<Option<T>, E>
     requires { F.IsAlwaysCallable body }
     ensures { RunsLimited F.FnOnce E.from_gives body cx.new result }
 {

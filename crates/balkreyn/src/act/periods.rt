@@ -11,12 +11,12 @@ use scope_rules::Refusal;
 ///
 /// # Errors
 /// What the body failed with; or what `E` makes of the refusal of a sleep.
-pub fn every<
-    W,
-    X: Acts<W>,
-    E: From<Refusal> + Drop,
-    F: FnMut(&mut X, u64) -> Result<(), E> + Drop,
->(cx: &mut X, millis: u64, rounds: u64, mut body: F) -> Result<Option<Mark>, E>
+pub fn every<W, X: Acts<W>, E: From<Refusal> + Drop, F: FnMut(&mut X, u64) -> Result<(), E> + Drop>(
+    cx: &mut X,
+    millis: u64,
+    rounds: u64,
+    mut body: F,
+) -> Result<Option<Mark>, E>
     requires { F.IsAlwaysCallable body }
     ensures { Repeats F.FnMut (λ old new slept. Sleeps X.reads X.reading X.time X.token X.seat millis old new slept) E.from_gives rounds body cx.old cx.new result }
 {
