@@ -14,11 +14,16 @@ use Rattle.scope_rules.specs.declared.types.refusals.Refusal.{Refusal}
 use Rattle.scope_rules.specs.declared.types.values.Value.{Value}
 use Rattle.share_ledger.specs.declared.steps.RealmStep.TheVariants.{Happened}
 use Rattle.share_ledger.specs.Values.{OwnerValue}
-use Rattle.realm_core.specs.Calls.{DoesOrMemory}
+use Rattle.realm_core.specs.Calls.{DoesOrMemory, Reads}
 use Rattle.realm_core.specs.declared.joins.Joined.{Joined}
 use Rattle.realm_lock.specs.Waits.{HasPassed, JoinsBy, Stopped, Waited, shown_in}
 use Rattle.job_runner.specs.Marks.{Shows}
+use Rattle.scope_rules.specs.Checks.{task_check}
+use Rattle.scope_rules.specs.Table.{answering}
+use Rattle.scope_rules.specs.Tasks.{state}
 use Rattle.scope_rules.specs.declared.types.answers.ForkReply.{ForkReply}
+use Rattle.scope_rules.specs.declared.types.answers.State.{State}
+use Rattle.scope_rules.specs.declared.types.answers.State.TheVariants.{Failed as failed_with, Success, Unavailable}
 use Rattle.scope_rules.specs.declared.types.answers.Verdict.{Verdict}
 use Rattle.balkreyn.specs.Bodies.{ClosesFrom}
 use Rattle.balkreyn.specs.Slots.{ForksUnder, Takes}
@@ -224,3 +229,19 @@ pub record RunsHolding {F X T E : Type 0} (calls : Once F (MutBor X × Unit {0})
 -- the body ran with a permit; or it was not called: a cancel came before a permit, or the wait was refused
 abbrev pub RunsLimited : {F X T E : Type 0} → Once F (MutBor X × Unit {0}) (Result T E × (MutBor X × Unit {0})) → (Refusal → E → Type 0) → F → X → Result (Option T) E → Type 0
 RunsLimited calls makes body new result = RunsHolding calls body new result ⊎ (result ≡ Ok None) ⊎ ((refusal : Refusal) × IsErrAnd result (makes refusal))
+
+-- ---- results as they complete
+
+-- what is given of a task in this state, before the join: a value that its job may answer, or none if it was taken before;
+-- of one that failed none
+abbrev pub GivesDone : {V : Type 0} → (V → Type 0) → State → Option V → Type 0
+GivesDone may (Success number) (Some value) = may value
+GivesDone may (Success number) None = Unit {0}
+GivesDone may (failed_with fault) given = given ≡ None
+GivesDone may Unavailable given = ⊥
+
+-- the task was seen in a state, and that was given
+pub record Completes {V : Type 0} (may : V → Type 0) (old new : OwnerValue) (task : ℕ) (given : Option V) : Type 0 where
+  pub seen : State
+  pub reads : Reads old new (λ h. Ok seen ≡ answering (task_check h task) (state h task))
+  pub gives : GivesDone may seen given

@@ -6,6 +6,7 @@ mod blocks;
 mod contexts;
 mod limits;
 mod periods;
+mod progress;
 mod tasks;
 mod valued;
 
@@ -14,5 +15,6 @@ pub use blocks::{Backoff, bound, retry, scope, shielded};
 pub use contexts::{Acts, Cx};
 pub use limits::{Limiter, limited};
 pub use periods::every;
+pub use progress::next_done;
 pub use tasks::{Serves, Task, Timed, serve};
 pub use valued::{TypedTask, all_of, fork_value, race};

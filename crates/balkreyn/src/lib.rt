@@ -5,7 +5,7 @@
 //! from any thread shows the tree of what is open, and the script of what happened.
 #![tactic(auto)]
 
-mod act;
+pub mod act;
 mod aliases;
 mod baton;
 mod by_token;
@@ -27,114 +27,35 @@ mod scoped;
 mod services;
 mod slots;
 
-pub use act::Acts;
-pub use act::Backoff;
-pub use act::Cx;
-pub use act::Limiter;
-pub use act::Serves;
-pub use act::Task;
-pub use act::Timed;
-pub use act::TypedTask;
-pub use act::Worker;
-pub use act::all_of;
-pub use act::bound;
-pub use act::every;
-pub use act::fork_value;
-pub use act::limited;
-pub use act::map_at_most;
-pub use act::race;
-pub use act::retry;
-pub use act::scope;
-pub use act::serve;
-pub use act::shielded;
-pub use aliases::Forks;
-pub use aliases::Handle;
+pub use aliases::{Forks, Handle};
 pub use by_token::ShowsByToken;
-pub use errors::NoTime;
-pub use errors::ServiceError;
+pub use errors::{NoTime, ServiceError};
 pub use forks::fork;
 pub use guards::Opened;
-pub use handles::By;
-pub use handles::JobBy;
-pub use job_runner::Answers;
-pub use job_runner::Clock;
-pub use job_runner::ForkRefusal;
-pub use job_runner::Job;
-pub use job_runner::JobWork;
-pub use job_runner::NamedJob;
-pub use job_runner::SetClock;
-pub use job_runner::SystemClock;
-pub use job_runner::TaskCtx;
-pub use job_runner::fail_after;
-pub use job_runner::move_on_after;
-pub use job_runner::pulse;
-pub use jobs::Typed;
-pub use jobs::TypedJob;
-pub use jobs::Yields;
-pub use join_rules::CompletionTest;
-pub use join_rules::Joiner;
-pub use join_rules::UntilTest;
+pub use handles::{By, JobBy};
+pub use job_runner::{
+    Answers, Clock, ForkRefusal, Job, JobWork, NamedJob, SetClock, SystemClock, TaskCtx,
+    fail_after, move_on_after, pulse,
+};
+pub use jobs::{Typed, TypedJob, Yields};
+pub use join_rules::{CompletionTest, Joiner, UntilTest};
 pub use literals::named;
 pub use pictures::Shows;
-pub use realm_lock::ActorToken;
-pub use realm_lock::BareOutcome;
-pub use realm_lock::CloseReport;
-pub use realm_lock::Joined;
-pub use realm_lock::Mark;
-pub use realm_lock::Realm;
-pub use realm_lock::RealmName;
-pub use realm_lock::Seed;
-pub use realm_lock::View;
-pub use requests::Requests;
-pub use requests::Side;
-pub use requests::Turned;
+pub use realm_lock::{
+    ActorToken, BareOutcome, CloseReport, Joined, Mark, Realm, RealmName, Seed, View,
+};
+pub use requests::{Requests, Side, Turned};
 pub use rooms::Need;
-pub use rotation::Stopped;
-pub use rotation::Turns;
-pub use rotation::rotate;
-pub use scope_log::LogEntry;
-pub use scope_log::ScopeLog;
-pub use scope_rules::AnyEnd;
-pub use scope_rules::Cancelling;
-pub use scope_rules::Catalog;
-pub use scope_rules::Completion;
-pub use scope_rules::Due;
-pub use scope_rules::Effective;
-pub use scope_rules::End;
-pub use scope_rules::Event;
-pub use scope_rules::Expiry;
-pub use scope_rules::Fault;
-pub use scope_rules::ForkReply;
-pub use scope_rules::Label;
-pub use scope_rules::Limits;
-pub use scope_rules::Name;
-pub use scope_rules::Options;
-pub use scope_rules::Outcome;
-pub use scope_rules::Refusal;
-pub use scope_rules::Rule;
-pub use scope_rules::ScopeId;
-pub use scope_rules::State;
-pub use scope_rules::TaskId;
-pub use scope_rules::TaskState;
-pub use scope_rules::TaskStates;
-pub use scope_rules::TaskValue;
-pub use scope_rules::TaskValues;
-pub use scope_rules::Value;
-pub use scope_rules::Verdict;
-pub use scoped::Scopes;
-pub use scoped::within;
-pub use scoped::within_by;
-pub use services::Promises;
-pub use services::Service;
-pub use services::realm_clock;
-pub use services::serve_on_crew;
-pub use slots::Slot;
-pub use slots::fork_typed;
+pub use rotation::{Stopped, Turns, rotate};
+pub use scope_log::{LogEntry, ScopeLog};
+pub use scope_rules::{
+    AnyEnd, Cancelling, Catalog, Completion, Due, Effective, End, Event, Expiry, Fault, ForkReply,
+    Label, Limits, Name, Options, Outcome, Refusal, Rule, ScopeId, State, TaskId, TaskState,
+    TaskStates, TaskValue, TaskValues, Value, Verdict,
+};
+pub use scoped::{Scopes, within, within_by};
+pub use services::{Promises, Service, realm_clock, serve_on_crew};
+pub use slots::{Slot, fork_typed};
 pub use std::marker::Brand;
 pub use std::sync::Wait;
-pub use thread_crew::Crew;
-pub use thread_crew::CrewRuntime;
-pub use thread_crew::OsThreads;
-pub use thread_crew::Recalls;
-pub use thread_crew::Spawner;
-pub use thread_crew::Spawns;
+pub use thread_crew::{Crew, CrewRuntime, OsThreads, Recalls, Spawner, Spawns};

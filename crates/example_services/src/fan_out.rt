@@ -1,6 +1,7 @@
 //! A fan-out: each request asks four backends at once, each of two replicas that race, with one retry; it answers what
 //! there is within its time, and is audited behind a shield. Three requests run at a time.
 
+use balkreyn::act::*;
 use balkreyn::*;
 use std::rt::Clock as SystemTime;
 

@@ -1,5 +1,6 @@
 //! A bounded map: 10,000 items, eight at a time; the first error ends it.
 
+use balkreyn::act::*;
 use balkreyn::*;
 use std::rt::Clock as SystemTime;
 

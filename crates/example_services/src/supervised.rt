@@ -1,5 +1,6 @@
 //! A supervisor of a periodic job: a beat that fails or hangs is begun anew, three times at most.
 
+use balkreyn::act::*;
 use balkreyn::*;
 use std::rt::Clock as SystemTime;
 

@@ -2,6 +2,7 @@
 //! one does within two seconds.
 #![tactic(auto)]
 
+use balkreyn::act::*;
 use balkreyn::*;
 
 /// Asks a shop: its price is in this file, and it takes so many milliseconds to answer.

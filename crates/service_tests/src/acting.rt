@@ -1,9 +1,12 @@
 //! A service whose jobs and helpers act by one value: no clock, no runtime and no name of a realm in their signatures.
 
+use balkreyn::act::{
+    Acts, Backoff, Limiter, Serves, Task, TypedTask, Worker, all_of, bound, every, fork_value,
+    limited, map_at_most, next_done, race, retry, scope, serve, shielded,
+};
 use balkreyn::{
-    Acts, Backoff, End, Fault, Joiner, Limiter, Name, Options, Outcome, Promises, Refusal, ScopeId,
-    Serves, ServiceError, Task, Typed, TypedTask, Value, Worker, Yields, all_of, bound, every,
-    fork_value, limited, map_at_most, named, race, retry, scope, serve, shielded,
+    End, Fault, Joiner, Name, Options, Outcome, Promises, Refusal, ScopeId, ServiceError, Slot,
+    Typed, Value, Yields, named,
 };
 use std::process::Abort;
 use std::test::Fail;
@@ -99,6 +102,7 @@ struct Seen {
     mapping: u128,
     limits: (Option<bool>, bool, Option<u32>),
     rounds: (u64, bool, u64, bool),
+    completed: (Option<Stock>, Option<Stock>, Option<Stock>, bool),
 }
 
 /// The service, with a handle that reads the time for the test.
@@ -141,6 +145,7 @@ impl Serves<Shop> for Shops {
             mapping: mapping.as_millis(),
             limits: limits(cx)?,
             rounds: rounds(cx)?,
+            completed: completed(cx)?,
         })
     }
 }
@@ -340,6 +345,35 @@ fn rounds<X: Acts<Shop>>(cx: &mut X) -> Result<(u64, bool, u64, bool), Refusal> 
     Ok((all, ended.is_none(), some, cancelled.is_some()))
 }
 
+/// What three give as they complete, before the join: the second at once, then one that fails, then the first; and whether
+/// nothing is left then.
+fn completed<X: Acts<Shop>>(
+    cx: &mut X,
+) -> Result<(Option<Stock>, Option<Stock>, Option<Stock>, bool), Refusal> {
+    let jobs = asks(cx, [(1, 120), (2, 0), (0, 60)])?;
+    scope(cx, Joiner::AwaitAll, Options::PLAIN, |cx, scope| {
+        let mut slots = Vec::new(cx.alloc());
+        for job in jobs {
+            slots.push(fork_value(cx, scope, named(b"stock"), job)?)?;
+        }
+        let first = done(cx, &mut slots)?;
+        let second = done(cx, &mut slots)?;
+        let third = done(cx, &mut slots)?;
+        Ok((first, second, third, next_done(cx, &mut slots)?.is_none()))
+    })
+}
+
+/// What the next one gives.
+fn done<X: Acts<Shop>>(
+    cx: &mut X,
+    slots: &mut Vec<Slot<AskStock>>,
+) -> Result<Option<Stock>, Refusal> {
+    match next_done(cx, slots)? {
+        Some((_task, stock)) => Ok(stock),
+        None => Err(Refusal::Unavailable),
+    }
+}
+
 #[test]
 fn a_service_acts_by_one_value(rt: HostRuntime) -> Result<(), Fail> {
     let seen = serve::<Shop, Shops, _>(&rt, rt.alloc(), 4, Shops(rt)).map_err(|_| "a refusal")?;
@@ -353,6 +387,8 @@ fn a_service_acts_by_one_value(rt: HostRuntime) -> Result<(), Fail> {
     assert!(rt; seen.in_time == (Some(Stock { pieces: 3 }), None, None));
     assert!(rt; seen.mapped == (true, true) && seen.mapping >= 40);
     assert!(rt; seen.limits == (Some(true), true, Some(7)));
+    let (one, two) = (Stock { pieces: 1 }, Stock { pieces: 2 });
+    assert!(rt; seen.completed == (Some(two), None, Some(one), true));
     assert!(rt; seen.rounds == (3, true, 3, true));
     Ok(())
 }

@@ -8,7 +8,7 @@ use job_runner::{Clock, SystemClock, TaskCtx};
 use join_rules::Joiner;
 use realm_lock::{Joined, Mark, RealmName};
 use scope_rules::{
-    AnyEnd, Cancelling, ForkReply, Name, Options, Refusal, ScopeId, TaskId, Value, Verdict,
+    AnyEnd, Cancelling, ForkReply, Name, Options, Refusal, ScopeId, State, TaskId, Value, Verdict,
 };
 use std::alloc::Global;
 use std::rt::Clock as SystemTime;
@@ -26,7 +26,10 @@ pub trait Acts<W>: Scopes + Wait {
     ghost use Rattle.scope_rules.specs.declared.types.events.Event.TheVariants as event;
     ghost use Rattle.scope_rules.specs.declared.types.events.Expiry.TheVariants.{Fail, MoveOn};
     ghost use Rattle.scope_rules.specs.declared.types.refusals.Refusal.TheVariants.{NotReady};
+    ghost use Rattle.scope_rules.specs.Checks.{task_check};
     ghost use Rattle.scope_rules.specs.Replies.{binding_reply, result_reply};
+    ghost use Rattle.scope_rules.specs.Table.{answering};
+    ghost use Rattle.scope_rules.specs.Tasks.{state};
     ghost use Rattle.share_ledger.specs.declared.steps.RealmStep.TheVariants.{Happened};
     ghost use Rattle.cancel_marks.specs.Seats.{Seen};
     ghost use Rattle.realm_core.specs.Calls.{DoesOrMemory, Reads, RecordsOrMemory, SeesMore};
@@ -86,6 +89,10 @@ pub trait Acts<W>: Scopes + Wait {
     /// The value of the task, which the owner of its scope has after the join (JEP 505, `Subtask.get`).
     fn result(&mut self, task: TaskId) -> Result<Value, Refusal>
         ensures { Reads (Self.token self.old) (Self.token self.new) (λ h. result ≡ result_reply h (Self.token self.new).actor task) };
+
+    /// What can be read of the task, at any time (JEP 505, `Subtask.state`).
+    fn state(&mut self, task: TaskId) -> Result<State, Refusal>
+        ensures { Reads (Self.token self.old) (Self.token self.new) (λ h. result ≡ answering (task_check h task) (state h task)) };
 
     /// Sleeps so many milliseconds, or until a checkpoint would show a mark, which it then returns (Trio, `sleep`).
     fn sleep(&mut self, millis: u64) -> Result<Option<Mark>, Refusal>
@@ -221,6 +228,10 @@ impl<K: Handle, N: RealmName, W: Task, S: Forks<AnyEnd, N, Timed<K, W>>> Acts<W>
 
     fn result(&mut self, task: TaskId) -> Result<Value, Refusal> {
         self.ctx.result(&self.clock.runtime(), task)
+    }
+
+    fn state(&mut self, task: TaskId) -> Result<State, Refusal> {
+        self.ctx.state(&self.clock.runtime(), task)
     }
 
     fn sleep(&mut self, millis: u64) -> Result<Option<Mark>, Refusal> {
