@@ -131,6 +131,7 @@ impl Serves<Shop> for Shops {
         let before = Instant::now(&self.0).map_err(|_| ServiceError::NoTime)?;
         let mapped = mapped(cx)?;
         let mapping = before.elapsed(&self.0).map_err(|_| ServiceError::NoTime)?;
+        cx.retire()?;
         Ok(Seen {
             first,
             timed_out,

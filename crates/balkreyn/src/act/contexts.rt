@@ -8,7 +8,8 @@ use job_runner::{Clock, SystemClock, TaskCtx};
 use join_rules::Joiner;
 use realm_lock::{Joined, Mark, RealmName};
 use scope_rules::{
-    AnyEnd, Cancelling, ForkReply, Name, Options, Refusal, ScopeId, State, TaskId, Value, Verdict,
+    AnyEnd, Base, Cancelling, ForkReply, Name, Options, Refusal, ScopeId, State, TaskId, Value,
+    Verdict,
 };
 use std::alloc::Global;
 use std::rt::Clock as SystemTime;
@@ -27,10 +28,10 @@ pub trait Acts<W>: Scopes + Wait {
     ghost use Rattle.scope_rules.specs.declared.types.events.Expiry.TheVariants.{Fail, MoveOn};
     ghost use Rattle.scope_rules.specs.declared.types.refusals.Refusal.TheVariants.{NotReady};
     ghost use Rattle.scope_rules.specs.Checks.{task_check};
-    ghost use Rattle.scope_rules.specs.Replies.{binding_reply, result_reply};
+    ghost use Rattle.scope_rules.specs.Replies.{base_of, binding_reply, result_reply};
     ghost use Rattle.scope_rules.specs.Table.{answering};
     ghost use Rattle.scope_rules.specs.Tasks.{state};
-    ghost use Rattle.share_ledger.specs.declared.steps.RealmStep.TheVariants.{Happened};
+    ghost use Rattle.share_ledger.specs.declared.steps.RealmStep.TheVariants.{Happened, Retirement};
     ghost use Rattle.cancel_marks.specs.Seats.{Seen};
     ghost use Rattle.realm_core.specs.Calls.{DoesOrMemory, Reads, RecordsOrMemory, SeesMore};
     ghost use Rattle.job_runner.specs.Marks.{Shows};
@@ -119,6 +120,10 @@ pub trait Acts<W>: Scopes + Wait {
     /// What the actor sees the key bound to (JEP 506, `ScopedValue.get`).
     fn get(&mut self, key: &Name) -> Result<Value, Refusal>
         ensures { Reads (Self.token self.old) (Self.token self.new) (λ h. result ≡ binding_reply h (Self.token self.new).actor key.now) };
+
+    /// Discards the history and frees its capacity, once main has no open scope; refused as `TaskCtx::retire` is.
+    fn retire(&mut self) -> Result<Base, Refusal>
+        ensures { DoesOrMemory (Self.token self.old) (Self.token self.new) Retirement base_of result };
 }
 
 /// The context of a task, with the clock of its realm.
@@ -258,5 +263,9 @@ impl<K: Handle, N: RealmName, W: Task, S: Forks<AnyEnd, N, Timed<K, W>>> Acts<W>
 
     fn get(&mut self, key: &Name) -> Result<Value, Refusal> {
         self.ctx.get(&self.clock.runtime(), key)
+    }
+
+    fn retire(&mut self) -> Result<Base, Refusal> {
+        self.ctx.retire(&self.clock.runtime())
     }
 }
