@@ -1,17 +1,23 @@
 -- What was done by a context that knows the realm's time.
-use Rattle.std.specs.Prelude.{◌≡◌, ℕ, Option, None, Some, Result, Ok, Err, IfOk, MatchResult, is_some, true, false}
+use Rattle.std.specs.Prelude.{◌≡◌, ℕ, Option, None, Some, Result, Ok, Err, IfOk, IfSome, MatchResult, is_some, true, false}
 use Rattle.std.specs.Borrow.{MutBor}
 use Rattle.std.specs.Fn.{CalledWithState, Mut}
 use Rattle.std.proofs.Common.{inl, refl, subst, sym, true≢false}
 use Rattle.cancel_marks.specs.declared.marks.Mark.{Mark}
+use Rattle.scope_rules.specs.Checks.{task_check}
+use Rattle.scope_rules.specs.Table.{answering}
+use Rattle.scope_rules.specs.Tasks.{state}
+use Rattle.scope_rules.specs.declared.types.answers.State.{State}
+use Rattle.scope_rules.specs.declared.types.answers.State.TheVariants.{Success}
 use Rattle.scope_rules.specs.declared.types.names.Name.{Name}
 use Rattle.scope_rules.specs.declared.types.outcomes.Outcome.TheVariants.{Any}
 use Rattle.scope_rules.specs.declared.types.refusals.Refusal.{Refusal}
 use Rattle.scope_rules.specs.declared.types.values.Value.{Value}
 use Rattle.share_ledger.specs.Values.{OwnerValue}
+use Rattle.realm_core.specs.Calls.{Reads}
 use Rattle.realm_core.specs.declared.joins.Joined.{Joined}
 use Rattle.realm_lock.specs.Waits.{HasPassed, Stopped, Waited}
-use Rattle.balkreyn.specs.Acting.{EndsTries, JoinsFrom, Slept, Won}
+use Rattle.balkreyn.specs.Acting.{EndsTries, GivesDone, JoinsFrom, Slept, Won}
 use Rattle.balkreyn.specs.Slots.{Takes}
 
 -- where no mark was shown, the moment has passed
@@ -55,3 +61,14 @@ none_of P (Some mark) none p = absurd (true≢false none)
 pub shown_of : {E : Type 0} (P : Option Mark → Type 0) (shown : Option Mark) (result : Result (Option Mark) E) → is_some shown ≡ true → result ≡ Ok shown → P shown → (mark : Mark) × P (Some mark) × (result ≡ Ok (Some mark))
 shown_of P (Some mark) result some same p = (mark, p, same)
 shown_of P None result some same p = absurd (true≢false (sym some))
+
+-- ---- results as they complete
+
+-- what a place gave of a task that succeeded
+pub done_so : {V : Type 0} (may : V → Type 0) (number : Value) (given : Option V) → IfSome given may → GivesDone may (Success number) given
+done_so may number (Some value) fits = fits
+done_so may number None fits = tt
+
+-- the task was seen so
+pub seen_as : (old new : OwnerValue) (task : ℕ) (result : Result State Refusal) (seen : State) → result ≡ Ok seen → Reads old new (λ h. result ≡ answering (task_check h task) (state h task)) → Reads old new (λ h. Ok seen ≡ answering (task_check h task) (state h task))
+seen_as old new task result seen same reads = subst (λ r. Reads old new (λ h. r ≡ answering (task_check h task) (state h task))) same reads
