@@ -4,6 +4,7 @@ ghost use Rattle.scope_rules.specs.declared.types.joiners.Policy.TheVariants as 
 ghost use Rattle.balkreyn.specs.Acting.{ClosesNow, Forked, RunsJobs, Staffs};
 ghost use Rattle.balkreyn.specs.Bodies.{Opens};
 
+use crate::act::blocks::entered;
 use crate::act::contexts::Acts;
 use crate::act::tasks::Task;
 use crate::act::valued::TypedTask;
@@ -52,7 +53,7 @@ impl<J: Yields + Drop> Worker<J> {
 }
 
 /// A service whose only jobs are the workers of one batch needs no type for them.
-impl<J: TypedTask<Worker<J>> + Drop> Task for Worker<J> {
+impl<J: Yields + TypedTask<Worker<J>> + Drop> Task for Worker<J> {
     fn run<X: Acts<Worker<J>>>(self, cx: &mut X) -> End {
         self.act(cx)
     }
@@ -73,7 +74,7 @@ pub fn map_at_most<J: Yields + Drop, W: From<Worker<J>>, X: Acts<W>>(
     ensures { IfOk result (RunsJobs (Opens X.token X.left_by_open policy.AwaitOk options) (ClosesNow X.token X.left_by_close X.reads X.time) (λ scope begun ended values. Staffs X.token X.reads X.time name (max at_once 1) scope begun ended) cx.old cx.new) }
 {
     let batch = batch_of(cx.alloc(), jobs)?;
-    let scope = cx.open(Joiner::AwaitOk, options)?;
+    let scope = entered(cx, Joiner::AwaitOk, options)?;
     let found = mapped(cx, scope, name, at_once.max(1), &batch);
     cx.close(scope)?;
     found

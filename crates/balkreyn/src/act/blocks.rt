@@ -31,6 +31,17 @@ pub fn scope<
     found
 }
 
+/// Opens a scope with a joiner that its caller names: the check passes none that is made in a generic call itself.
+pub(crate) fn entered<W, X: Acts<W>>(
+    cx: &mut X,
+    joiner: Joiner,
+    options: Options,
+) -> Result<ScopeId, Refusal>
+    ensures { Opens X.token X.left_by_open (policy_of joiner) options cx.old cx.new result }
+{
+    cx.open(joiner, options)
+}
+
 /// Runs the body with the key bound to the value, and takes that binding away on each way out (JEP 506, `where`).
 ///
 /// # Errors

@@ -7,6 +7,7 @@ ghost use Rattle.balkreyn.specs.Acting.{ClosesNow, Races, RunsJobs, Won};
 ghost use Rattle.balkreyn.specs.Bodies.{Opens};
 ghost use Rattle.balkreyn.specs.Slots.{ForksInto, Takes, task_of};
 
+use crate::act::blocks::entered;
 use crate::act::contexts::Acts;
 use crate::act::tasks::Task;
 use crate::jobs::{Typed, Yields};
@@ -41,7 +42,7 @@ impl<J: Yields> Typed<J> {
 }
 
 /// A service whose only jobs are of one type that answers a value needs no type for them.
-impl<J: TypedTask<Typed<J>> + Drop> Task for Typed<J> {
+impl<J: Yields + TypedTask<Typed<J>> + Drop> Task for Typed<J> {
     fn run<X: Acts<Typed<J>>>(self, cx: &mut X) -> End {
         self.act(cx)
     }
@@ -162,7 +163,7 @@ pub fn race<J: Yields + Drop, W: From<Typed<J>>, X: Acts<W>>(
 ) -> Result<J::Value, Refusal>
     ensures { IfOk result (RunsJobs (Opens X.token X.left_by_open policy.Any options) (ClosesNow X.token X.left_by_close X.reads X.time) (Races X.token X.reads X.time J.may_yield) cx.old cx.new) }
 {
-    let scope = cx.open(Joiner::Any, options)?;
+    let scope = entered(cx, Joiner::Any, options)?;
     let found = raced(cx, scope, name, jobs);
     cx.close(scope)?;
     found
@@ -192,7 +193,7 @@ pub fn all_of<J: Yields + Drop, W: From<Typed<J>>, X: Acts<W>>(
     options: Options,
     jobs: Vec<J>,
 ) -> Result<Vec<Option<J::Value>>, Refusal> {
-    let scope = cx.open(Joiner::AwaitAll, options)?;
+    let scope = entered(cx, Joiner::AwaitAll, options)?;
     let found = gathered(cx, scope, name, jobs);
     cx.close(scope)?;
     found
