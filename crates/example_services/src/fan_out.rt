@@ -167,7 +167,7 @@ impl Request {
                 fails,
             })?;
         }
-        let options = cx.move_on_after(500);
+        let options = cx.move_on_after(1_500);
         let found = all_of(cx, named(b"backend"), options, backends)?;
         let audited = shielded(
             cx,

@@ -53,9 +53,9 @@ impl Serves<Beat> for Supervisor {
 }
 
 impl Supervisor {
-    /// Lets the job live once, and says how its life ended. It is not well if it fails, or takes half a second.
+    /// Lets the job live once, and says how its life ended. It is not well if it fails, or takes a second.
     fn watch<X: Acts<Beat>>(self, cx: &mut X, life: u32) -> Result<(), ServiceError> {
-        let options = cx.fail_after(500);
+        let options = cx.fail_after(1_000);
         let outcome = scope(cx, Joiner::AwaitOk, options, |cx, scope| {
             cx.fork(scope, named(b"beat"), Beat { life })?;
             Ok::<Outcome, Refusal>(cx.join(scope)?.outcome)
