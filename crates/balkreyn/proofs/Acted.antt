@@ -8,6 +8,7 @@ use Rattle.scope_rules.specs.Checks.{task_check}
 use Rattle.scope_rules.specs.Table.{answering}
 use Rattle.scope_rules.specs.Tasks.{state}
 use Rattle.scope_rules.specs.declared.types.answers.State.{State}
+use Rattle.scope_rules.specs.declared.types.answers.Verdict.{Verdict}
 use Rattle.scope_rules.specs.declared.types.answers.State.TheVariants.{Success}
 use Rattle.scope_rules.specs.declared.types.names.Name.{Name}
 use Rattle.scope_rules.specs.declared.types.outcomes.Outcome.TheVariants.{Any}
@@ -17,7 +18,7 @@ use Rattle.share_ledger.specs.Values.{OwnerValue}
 use Rattle.realm_core.specs.Calls.{Reads}
 use Rattle.realm_core.specs.declared.joins.Joined.{Joined}
 use Rattle.realm_lock.specs.Waits.{HasPassed, Stopped, Waited}
-use Rattle.balkreyn.specs.Acting.{EndsTries, GivesDone, JoinsFrom, Slept, Won}
+use Rattle.balkreyn.specs.Acting.{EndsTries, GivesDone, JoinsFrom, RunsJobs, Slept, Staffs, Won}
 use Rattle.balkreyn.specs.Slots.{Takes}
 
 -- where no mark was shown, the moment has passed
@@ -72,3 +73,14 @@ done_so may number None fits = tt
 -- the task was seen so
 pub seen_as : (old new : OwnerValue) (task : ℕ) (result : Result State Refusal) (seen : State) → result ≡ Ok seen → Reads old new (λ h. result ≡ answering (task_check h task) (state h task)) → Reads old new (λ h. Ok seen ≡ answering (task_check h task) (state h task))
 seen_as old new task result seen same reads = subst (λ r. Reads old new (λ h. r ≡ answering (task_check h task) (state h task))) same reads
+
+-- ---- many jobs
+
+-- what was found in a scope that was opened and closed so
+pub ran_jobs : {X V : Type 0} (opens : X → X → Result ℕ Refusal → Type 0) (closes : X → X → ℕ → Result Verdict Refusal → Type 0) (runs : ℕ → X → X → V → Type 0) (old begun ended new : X) (scope : ℕ) (how : Verdict) → opens old begun (Ok scope) → closes ended new scope (Ok how) → (result : Result V Refusal) → IfOk result (runs scope begun ended) → IfOk result (RunsJobs opens closes runs old new)
+ran_jobs opens closes runs old begun ended new scope how opened closed (Ok value) ran = record { scope = scope; begun = begun; ended = ended; how = how; opened = opened; ran = ran; closed = closed }
+ran_jobs opens closes runs old begun ended new scope how opened closed (Err refusal) ran = tt
+
+-- so many workers are that many
+pub staffs_so : {X K V : Type 0} (token : X → OwnerValue) (reads : K → K → ℕ → Type 0) (time : X → K) (name : Name) (workers other s : ℕ) (begun ended : X) → workers ≡ other → (result : Result V Refusal) → IfOk result (λ _. Staffs token reads time name workers s begun ended) → IfOk result (λ _. Staffs token reads time name other s begun ended)
+staffs_so token reads time name workers other s begun ended same result staffs = subst (λ n. IfOk result (λ _. Staffs token reads time name n s begun ended)) same staffs
