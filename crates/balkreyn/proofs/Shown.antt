@@ -1,5 +1,4 @@
 -- What is written of a copy is written of the history that was copied.
-use Rattle.std.specs.Prelude.{List, Result}
 use Rattle.scope_rules.specs.Ends.{EndValue, LabelValue}
 use Rattle.scope_rules.specs.History.{History}
 use Rattle.share_ledger.specs.Steps.{history_of}

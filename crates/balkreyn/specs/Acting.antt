@@ -9,16 +9,24 @@ use Rattle.scope_rules.specs.declared.types.events.Event.TheVariants.{Bind, Unbi
 use Rattle.scope_rules.specs.declared.types.events.Expiry.{Expiry}
 use Rattle.scope_rules.specs.declared.types.events.Options.{Options}
 use Rattle.scope_rules.specs.declared.types.names.Name.{Name}
-use Rattle.scope_rules.specs.declared.types.outcomes.Outcome.TheVariants.{Any}
+use Rattle.scope_rules.specs.declared.types.outcomes.Outcome.TheVariants.{Any, Done}
 use Rattle.scope_rules.specs.declared.types.refusals.Refusal.{Refusal}
 use Rattle.scope_rules.specs.declared.types.values.Value.{Value}
 use Rattle.share_ledger.specs.declared.steps.RealmStep.TheVariants.{Happened}
 use Rattle.share_ledger.specs.Values.{OwnerValue}
-use Rattle.realm_core.specs.Calls.{DoesOrMemory}
+use Rattle.realm_core.specs.Calls.{DoesOrMemory, Reads}
 use Rattle.realm_core.specs.declared.joins.Joined.{Joined}
 use Rattle.realm_lock.specs.Waits.{HasPassed, JoinsBy, Stopped, Waited, shown_in}
 use Rattle.job_runner.specs.Marks.{Shows}
-use Rattle.balkreyn.specs.Slots.{Takes}
+use Rattle.scope_rules.specs.Checks.{task_check}
+use Rattle.scope_rules.specs.Table.{answering}
+use Rattle.scope_rules.specs.Tasks.{state}
+use Rattle.scope_rules.specs.declared.types.answers.ForkReply.{ForkReply}
+use Rattle.scope_rules.specs.declared.types.answers.State.{State}
+use Rattle.scope_rules.specs.declared.types.answers.State.TheVariants.{Failed as failed_with, Success, Unavailable}
+use Rattle.scope_rules.specs.declared.types.answers.Verdict.{Verdict}
+use Rattle.balkreyn.specs.Bodies.{ClosesFrom}
+use Rattle.balkreyn.specs.Slots.{ForksUnder, Takes}
 use Rattle.balkreyn.specs.declared.act.blocks.Backoff.{Backoff}
 
 -- the clock was read, and the options have a deadline so many milliseconds later
@@ -63,6 +71,10 @@ pub record Won {K V : Type 0} (reads : K → K → ℕ → Type 0) (may : Name �
   pub first : joined.outcome ≡ Any task number
   pub name : Name
   pub takes : Takes (may name) there new task (Ok value)
+
+-- what a close by a copy of the context's clock did, and answered, as that stood then
+abbrev pub ClosesNow : {X K : Type 0} → (X → OwnerValue) → (X → X → ℕ → Result Verdict Refusal → Type 0) → (K → K → ℕ → Type 0) → (X → K) → X → X → ℕ → Result Verdict Refusal → Type 0
+ClosesNow token leaves reads time old new s result = ClosesFrom token leaves reads (time old) old new s result
 
 -- ---- a body with a binding
 
@@ -137,3 +149,99 @@ pub record Retries {F X T E : Type 0} (calls : Mut F (MutBor X × (ℕ × Unit {
   pub ended : X
   pub called : CalledWithState calls state begun number found state_new ended
   pub ends : EndsTries makes (sleeps pause) (number ≡ backoff.retries) found ended new result
+
+-- ---- rounds
+
+-- so many rounds succeeded, one after the other, and behind each the actor slept to the end
+pub data Repeated {F X E : Type 0} (calls : Mut F (MutBor X × (ℕ × Unit {0})) (Result (Unit {0}) E × (MutBor X × Unit {0}))) (sleeps : X → X → Result (Option Mark) Refusal → Type 0) (body : F) (old : X) : ℕ → F → X → Type 0 where
+  start : Repeated calls sleeps body old 0 body old
+  round : {number : ℕ} {state state_new : F} {begun ended after : X} → Repeated calls sleeps body old number state begun → CalledWithState calls state begun number (Ok tt) state_new ended → sleeps ended after (Ok None) → Repeated calls sleeps body old (number + 1) state_new after
+
+-- what is answered behind the last call: the body's error, and nothing was done behind it; or a mark was shown in the
+-- pause behind it, or that was refused
+abbrev pub EndsRound : {X E : Type 0} → (Refusal → E → Type 0) → (X → X → Result (Option Mark) Refusal → Type 0) → Result (Unit {0}) E → (ended new : X) → Result (Option Mark) E → Type 0
+EndsRound makes sleeps (Err error) ended new result = (result ≡ Err error) × (new ≡ ended)
+EndsRound makes sleeps (Ok done) ended new result = ((mark : Mark) × sleeps ended new (Ok (Some mark)) × (result ≡ Ok (Some mark)))
+    ⊎ ((refusal : Refusal) × sleeps ended new (Err refusal) × IsErrAnd result (makes refusal))
+
+-- one call more was made, the last
+pub record LastRound {F X E : Type 0} (calls : Mut F (MutBor X × (ℕ × Unit {0})) (Result (Unit {0}) E × (MutBor X × Unit {0}))) (sleeps : X → X → Result (Option Mark) Refusal → Type 0) (makes : Refusal → E → Type 0) (number : ℕ) (state : F) (begun new : X) (result : Result (Option Mark) E) : Type 0 where
+  pub found : Result (Unit {0}) E
+  pub state_new : F
+  pub ended : X
+  pub called : CalledWithState calls state begun number found state_new ended
+  pub ends : EndsRound makes sleeps found ended new result
+
+-- the body was called until it failed, or all rounds were done, or a cancel came: each call but the last succeeded
+pub record Repeats {F X E : Type 0} (calls : Mut F (MutBor X × (ℕ × Unit {0})) (Result (Unit {0}) E × (MutBor X × Unit {0}))) (sleeps : X → X → Result (Option Mark) Refusal → Type 0) (makes : Refusal → E → Type 0) (rounds : ℕ) (body : F) (old new : X) (result : Result (Option Mark) E) : Type 0 where
+  pub number : ℕ
+  pub state : F
+  pub begun : X
+  pub repeated : Repeated calls sleeps body old number state begun
+  pub within : number ≤ rounds
+  pub ends : ((number ≡ rounds) × (result ≡ Ok None) × (new ≡ begun)) ⊎ LastRound calls sleeps makes number state begun new result
+
+-- ---- many jobs
+
+-- so many jobs were forked in scope s under this name, one after the other
+pub data Forked {X : Type 0} (token : X → OwnerValue) (s : ℕ) (name : Name) (old : X) : ℕ → X → Type 0 where
+  unforked : Forked token s name old 0 old
+  forked : {number : ℕ} {here new : X} {reply : ForkReply} → Forked token s name old number here → ForksUnder (token here) (token new) s name (Ok reply) → Forked token s name old (number + 1) new
+
+-- a scope was opened, then jobs ran in it so, by which this was found, and last the scope was closed
+pub record RunsJobs {X V : Type 0} (opens : X → X → Result ℕ Refusal → Type 0) (closes : X → X → ℕ → Result Verdict Refusal → Type 0) (runs : ℕ → X → X → V → Type 0) (old new : X) (value : V) : Type 0 where
+  pub scope : ℕ
+  pub begun : X
+  pub ended : X
+  pub how : Verdict
+  pub opened : opens old begun (Ok scope)
+  pub ran : runs scope begun ended value
+  pub closed : closes ended new scope (Ok how)
+
+-- in scope s the jobs were forked, and once they were, its join answered which was the first to succeed: the value is that
+-- of this task's slot
+abbrev pub Races : {X K V : Type 0} → (X → OwnerValue) → (K → K → ℕ → Type 0) → (X → K) → (Name → V → Type 0) → ℕ → X → X → V → Type 0
+Races {X = X} token reads time may s begun ended value = (there : X) × Won reads may (time there) (token there) (token ended) s value
+
+-- in scope s just so many workers were forked, and its join answered that all is done
+pub record Staffs {X K : Type 0} (token : X → OwnerValue) (reads : K → K → ℕ → Type 0) (time : X → K) (name : Name) (workers : ℕ) (s : ℕ) (begun ended : X) : Type 0 where
+  pub there : X
+  pub staffed : Forked token s name begun workers there
+  pub joined : Joined
+  pub last : X
+  pub joins : JoinsFrom reads (time there) (token there) (token last) s (Ok joined)
+  pub done : joined.outcome ≡ Done
+
+-- ---- a body with a permit
+
+-- what is answered where the body found this
+abbrev pub limited_to : {T E : Type 0} → Result T E → Result (Option T) E
+limited_to (Ok value) = Ok (Some value)
+limited_to (Err error) = Err error
+
+-- the body ran once, and last of all
+pub record RunsHolding {F X T E : Type 0} (calls : Once F (MutBor X × Unit {0}) (Result T E × (MutBor X × Unit {0}))) (body : F) (new : X) (result : Result (Option T) E) : Type 0 where
+  pub begun : X
+  pub found : Result T E
+  pub ran : RanBound calls body begun new found
+  pub answers : result ≡ limited_to found
+
+-- the body ran with a permit; or it was not called: a cancel came before a permit, or the wait was refused
+abbrev pub RunsLimited : {F X T E : Type 0} → Once F (MutBor X × Unit {0}) (Result T E × (MutBor X × Unit {0})) → (Refusal → E → Type 0) → F → X → Result (Option T) E → Type 0
+RunsLimited calls makes body new result = RunsHolding calls body new result ⊎ (result ≡ Ok None) ⊎ ((refusal : Refusal) × IsErrAnd result (makes refusal))
+
+-- ---- results as they complete
+
+-- what is given of a task in this state, before the join: a value that its job may answer, or none if it was taken before;
+-- of one that failed none
+abbrev pub GivesDone : {V : Type 0} → (V → Type 0) → State → Option V → Type 0
+GivesDone may (Success number) (Some value) = may value
+GivesDone may (Success number) None = Unit {0}
+GivesDone may (failed_with fault) given = given ≡ None
+GivesDone may Unavailable given = ⊥
+
+-- the task was seen in a state, and that was given
+pub record Completes {V : Type 0} (may : V → Type 0) (old new : OwnerValue) (task : ℕ) (given : Option V) : Type 0 where
+  pub seen : State
+  pub reads : Reads old new (λ h. Ok seen ≡ answering (task_check h task) (state h task))
+  pub gives : GivesDone may seen given

@@ -19,8 +19,8 @@ pub trait Yields {
     /// Of what type that is.
     type Value: Drop;
 
-    /// A job that is forked under this name may answer this value.
-    ghost may_yield: { Name → Self.Value → Type 0 };
+    /// A job that is forked under this name may answer this value: any, if it does not say.
+    ghost may_yield: { Name → Self.Value → Type 0 } = { λ name value. Unit {0} };
 
     /// That it may is a fact: there is at most one proof of it.
     ghost is_fact: { (name : Name) (value : Self.Value) → IsProp (may_yield name value) };

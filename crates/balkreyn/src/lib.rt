@@ -16,6 +16,7 @@ mod guards;
 mod handles;
 mod intake;
 mod jobs;
+mod literals;
 mod owners;
 mod pictures;
 mod places;
@@ -38,6 +39,7 @@ pub use job_runner::{
 };
 pub use jobs::{Typed, TypedJob, Yields};
 pub use join_rules::{CompletionTest, Joiner, UntilTest};
+pub use literals::named;
 pub use pictures::Shows;
 pub use realm_lock::{
     ActorToken, BareOutcome, CloseReport, Joined, Mark, Realm, RealmName, Seed, View,

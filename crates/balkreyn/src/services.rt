@@ -18,8 +18,8 @@ pub trait Promises {
     /// What it fails with: `Refusal`, `ServiceError`, or a type of its own.
     type Error: From<Refusal> + Drop;
 
-    /// It may come to this.
-    ghost may_answer: { Self → Self.Answer → Type 0 };
+    /// It may come to this: to anything, if it does not say.
+    ghost may_answer: { Self → Self.Answer → Type 0 } = { λ service answer. Unit {0} };
 }
 
 /// What a service does with main's context. One that forks jobs of type `J` asks `S: Forks<AnyEnd, N, J>`.

@@ -1,7 +1,9 @@
-//! Tests of what a service imports: scopes that can't be forgotten, results of a caller's own type, closes by a
+//! Tests of what a service imports: scopes that can't be forgotten, a service by one value, results of a caller's own type, closes by a
 //! clock, a look at a request that hangs, and a service that never goes idle.
 #![tactic(auto)]
 
+#[cfg(test)]
+mod acting;
 #[cfg(test)]
 mod kinds;
 #[cfg(test)]

@@ -1,16 +1,19 @@
 //! Many typed jobs, of which so many run at a time.
-ghost use Rattle.std.specs.Prelude.{IfOk};
+ghost use Rattle.std.specs.Prelude.{◌≡◌, IfOk, max};
+ghost use Rattle.scope_rules.specs.declared.types.joiners.Policy.TheVariants as policy;
+ghost use Rattle.balkreyn.specs.Acting.{ClosesNow, Forked, RunsJobs, Staffs};
+ghost use Rattle.balkreyn.specs.Bodies.{Opens};
 
-use crate::act::blocks::{entered, left};
+use crate::act::blocks::entered;
 use crate::act::contexts::Acts;
+use crate::act::tasks::Task;
 use crate::act::valued::TypedTask;
 use crate::jobs::Yields;
 use crate::places::Place;
-use job_runner::Answers;
 use join_rules::Joiner;
 use scope_rules::{End, Fault, Name, Options, Outcome, Refusal, ScopeId, Value};
 use std::alloc::Global;
-use std::sync::{Arc, Mutex, Wait};
+use std::sync::{Arc, Mutex};
 
 /// The jobs that no worker has taken, the first of them last, and where each puts its value.
 #[derive(Drop)]
@@ -33,17 +36,26 @@ impl<J: Yields + Drop> Worker<J> {
     where
         J: TypedTask<W>,
     {
-        let rt = cx.runtime();
-        for _ in rt.forever() {
-            let Some((place, job)) = self.batch.jobs.lock(&rt).pop() else {
+        for _ in 0..self.batch.places.len() {
+            if cx.checkpoint().is_some() {
+                return Err(Fault(self.name));
+            }
+            let Some((place, job)) = self.batch.jobs.lock(cx).pop() else {
                 return Ok(Value::Num(0));
             };
             let value = job.run_typed(cx, self.name)?;
             if let Some(place) = self.batch.places.get(place) {
-                place.put(&rt, self.name, value);
+                place.put(cx, self.name, value);
             }
         }
-        unreachable!()
+        Ok(Value::Num(0))
+    }
+}
+
+/// A service whose only jobs are the workers of one batch needs no type for them.
+impl<J: Yields + TypedTask<Worker<J>> + Drop> Task for Worker<J> {
+    fn run<X: Acts<Worker<J>>>(self, cx: &mut X) -> End {
+        self.act(cx)
     }
 }
 
@@ -52,36 +64,58 @@ impl<J: Yields + Drop> Worker<J> {
 ///
 /// # Errors
 /// `NotSuccess` if a job failed, `Unavailable` if a cancel or a deadline came first, and else the refusal of a call.
-pub fn map_at_most<J: Yields + Drop, W: Answers + From<Worker<J>> + Drop, X: Acts<W>>(
+pub fn map_at_most<J: Yields + Drop, W: From<Worker<J>>, X: Acts<W>>(
     cx: &mut X,
     name: Name,
     options: Options,
     at_once: u32,
     jobs: Vec<J>,
-) -> Result<Vec<J::Value>, Refusal> {
+) -> Result<Vec<J::Value>, Refusal>
+    ensures { IfOk result (RunsJobs (Opens X.token X.left_by_open policy.AwaitOk options) (ClosesNow X.token X.left_by_close X.reads X.time) (λ scope begun ended values. Staffs X.token X.reads X.time name (max at_once 1) scope begun ended) cx.old cx.new) }
+{
     let batch = batch_of(cx.alloc(), jobs)?;
     let scope = entered(cx, Joiner::AwaitOk, options)?;
-    let found = mapped(cx, scope, name, at_once, &batch);
-    left(cx, scope, found)
+    let found = mapped(cx, scope, name, at_once.max(1), &batch);
+    cx.close(scope)?;
+    found
 }
 
 /// Forks so many workers in the scope, joins it, and gives the values that they put.
-fn mapped<J: Yields + Drop, W: Answers + From<Worker<J>> + Drop, X: Acts<W>>(
+fn mapped<J: Yields + Drop, W: From<Worker<J>>, X: Acts<W>>(
     cx: &mut X,
     scope: ScopeId,
     name: Name,
-    at_once: u32,
+    workers: u32,
     batch: &Arc<Batch<J>, Global>,
-) -> Result<Vec<J::Value>, Refusal> {
-    for _ in 0..at_once.max(1) {
-        let batch = Arc::try_clone(batch)?;
-        cx.fork(scope, name, W::from(Worker { name, batch }))?;
-    }
-    match &cx.join(scope)?.outcome {
+) -> Result<Vec<J::Value>, Refusal>
+    ensures { IfOk result (λ values. Staffs X.token X.reads X.time name workers scope cx.old cx.new) }
+{
+    staffed(cx, scope, name, workers, batch)?;
+    let joined = cx.join(scope)?;
+    match &joined.outcome {
         Outcome::Done => values_of(cx, name, batch),
         Outcome::Failed { .. } => Err(Refusal::NotSuccess),
         _ => Err(Refusal::Unavailable),
     }
+}
+
+/// Forks so many workers in the scope.
+fn staffed<J: Yields + Drop, W: From<Worker<J>>, X: Acts<W>>(
+    cx: &mut X,
+    scope: ScopeId,
+    name: Name,
+    workers: u32,
+    batch: &Arc<Batch<J>, Global>,
+) -> Result<(), Refusal>
+    ensures { IfOk result (λ _. Forked X.token scope name cx.old workers cx.new) }
+{
+    let mut number = 0u32;
+    while number < workers {
+        let batch = Arc::try_clone(batch)?;
+        cx.fork(scope, name, W::from(Worker { name, batch }))?;
+        number += 1;
+    }
+    Ok(())
 }
 
 /// A batch of these jobs.
@@ -106,10 +140,9 @@ fn values_of<J: Yields, W, X: Acts<W>>(
     name: Name,
     batch: &Batch<J>,
 ) -> Result<Vec<J::Value>, Refusal> {
-    let rt = cx.runtime();
     let mut values = Vec::new(cx.alloc());
     for place in batch.places.iter() {
-        match place.take(&rt, name) {
+        match place.take(cx, name) {
             Some(value) => values.push(value)?,
             None => return Err(Refusal::Unavailable),
         }

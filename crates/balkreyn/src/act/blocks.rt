@@ -3,11 +3,10 @@ ghost use Rattle.std.specs.Prelude.{◌≡◌, None, true};
 ghost use Rattle.join_rules.specs.Joiners.{policy_of};
 ghost use Rattle.scope_rules.specs.declared.types.events.Expiry.TheVariants.{Fail};
 ghost use Rattle.scope_rules.specs.declared.types.joiners.Policy.TheVariants as policy;
-ghost use Rattle.balkreyn.specs.Acting.{Retries, RunsBound, Sleeps};
-ghost use Rattle.balkreyn.specs.Bodies.{ClosesFrom, Opens, RunsWithin, Settles};
+ghost use Rattle.balkreyn.specs.Acting.{ClosesNow, Retries, RunsBound, Sleeps};
+ghost use Rattle.balkreyn.specs.Bodies.{Opens, RunsWithin};
 
 use crate::act::contexts::Acts;
-use crate::scoped::within_by;
 use join_rules::Joiner;
 use scope_rules::{Name, Options, Refusal, ScopeId, Value};
 
@@ -24,14 +23,15 @@ pub fn scope<
     F: FnOnce(&mut X, ScopeId) -> Result<T, E>,
 >(cx: &mut X, joiner: Joiner, options: Options, body: F) -> Result<T, E>
     requires { F.IsAlwaysCallable body }
-    ensures { RunsWithin (Opens X.token X.left_by_open (policy_of joiner) options) (ClosesFrom X.token X.left_by_close X.Time.reads (X.time cx.old)) E.from_gives F.FnOnce body cx.old cx.new result }
+    ensures { RunsWithin (Opens X.token X.left_by_open (policy_of joiner) options) (ClosesNow X.token X.left_by_close X.reads X.time) E.from_gives F.FnOnce body cx.old cx.new result }
 {
-    let rt = cx.runtime();
-    let clock = cx.clock();
-    within_by(&rt, cx, joiner, options, clock, body)
+    let scope = cx.open(joiner, options)?;
+    let found = body(cx, scope);
+    cx.close(scope)?;
+    found
 }
 
-/// Opens a scope for what `left` closes.
+/// Opens a scope with a joiner that its caller names: the check passes none that is made in a generic call itself.
 pub(crate) fn entered<W, X: Acts<W>>(
     cx: &mut X,
     joiner: Joiner,
@@ -39,22 +39,7 @@ pub(crate) fn entered<W, X: Acts<W>>(
 ) -> Result<ScopeId, Refusal>
     ensures { Opens X.token X.left_by_open (policy_of joiner) options cx.old cx.new result }
 {
-    let rt = cx.runtime();
-    cx.open_scope(&rt, joiner, options)
-}
-
-/// Closes the scope by the realm's clock, whatever was found in it. A refused close comes first.
-pub(crate) fn left<W, X: Acts<W>, T: Drop>(
-    cx: &mut X,
-    scope: ScopeId,
-    found: Result<T, Refusal>,
-) -> Result<T, Refusal>
-    ensures { (closed : _) × ClosesFrom X.token X.left_by_close X.Time.reads (X.time cx.old) cx.old cx.new scope closed × Settles (λ refusal error. error ≡ refusal) found closed result }
-{
-    let rt = cx.runtime();
-    let mut clock = cx.clock();
-    cx.close_opened_by(&rt, scope, &mut clock)?;
-    found
+    cx.open(joiner, options)
 }
 
 /// Runs the body with the key bound to the value, and takes that binding away on each way out (JEP 506, `where`).
@@ -89,7 +74,7 @@ pub fn shielded<
     F: FnOnce(&mut X, ScopeId) -> Result<T, E>,
 >(cx: &mut X, body: F) -> Result<T, E>
     requires { F.IsAlwaysCallable body }
-    ensures { RunsWithin (Opens X.token X.left_by_open policy.AwaitAll (record { deadline = None; shield = true; expiry = Fail })) (ClosesFrom X.token X.left_by_close X.Time.reads (X.time cx.old)) E.from_gives F.FnOnce body cx.old cx.new result }
+    ensures { RunsWithin (Opens X.token X.left_by_open policy.AwaitAll (record { deadline = None; shield = true; expiry = Fail })) (ClosesNow X.token X.left_by_close X.reads X.time) E.from_gives F.FnOnce body cx.old cx.new result }
 {
     scope(cx, Joiner::AwaitAll, Options::PLAIN.shielded(), body)
 }
@@ -116,7 +101,7 @@ pub fn retry<
     F: FnMut(&mut X, u32) -> Result<T, E> + Drop,
 >(cx: &mut X, backoff: Backoff, mut body: F) -> Result<T, E>
     requires { F.IsAlwaysCallable body }
-    ensures { Retries F.FnMut (λ millis old new slept. Sleeps X.Time.reads X.Time.reading X.time X.token X.seat millis old new slept) E.from_gives backoff body cx.old cx.new result }
+    ensures { Retries F.FnMut (λ millis old new slept. Sleeps X.reads X.reading X.time X.token X.seat millis old new slept) E.from_gives backoff body cx.old cx.new result }
 {
     let mut pause = backoff.pause;
     let mut number = 0u32;

@@ -1,14 +1,15 @@
 //! One value to act by: a task's context with the realm's time.
 
-use crate::act::tasks::Timed;
+use crate::act::tasks::{Task, Timed};
 use crate::aliases::{Forks, Handle};
 use crate::forks::fork;
 use crate::scoped::Scopes;
-use job_runner::{Answers, Clock, SystemClock, TaskCtx};
+use job_runner::{Clock, SystemClock, TaskCtx};
 use join_rules::Joiner;
 use realm_lock::{Joined, Mark, RealmName};
 use scope_rules::{
-    AnyEnd, Cancelling, ForkReply, Name, Options, Refusal, ScopeId, TaskId, Value, Verdict,
+    AnyEnd, Base, Cancelling, ForkReply, Name, Options, Refusal, ScopeId, State, TaskId, Value,
+    Verdict,
 };
 use std::alloc::Global;
 use std::rt::Clock as SystemTime;
@@ -17,49 +18,62 @@ use thread_crew::Spawner;
 
 /// What a service and its jobs act by: the context of a task, which knows the realm's time. A helper has one bound,
 /// `X: Acts<W>`, where `W` is the type of its jobs. Each wait is by the realm's clock, so it ends at a deadline.
-pub trait Acts<W>: Scopes {
+///
+/// It is a handle to wait by (`Wait`), and has no associated type: the check passes no closure over a context whose trait
+/// has one.
+pub trait Acts<W>: Scopes + Wait {
     ghost use Rattle.std.specs.Prelude.{◌≡◌, ℕ, Err, Option};
+    ghost use Rattle.join_rules.specs.Joiners.{policy_of};
     ghost use Rattle.scope_rules.specs.declared.types.events.Event.TheVariants as event;
     ghost use Rattle.scope_rules.specs.declared.types.events.Expiry.TheVariants.{Fail, MoveOn};
     ghost use Rattle.scope_rules.specs.declared.types.refusals.Refusal.TheVariants.{NotReady};
-    ghost use Rattle.scope_rules.specs.Replies.{binding_reply, result_reply};
-    ghost use Rattle.share_ledger.specs.declared.steps.RealmStep.TheVariants.{Happened};
+    ghost use Rattle.scope_rules.specs.Checks.{task_check};
+    ghost use Rattle.scope_rules.specs.Replies.{base_of, binding_reply, result_reply};
+    ghost use Rattle.scope_rules.specs.Table.{answering};
+    ghost use Rattle.scope_rules.specs.Tasks.{state};
+    ghost use Rattle.share_ledger.specs.declared.steps.RealmStep.TheVariants.{Happened, Retirement};
     ghost use Rattle.cancel_marks.specs.Seats.{Seen};
     ghost use Rattle.realm_core.specs.Calls.{DoesOrMemory, Reads, RecordsOrMemory, SeesMore};
     ghost use Rattle.job_runner.specs.Marks.{Shows};
-    ghost use Rattle.balkreyn.specs.Acting.{IsSoAfter, JoinsFrom, SleepsFor};
+    ghost use Rattle.balkreyn.specs.Acting.{ClosesNow, IsSoAfter, JoinsFrom, SleepsFor};
+    ghost use Rattle.balkreyn.specs.Bodies.{Opens};
     ghost use Rattle.balkreyn.specs.Slots.{ForksUnder};
 
-    /// The runtime by which it waits and sleeps.
-    type Runtime: Handle;
+    /// The clock of the realm's time, as the prover sees it.
+    ghost Time: { Type 0 };
 
-    /// The clock of the realm's time.
-    type Time: Clock + Copy + Drop;
+    /// A reading of the first clock gives this, and leaves the second.
+    ghost reads: { Time → Time → ℕ → Type 0 };
+
+    /// What the clock's last reading was, if there was one.
+    ghost reading: { Time → Option ℕ };
+
+    /// The clock from which each wait begins to read.
+    ghost time: { Self → Time };
 
     /// The seat from which a checkpoint looks.
     ghost seat: { Self → Option Seen };
 
-    /// The clock from which each wait begins to read.
-    ghost time: { Self → Self.Time };
-
-    /// The runtime.
-    fn runtime(&self) -> Self::Runtime;
-
     /// Where its memory comes from.
     fn alloc(&self) -> Global;
-
-    /// A copy of the realm's clock.
-    fn clock(&self) -> Self::Time
-        ensures { result ≡ Self.time self.now };
 
     /// Options with a deadline so many milliseconds from now; if it passes, the scope's outcome is a timeout
     /// (Trio, `fail_after`).
     fn fail_after(&self, millis: u64) -> Options
-        ensures { IsSoAfter Self.Time.reads (Self.time self.now) millis Fail result };
+        ensures { IsSoAfter Self.reads (Self.time self.now) millis Fail result };
 
     /// The same, but the scope's outcome is what there is by then (Trio, `move_on_after`).
     fn move_on_after(&self, millis: u64) -> Options
-        ensures { IsSoAfter Self.Time.reads (Self.time self.now) millis MoveOn result };
+        ensures { IsSoAfter Self.reads (Self.time self.now) millis MoveOn result };
+
+    /// Opens a scope, as `TaskCtx::open` does; if it is refused, the joiner is dropped (JEP 505, `open`). `scope` opens and
+    /// closes in one call.
+    fn open(&mut self, joiner: Joiner, options: Options) -> Result<ScopeId, Refusal>
+        ensures { Opens Self.token Self.left_by_open (policy_of joiner) options self.old self.new result };
+
+    /// Cancels what still runs in the scope, waits for it by the realm's clock, and closes the scope (JEP 505, `close`).
+    fn close(&mut self, scope: ScopeId) -> Result<Verdict, Refusal>
+        ensures { ClosesNow Self.token Self.left_by_close Self.reads Self.time self.old self.new scope result };
 
     /// Forks the job under the name in the actor's scope, as `fork` does (JEP 505, `fork`).
     fn fork(&mut self, scope: ScopeId, name: Name, job: W) -> Result<ForkReply, Refusal>
@@ -70,17 +84,21 @@ pub trait Acts<W>: Scopes {
     /// scope, or of one around it, ends the wait.
     fn join(&mut self, scope: ScopeId) -> Result<Joined, Refusal>
         ensures sees { SeesMore (Self.token self.old) (Self.token self.new) }
-        ensures answer { JoinsFrom Self.Time.reads (Self.time self.old) (Self.token self.old) (Self.token self.new) scope result }
+        ensures answer { JoinsFrom Self.reads (Self.time self.old) (Self.token self.old) (Self.token self.new) scope result }
         ensures waited { result ≡ Err NotReady → ⊥ };
 
     /// The value of the task, which the owner of its scope has after the join (JEP 505, `Subtask.get`).
     fn result(&mut self, task: TaskId) -> Result<Value, Refusal>
         ensures { Reads (Self.token self.old) (Self.token self.new) (λ h. result ≡ result_reply h (Self.token self.new).actor task) };
 
+    /// What can be read of the task, at any time (JEP 505, `Subtask.state`).
+    fn state(&mut self, task: TaskId) -> Result<State, Refusal>
+        ensures { Reads (Self.token self.old) (Self.token self.new) (λ h. result ≡ answering (task_check h task) (state h task)) };
+
     /// Sleeps so many milliseconds, or until a checkpoint would show a mark, which it then returns (Trio, `sleep`).
     fn sleep(&mut self, millis: u64) -> Result<Option<Mark>, Refusal>
         ensures sees { SeesMore (Self.token self.old) (Self.token self.new) }
-        ensures answer { SleepsFor Self.Time.reads Self.Time.reading (Self.time self.old) (Self.token self.old) (Self.token self.new) (Self.seat self.old) (Self.seat self.new) millis result };
+        ensures answer { SleepsFor Self.reads Self.reading (Self.time self.old) (Self.token self.old) (Self.token self.new) (Self.seat self.old) (Self.seat self.new) millis result };
 
     /// The mark of the scope that this task is in, once that is seen to be cancelled (Trio, a checkpoint).
     fn checkpoint(&mut self) -> Option<Mark>
@@ -102,6 +120,10 @@ pub trait Acts<W>: Scopes {
     /// What the actor sees the key bound to (JEP 506, `ScopedValue.get`).
     fn get(&mut self, key: &Name) -> Result<Value, Refusal>
         ensures { Reads (Self.token self.old) (Self.token self.new) (λ h. result ≡ binding_reply h (Self.token self.new).actor key.now) };
+
+    /// Discards the history and frees its capacity, once main has no open scope; refused as `TaskCtx::retire` is.
+    fn retire(&mut self) -> Result<Base, Refusal>
+        ensures { DoesOrMemory (Self.token self.old) (Self.token self.new) Retirement base_of result };
 }
 
 /// The context of a task, with the clock of its realm.
@@ -122,6 +144,8 @@ impl<'a, K, S: Spawner<N>, N: RealmName> Cx<'a, K, S, N> {
         Cx { alloc, clock, ctx }
     }
 }
+
+impl<K: Wait, S: Spawner<N>, N: RealmName> Wait for Cx<'_, K, S, N> {}
 
 impl<K, S: Spawner<N>, N: RealmName> Scopes for Cx<'_, K, S, N> {
     ghost use Rattle.std.specs.Prelude.{◌≡◌, MatchResult};
@@ -157,28 +181,23 @@ impl<K, S: Spawner<N>, N: RealmName> Scopes for Cx<'_, K, S, N> {
     }
 }
 
-impl<K: Handle, N: RealmName, W: Answers + Drop, S: Forks<AnyEnd, N, Timed<K, W>>> Acts<W>
+impl<K: Handle, N: RealmName, W: Task, S: Forks<AnyEnd, N, Timed<K, W>>> Acts<W>
     for Cx<'_, K, S, N> {
+    ghost use Rattle.named_jobs.specs.declared.clocks.SystemClock.{SystemClock};
     ghost use Rattle.job_runner.specs.Marks.{seat_here};
 
-    type Runtime = K;
+    ghost Time = { SystemClock K };
 
-    type Time = SystemClock<K>;
+    ghost reads = { λ old new now. ⟦<SystemClock<K> as Clock>⟧.reads old new now };
+
+    ghost reading = { λ clock. ⟦<SystemClock<K> as Clock>⟧.reading clock };
 
     ghost seat = { λ cx. seat_here cx.ctx.now.around cx.ctx.now.opened.items };
 
     ghost time = { λ cx. cx.clock };
 
-    fn runtime(&self) -> K {
-        self.clock.runtime()
-    }
-
     fn alloc(&self) -> Global {
         self.alloc
-    }
-
-    fn clock(&self) -> SystemClock<K> {
-        self.clock
     }
 
     fn fail_after(&self, millis: u64) -> Options {
@@ -189,6 +208,16 @@ impl<K: Handle, N: RealmName, W: Answers + Drop, S: Forks<AnyEnd, N, Timed<K, W>
     fn move_on_after(&self, millis: u64) -> Options {
         let mut clock = self.clock;
         Options::by(clock.now().saturating_add(millis)).moving_on()
+    }
+
+    fn open(&mut self, joiner: Joiner, options: Options) -> Result<ScopeId, Refusal> {
+        let rt = self.clock.runtime();
+        self.open_scope(&rt, joiner, options)
+    }
+
+    fn close(&mut self, scope: ScopeId) -> Result<Verdict, Refusal> {
+        let mut clock = self.clock;
+        self.close_opened_by(&clock.runtime(), scope, &mut clock)
     }
 
     fn fork(&mut self, scope: ScopeId, name: Name, job: W) -> Result<ForkReply, Refusal> {
@@ -204,6 +233,10 @@ impl<K: Handle, N: RealmName, W: Answers + Drop, S: Forks<AnyEnd, N, Timed<K, W>
 
     fn result(&mut self, task: TaskId) -> Result<Value, Refusal> {
         self.ctx.result(&self.clock.runtime(), task)
+    }
+
+    fn state(&mut self, task: TaskId) -> Result<State, Refusal> {
+        self.ctx.state(&self.clock.runtime(), task)
     }
 
     fn sleep(&mut self, millis: u64) -> Result<Option<Mark>, Refusal> {
@@ -230,5 +263,9 @@ impl<K: Handle, N: RealmName, W: Answers + Drop, S: Forks<AnyEnd, N, Timed<K, W>
 
     fn get(&mut self, key: &Name) -> Result<Value, Refusal> {
         self.ctx.get(&self.clock.runtime(), key)
+    }
+
+    fn retire(&mut self) -> Result<Base, Refusal> {
+        self.ctx.retire(&self.clock.runtime())
     }
 }

@@ -9,14 +9,19 @@ use job_runner::{Answers, Job, JobWork, SystemClock, TaskCtx};
 use realm_lock::{RealmName, Seed};
 use scope_rules::{AnyEnd, End, Refusal};
 use std::alloc::Global;
-use std::marker::PhantomData;
+use std::marker::{Brand, PhantomData};
 use std::rt::Clock as SystemTime;
 use std::sync::Wait;
 use thread_crew::{CrewRuntime, OsThreads};
 
 /// What a thread runs that acts by one value (JEP 505 has callables in its place). A scope that it leaves open is
 /// closed after it, and its task then ends with the fault `left-open`.
-pub trait Task: Answers + Drop {
+pub trait Task: Drop + Sized {
+    ghost use Rattle.scope_rules.specs.Ends.{EndValue};
+
+    /// The job may end so: anyhow, if it does not say.
+    ghost may_end: { Self → EndValue → Type 0 } = { λ job end. Unit {0} };
+
     /// Does the job, and answers how it ends.
     fn run<X: Acts<Self>>(self, cx: &mut X) -> End
         ensures { Self.may_end self result };
@@ -30,7 +35,7 @@ pub struct Timed<K, W> {
     pub(crate) job: W,
 }
 
-impl<K, W: Answers> Answers for Timed<K, W> {
+impl<K, W: Task> Answers for Timed<K, W> {
     ghost may_end = { λ timed end. W.may_end timed.job end };
 }
 
@@ -88,7 +93,24 @@ where
 /// # Errors
 /// That of the service; before it begins `Memory`, if memory or a thread is refused, and `NoTime`, if the system gives
 /// no time.
-pub fn serve<
+pub fn serve<W: Task + Send + 'static, V: Serves<W> + Drop, R: CrewRuntime + SystemTime>(
+    rt: &R,
+    alloc: Global,
+    keep: usize,
+    service: V,
+) -> Result<V::Answer, V::Error>
+where
+    V::Error: From<NoTime>,
+    ensures { IfOk result (λ answer. V.may_answer service answer) }
+{
+    let Ok(seed) = Seed::new(alloc) else {
+        return Err(Refusal::Memory.into());
+    };
+    serve_named::<Brand, W, V, R>(rt, alloc, seed, keep, service)
+}
+
+/// The same in a realm of this seed, by its name.
+fn serve_named<
     N: RealmName + Send + Sync + 'static,
     W: Task + Send + 'static,
     V: Serves<W> + Drop,

@@ -1,15 +1,17 @@
 //! Typed jobs that act by one value, and what is done with several of them.
 ghost use Rattle.std.specs.Prelude.{◌≡◌, IfOk, IfSome, Ok, pos};
+ghost use Rattle.scope_rules.specs.declared.types.joiners.Policy.TheVariants as policy;
 ghost use Rattle.scope_rules.specs.declared.types.values.Value.TheVariants as value;
 ghost use Rattle.realm_core.specs.Calls.{SeesMore};
-ghost use Rattle.balkreyn.specs.Acting.{Won};
+ghost use Rattle.balkreyn.specs.Acting.{ClosesNow, Races, RunsJobs, Won};
+ghost use Rattle.balkreyn.specs.Bodies.{Opens};
 ghost use Rattle.balkreyn.specs.Slots.{ForksInto, Takes, task_of};
 
-use crate::act::blocks::{entered, left};
+use crate::act::blocks::entered;
 use crate::act::contexts::Acts;
+use crate::act::tasks::Task;
 use crate::jobs::{Typed, Yields};
 use crate::slots::{Slot, place_and_share};
-use job_runner::Answers;
 use join_rules::Joiner;
 use scope_rules::{End, Fault, Name, Options, Outcome, Refusal, ScopeId, TaskId, Value};
 
@@ -31,11 +33,18 @@ impl<J: Yields> Typed<J> {
         let Typed { name, job, place } = self;
         match job.run_typed(cx, name) {
             Ok(value) => {
-                place.put(&cx.runtime(), name, value);
+                place.put(cx, name, value);
                 Ok(Value::Num(0))
             }
             Err(fault) => Err(fault),
         }
+    }
+}
+
+/// A service whose only jobs are of one type that answers a value needs no type for them.
+impl<J: Yields + TypedTask<Typed<J>> + Drop> Task for Typed<J> {
+    fn run<X: Acts<Typed<J>>>(self, cx: &mut X) -> End {
+        self.act(cx)
     }
 }
 
@@ -44,7 +53,7 @@ impl<J: Yields> Typed<J> {
 ///
 /// # Errors
 /// Those of `fork`, and `Memory` if there is none for the slot; the job is dropped.
-pub fn fork_value<J: Yields + Drop, W: Answers + From<Typed<J>> + Drop, X: Acts<W>>(
+pub fn fork_value<J: Yields + Drop, W: From<Typed<J>>, X: Acts<W>>(
     cx: &mut X,
     scope: ScopeId,
     name: Name,
@@ -76,7 +85,7 @@ impl<J: Yields> Slot<J> {
         ensures { Takes (J.may_yield self.now.name) (X.token cx.old) (X.token cx.new) (task_of self.now.reply) result }
     {
         match cx.result(self.task()) {
-            Ok(_number) => match self.place.take(&cx.runtime(), self.name) {
+            Ok(_number) => match self.place.take(cx, self.name) {
                 Some(value) => Ok(value),
                 None => Err(Refusal::Unavailable),
             },
@@ -86,7 +95,7 @@ impl<J: Yields> Slot<J> {
 }
 
 /// Forks all these jobs in the scope under the name, in order, and gives their slots.
-fn fork_all<J: Yields + Drop, W: Answers + From<Typed<J>> + Drop, X: Acts<W>>(
+fn fork_all<J: Yields + Drop, W: From<Typed<J>>, X: Acts<W>>(
     cx: &mut X,
     scope: ScopeId,
     name: Name,
@@ -106,7 +115,7 @@ fn won<J: Yields, W, X: Acts<W>>(
     scope: ScopeId,
     slots: &[Slot<J>],
 ) -> Result<J::Value, Refusal>
-    ensures { IfOk result (Won X.Time.reads J.may_yield (X.time cx.old) (X.token cx.old) (X.token cx.new) scope) }
+    ensures { IfOk result (Won X.reads J.may_yield (X.time cx.old) (X.token cx.old) (X.token cx.new) scope) }
 {
     let joined = cx.join(scope)?;
     match &joined.outcome {
@@ -146,24 +155,29 @@ fn slot_of<J: Yields>(slots: &[Slot<J>], task: TaskId) -> Option<&Slot<J>>
 ///
 /// # Errors
 /// `Unavailable` if none succeeded by then, and else the refusal of a call.
-pub fn race<J: Yields + Drop, W: Answers + From<Typed<J>> + Drop, X: Acts<W>>(
+pub fn race<J: Yields + Drop, W: From<Typed<J>>, X: Acts<W>>(
     cx: &mut X,
     name: Name,
     options: Options,
     jobs: Vec<J>,
-) -> Result<J::Value, Refusal> {
+) -> Result<J::Value, Refusal>
+    ensures { IfOk result (RunsJobs (Opens X.token X.left_by_open policy.Any options) (ClosesNow X.token X.left_by_close X.reads X.time) (Races X.token X.reads X.time J.may_yield) cx.old cx.new) }
+{
     let scope = entered(cx, Joiner::Any, options)?;
     let found = raced(cx, scope, name, jobs);
-    left(cx, scope, found)
+    cx.close(scope)?;
+    found
 }
 
 /// Forks all these jobs in the scope, and gives the value of the first that succeeds.
-fn raced<J: Yields + Drop, W: Answers + From<Typed<J>> + Drop, X: Acts<W>>(
+fn raced<J: Yields + Drop, W: From<Typed<J>>, X: Acts<W>>(
     cx: &mut X,
     scope: ScopeId,
     name: Name,
     jobs: Vec<J>,
-) -> Result<J::Value, Refusal> {
+) -> Result<J::Value, Refusal>
+    ensures { IfOk result (Races X.token X.reads X.time J.may_yield scope cx.old cx.new) }
+{
     let slots = fork_all(cx, scope, name, jobs)?;
     won(cx, scope, &slots)
 }
@@ -173,7 +187,7 @@ fn raced<J: Yields + Drop, W: Answers + From<Typed<J>> + Drop, X: Acts<W>>(
 ///
 /// # Errors
 /// The refusal of a call.
-pub fn all_of<J: Yields + Drop, W: Answers + From<Typed<J>> + Drop, X: Acts<W>>(
+pub fn all_of<J: Yields + Drop, W: From<Typed<J>>, X: Acts<W>>(
     cx: &mut X,
     name: Name,
     options: Options,
@@ -181,11 +195,12 @@ pub fn all_of<J: Yields + Drop, W: Answers + From<Typed<J>> + Drop, X: Acts<W>>(
 ) -> Result<Vec<Option<J::Value>>, Refusal> {
     let scope = entered(cx, Joiner::AwaitAll, options)?;
     let found = gathered(cx, scope, name, jobs);
-    left(cx, scope, found)
+    cx.close(scope)?;
+    found
 }
 
 /// Forks all these jobs in the scope, joins it, and gives the value of each that succeeded.
-fn gathered<J: Yields + Drop, W: Answers + From<Typed<J>> + Drop, X: Acts<W>>(
+fn gathered<J: Yields + Drop, W: From<Typed<J>>, X: Acts<W>>(
     cx: &mut X,
     scope: ScopeId,
     name: Name,

@@ -42,7 +42,7 @@ returns-in_err-sleep g c = record {
 -- a mark was shown in it
 pub returns-then-is_some : goal.returns-then-is_some
 returns-then-is_some g c =
-    let shown = mark_of (λ shown. Sleeps g.X.Time.Clock.reads g.X.Time.Clock.reading g.X.Acts.time g.X.Scopes.token g.X.Acts.seat c.loop-number.pause c.body.new.arg2 c.sleep.new.self (Ok shown)) c.in_ok-sleep.field-0 (search rules) c.in_ok-sleep.ensures.answer in
+    let shown = mark_of (λ shown. Sleeps g.X.Acts.reads g.X.Acts.reading g.X.Acts.time g.X.Scopes.token g.X.Acts.seat c.loop-number.pause c.body.new.arg2 c.sleep.new.self (Ok shown)) c.in_ok-sleep.field-0 (search rules) c.in_ok-sleep.ensures.answer in
     record {
       number = c.loop-number.number;
       pause = c.loop-number.pause;
@@ -62,7 +62,7 @@ pub loop-number-preserved : goal.loop-number-preserved
 loop-number-preserved g c = (
   λ always. mut_next g.F.FnMut _ _ _ _ _ c.body.ensures refl (c.loop-number.invariant.0 always),
   search rules,
-  more c.loop-number.invariant.2 (called_so g.F.FnMut _ _ _ _ _ _ _ c.in-Err.is (record { shown = _; shows = refl; left = _; called = c.body.ensures; leaves = refl })) (none_of (λ shown. Sleeps g.X.Time.Clock.reads g.X.Time.Clock.reading g.X.Acts.time g.X.Scopes.token g.X.Acts.seat c.loop-number.pause c.body.new.arg2 c.sleep.new.self (Ok shown)) c.in_ok-sleep.field-0 (search rules) c.in_ok-sleep.ensures.answer) (search rules),
+  more c.loop-number.invariant.2 (called_so g.F.FnMut _ _ _ _ _ _ _ c.in-Err.is (record { shown = _; shows = refl; left = _; called = c.body.ensures; leaves = refl })) (none_of (λ shown. Sleeps g.X.Acts.reads g.X.Acts.reading g.X.Acts.time g.X.Scopes.token g.X.Acts.seat c.loop-number.pause c.body.new.arg2 c.sleep.new.self (Ok shown)) c.in_ok-sleep.field-0 (search rules) c.in_ok-sleep.ensures.answer) (search rules),
 )
 
 -- it was the last
@@ -78,5 +78,5 @@ returns g c = record {
   state_new = c.body-2.new.self;
   ended = c.body-2.new.arg2;
   called = record { shown = _; shows = refl; left = _; called = c.body-2.ensures; leaves = refl };
-  ends = last_try g.E.From.from_gives (λ old new slept. Sleeps g.X.Time.Clock.reads g.X.Time.Clock.reading g.X.Acts.time g.X.Scopes.token g.X.Acts.seat c.loop-number.pause old new slept) _ (search rules) c.body-2.result c.body-2.new.arg2;
+  ends = last_try g.E.From.from_gives (λ old new slept. Sleeps g.X.Acts.reads g.X.Acts.reading g.X.Acts.time g.X.Scopes.token g.X.Acts.seat c.loop-number.pause old new slept) _ (search rules) c.body-2.result c.body-2.new.arg2;
 }

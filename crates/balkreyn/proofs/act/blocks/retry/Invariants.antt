@@ -8,7 +8,7 @@ abbrev pub invariant-loop-number : goal.invariant-loop-number
 invariant-loop-number g l =
     (always_mut g.F.FnMut l.initial.body → always_mut g.F.FnMut l.body)
     × (l.number ≤ l.backoff.retries)
-    × Failed g.F.FnMut (λ millis old new slept. Sleeps g.X.Time.Clock.reads g.X.Time.Clock.reading g.X.Acts.time g.X.Scopes.token g.X.Acts.seat millis old new slept) l.backoff.pause l.initial.body l.initial.cx l.number l.pause l.body l.cx
+    × Failed g.F.FnMut (λ millis old new slept. Sleeps g.X.Acts.reads g.X.Acts.reading g.X.Acts.time g.X.Scopes.token g.X.Acts.seat millis old new slept) l.backoff.pause l.initial.body l.initial.cx l.number l.pause l.body l.cx
 
 abbrev pub decreases-loop-number : goal.decreases-loop-number
 decreases-loop-number g l = l.backoff.retries - l.number

@@ -1,0 +1,30 @@
+use Rattle.std.proofs.Common.{rules, refl, inr}
+use Rattle.balkreyn.proofs.act.blocks.scope.Goals as goal
+
+-- the scope was opened, the body came back, and the close was refused
+pub returns-in_err-close : goal.returns-in_err-close
+returns-in_err-close g c = inr (record {
+  scope = c.in_ok-scope.scope;
+  begun = c.open.new.self;
+  ended = c.body-found.new.arg2;
+  found = c.body-found.result;
+  closed = c.close.result;
+  opened = c.in_ok-scope.ensures;
+  ran = record { lent = _; given = refl; back = _; left = refl; met = c.body-found.ensures };
+  shut = c.close.ensures;
+  answers = search rules;
+})
+
+-- and here it was not
+pub returns : goal.returns
+returns g c = inr (record {
+  scope = c.in_ok-scope.scope;
+  begun = c.open.new.self;
+  ended = c.body-found.new.arg2;
+  found = c.body-found.result;
+  closed = c.close.result;
+  opened = c.in_ok-scope.ensures;
+  ran = record { lent = _; given = refl; back = _; left = refl; met = c.body-found.ensures };
+  shut = c.close.ensures;
+  answers = search rules;
+})

@@ -1,0 +1,8 @@
+-- A name that is written in the source.
+use Rattle.std.specs.Prelude.{ℕ, Bool, ◌&&◌, nat_le, List, length}
+use Rattle.std.specs.List.{list_all}
+use Rattle.scope_rules.specs.NameText.{begins_with_letter, is_inner}
+
+-- the text is a name, as `is_name` says, in a form that the check computes of a literal by itself
+abbrev pub is_written : List ℕ → Bool
+is_written bs = nat_le (length bs) 24 && begins_with_letter bs && list_all is_inner bs
