@@ -1,3 +1,5 @@
 mod Rowed
 mod Reaching
 mod Befores
+mod Searched
+mod Landed

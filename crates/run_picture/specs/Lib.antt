@@ -11,3 +11,5 @@ pub mod Marks
 pub mod Captions
 pub mod Pieces
 pub mod Frame
+pub mod Landmarks
+pub mod Arounds

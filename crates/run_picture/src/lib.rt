@@ -21,12 +21,13 @@
 //! where the columns begin.
 #![tactic(auto)]
 
-mod around;
+mod arounds;
 mod cancels;
 mod captions;
 mod events;
 mod frame;
 mod grid;
+mod landmarks;
 mod lanes;
 mod marks;
 mod picture;
@@ -37,6 +38,7 @@ mod strokes;
 
 pub use captions::{ScopeCaption, ShownFork, TaskCaption};
 pub use frame::{ShownFoot, ShownHead, Size};
+pub use landmarks::Landmark;
 pub use marks::{Mark, ShownMark};
 pub use picture::picture_of;
 pub use spots::Spot;

@@ -2,6 +2,7 @@
 ghost use Rattle.std.specs.Prelude.{◌≡◌, ◌++◌, IfOk, OnOk, string_bytes};
 ghost use Rattle.std.specs.List.{flat_map};
 ghost use Rattle.scope_rules.specs.History.{scope_numbers, task_numbers};
+ghost use Rattle.run_picture.specs.Arounds.{IsNestOf};
 ghost use Rattle.run_picture.specs.Cancels.{cancel_text};
 ghost use Rattle.run_picture.specs.Events.{event_text, moment_line};
 ghost use Rattle.run_picture.specs.Grids.{IsGridOf};
@@ -9,6 +10,7 @@ ghost use Rattle.run_picture.specs.Lanes.{scope_lane, task_lane};
 ghost use Rattle.run_picture.specs.Shields.{shield_text};
 ghost use Rattle.run_picture.specs.Picture.{picture_text, places};
 
+use crate::arounds::{Nest, nest_of};
 use crate::cancels::append_cancel;
 use crate::events::{append_event, append_moment};
 use crate::grid::{Grid, grid_of};
@@ -110,15 +112,17 @@ fn append_cancels<R: Readings>(
 fn append_shields<R: Readings>(
     readings: &R,
     grid: &Grid<'_>,
+    nest: &Nest,
     text: &mut String,
 ) -> Result<(), AllocError>
-    requires { IsGridOf grid.now (R.history readings.now).events }
+    requires grid { IsGridOf grid.now (R.history readings.now).events }
+    requires nest { IsNestOf nest.now (R.history readings.now) }
     ensures { OnOk result (string_bytes text.new ≡ string_bytes text.old ++ flat_map (shield_text (R.history readings.now)) (scope_numbers (R.history readings.now))) }
 {
     let before = readings.retired_scopes();
     let last = readings.scopes();
     for index in 0..last - before {
-        append_shield(readings, grid, text, before + 1 + index)?;
+        append_shield(readings, grid, nest, text, before + 1 + index)?;
     }
     Ok(())
 }
@@ -136,6 +140,7 @@ pub fn picture_of<R: Readings>(
     ensures { IfOk result (λ text. string_bytes text ≡ picture_text (R.history readings.now)) }
 {
     let grid = grid_of(alloc, events)?;
+    let nest = nest_of(alloc, readings, events)?;
     let size = Size {
         columns: grid.columns,
         rows: grid.height,
@@ -150,7 +155,7 @@ pub fn picture_of<R: Readings>(
     append_events(readings, &grid, &mut text)?;
     append_moments(readings, &grid, &mut text)?;
     append_cancels(readings, &grid, &mut text)?;
-    append_shields(readings, &grid, &mut text)?;
+    append_shields(readings, &grid, &nest, &mut text)?;
     write!(text, "{}", ShownFoot(grid.height))?;
     Ok(text)
 }
