@@ -157,7 +157,7 @@ pub(crate) fn nest_of<R: Readings>(
 }
 
 /// What lay innermost around the scope, of the scopes of its actor, as it was opened.
-fn own_of<R: Readings>(readings: &R, nest: &Nest, scope: ScopeId) -> Option<ScopeId>
+pub(crate) fn own_of<R: Readings>(readings: &R, nest: &Nest, scope: ScopeId) -> Option<ScopeId>
     requires nest { IsNestOf nest.now (R.history readings.now) }
     requires opened { is_some (opening (R.history readings.now) scope) ≡ true }
     ensures { result ≡ own_around (R.history readings.now) scope }
