@@ -20,3 +20,5 @@ pub mod Sites
 pub mod Lanes
 pub mod Sheet
 pub mod Laws
+pub mod Slices
+pub mod Trace

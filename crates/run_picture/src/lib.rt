@@ -27,6 +27,8 @@
 //! caller hands the lines, or else the number of the event, from 1. Numbers are decimal, and names have no character
 //! that XML keeps for itself: what is written is XML, without more ado. The colours are told apart by those who see
 //! some of them alike, in light and in the dark. No number is larger than viewers take.
+//!
+//! `trace_of` writes the run as Chrome trace events in place of a picture.
 #![tactic(auto)]
 
 mod arounds;
@@ -45,8 +47,10 @@ mod pieces;
 mod rows;
 mod shields;
 mod sites;
+mod slices;
 mod spots;
 mod strokes;
+mod trace;
 mod view;
 
 pub use captions::{Fate, Label, ShownFork, ShownScope, Span, Subject, Title};
@@ -57,6 +61,8 @@ pub use landmarks::Landmark;
 pub use marks::{Mark, ShownMark};
 pub use picture::{picture_of, picture_with};
 pub use rows::{Class, Folded, Node, Row};
+pub use slices::{Instant, ScopeBegin, ScopeEnd, TaskBegin, TaskEnd};
 pub use spots::Spot;
 pub use strokes::{Bar, Reach, Shade, Tick};
+pub use trace::trace_of;
 pub use view::View;

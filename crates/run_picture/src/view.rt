@@ -57,7 +57,7 @@ pub(crate) fn natural_width(width: u32, rows: u32) -> u64
 }
 
 /// The time of the event at the place, or of the last one behind all; without times, the place.
-fn time_at(times: &[u32], place: u32) -> u64
+pub(crate) fn time_at(times: &[u32], place: u32) -> u64
     ensures is { result ≡ time_at times.now place }
     ensures bound { result < 4294967296 }
 {
