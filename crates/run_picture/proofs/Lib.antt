@@ -1,3 +1,9 @@
-mod Rowed
 mod Reaching
 mod Befores
+mod Laws
+mod Showing
+mod Folding
+mod Noded
+mod Planted
+mod Searched
+mod Landed

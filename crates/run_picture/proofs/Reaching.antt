@@ -7,10 +7,6 @@ use Rattle.scope_rules.specs.declared.types.records.Cut.{Cut}
 use Rattle.scope_rules.specs.History.{History, opening}
 use Rattle.scope_rules.specs.Cancels.{cause, cancelled_at, cut}
 use Rattle.scope_checks.specs.Questions.{cancellation}
-use Rattle.run_picture.specs.declared.cancels.Reached.{Reached}
-use Rattle.run_picture.specs.declared.spots.Spot.{Spot}
-use Rattle.run_picture.specs.Cancels.{reached_at}
-use Rattle.run_picture.specs.Rows.{scope_spot}
 use Rattle.scope_rules.proofs.Earlier.{opening_within}
 use Rattle.scope_rules.proofs.Staying.{cut_within_history}
 
@@ -25,14 +21,3 @@ cancelled_within h s i c is = by (opening h s) (cut h s) refl refl is
     by (Some o) (Some x) opened cut_is same =
         let at : max o.place x.place ≡ i = ap (λ (r : Option (ℕ × Cause)). option_map_or (λ d. d.0) r 0) same in
         omega (arith, at, opening_within h s o opened, cut_within_history h s x cut_is)
-
-pub reached_within : (h : History) (s : ℕ) (r : Reached) → reached_at h s ≡ Some r → r.spot.column < length h.events
-unfolding reached_at
-reached_within h s r is = by (scope_spot h s) (cancellation h s) refl is
-  where
-    by : (o : Option Spot) (x : Option (ℕ × Cause)) → cancellation h s ≡ x → option_and_then (λ (spot : Spot). option_map (λ (c : ℕ × Cause). record { spot = record { column = c.0; row = spot.row }; cause = c.1 }) x) o ≡ Some r → r.spot.column < length h.events
-    by None x found same = absurd cc
-    by (Some spot) None found same = absurd cc
-    by (Some spot) (Some c) found same =
-        let at : c.0 ≡ r.spot.column = ap (λ (o : Option Reached). option_map_or (λ d. d.spot.column) o 0) same in
-        omega (arith, at, cancelled_within h s c.0 c.1 found)

@@ -1,26 +1,53 @@
 -- The cancels of a picture: which scope became cancelled where, and by whose own cancel.
-use Rattle.std.specs.Prelude.{ℕ, List, [], ◌++◌, Option, option_map}
-use Rattle.std.specs.Option.{option_and_then, option_map_or}
+use Rattle.std.specs.Prelude.{ℕ, Bool, true, false, not, nat_lt, List, [], ◌++◌}
+use Rattle.std.specs.Option.{option_map_or}
 use Rattle.scope_checks.specs.Questions.{cancellation}
-use Rattle.scope_rules.specs.History.{History}
-use Rattle.run_picture.specs.declared.cancels.Reached.{Reached}
+use Rattle.scope_rules.specs.declared.types.answers.Cause.{Cause}
+use Rattle.scope_rules.specs.declared.types.answers.CauseKind.{CauseKind}
+use Rattle.scope_rules.specs.declared.types.answers.CauseKind.TheVariants.{Call, Close, Joiner, Deadline}
+use Rattle.scope_rules.specs.declared.types.joiners.Policy.{Policy}
+use Rattle.scope_rules.specs.declared.types.joiners.Policy.TheVariants.{All, AwaitOk, Until}
+use Rattle.scope_rules.specs.declared.types.joiners.Rule.TheVariants.{FailuresAtLeast}
+use Rattle.scope_rules.specs.History.{History, opening}
+use Rattle.run_picture.specs.Sheet.{Sheet}
+use Rattle.run_picture.specs.declared.landmarks.Landmark.TheVariants as landmark
 use Rattle.run_picture.specs.declared.marks.Mark.TheVariants.{Cancelled}
-use Rattle.run_picture.specs.Rows.{scope_spot}
+use Rattle.run_picture.specs.Landmarks.{first_place}
 use Rattle.run_picture.specs.Marks.{mark_text}
+use Rattle.run_picture.specs.Sites.{mark_at, scope_row, x_in}
+use Rattle.run_picture.specs.Spots.{row_y}
 use Rattle.run_picture.specs.Strokes.{reach_text}
 
--- where scope s became cancelled, in its row, and why, if it is
-unfoldable pub reached_at : History → ℕ → Option Reached
-reached_at h s = option_and_then (λ spot. option_map (λ c. record { spot = record { column = c.0; row = spot.row }; cause = c.1 }) (cancellation h s)) (scope_spot h s)
+-- a scope of this policy is cancelled by its joiner because tasks failed
+abbrev pub fails_by : Policy → Bool
+fails_by All = true
+fails_by AwaitOk = true
+fails_by (Until (FailuresAtLeast n)) = true
+fails_by _ = false
 
--- the row of the scope whose own cancel it was, or else this one
-abbrev pub source_row : History → Reached → ℕ
-source_row h r = option_map_or (λ spot. spot.row) (scope_spot h r.cause.scope) r.spot.row
+-- scope s was joined before the place
+abbrev pub joined_by : History → ℕ → ℕ → Bool
+joined_by h s place = option_map_or (λ o. option_map_or (λ at. nat_lt at place) (first_place landmark.Joined h.events s) false) (opening h s) false
 
--- the line from the scope whose own cancel it was to scope s, and its mark
-abbrev pub reach : History → ℕ → Reached → List ℕ
-reach h s r = reach_text r.spot.column (source_row h r) r.spot.row ++ mark_text r.spot (Cancelled s r.cause)
+abbrev pub accident_by : History → ℕ → ℕ → CauseKind → Bool
+accident_by h place s Call = true
+accident_by h place s Deadline = true
+accident_by h place s Close = not (joined_by h s place)
+accident_by h place s Joiner = option_map_or (λ o. fails_by o.policy) (opening h s) true
 
--- the cancel that reached scope s, if one did
-unfoldable pub cancel_text : History → ℕ → List ℕ
-cancel_text h s = option_map_or (reach h s) (reached_at h s) []
+-- the cancel at the place is an accident: a call, a deadline, a joiner that gave up, or a close that came before
+-- the join. A joiner that has what it waits for, and the close of a joined scope, are normal ends.
+abbrev pub is_accident : History → ℕ → Cause → Bool
+is_accident h place cause = accident_by h place cause.scope cause.kind
+
+-- how far from above the scope is whose own cancel it was, or else the one that it reached
+abbrev pub source_y : History → Sheet → ℕ → ℕ → ℕ
+source_y h d s reached = option_map_or row_y (scope_row h d s) reached
+
+-- the line from the scope whose own cancel it was to scope s in its row, and its mark
+abbrev pub cancel_drawn : History → Sheet → ℕ → ℕ → ℕ → Cause → List ℕ
+cancel_drawn h d s row place cause = reach_text (record { x = x_in h d place; source = source_y h d cause.scope (row_y row); reached = row_y row }) ++ mark_text (mark_at h d place (row_y row) (Cancelled s cause (is_accident h place cause)))
+
+-- the cancel that reached scope s, if one did and it has a row
+unfoldable pub cancel_text : History → Sheet → ℕ → List ℕ
+cancel_text h d s = option_map_or (λ row. option_map_or (λ c. cancel_drawn h d s row c.0 c.1) (cancellation h s) []) (scope_row h d s) []

@@ -1,28 +1,76 @@
--- What stands left of the rows.
-use Rattle.std.specs.Prelude.{ℕ, List, ◌++◌, codes}
+-- What a row and a bar are called.
+use Rattle.std.specs.Prelude.{ℕ, ◌==◌, Bool, true, false, Option, None, Some, List, [], ◌++◌, codes, if◌then◌else◌}
 use Rattle.std.specs.Fmt.{decimal}
-use Rattle.scope_rules.specs.declared.types.events.Options.{Options}
-use Rattle.scope_rules.specs.declared.types.joiners.Policy.{Policy}
-use Rattle.scope_rules.specs.declared.types.names.Name.{Name}
 use Rattle.scope_rules.specs.Names.{text_of}
 use Rattle.scope_log.specs.LogText.{joiner_text, options_text}
-use Rattle.run_picture.specs.Spots.{row_y}
+use Rattle.run_picture.specs.declared.captions.Fate.{Fate}
+use Rattle.run_picture.specs.declared.captions.Fate.TheVariants as fate
+use Rattle.run_picture.specs.declared.captions.Label.{Label}
+use Rattle.run_picture.specs.declared.captions.ShownFork.{ShownFork}
+use Rattle.run_picture.specs.declared.captions.ShownScope.{ShownScope}
+use Rattle.run_picture.specs.declared.captions.Span.{Span}
+use Rattle.run_picture.specs.declared.captions.Subject.{Subject}
+use Rattle.run_picture.specs.declared.captions.Subject.TheVariants as subject
+use Rattle.run_picture.specs.declared.captions.Title.{Title}
+use Rattle.run_picture.specs.declared.rows.Folded.{Folded}
+use Rattle.run_picture.specs.MarkText.{cause_text, ended_text}
 
--- how the text of a scope and of a task begins, before its place from above
-unfoldable pub scope_begin : List ℕ
-scope_begin = codes "<text class='scope' y='"
+-- the owner of a scope, if it is a task
+abbrev pub opener_text : ℕ → List ℕ
+opener_text a = if a == 0 then [] else codes " of task " ++ decimal a
 
-unfoldable pub task_begin : List ℕ
-task_begin = codes "<text class='task' y='"
+-- the scope, with its owner, its joiner and what it was opened with beside that
+unfoldable pub scope_text : ShownScope → List ℕ
+scope_text s = codes "scope " ++ decimal s.scope ++ opener_text s.owner ++ codes " " ++ joiner_text s.policy ++ options_text s.options
 
--- task k, with its name and the scope that it was forked in
-unfoldable pub fork_text : ℕ → Name → ℕ → List ℕ
-fork_text k name s = decimal k ++ codes " " ++ text_of name ++ codes " in scope " ++ decimal s
+-- the task, with its name and the scope that it was forked in
+unfoldable pub fork_text : ShownFork → List ℕ
+fork_text f = decimal f.task ++ codes " " ++ text_of f.name ++ codes " in scope " ++ decimal f.scope
 
--- the text of scope s, with its joiner and what it was opened with beside that
-abbrev pub scope_caption : ℕ → ℕ → Policy → Options → List ℕ
-scope_caption row s policy options = scope_begin ++ decimal (row_y row) ++ codes "'>scope " ++ decimal s ++ codes " " ++ joiner_text policy ++ options_text options ++ codes "</text>\n"
+abbrev pub subject_text : Subject → List ℕ
+subject_text (subject.Scope s) = scope_text s
+subject_text (subject.Task f) = codes "task " ++ fork_text f
 
--- the text of task k, with its name and the scope that it was forked in
-abbrev pub task_caption : ℕ → ℕ → Name → ℕ → List ℕ
-task_caption row k name s = task_begin ++ decimal (row_y row) ++ codes "'>" ++ fork_text k name s ++ codes "</text>\n"
+-- the class of its label
+abbrev pub label_class : Subject → List ℕ
+label_class (subject.Scope s) = codes "scope"
+label_class (subject.Task f) = codes "task"
+
+-- what lies in a folded row
+unfoldable pub folded_text : Folded → List ℕ
+folded_text f = codes ": " ++ decimal f.tasks ++ codes " tasks, " ++ decimal f.failed ++ codes " failed"
+
+-- what there is to say of a stretch of a row
+abbrev pub fate_text : Fate → List ℕ
+fate_text fate.Open = []
+fate_text (fate.Cancelled cause) = cause_text cause
+fate_text fate.Closing = codes " closing"
+fate_text (fate.Folded folded) = folded_text folded
+fate_text fate.Waits = codes " waits"
+fate_text fate.Runs = codes " runs"
+fate_text (fate.Ended state) = ended_text state
+
+-- what is counted
+abbrev pub unit_word : Bool → List ℕ
+unit_word true = codes "line "
+unit_word false = codes "event "
+
+abbrev pub span_end : Option ℕ → List ℕ
+span_end (Some n) = codes " to " ++ decimal n
+span_end None = codes " on"
+
+-- from which event, or line, to which
+unfoldable pub span_text : Span → List ℕ
+span_text s = codes ", " ++ unit_word s.lined ++ decimal s.from ++ span_end s.to ++ codes ":"
+
+-- what is read where a bar is pointed at
+unfoldable pub title_text : Title → List ℕ
+title_text t = codes "<title>" ++ subject_text t.subject ++ span_text t.span ++ fate_text t.fate ++ codes "</title>"
+
+-- what is read where a label is pointed at: all of it, even if the picture cuts it
+unfoldable pub titled_text : Label → List ℕ
+titled_text l = codes "<title>" ++ subject_text l.subject ++ fate_text l.fate ++ codes "</title>"
+
+-- what stands left of a row
+unfoldable pub label_text : Label → List ℕ
+label_text l = codes "<text class='" ++ label_class l.subject ++ codes "' x='" ++ decimal l.x ++ codes "' y='" ++ decimal l.y ++ codes "'>" ++ subject_text l.subject ++ fate_text l.fate ++ titled_text l ++ codes "</text>\n"

@@ -1,72 +1,45 @@
--- What an event draws in the row of the scope or the task that it names.
-use Rattle.std.specs.Prelude.{ℕ, List, [], ◌++◌, Option, None, Some, option_map, length, slice_get}
+-- What an event draws in the row of the scope that it names.
+use Rattle.std.specs.Prelude.{ℕ, nat_le, List, [], Option, None, Some, length, slice_get}
 use Rattle.std.specs.Option.{option_and_then, option_map_or}
 use Rattle.scope_rules.specs.declared.types.events.Event.{Event}
 use Rattle.scope_rules.specs.declared.types.events.Event.TheVariants as event
-use Rattle.scope_rules.specs.History.{History, forking, tick_of}
-use Rattle.scope_rules.specs.Tasks.{state}
-use Rattle.run_picture.specs.declared.spots.Spot.{Spot}
+use Rattle.scope_rules.specs.History.{History, tick_of}
+use Rattle.run_picture.specs.Sheet.{Sheet}
 use Rattle.run_picture.specs.declared.marks.Mark.{Mark}
-use Rattle.run_picture.specs.declared.marks.Mark.TheVariants.{Ended, Never, Joined, Closing, Closed, Moved}
-use Rattle.run_picture.specs.declared.strokes.Stretch.{Stretch}
-use Rattle.run_picture.specs.declared.strokes.Stretch.TheVariants as stretch
-use Rattle.run_picture.specs.Rows.{row_count, scope_spot, task_spot}
+use Rattle.run_picture.specs.declared.marks.Mark.TheVariants.{Joined, Closing, Closed, Moved}
+use Rattle.run_picture.specs.Chart.{drawn_rows}
 use Rattle.run_picture.specs.Marks.{mark_text}
-use Rattle.run_picture.specs.Strokes.{stretch_text, tick_text}
+use Rattle.run_picture.specs.Sites.{mark_at, scope_row, x_in}
+use Rattle.run_picture.specs.Spots.{row_y}
+use Rattle.run_picture.specs.Strokes.{tick_text}
 
--- where the row begins of the scope or the task that the event names; an open, a fork and a cancel draw
--- by other rules, and a tick, a bind and an unbind name none
-abbrev pub event_spot : History → Event → Option Spot
-event_spot h (event.Reject task) = task_spot h task
-event_spot h (event.Start task) = task_spot h task
-event_spot h (event.Finish task end) = task_spot h task
-event_spot h (event.Move scope deadline) = scope_spot h scope
-event_spot h (event.Join actor scope) = scope_spot h scope
-event_spot h (event.BeginClose actor scope) = scope_spot h scope
-event_spot h (event.EndClose actor scope) = scope_spot h scope
-event_spot h _ = None
+-- the scope that the event leaves a mark at; a cancel draws by other rules, and a task's events are in its row
+abbrev pub event_scope : Event → Option ℕ
+event_scope (event.Move scope deadline) = Some scope
+event_scope (event.Join actor scope) = Some scope
+event_scope (event.BeginClose actor scope) = Some scope
+event_scope (event.EndClose actor scope) = Some scope
+event_scope _ = None
 
--- how the row goes on from the event, if it changes
-abbrev pub event_stretch : Event → Option Stretch
-event_stretch (event.Reject task) = Some stretch.Over
-event_stretch (event.Start task) = Some stretch.Running
-event_stretch (event.Finish task end) = Some stretch.Over
-event_stretch (event.BeginClose actor scope) = Some stretch.Closing
-event_stretch (event.EndClose actor scope) = Some stretch.Over
-event_stretch _ = None
+-- the mark that the event leaves at a scope
+abbrev pub event_mark : Event → Option Mark
+event_mark (event.Move scope deadline) = Some (Moved scope deadline)
+event_mark (event.Join actor scope) = Some (Joined scope)
+event_mark (event.BeginClose actor scope) = Some (Closing scope)
+event_mark (event.EndClose actor scope) = Some (Closed scope)
+event_mark _ = None
 
--- the end of task k, with what can be read of it
-abbrev pub end_mark : History → ℕ → Option Mark
-end_mark h k = option_map (λ f. Ended k (state h k)) (forking h k)
+-- the mark in the row of scope s, if it has one
+abbrev pub marked_text : History → Sheet → ℕ → ℕ → Mark → List ℕ
+marked_text h d i s mark = option_map_or (λ row. mark_text (mark_at h d i (row_y row) mark)) (scope_row h d s) []
 
--- the mark that the event leaves
-abbrev pub event_mark : History → Event → Option Mark
-event_mark h (event.Reject task) = Some (Never task)
-event_mark h (event.Finish task end) = end_mark h task
-event_mark h (event.Move scope deadline) = Some (Moved scope deadline)
-event_mark h (event.Join actor scope) = Some (Joined scope)
-event_mark h (event.BeginClose actor scope) = Some (Closing scope)
-event_mark h (event.EndClose actor scope) = Some (Closed scope)
-event_mark h _ = None
-
--- what there is of these at the spot
-abbrev pub change_text : ℕ → Spot → Option Stretch → List ℕ
-change_text right spot change = option_map_or (stretch_text right spot) change []
-
-abbrev pub left_text : Spot → Option Mark → List ℕ
-left_text spot mark = option_map_or (mark_text spot) mark []
-
--- both at the event's column, in the row
-abbrev pub drawn_at : History → Event → Spot → List ℕ
-drawn_at h e spot = change_text (length h.events) spot (event_stretch e) ++ left_text spot (event_mark h e)
+abbrev pub drawn : History → Sheet → ℕ → Event → List ℕ
+drawn h d i e = option_map_or (λ s. option_map_or (marked_text h d i s) (event_mark e) []) (event_scope e) []
 
 -- what the event at place i draws
-abbrev pub drawn : History → ℕ → Event → List ℕ
-drawn h i e = option_map_or (λ born. drawn_at h e (record { column = i; row = born.row })) (event_spot h e) []
-
-unfoldable pub event_text : History → ℕ → List ℕ
-event_text h i = option_map_or (drawn h i) (slice_get h.events i) []
+unfoldable pub event_text : History → Sheet → ℕ → List ℕ
+event_text h d i = option_map_or (drawn h d i) (slice_get h.events i) []
 
 -- the line of the tick at place i, if it is one
-unfoldable pub moment_line : History → ℕ → List ℕ
-moment_line h i = option_map_or (tick_text i (row_count h)) (option_and_then tick_of (slice_get h.events i)) []
+unfoldable pub moment_line : History → Sheet → ℕ → List ℕ
+moment_line h d i = option_map_or (λ moment. tick_text (record { x = x_in h d i; foot = row_y (length (drawn_rows h d)); moment = moment; told = nat_le (length h.events) 120 })) (option_and_then tick_of (slice_get h.events i)) []

@@ -1,35 +1,43 @@
 -- What stands around the rows: the picture's head and its foot.
-use Rattle.std.specs.Prelude.{ℕ, ◌+◌, max, List, ◌++◌, codes}
+use Rattle.std.specs.Prelude.{ℕ, ◌+◌, ◌*◌, ◌/◌, Bool, true, false, List, ◌++◌, codes}
 use Rattle.std.specs.Fmt.{decimal}
-use Rattle.run_picture.specs.Spots.{column_x, row_y}
+use Rattle.run_picture.specs.declared.frame.Frame.{Frame}
+use Rattle.run_picture.specs.Spots.{row_y}
+use Rattle.run_picture.specs.View.{high, natural_width, page_width}
 use Rattle.run_picture.specs.Pieces.{svg_begin, light, dark, end_shapes, scope_shapes, line_legend, mark_legend, cancel_legend}
 
--- the picture's width and height, by its last column and its number of rows
-abbrev pub width : ℕ → ℕ
-width columns = max 960 (column_x columns + 24)
+-- how high the picture is before it is scaled to the page
+abbrev pub tall : ℕ → ℕ
+tall rows = row_y rows + 84
 
-abbrev pub height : ℕ → ℕ
-height rows = row_y rows + 84
+unfoldable pub size_text : Frame → List ℕ
+size_text f = codes " width='" ++ decimal (page_width f.width) ++ codes "' height='" ++ decimal (tall f.rows * 1000 / high f.rows) ++ codes "'"
 
-unfoldable pub size_text : ℕ → ℕ → List ℕ
-size_text columns rows = codes " width='" ++ decimal (width columns) ++ codes "' height='" ++ decimal (height rows) ++ codes "'"
+unfoldable pub view_text : Frame → List ℕ
+view_text f = codes " viewBox='0 0 " ++ decimal (natural_width f.width f.rows) ++ codes " " ++ decimal (tall f.rows) ++ codes "'>\n"
 
-unfoldable pub view_text : ℕ → ℕ → List ℕ
-view_text columns rows = codes " viewBox='0 0 " ++ decimal (width columns) ++ codes " " ++ decimal (height rows) ++ codes "'>\n"
+-- what the way to the right is
+abbrev pub axis_word : Bool → List ℕ
+axis_word true = codes "time in ms"
+axis_word false = codes "events, not time"
 
 -- what the picture shows: so many events, up to this moment
-unfoldable pub name_text : ℕ → ℕ → List ℕ
-name_text columns now = codes "<title>" ++ decimal columns ++ codes " events up to " ++ decimal now ++ codes " ms</title>\n"
+unfoldable pub name_text : Frame → List ℕ
+name_text f = codes "<title>" ++ decimal f.columns ++ codes " events up to " ++ decimal f.now ++ codes " ms</title>\n"
 
-abbrev pub opened_text : ℕ → ℕ → ℕ → List ℕ
-opened_text columns rows now = svg_begin ++ size_text columns rows ++ view_text columns rows ++ name_text columns now
+abbrev pub opened_text : Frame → List ℕ
+opened_text f = svg_begin ++ size_text f ++ view_text f ++ name_text f
 
 abbrev pub prepared_text : List ℕ
 prepared_text = light ++ dark ++ end_shapes ++ scope_shapes
 
--- the head of a picture with so many columns and rows, up to this moment
-abbrev pub head_text : ℕ → ℕ → ℕ → List ℕ
-head_text columns rows now = opened_text columns rows now ++ prepared_text
+-- what the way to the right is, at the head
+unfoldable pub axis_text : Bool → List ℕ
+axis_text timed = codes "<text class='moment' x='8' y='16'>to the right: " ++ axis_word timed ++ codes "</text>\n"
+
+-- the head of a picture
+abbrev pub head_text : Frame → List ℕ
+head_text f = opened_text f ++ prepared_text ++ axis_text f.timed
 
 -- the legend, below so many rows
 unfoldable pub legend_begin : ℕ → List ℕ

@@ -1,45 +1,159 @@
--- The rows of a picture, as they begin: those of scopes and those of tasks.
-use Rattle.std.specs.Prelude.{ℕ, List, [], ◌++◌, length, if◌then◌else◌}
-use Rattle.std.specs.Option.{option_map_or}
+-- What a row draws: a task, a scope, or a closed scope with all that lies in it.
+use Rattle.std.specs.Prelude.{ℕ, ◌+◌, ◌*◌, ◌==◌, ◌&&◌, min, nat_lt, Bool, true, false, Option, None, Some, List, [], ◌++◌, if◌then◌else◌}
+use Rattle.std.specs.Option.{option_map_or, option_or}
+use Rattle.scope_checks.specs.Questions.{cancellation}
+use Rattle.scope_rules.specs.declared.types.answers.CauseKind.{CauseKind}
+use Rattle.scope_rules.specs.declared.types.answers.CauseKind.TheVariants.{Close}
+use Rattle.scope_rules.specs.declared.types.answers.State.{State}
+use Rattle.scope_rules.specs.declared.types.answers.State.TheVariants as state
 use Rattle.scope_rules.specs.declared.types.records.Forking.{Forking}
 use Rattle.scope_rules.specs.declared.types.records.Opening.{Opening}
 use Rattle.scope_rules.specs.Cancels.{cancelled_before}
 use Rattle.scope_rules.specs.History.{History, opening, forking}
-use Rattle.run_picture.specs.declared.spots.Spot.{Spot}
-use Rattle.run_picture.specs.declared.marks.Mark.TheVariants.{Never}
-use Rattle.run_picture.specs.declared.strokes.Stretch.TheVariants as stretch
-use Rattle.run_picture.specs.Rows.{scope_spot, task_spot}
-use Rattle.run_picture.specs.Cancels.{reached_at}
-use Rattle.run_picture.specs.Captions.{scope_caption, task_caption}
+use Rattle.scope_rules.specs.Tasks.{state}
+use Rattle.run_picture.specs.declared.captions.Fate.{Fate}
+use Rattle.run_picture.specs.declared.captions.Fate.TheVariants as fate
+use Rattle.run_picture.specs.declared.captions.Label.{Label}
+use Rattle.run_picture.specs.declared.captions.Subject.{Subject}
+use Rattle.run_picture.specs.declared.captions.Subject.TheVariants as subject
+use Rattle.run_picture.specs.Sheet.{Sheet}
+use Rattle.run_picture.specs.declared.landmarks.Landmark.TheVariants as landmark
+use Rattle.run_picture.specs.declared.marks.Mark.{Mark}
+use Rattle.run_picture.specs.declared.marks.Mark.TheVariants.{Ended, Never}
+use Rattle.run_picture.specs.declared.rows.Folded.{Folded}
+use Rattle.run_picture.specs.declared.rows.Node.{Node}
+use Rattle.run_picture.specs.declared.rows.Node.TheVariants as node
+use Rattle.run_picture.specs.declared.rows.Row.{Row}
+use Rattle.run_picture.specs.declared.strokes.Bar.{Bar}
+use Rattle.run_picture.specs.declared.strokes.Shade.{Shade}
+use Rattle.run_picture.specs.declared.strokes.Shade.TheVariants as shade
+use Rattle.run_picture.specs.Cancels.{is_accident}
+use Rattle.run_picture.specs.Captions.{label_text}
+use Rattle.run_picture.specs.Landmarks.{first_place}
 use Rattle.run_picture.specs.Marks.{mark_text}
-use Rattle.run_picture.specs.Strokes.{lane_text, stretch_text}
+use Rattle.run_picture.specs.Rows.{node_of}
+use Rattle.run_picture.specs.Sites.{closed_place, end_x, mark_at, span_in, x_in}
+use Rattle.run_picture.specs.Spots.{row_y}
+use Rattle.run_picture.specs.Strokes.{bar_text}
 
--- the band of scope s, from its opening on
-unfoldable pub band_text : History → ℕ → List ℕ
-band_text h s = option_map_or (λ spot. lane_text (length h.events) spot.row ++ stretch_text (length h.events) spot stretch.Open) (scope_spot h s) []
+-- a bar from the one place to the other, if it ends, or else to the right edge
+abbrev pub bar_in : History → Sheet → ℕ → Subject → ℕ → Option ℕ → Shade → Fate → Bar
+bar_in h d y subject from to shade fate = record { shade = shade; left = x_in h d from; right = end_x h d to; y = y; title = record { subject = subject; span = span_in d from to; fate = fate } }
 
--- the same from where scope s became cancelled on, if it did
-unfoldable pub cancelled_text : History → ℕ → List ℕ
-cancelled_text h s = option_map_or (λ r. stretch_text (length h.events) r.spot stretch.Cancelled) (reached_at h s) []
+-- the label of a row, so deep
+abbrev pub label_in : ℕ → ℕ → Subject → Fate → Label
+label_in depth y subject fate = record { x = 8 + 10 * min depth 12; y = min (y + 4) 18446744073709551615; subject = subject; fate = fate }
 
--- what stands left of it
-abbrev pub opening_caption : History → ℕ → Opening → List ℕ
-opening_caption h s o = option_map_or (λ spot. scope_caption spot.row s o.policy o.options) (scope_spot h s) []
+abbrev pub fork_of : ℕ → Forking → Subject
+fork_of k f = subject.Task (record { task = k; name = f.label.name; scope = f.scope })
 
-unfoldable pub caption_text : History → ℕ → List ℕ
-caption_text h s = option_map_or (opening_caption h s) (opening h s) []
+abbrev pub scope_of : ℕ → Opening → Subject
+scope_of s o = subject.Scope (record { scope = s; owner = o.actor; policy = o.policy; options = o.options })
 
--- the row of scope s, before its events
-abbrev pub scope_lane : History → ℕ → List ℕ
-scope_lane h s = band_text h s ++ cancelled_text h s ++ caption_text h s
+-- where task k got its thread, and where it ended or was rejected
+abbrev pub started : History → ℕ → Option ℕ
+started h k = first_place landmark.Started h.events k
 
--- task k waits for its thread, or never gets one: its scope was cancelled before the fork
-abbrev pub fork_line : History → ℕ → Forking → Spot → List ℕ
-fork_line h k f spot = if cancelled_before h f.scope f.place then mark_text spot (Never k) else stretch_text (length h.events) spot stretch.Waiting
+abbrev pub ended : History → ℕ → Option ℕ
+ended h k = first_place landmark.Ended h.events k
 
-abbrev pub forked_text : History → ℕ → Forking → Spot → List ℕ
-forked_text h k f spot = lane_text (length h.events) spot.row ++ fork_line h k f spot ++ task_caption spot.row k f.label.name f.scope
+abbrev pub end_shade : State → Shade
+end_shade (state.Success value) = shade.Done
+end_shade (state.Failed fault) = shade.Failed
+end_shade state.Unavailable = shade.Lost
 
--- the row of task k, before its events
-unfoldable pub task_lane : History → ℕ → List ℕ
-task_lane h k = option_map_or (λ f. option_map_or (forked_text h k f) (task_spot h k) []) (forking h k) []
+abbrev pub running_shade : Option ℕ → State → Shade
+running_shade (Some place) state = end_shade state
+running_shade None state = shade.Running
+
+abbrev pub running_fate : Option ℕ → State → Fate
+running_fate (Some place) state = fate.Ended state
+running_fate None state = fate.Runs
+
+-- the mark at the end of task k, which got its thread or not
+abbrev pub end_mark : ℕ → Option ℕ → State → Mark
+end_mark k (Some place) state = Ended k state
+end_mark k None state = Never k
+
+-- the bar of task k from its start on, if it got its thread
+abbrev pub running_text : History → Sheet → ℕ → ℕ → Forking → List ℕ
+running_text h d y k f = option_map_or (λ at. bar_text (bar_in h d y (fork_of k f) at (ended h k) (running_shade (ended h k) (state h k)) (running_fate (ended h k) (state h k)))) (started h k) []
+
+-- the mark at its end, if it ended
+abbrev pub ended_text : History → Sheet → ℕ → ℕ → List ℕ
+ended_text h d y k = option_map_or (λ at. mark_text (mark_at h d at y (end_mark k (started h k) (state h k)))) (ended h k) []
+
+-- it waits for its thread until it starts, or ends; and what comes then
+abbrev pub life_text : History → Sheet → ℕ → ℕ → Forking → List ℕ
+life_text h d y k f = bar_text (bar_in h d y (fork_of k f) f.place (option_or (started h k) (ended h k)) shade.Waiting fate.Waits) ++ running_text h d y k f ++ ended_text h d y k
+
+-- task k never starts if its scope was cancelled before the fork
+unfoldable pub fork_line : History → Sheet → ℕ → ℕ → Forking → List ℕ
+fork_line h d y k f = if cancelled_before h f.scope f.place then mark_text (mark_at h d f.place y (Never k)) else life_text h d y k f
+
+-- the row of task k
+abbrev pub forked_text : History → Sheet → ℕ → ℕ → ℕ → Forking → List ℕ
+forked_text h d row depth k f = label_text (label_in depth (row_y row) (fork_of k f) fate.Open) ++ fork_line h d (row_y row) k f
+
+unfoldable pub task_lane : History → Sheet → ℕ → ℕ → ℕ → List ℕ
+task_lane h d row depth k = option_map_or (forked_text h d row depth k) (forking h k) []
+
+-- a scope that was closed is told from one that is open still
+abbrev pub band_shade : Option ℕ → Shade
+band_shade (Some place) = shade.Shut
+band_shade None = shade.Open
+
+abbrev pub folded_shade : Folded → Shade
+folded_shade f = if nat_lt 0 f.failed then shade.Fallen else shade.Folded
+
+abbrev pub earlier : Option ℕ → Option ℕ → Option ℕ
+earlier (Some i) (Some j) = Some (min i j)
+earlier (Some i) None = Some i
+earlier None other = other
+
+abbrev pub is_close : CauseKind → Bool
+is_close Close = true
+is_close _ = false
+
+-- where a close gave scope s its own cancel, if one did: its own, or that of another scope that covers it
+abbrev pub covering_place : History → ℕ → Option ℕ
+covering_place h s = option_map_or (λ c. if (c.1.scope == s) && is_close c.1.kind then Some c.0 else None) (cancellation h s) None
+
+abbrev pub accident_shade : Bool → Shade
+accident_shade true = shade.Cancelled
+accident_shade false = shade.Settled
+
+abbrev pub band_text : History → Sheet → ℕ → ℕ → Opening → Shade → Fate → List ℕ
+band_text h d y s o shade fate = bar_text (bar_in h d y (scope_of s o) o.place (closed_place h s) shade fate)
+
+-- the band of scope s from where it became cancelled on, if it did
+abbrev pub cancelled_text : History → Sheet → ℕ → ℕ → Opening → List ℕ
+cancelled_text h d y s o = option_map_or (λ c. bar_text (bar_in h d y (scope_of s o) c.0 (closed_place h s) (if is_accident h c.0 c.1 then shade.Cancelled else shade.Settled) (fate.Cancelled c.1))) (cancellation h s) []
+
+-- and from where it is closing on: by its own close, or by another's that covers it
+abbrev pub closing_text : History → Sheet → ℕ → ℕ → Opening → List ℕ
+closing_text h d y s o = option_map_or (λ at. bar_text (bar_in h d y (scope_of s o) at (closed_place h s) shade.Closing fate.Closing)) (earlier (first_place landmark.Began h.events s) (covering_place h s)) []
+
+-- the row of scope s, which was opened so
+abbrev pub opened_text : History → Sheet → ℕ → ℕ → ℕ → Opening → List ℕ
+opened_text h d row depth s o = label_text (label_in depth (row_y row) (scope_of s o) fate.Open) ++ band_text h d (row_y row) s o (band_shade (closed_place h s)) fate.Open ++ cancelled_text h d (row_y row) s o ++ closing_text h d (row_y row) s o
+
+-- the row of a closed scope with all that lies in it
+abbrev pub folded_lane : History → Sheet → ℕ → ℕ → ℕ → Opening → Folded → List ℕ
+folded_lane h d row depth s o f = label_text (label_in depth (row_y row) (scope_of s o) (fate.Folded f)) ++ band_text h d (row_y row) s o (folded_shade f) (fate.Folded f)
+
+abbrev pub lane_by : History → Sheet → ℕ → ℕ → ℕ → Option Folded → Opening → List ℕ
+lane_by h d row depth s (Some f) o = folded_lane h d row depth s o f
+lane_by h d row depth s None o = opened_text h d row depth s o
+
+unfoldable pub scope_lane : History → Sheet → ℕ → ℕ → ℕ → Option Folded → List ℕ
+scope_lane h d row depth s folded = option_map_or (lane_by h d row depth s folded) (opening h s) []
+
+abbrev pub node_text : History → Sheet → ℕ → Row → Option Node → List ℕ
+node_text h d index row (Some (node.Task k)) = task_lane h d index row.depth k
+node_text h d index row (Some (node.Scope s)) = scope_lane h d index row.depth s row.folded
+node_text h d index row None = []
+
+-- what the row with this index draws
+abbrev pub row_text : History → Sheet → ℕ → Row → List ℕ
+row_text h d index row = node_text h d index row (node_of h row.node)

@@ -1,34 +1,76 @@
--- Where things stand in a picture: a row for each scope and each task in order of birth, a column for each event.
-use Rattle.std.specs.Prelude.{ℕ, ◌||◌, Bool, Option, option_map, List, length, take, map, count_by}
-use Rattle.std.specs.List.{range_with_len}
-use Rattle.scope_rules.specs.declared.types.events.Event.{Event}
-use Rattle.scope_rules.specs.History.{History, is_open, is_fork, opening, forking}
-use Rattle.run_picture.specs.declared.spots.Spot.{Spot}
+-- The rows of a picture: a task, a scope, or a closed scope with all that lies in it.
+use Rattle.std.specs.Prelude.{ℕ, ◌+◌, ◌-◌, min, nat_lt, Bool, true, false, Option, None, Some, List, [], ◌∷◌, length, map, if◌then◌else◌}
+use Rattle.std.specs.Option.{option_map_or}
+use Rattle.scope_rules.specs.declared.types.answers.State.{State}
+use Rattle.scope_rules.specs.declared.types.answers.State.TheVariants as state
+use Rattle.scope_rules.specs.History.{History, forked_count, opened_count, forking}
+use Rattle.scope_rules.specs.Scopes.{closed}
+use Rattle.scope_rules.specs.Tasks.{state}
+use Rattle.run_picture.specs.declared.forest.Placed.{Placed}
+use Rattle.run_picture.specs.declared.rows.Class.{Class}
+use Rattle.run_picture.specs.declared.rows.Class.TheVariants as class
+use Rattle.run_picture.specs.declared.rows.Folded.{Folded}
+use Rattle.run_picture.specs.declared.rows.Node.{Node}
+use Rattle.run_picture.specs.declared.rows.Node.TheVariants as node
+use Rattle.run_picture.specs.declared.rows.Row.{Row}
 
--- the event begins a row: it opens a scope or forks a task
-abbrev pub begins_row : Event → Bool
-begins_row e = is_open e || is_fork e
+-- node n: first come the tasks since the base, then the scopes
+abbrev pub node_of : History → ℕ → Option Node
+node_of h n = if nat_lt n (forked_count h) then Some (node.Task (h.base.tasks + 1 + n)) else (if nat_lt (n - forked_count h) (opened_count h) then Some (node.Scope (h.base.scopes + 1 + (n - forked_count h))) else None)
 
--- how many rows begin before place i: the row that begins there, if one does
-abbrev pub row_at : List Event → ℕ → ℕ
-row_at events i = count_by begins_row (take i events)
+abbrev pub is_failed : State → Bool
+is_failed (state.Failed fault) = true
+is_failed _ = false
 
--- how many rows the picture has
-abbrev pub row_count : History → ℕ
-row_count h = count_by begins_row h.events
+abbrev pub has_failed : History → ℕ → Bool
+has_failed h k = option_map_or (λ f. is_failed (state h k)) (forking h k) false
 
--- the rows by their places
-abbrev pub rows : List Event → List ℕ
-rows events = map (row_at events) (range_with_len 0 (length events))
+abbrev pub class_by : History → Option Node → Class
+class_by h (Some (node.Task k)) = class.Task (has_failed h k)
+class_by h (Some (node.Scope s)) = class.Scope (closed h s)
+class_by h None = class.Scope false
 
--- where a row begins that begins at place i
-abbrev pub born_at : List Event → ℕ → Spot
-born_at events i = record { column = i; row = row_at events i }
+-- what node n is for a fold: a task, failed or not, or a scope, closed or not
+abbrev pub class_of : History → ℕ → Class
+class_of h n = class_by h (node_of h n)
 
--- where the row of scope s begins: at its opening
-abbrev pub scope_spot : History → ℕ → Option Spot
-scope_spot h s = option_map (λ o. born_at h.events o.place) (opening h s)
+-- one node more; it counts no further than 2^32 - 1, which are more than there can be
+abbrev pub one_more : ℕ → ℕ
+one_more n = min (n + 1) 4294967295
 
--- where the row of task k begins: at its forking
-abbrev pub task_spot : History → ℕ → Option Spot
-task_spot h k = option_map (λ f. born_at h.events f.place) (forking h k)
+abbrev pub counted : Folded → Class → Folded
+counted f (class.Task true) = record { tasks = one_more f.tasks; failed = one_more f.failed }
+counted f (class.Task false) = record { tasks = one_more f.tasks; failed = f.failed }
+counted f (class.Scope closed) = f
+
+-- a row by itself
+abbrev pub plain : Placed → Row
+plain p = record { node = p.node; depth = p.depth; folded = None }
+
+-- the row that a node begins, in a picture that is folded: a closed scope takes in what lies below it
+abbrev pub begun : Placed → Class → Row
+begun p (class.Scope true) = record { node = p.node; depth = p.depth; folded = Some (record { tasks = 0; failed = 0 }) }
+begun p _ = plain p
+
+-- the row with the node in it, if it is folded and the node lies below it
+abbrev pub taken_in : Row → Placed → Class → Option Row
+taken_in r p c = option_map_or (λ f. if nat_lt r.depth p.depth then Some (record { node = r.node; depth = r.depth; folded = Some (counted f c) }) else None) r.folded None
+
+abbrev pub or_begun : Row → Placed → Class → Option Row → List Row
+or_begun r p c (Some taken) = taken ∷ []
+or_begun r p c None = r ∷ begun p c ∷ []
+
+-- the rows with one node more: in the last row, if that takes it in, or else behind it
+abbrev pub folded_in : List Row → Placed → Class → List Row
+folded_in [] p c = begun p c ∷ []
+folded_in (r ∷ []) p c = or_begun r p c (taken_in r p c)
+folded_in (r ∷ q ∷ rows) p c = r ∷ folded_in (q ∷ rows) p c
+
+-- the same for node after node
+abbrev pub folded_from : History → List Row → List Placed → List Row
+folded_from h rows [] = rows
+folded_from h rows (p ∷ ps) = folded_from h (folded_in rows p (class_of h p.node)) ps
+
+-- the rows of the nodes: each by itself, or folded, if they are more than so many
+abbrev pub rows_of : History → ℕ → List Placed → List Row
+rows_of h limit placed = if nat_lt limit (length placed) then folded_from h [] placed else map plain placed

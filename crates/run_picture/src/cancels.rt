@@ -1,22 +1,22 @@
 //! Which scope became cancelled where, and by whose own cancel.
-ghost use Rattle.std.specs.Prelude.{◌≡◌, ◌++◌, OnOk, string_bytes};
+ghost use Rattle.std.specs.Prelude.{◌≡◌, ◌++◌, OnOk, Some, string_bytes};
+ghost use Rattle.scope_checks.specs.Questions.{cancellation};
 ghost use Rattle.scope_rules.specs.Cancels.{cancelled_before};
-ghost use Rattle.run_picture.specs.Cancels.{cancel_text, reached_at, source_row};
-ghost use Rattle.run_picture.specs.Grids.{IsGridOf};
+ghost use Rattle.run_picture.specs.Cancels.{cancel_drawn, cancel_text, fails_by, is_accident, joined_by, source_y};
+ghost use Rattle.run_picture.specs.Chart.{IsChartOf};
+ghost use Rattle.run_picture.specs.Sheet.{sheet_of};
 
-use crate::grid::{Grid, scope_spot};
-use crate::{Mark, ShownMark, ShownReach, Spot};
+use crate::chart::Chart;
+use crate::marks::Mark;
+use crate::sites::{join_of, mark_at, scope_row, x_of};
+use crate::spots::row_y;
+use crate::strokes::Reach;
 use scope_checks::Readings;
 use scope_checks::questions::cancellation;
+use scope_rules::types::answers::CauseKind;
+use scope_rules::types::joiners::{Policy, Rule};
 use scope_rules::{Cause, ScopeId};
 use std::alloc::AllocError;
-
-/// Where a scope became cancelled, and why.
-#[derive(Clone, Copy)]
-pub(crate) struct Reached {
-    pub(crate) spot: Spot,
-    pub(crate) cause: Cause,
-}
 
 /// Whether the scope became cancelled before the place.
 #[tactic(auto, unfolding(scope_rules::specs::Cancels::cancelled_before, scope_rules::specs::Cancels::cancelled_at))]
@@ -32,62 +32,107 @@ pub(crate) fn is_cancelled_before<R: Readings>(readings: &R, scope: ScopeId, pla
     }
 }
 
-/// Where the scope became cancelled, if it is.
-#[tactic(auto, using(crate::proofs::Reaching::cancelled_within), unfolding(crate::specs::Cancels::reached_at))]
-pub(crate) fn reached_at<R: Readings>(
-    readings: &R,
-    grid: &Grid<'_>,
-    scope: ScopeId,
-) -> Option<Reached>
-    requires { IsGridOf grid.now (R.history readings.now).events }
-    ensures { result ≡ reached_at (R.history readings.now) scope }
+/// Whether a scope of this policy is cancelled by its joiner because tasks failed.
+fn fails_by(policy: Policy) -> bool
+    ensures { result ≡ fails_by policy }
 {
-    let _columns = grid.columns;
-    let born = scope_spot(readings, grid, scope)?;
-    let (place, cause) = cancellation(readings, scope)?;
-    let spot = Spot {
-        column: place as u32,
-        row: born.row,
-    };
-    Some(Reached { spot, cause })
+    matches!(
+        policy,
+        Policy::All | Policy::AwaitOk | Policy::Until(Rule::FailuresAtLeast(_))
+    )
 }
 
-/// The row of the scope whose own cancel it was.
-fn source_row<R: Readings>(readings: &R, grid: &Grid<'_>, reached: Reached) -> u32
-    requires { IsGridOf grid.now (R.history readings.now).events }
-    ensures { result ≡ source_row (R.history readings.now) reached }
+/// Whether the scope was joined before the place.
+fn joined_by<R: Readings>(readings: &R, chart: &Chart<'_>, scope: ScopeId, place: usize) -> bool
+    requires { IsChartOf chart.now chart.now.drawn (R.history readings.now) }
+    ensures { result ≡ joined_by (R.history readings.now) scope place }
 {
-    match scope_spot(readings, grid, reached.cause.scope) {
-        Some(spot) => spot.row,
-        None => reached.spot.row,
+    let Some(_opening) = readings.opening(scope) else {
+        return false;
+    };
+    match join_of(readings, chart, scope) {
+        Some(at) => at < place,
+        None => false,
     }
 }
 
-/// Appends the cancel that reached the scope, if one did. It is refused for memory alone.
+/// Whether the cancel at the place is an accident: a call, a deadline, a joiner that gave up, or a close that came
+/// before the join. A joiner that has what it waits for, and the close of a joined scope, are normal ends.
+pub(crate) fn is_accident<R: Readings>(
+    readings: &R,
+    chart: &Chart<'_>,
+    place: usize,
+    cause: Cause,
+) -> bool
+    requires { IsChartOf chart.now chart.now.drawn (R.history readings.now) }
+    ensures { result ≡ is_accident (R.history readings.now) place cause }
+{
+    match cause.kind {
+        CauseKind::Call | CauseKind::Deadline => true,
+        CauseKind::Close => !joined_by(readings, chart, cause.scope, place),
+        CauseKind::Joiner => match readings.opening(cause.scope) {
+            Some(opening) => fails_by(opening.policy),
+            None => true,
+        },
+    }
+}
+
+/// How far from above the scope is whose own cancel it was, or else the one that it reached.
+fn source_y<R: Readings>(readings: &R, chart: &Chart<'_>, scope: ScopeId, reached: u64) -> u64
+    requires { IsChartOf chart.now chart.now.drawn (R.history readings.now) }
+    ensures { result ≡ source_y (R.history readings.now) (sheet_of chart.now.drawn) scope reached }
+{
+    match scope_row(readings, chart, scope) {
+        Some(row) => row_y(row),
+        None => reached,
+    }
+}
+
+/// Appends the cancel that reached the scope in this row at the place. It is refused for memory alone.
+fn append_reached<R: Readings>(
+    readings: &R,
+    chart: &Chart<'_>,
+    text: &mut String,
+    scope: ScopeId,
+    row: u32,
+    place: usize,
+    cause: Cause,
+) -> Result<(), AllocError>
+    requires { IsChartOf chart.now chart.now.drawn (R.history readings.now) }
+    ensures { OnOk result (string_bytes text.new ≡ string_bytes text.old ++ cancel_drawn (R.history readings.now) (sheet_of chart.now.drawn) scope row place cause) }
+{
+    let y = row_y(row);
+    let line = Reach {
+        x: x_of(readings, chart, place),
+        source: source_y(readings, chart, cause.scope, y),
+        reached: y,
+    };
+    let accident = is_accident(readings, chart, place, cause);
+    let mark = Mark::Cancelled {
+        scope,
+        cause,
+        accident,
+    };
+    let mark = mark_at(readings, chart, place, y, mark);
+    write!(text, "{line}{mark}")
+}
+
+/// Appends the cancel that reached the scope, if one did and the scope has a row. It is refused for memory alone.
 #[tactic(auto, unfolding(crate::specs::Cancels::cancel_text))]
 pub(crate) fn append_cancel<R: Readings>(
     readings: &R,
-    grid: &Grid<'_>,
+    chart: &Chart<'_>,
     text: &mut String,
     scope: ScopeId,
 ) -> Result<(), AllocError>
-    requires { IsGridOf grid.now (R.history readings.now).events }
-    ensures { OnOk result (string_bytes text.new ≡ string_bytes text.old ++ cancel_text (R.history readings.now) scope) }
+    requires { IsChartOf chart.now chart.now.drawn (R.history readings.now) }
+    ensures { OnOk result (string_bytes text.new ≡ string_bytes text.old ++ cancel_text (R.history readings.now) (sheet_of chart.now.drawn) scope) }
 {
-    let Some(reached) = reached_at(readings, grid, scope) else {
+    let Some(row) = scope_row(readings, chart, scope) else {
         return Ok(());
     };
-    let line = ShownReach {
-        column: reached.spot.column,
-        source: source_row(readings, grid, reached),
-        reached: reached.spot.row,
+    let Some((place, cause)) = cancellation(readings, scope) else {
+        return Ok(());
     };
-    let mark = ShownMark {
-        spot: reached.spot,
-        mark: Mark::Cancelled {
-            scope,
-            cause: reached.cause,
-        },
-    };
-    write!(text, "{line}{mark}")
+    append_reached(readings, chart, text, scope, row, place, cause)
 }

@@ -1,34 +1,46 @@
-//! What stands left of the rows.
+//! What a row and a bar are called.
 ghost use Rattle.std.specs.Prelude.{◌≡◌, Some};
-ghost use Rattle.run_picture.specs.Captions.{fork_text, scope_begin, scope_caption, task_begin, task_caption};
+ghost use Rattle.run_picture.specs.Captions.{fate_text, folded_text, fork_text, label_class, label_text, opener_text, scope_text, span_end, span_text, subject_text, title_text, titled_text, unit_word};
 
-use crate::spots::row_y;
+use crate::marks::{ShownCause, ShownState};
+use crate::rows::Folded;
 use scope_log::{ShownJoiner, ShownOptions};
-use scope_rules::{Name, Options, Policy, ScopeId, TaskId};
+use scope_rules::{Actor, Cause, Name, Options, Policy, ScopeId, State, TaskId};
 use std::fmt;
 
-/// The text of the scope, with its joiner and what it was opened with beside that.
+/// The owner of a scope, if it is a task.
 #[derive(Clone, Copy)]
-pub struct ScopeCaption {
-    pub row: u32,
+struct ShownOpener(Actor);
+
+impl fmt::Display for ShownOpener {
+    ghost output = { λ o. Some (opener_text o.0) };
+
+    fn fmt<W: fmt::Write>(&self, f: &mut fmt::Formatter<W>) -> fmt::Result {
+        if self.0 == 0 {
+            return Ok(());
+        }
+        write!(f, " of task {}", self.0)
+    }
+}
+
+/// The scope, with its owner, its joiner and what it was opened with beside that.
+#[derive(Clone, Copy)]
+pub struct ShownScope {
     pub scope: ScopeId,
+    pub owner: Actor,
     pub policy: Policy,
     pub options: Options,
 }
 
-impl fmt::Display for ScopeCaption {
-    ghost output = { λ c. Some (scope_caption c.row c.scope c.policy c.options) };
+impl fmt::Display for ShownScope {
+    ghost output = { λ s. Some (scope_text s) };
 
+    #[tactic(auto, unfolding(crate::specs::Captions::scope_text))]
     fn fmt<W: fmt::Write>(&self, f: &mut fmt::Formatter<W>) -> fmt::Result {
-        let begin = scope_begin();
-        let y = row_y(self.row);
+        let owner = ShownOpener(self.owner);
         let joiner = ShownJoiner(self.policy);
         let options = ShownOptions(self.options);
-        write!(
-            f,
-            "{begin}{y}'>scope {} {joiner}{options}</text>\n",
-            self.scope
-        )
+        write!(f, "scope {}{owner} {joiner}{options}", self.scope)
     }
 }
 
@@ -41,7 +53,7 @@ pub struct ShownFork {
 }
 
 impl fmt::Display for ShownFork {
-    ghost output = { λ f. Some (fork_text f.task f.name f.scope) };
+    ghost output = { λ f. Some (fork_text f) };
 
     #[tactic(auto, unfolding(crate::specs::Captions::fork_text))]
     fn fmt<W: fmt::Write>(&self, f: &mut fmt::Formatter<W>) -> fmt::Result {
@@ -49,35 +61,180 @@ impl fmt::Display for ShownFork {
     }
 }
 
-/// The text of the task.
+/// What a row is of.
 #[derive(Clone, Copy)]
-pub struct TaskCaption {
-    pub row: u32,
-    pub fork: ShownFork,
+pub enum Subject {
+    Scope(ShownScope),
+    Task(ShownFork),
 }
 
-impl fmt::Display for TaskCaption {
-    ghost output = { λ c. Some (task_caption c.row c.fork.task c.fork.name c.fork.scope) };
+impl fmt::Display for Subject {
+    ghost output = { λ s. Some (subject_text s) };
 
     fn fmt<W: fmt::Write>(&self, f: &mut fmt::Formatter<W>) -> fmt::Result {
-        let begin = task_begin();
-        let y = row_y(self.row);
-        write!(f, "{begin}{y}'>{}</text>\n", self.fork)
+        match self {
+            Subject::Scope(scope) => write!(f, "{scope}"),
+            Subject::Task(fork) => write!(f, "task {fork}"),
+        }
     }
 }
 
-/// How the text of a scope begins, before its place from above.
-#[tactic(auto, unfolding(crate::specs::Captions::scope_begin))]
-fn scope_begin() -> &'static str
-    ensures { result.now ≡ scope_begin }
-{
-    "<text class='scope' y='"
+impl Subject {
+    /// The class of its label.
+    fn class(self) -> &'static str
+        ensures { result.now ≡ label_class self }
+    {
+        match self {
+            Subject::Scope(_) => "scope",
+            Subject::Task(_) => "task",
+        }
+    }
 }
 
-/// How the text of a task begins, before its place from above.
-#[tactic(auto, unfolding(crate::specs::Captions::task_begin))]
-fn task_begin() -> &'static str
-    ensures { result.now ≡ task_begin }
+/// What there is to say of a stretch of a row.
+#[derive(Clone, Copy)]
+pub enum Fate {
+    /// A scope is open.
+    Open,
+    /// A scope is cancelled.
+    Cancelled(Cause),
+    /// A scope is closing.
+    Closing,
+    /// So much lies in a closed scope.
+    Folded(Folded),
+    /// A task waits for its thread.
+    Waits,
+    /// A task runs.
+    Runs,
+    /// A task ended.
+    Ended(State),
+}
+
+/// What lies in a folded row.
+#[derive(Clone, Copy)]
+struct ShownFolded(Folded);
+
+impl fmt::Display for ShownFolded {
+    ghost output = { λ s. Some (folded_text s.0) };
+
+    #[tactic(auto, unfolding(crate::specs::Captions::folded_text))]
+    fn fmt<W: fmt::Write>(&self, f: &mut fmt::Formatter<W>) -> fmt::Result {
+        write!(f, ": {} tasks, {} failed", self.0.tasks, self.0.failed)
+    }
+}
+
+impl fmt::Display for Fate {
+    ghost output = { λ s. Some (fate_text s) };
+
+    fn fmt<W: fmt::Write>(&self, f: &mut fmt::Formatter<W>) -> fmt::Result {
+        match self {
+            Fate::Open => Ok(()),
+            Fate::Cancelled(cause) => write!(f, "{}", ShownCause(*cause)),
+            Fate::Closing => write!(f, " closing"),
+            Fate::Folded(folded) => write!(f, "{}", ShownFolded(*folded)),
+            Fate::Waits => write!(f, " waits"),
+            Fate::Runs => write!(f, " runs"),
+            Fate::Ended(state) => write!(f, "{}", ShownState(*state)),
+        }
+    }
+}
+
+/// From which event, or line of the script, to which.
+#[derive(Clone, Copy)]
+pub struct Span {
+    /// Whether these are lines.
+    pub lined: bool,
+    pub from: u64,
+    /// The last one, if it is over.
+    pub to: Option<u64>,
+}
+
+/// What is counted: events, or lines.
+pub(crate) fn unit_word(lined: bool) -> &'static str
+    ensures { result.now ≡ unit_word lined }
 {
-    "<text class='task' y='"
+    if lined { "line " } else { "event " }
+}
+
+/// The end of a span.
+#[derive(Clone, Copy)]
+struct ShownEnd(Option<u64>);
+
+impl fmt::Display for ShownEnd {
+    ghost output = { λ e. Some (span_end e.0) };
+
+    fn fmt<W: fmt::Write>(&self, f: &mut fmt::Formatter<W>) -> fmt::Result {
+        match self.0 {
+            Some(number) => write!(f, " to {number}"),
+            None => write!(f, " on"),
+        }
+    }
+}
+
+impl fmt::Display for Span {
+    ghost output = { λ s. Some (span_text s) };
+
+    #[tactic(auto, unfolding(crate::specs::Captions::span_text))]
+    fn fmt<W: fmt::Write>(&self, f: &mut fmt::Formatter<W>) -> fmt::Result {
+        let unit = unit_word(self.lined);
+        write!(f, ", {unit}{}{}:", self.from, ShownEnd(self.to))
+    }
+}
+
+/// What is read where a bar is pointed at.
+#[derive(Clone, Copy)]
+pub struct Title {
+    pub subject: Subject,
+    pub span: Span,
+    pub fate: Fate,
+}
+
+impl fmt::Display for Title {
+    ghost output = { λ t. Some (title_text t) };
+
+    #[tactic(auto, unfolding(crate::specs::Captions::title_text))]
+    fn fmt<W: fmt::Write>(&self, f: &mut fmt::Formatter<W>) -> fmt::Result {
+        write!(
+            f,
+            "<title>{}{}{}</title>",
+            self.subject, self.span, self.fate
+        )
+    }
+}
+
+/// What stands left of a row, and is read there too where it is pointed at.
+#[derive(Clone, Copy)]
+pub struct Label {
+    pub x: u64,
+    pub y: u64,
+    pub subject: Subject,
+    pub fate: Fate,
+}
+
+impl fmt::Display for Label {
+    ghost output = { λ l. Some (label_text l) };
+
+    #[tactic(auto, unfolding(crate::specs::Captions::label_text))]
+    fn fmt<W: fmt::Write>(&self, f: &mut fmt::Formatter<W>) -> fmt::Result {
+        let class = self.subject.class();
+        let title = Titled(*self);
+        write!(
+            f,
+            "<text class='{class}' x='{}' y='{}'>{}{}{title}</text>\n",
+            self.x, self.y, self.subject, self.fate
+        )
+    }
+}
+
+/// The label, as it is read where it is pointed at.
+#[derive(Clone, Copy)]
+struct Titled(Label);
+
+impl fmt::Display for Titled {
+    ghost output = { λ t. Some (titled_text t.0) };
+
+    #[tactic(auto, unfolding(crate::specs::Captions::titled_text))]
+    fn fmt<W: fmt::Write>(&self, f: &mut fmt::Formatter<W>) -> fmt::Result {
+        write!(f, "<title>{}{}</title>", self.0.subject, self.0.fate)
+    }
 }

@@ -1,64 +1,37 @@
-//! What an event draws in the row of the scope or the task that it names.
+//! What an event draws in the row of the scope that it names.
 ghost use Rattle.std.specs.Prelude.{◌≡◌, ◌++◌, OnOk, Some, string_bytes};
 ghost use Rattle.scope_rules.specs.History.{tick_of};
-ghost use Rattle.run_picture.specs.Events.{change_text, drawn, end_mark, event_mark, event_spot, event_stretch, event_text, left_text, moment_line};
-ghost use Rattle.run_picture.specs.Grids.{IsGridOf};
+ghost use Rattle.run_picture.specs.Chart.{IsChartOf};
+ghost use Rattle.run_picture.specs.Sheet.{sheet_of};
+ghost use Rattle.run_picture.specs.Events.{drawn, event_mark, event_scope, event_text, marked_text, moment_line};
 
-use crate::grid::{Grid, scope_spot, task_spot};
-use crate::{Mark, ShownMark, ShownStretch, ShownTick, Spot, Stretch};
+use crate::chart::Chart;
+use crate::marks::Mark;
+use crate::sites::{mark_at, scope_row, x_of};
+use crate::spots::row_y;
+use crate::strokes::Tick;
 use scope_checks::Readings;
-use scope_rules::{Event, TaskId};
+use scope_rules::{Event, ScopeId};
 use std::alloc::AllocError;
-use std::fmt;
 
-/// Where the row begins of the scope or the task that the event names.
-fn event_spot<R: Readings>(readings: &R, grid: &Grid<'_>, event: &Event) -> Option<Spot>
-    requires { IsGridOf grid.now (R.history readings.now).events }
-    ensures { result ≡ event_spot (R.history readings.now) event.now }
+/// The scope that the event leaves a mark at.
+fn event_scope(event: &Event) -> Option<ScopeId>
+    ensures { result ≡ event_scope event.now }
 {
     match *event {
-        Event::Reject { task } | Event::Start { task } | Event::Finish { task, .. } => {
-            task_spot(readings, grid, task)
-        }
         Event::Move { scope, .. }
         | Event::Join { scope, .. }
         | Event::BeginClose { scope, .. }
-        | Event::EndClose { scope, .. } => scope_spot(readings, grid, scope),
+        | Event::EndClose { scope, .. } => Some(scope),
         _ => None,
     }
 }
 
-/// How the row goes on from the event, if it changes.
-fn event_stretch(event: &Event) -> Option<Stretch>
-    ensures { result ≡ event_stretch event.now }
-{
-    match event {
-        Event::Start { .. } => Some(Stretch::Running),
-        Event::BeginClose { .. } => Some(Stretch::Closing),
-        Event::Reject { .. } | Event::Finish { .. } | Event::EndClose { .. } => Some(Stretch::Over),
-        _ => None,
-    }
-}
-
-/// The end of the task, with what can be read of it.
-#[tactic(auto, using(scope_checks::proofs::Checked::task_passes))]
-fn end_mark<R: Readings>(readings: &R, task: TaskId) -> Option<Mark>
-    ensures { result ≡ end_mark (R.history readings.now) task }
-{
-    let _forking = readings.forking(task)?;
-    Some(Mark::Ended {
-        task,
-        state: readings.state(task),
-    })
-}
-
-/// The mark that the event leaves.
-fn event_mark<R: Readings>(readings: &R, event: &Event) -> Option<Mark>
-    ensures { result ≡ event_mark (R.history readings.now) event.now }
+/// The mark that the event leaves at a scope.
+fn event_mark(event: &Event) -> Option<Mark>
+    ensures { result ≡ event_mark event.now }
 {
     match *event {
-        Event::Reject { task } => Some(Mark::Never { task }),
-        Event::Finish { task, .. } => end_mark(readings, task),
         Event::Move { scope, deadline } => Some(Mark::Moved { scope, deadline }),
         Event::Join { scope, .. } => Some(Mark::Joined { scope }),
         Event::BeginClose { scope, .. } => Some(Mark::Closing { scope }),
@@ -67,97 +40,46 @@ fn event_mark<R: Readings>(readings: &R, event: &Event) -> Option<Mark>
     }
 }
 
-/// How the row goes on from the spot, if it changes.
-#[derive(Clone, Copy)]
-struct ShownChange {
-    right: u32,
-    spot: Spot,
-    change: Option<Stretch>,
-}
-
-impl fmt::Display for ShownChange {
-    ghost output = { λ c. Some (change_text c.right c.spot c.change) };
-
-    fn fmt<W: fmt::Write>(&self, f: &mut fmt::Formatter<W>) -> fmt::Result {
-        let Some(stretch) = self.change else {
-            return Ok(());
-        };
-        let shown = ShownStretch {
-            right: self.right,
-            spot: self.spot,
-            stretch,
-        };
-        write!(f, "{shown}")
-    }
-}
-
-/// The mark at the spot, if there is one.
-#[derive(Clone, Copy)]
-struct ShownLeft {
-    spot: Spot,
-    mark: Option<Mark>,
-}
-
-impl fmt::Display for ShownLeft {
-    ghost output = { λ l. Some (left_text l.spot l.mark) };
-
-    fn fmt<W: fmt::Write>(&self, f: &mut fmt::Formatter<W>) -> fmt::Result {
-        let Some(mark) = self.mark else {
-            return Ok(());
-        };
-        let shown = ShownMark {
-            spot: self.spot,
-            mark,
-        };
-        write!(f, "{shown}")
-    }
-}
-
-/// Appends what the event at the place draws. It is refused for memory alone.
-fn append_drawn<R: Readings>(
+/// Appends the mark in the row of the scope, if it has one. It is refused for memory alone.
+fn append_marked<R: Readings>(
     readings: &R,
-    grid: &Grid<'_>,
+    chart: &Chart<'_>,
     text: &mut String,
     place: u32,
-    event: &Event,
+    scope: ScopeId,
+    mark: Mark,
 ) -> Result<(), AllocError>
-    requires { IsGridOf grid.now (R.history readings.now).events }
-    ensures { OnOk result (string_bytes text.new ≡ string_bytes text.old ++ drawn (R.history readings.now) place event.now) }
+    requires { IsChartOf chart.now chart.now.drawn (R.history readings.now) }
+    ensures { OnOk result (string_bytes text.new ≡ string_bytes text.old ++ marked_text (R.history readings.now) (sheet_of chart.now.drawn) place scope mark) }
 {
-    let Some(born) = event_spot(readings, grid, event) else {
+    let Some(row) = scope_row(readings, chart, scope) else {
         return Ok(());
     };
-    let spot = Spot {
-        column: place,
-        row: born.row,
-    };
-    let change = ShownChange {
-        right: grid.columns,
-        spot,
-        change: event_stretch(event),
-    };
-    let mark = ShownLeft {
-        spot,
-        mark: event_mark(readings, event),
-    };
-    write!(text, "{change}{mark}")
+    let mark = mark_at(readings, chart, place as usize, row_y(row), mark);
+    write!(text, "{mark}")
 }
 
 /// Appends what the event at the place draws, if one stands there. It is refused for memory alone.
 #[tactic(auto, unfolding(crate::specs::Events::event_text))]
 pub(crate) fn append_event<R: Readings>(
     readings: &R,
-    grid: &Grid<'_>,
+    chart: &Chart<'_>,
     text: &mut String,
     place: u32,
 ) -> Result<(), AllocError>
-    requires { IsGridOf grid.now (R.history readings.now).events }
-    ensures { OnOk result (string_bytes text.new ≡ string_bytes text.old ++ event_text (R.history readings.now) place) }
+    requires { IsChartOf chart.now chart.now.drawn (R.history readings.now) }
+    ensures { OnOk result (string_bytes text.new ≡ string_bytes text.old ++ event_text (R.history readings.now) (sheet_of chart.now.drawn) place) }
 {
-    let Some(event) = grid.events.get(place as usize) else {
+    let Some(event) = chart.drawn.events.get(place as usize) else {
         return Ok(());
     };
-    append_drawn(readings, grid, text, place, event)
+    let Some(scope) = event_scope(event) else {
+        return Ok(());
+    };
+    let Some(mark) = event_mark(event) else {
+        return Ok(());
+    };
+    append_marked(readings, chart, text, place, scope, mark)
 }
 
 /// The moment of the event, if it is a tick.
@@ -174,24 +96,24 @@ fn tick_of(event: &Event) -> Option<u64>
 #[tactic(auto, unfolding(crate::specs::Events::moment_line))]
 pub(crate) fn append_moment<R: Readings>(
     readings: &R,
-    grid: &Grid<'_>,
+    chart: &Chart<'_>,
     text: &mut String,
     place: u32,
 ) -> Result<(), AllocError>
-    requires { IsGridOf grid.now (R.history readings.now).events }
-    ensures { OnOk result (string_bytes text.new ≡ string_bytes text.old ++ moment_line (R.history readings.now) place) }
+    requires { IsChartOf chart.now chart.now.drawn (R.history readings.now) }
+    ensures { OnOk result (string_bytes text.new ≡ string_bytes text.old ++ moment_line (R.history readings.now) (sheet_of chart.now.drawn) place) }
 {
-    let _readings = readings;
-    let Some(event) = grid.events.get(place as usize) else {
+    let Some(event) = chart.drawn.events.get(place as usize) else {
         return Ok(());
     };
     let Some(moment) = tick_of(event) else {
         return Ok(());
     };
-    let tick = ShownTick {
-        column: place,
-        height: grid.height,
+    let tick = Tick {
+        x: x_of(readings, chart, place as usize),
+        foot: row_y(chart.height),
         moment,
+        told: chart.columns <= 120,
     };
     write!(text, "{tick}")
 }

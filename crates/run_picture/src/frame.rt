@@ -1,108 +1,108 @@
 //! What stands around the rows: the picture's head and its foot.
 ghost use Rattle.std.specs.Prelude.{◌≡◌, Some};
-ghost use Rattle.run_picture.specs.Frame.{foot_text, head_text, height, legend_begin, name_text, opened_text, prepared_text, size_text, view_text, width};
+ghost use Rattle.run_picture.specs.Frame.{axis_text, axis_word, foot_text, head_text, legend_begin, name_text, opened_text, prepared_text, size_text, tall, view_text};
 
 use crate::pieces::{
     cancel_legend, dark, end_shapes, light, line_legend, mark_legend, scope_shapes, svg_begin,
 };
-use crate::spots::{column_x, row_y};
+use crate::spots::row_y;
+use crate::view::{high, natural_width, page_width};
 use std::fmt;
 
-/// The picture's size, by its last column and its number of rows.
+/// What the picture is as a whole.
 #[derive(Clone, Copy)]
-pub struct Size {
+pub struct Frame {
+    /// The width of the page that is asked for, in pixels.
+    pub width: u32,
     /// How many events there are.
     pub columns: u32,
     pub rows: u32,
+    /// The moment, in milliseconds.
+    pub now: u64,
+    /// Whether the way to the right is time.
+    pub timed: bool,
 }
 
-impl Size {
-    /// The picture's width, in pixels.
-    fn width(self) -> u64
-        ensures { result ≡ width self.columns }
-    {
-        (column_x(self.columns) + 24).max(960)
-    }
-
-    /// The picture's height, in pixels.
-    fn height(self) -> u64
-        ensures { result ≡ height self.rows }
-    {
-        row_y(self.rows) + 84
-    }
+/// How high the picture is before it is scaled to the page.
+fn tall(rows: u32) -> u64
+    ensures { result ≡ tall rows }
+{
+    row_y(rows) + 84
 }
 
 /// The size in pixels.
 #[derive(Clone, Copy)]
-struct ShownSize(Size);
+struct ShownSize(Frame);
 
 impl fmt::Display for ShownSize {
-    ghost output = { λ s. Some (size_text s.0.columns s.0.rows) };
+    ghost output = { λ s. Some (size_text s.0) };
 
     #[tactic(auto, unfolding(crate::specs::Frame::size_text))]
     fn fmt<W: fmt::Write>(&self, f: &mut fmt::Formatter<W>) -> fmt::Result {
-        let width = self.0.width();
-        let height = self.0.height();
+        let width = page_width(self.0.width);
+        let height = tall(self.0.rows) * 1000 / high(self.0.rows);
         write!(f, " width='{width}' height='{height}'")
     }
 }
 
-/// The same as what is seen.
+/// The size before it is scaled.
 #[derive(Clone, Copy)]
-struct ShownView(Size);
+struct ShownView(Frame);
 
 impl fmt::Display for ShownView {
-    ghost output = { λ s. Some (view_text s.0.columns s.0.rows) };
+    ghost output = { λ s. Some (view_text s.0) };
 
     #[tactic(auto, unfolding(crate::specs::Frame::view_text))]
     fn fmt<W: fmt::Write>(&self, f: &mut fmt::Formatter<W>) -> fmt::Result {
-        let width = self.0.width();
-        let height = self.0.height();
+        let width = natural_width(self.0.width, self.0.rows);
+        let height = tall(self.0.rows);
         write!(f, " viewBox='0 0 {width} {height}'>\n")
+    }
+}
+
+/// What the way to the right is.
+fn axis_word(timed: bool) -> &'static str
+    ensures { result.now ≡ axis_word timed }
+{
+    if timed {
+        "time in ms"
+    } else {
+        "events, not time"
     }
 }
 
 /// What the picture shows: so many events, up to this moment.
 #[derive(Clone, Copy)]
-struct ShownName {
-    columns: u32,
-    now: u64,
-}
+struct ShownName(Frame);
 
 impl fmt::Display for ShownName {
-    ghost output = { λ n. Some (name_text n.columns n.now) };
+    ghost output = { λ n. Some (name_text n.0) };
 
     #[tactic(auto, unfolding(crate::specs::Frame::name_text))]
     fn fmt<W: fmt::Write>(&self, f: &mut fmt::Formatter<W>) -> fmt::Result {
         write!(
             f,
             "<title>{} events up to {} ms</title>\n",
-            self.columns, self.now
+            self.0.columns, self.0.now
         )
     }
 }
 
 /// How the picture begins.
 #[derive(Clone, Copy)]
-struct ShownOpening {
-    size: Size,
-    now: u64,
-}
+struct ShownOpening(Frame);
 
 impl fmt::Display for ShownOpening {
-    ghost output = { λ o. Some (opened_text o.size.columns o.size.rows o.now) };
+    ghost output = { λ o. Some (opened_text o.0) };
 
     fn fmt<W: fmt::Write>(&self, f: &mut fmt::Formatter<W>) -> fmt::Result {
-        let name = ShownName {
-            columns: self.size.columns,
-            now: self.now,
-        };
         let begin = svg_begin();
         write!(
             f,
-            "{begin}{}{}{name}",
-            ShownSize(self.size),
-            ShownView(self.size)
+            "{begin}{}{}{}",
+            ShownSize(self.0),
+            ShownView(self.0),
+            ShownName(self.0)
         )
     }
 }
@@ -123,23 +123,34 @@ impl fmt::Display for ShownShapes {
     }
 }
 
-/// The picture's head.
+/// What the way to the right is, at the head.
 #[derive(Clone, Copy)]
-pub struct ShownHead {
-    pub size: Size,
-    /// The moment, in milliseconds.
-    pub now: u64,
+struct ShownAxis(bool);
+
+impl fmt::Display for ShownAxis {
+    ghost output = { λ a. Some (axis_text a.0) };
+
+    #[tactic(auto, unfolding(crate::specs::Frame::axis_text))]
+    fn fmt<W: fmt::Write>(&self, f: &mut fmt::Formatter<W>) -> fmt::Result {
+        let axis = axis_word(self.0);
+        write!(
+            f,
+            "<text class='moment' x='8' y='16'>to the right: {axis}</text>\n"
+        )
+    }
 }
 
+/// The picture's head.
+#[derive(Clone, Copy)]
+pub struct ShownHead(pub Frame);
+
 impl fmt::Display for ShownHead {
-    ghost output = { λ s. Some (head_text s.size.columns s.size.rows s.now) };
+    ghost output = { λ s. Some (head_text s.0) };
 
     fn fmt<W: fmt::Write>(&self, f: &mut fmt::Formatter<W>) -> fmt::Result {
-        let opening = ShownOpening {
-            size: self.size,
-            now: self.now,
-        };
-        write!(f, "{opening}{}", ShownShapes)
+        let opening = ShownOpening(self.0);
+        let axis = ShownAxis(self.0.timed);
+        write!(f, "{opening}{}{axis}", ShownShapes)
     }
 }
 

@@ -1,163 +1,514 @@
-//! The rows of a picture, as they begin.
-ghost use Rattle.std.specs.Prelude.{◌≡◌, ◌++◌, OnOk, Some, string_bytes};
-ghost use Rattle.scope_rules.specs.History.{forking};
-ghost use Rattle.run_picture.specs.Grids.{IsGridOf};
-ghost use Rattle.run_picture.specs.Lanes.{band_text, cancelled_text, caption_text, fork_line, scope_lane, task_lane};
+//! What a row draws: a task, a scope, or a closed scope with all that lies in it.
+ghost use Rattle.std.specs.Prelude.{◌≡◌, ◌<◌, ◌-◌, ◌++◌, OnOk, Some, is_some, string_bytes, true};
+ghost use Rattle.scope_rules.specs.History.{forking, opening};
+ghost use Rattle.scope_rules.specs.Tasks.{state};
+ghost use Rattle.run_picture.specs.Chart.{IsChartOf};
+ghost use Rattle.run_picture.specs.Sheet.{sheet_of};
+ghost use Rattle.run_picture.specs.Lanes.{band_shade, band_text, bar_in, cancelled_text, closing_text, covering_place, earlier, end_mark, end_shade, ended_text, folded_lane, folded_shade, fork_line, fork_of, forked_text, label_in, life_text, opened_text, row_text, running_fate, running_shade, running_text, scope_lane, scope_of, task_lane};
 
-use crate::cancels::{is_cancelled_before, reached_at};
-use crate::grid::{Grid, scope_spot, task_spot};
-use crate::{
-    Mark, ScopeCaption, ShownFork, ShownLane, ShownMark, ShownStretch, Spot, Stretch, TaskCaption,
-};
+use crate::cancels::{is_accident, is_cancelled_before};
+use crate::captions::{Fate, Label, ShownFork, ShownScope, Subject, Title};
+use crate::chart::Chart;
+use crate::marks::Mark;
+use crate::rows::{Folded, Node, Row, node_of};
+use crate::sites::{begin_of, close_of, end_of, end_x, mark_at, span_of, start_of, x_of};
+use crate::spots::row_y;
+use crate::strokes::{Bar, Shade};
 use scope_checks::Readings;
-use scope_rules::types::records::Forking;
-use scope_rules::{ScopeId, TaskId};
+use scope_checks::questions::cancellation;
+use scope_rules::types::answers::CauseKind;
+use scope_rules::types::records::{Forking, Opening};
+use scope_rules::{ScopeId, State, TaskId};
 use std::alloc::AllocError;
 
-/// Appends the band of the scope, from its opening on. It is refused for memory alone.
-#[tactic(auto, unfolding(crate::specs::Lanes::band_text))]
-fn append_band<R: Readings>(
+/// A bar from the one place to the other, if it ends, or else to the right edge.
+fn bar_of<R: Readings>(
     readings: &R,
-    grid: &Grid<'_>,
-    text: &mut String,
-    scope: ScopeId,
-) -> Result<(), AllocError>
-    requires { IsGridOf grid.now (R.history readings.now).events }
-    ensures { OnOk result (string_bytes text.new ≡ string_bytes text.old ++ band_text (R.history readings.now) scope) }
+    chart: &Chart<'_>,
+    y: u64,
+    subject: Subject,
+    from: usize,
+    to: Option<usize>,
+    shade: Shade,
+    fate: Fate,
+) -> Bar
+    requires { IsChartOf chart.now chart.now.drawn (R.history readings.now) }
+    ensures { result ≡ bar_in (R.history readings.now) (sheet_of chart.now.drawn) y subject from to shade fate }
 {
-    let Some(spot) = scope_spot(readings, grid, scope) else {
+    Bar {
+        shade,
+        left: x_of(readings, chart, from),
+        right: end_x(readings, chart, to),
+        y,
+        title: Title {
+            subject,
+            span: span_of(&chart.drawn, from, to),
+            fate,
+        },
+    }
+}
+
+/// The label of the row, so deep.
+fn label_of(depth: u32, y: u64, subject: Subject, fate: Fate) -> Label
+    ensures { result ≡ label_in depth y subject fate }
+{
+    Label {
+        x: 8 + 10 * u64::from(depth.min(12)),
+        y: y.saturating_add(4),
+        subject,
+        fate,
+    }
+}
+
+/// The task of the fork.
+fn fork_of(task: TaskId, forked: Forking) -> Subject
+    ensures { result ≡ fork_of task forked }
+{
+    Subject::Task(ShownFork {
+        task,
+        name: forked.label.name,
+        scope: forked.scope,
+    })
+}
+
+/// What can be read of the task that was forked.
+#[tactic(auto, using(scope_checks::proofs::Checked::task_passes))]
+fn state_of<R: Readings>(readings: &R, task: TaskId) -> State
+    requires { is_some (forking (R.history readings.now) task) ≡ true }
+    ensures { result ≡ state (R.history readings.now) task }
+{
+    readings.state(task)
+}
+
+/// The shade of a task's bar, once it ended.
+fn end_shade(state: State) -> Shade
+    ensures { result ≡ end_shade state }
+{
+    match state {
+        State::Success(_) => Shade::Done,
+        State::Failed(_) => Shade::Failed,
+        State::Unavailable => Shade::Lost,
+    }
+}
+
+/// The bar's shade from its start on.
+fn running_shade(ended: Option<usize>, state: State) -> Shade
+    ensures { result ≡ running_shade ended state }
+{
+    match ended {
+        Some(_) => end_shade(state),
+        None => Shade::Running,
+    }
+}
+
+/// What there is to say of it.
+fn running_fate(ended: Option<usize>, state: State) -> Fate
+    ensures { result ≡ running_fate ended state }
+{
+    match ended {
+        Some(_) => Fate::Ended(state),
+        None => Fate::Runs,
+    }
+}
+
+/// The mark at the end of a task, which got its thread or not.
+fn end_mark(task: TaskId, started: Option<usize>, state: State) -> Mark
+    ensures { result ≡ end_mark task started state }
+{
+    match started {
+        Some(_) => Mark::Ended { task, state },
+        None => Mark::Never { task },
+    }
+}
+
+/// Appends the bar of the task from its start on, if it got its thread. It is refused for memory alone.
+fn append_running<R: Readings>(
+    readings: &R,
+    chart: &Chart<'_>,
+    text: &mut String,
+    y: u64,
+    task: TaskId,
+    forked: Forking,
+) -> Result<(), AllocError>
+    requires chart { IsChartOf chart.now chart.now.drawn (R.history readings.now) }
+    requires forked { forking (R.history readings.now) task ≡ Some forked }
+    ensures { OnOk result (string_bytes text.new ≡ string_bytes text.old ++ running_text (R.history readings.now) (sheet_of chart.now.drawn) y task forked) }
+{
+    let Some(started) = start_of(readings, chart, task) else {
         return Ok(());
     };
-    let band = ShownStretch {
-        right: grid.columns,
-        spot,
-        stretch: Stretch::Open,
+    let ended = end_of(readings, chart, task);
+    let state = state_of(readings, task);
+    let bar = bar_of(
+        readings,
+        chart,
+        y,
+        fork_of(task, forked),
+        started,
+        ended,
+        running_shade(ended, state),
+        running_fate(ended, state),
+    );
+    write!(text, "{bar}")
+}
+
+/// Appends the mark at the end of the task, if it ended. It is refused for memory alone.
+fn append_end<R: Readings>(
+    readings: &R,
+    chart: &Chart<'_>,
+    text: &mut String,
+    y: u64,
+    task: TaskId,
+) -> Result<(), AllocError>
+    requires chart { IsChartOf chart.now chart.now.drawn (R.history readings.now) }
+    requires forked { is_some (forking (R.history readings.now) task) ≡ true }
+    ensures { OnOk result (string_bytes text.new ≡ string_bytes text.old ++ ended_text (R.history readings.now) (sheet_of chart.now.drawn) y task) }
+{
+    let Some(ended) = end_of(readings, chart, task) else {
+        return Ok(());
     };
-    let lane = ShownLane {
-        right: grid.columns,
-        row: spot.row,
-    };
-    write!(text, "{lane}{band}")
+    let started = start_of(readings, chart, task);
+    let mark = end_mark(task, started, state_of(readings, task));
+    let mark = mark_at(readings, chart, ended, y, mark);
+    write!(text, "{mark}")
+}
+
+/// Appends that the task waits for its thread, and what comes then. It is refused for memory alone.
+fn append_life<R: Readings>(
+    readings: &R,
+    chart: &Chart<'_>,
+    text: &mut String,
+    y: u64,
+    task: TaskId,
+    forked: Forking,
+) -> Result<(), AllocError>
+    requires chart { IsChartOf chart.now chart.now.drawn (R.history readings.now) }
+    requires forked { forking (R.history readings.now) task ≡ Some forked }
+    ensures { OnOk result (string_bytes text.new ≡ string_bytes text.old ++ life_text (R.history readings.now) (sheet_of chart.now.drawn) y task forked) }
+{
+    let until = start_of(readings, chart, task).or(end_of(readings, chart, task));
+    let waiting = bar_of(
+        readings,
+        chart,
+        y,
+        fork_of(task, forked),
+        forked.place,
+        until,
+        Shade::Waiting,
+        Fate::Waits,
+    );
+    write!(text, "{waiting}")?;
+    append_running(readings, chart, text, y, task, forked)?;
+    append_end(readings, chart, text, y, task)
+}
+
+/// Appends that the task never starts, as its scope was cancelled before, or else what comes of it. It is refused for
+/// memory alone.
+#[tactic(auto, unfolding(crate::specs::Lanes::fork_line))]
+fn append_fork_line<R: Readings>(
+    readings: &R,
+    chart: &Chart<'_>,
+    text: &mut String,
+    y: u64,
+    task: TaskId,
+    forked: Forking,
+) -> Result<(), AllocError>
+    requires chart { IsChartOf chart.now chart.now.drawn (R.history readings.now) }
+    requires forked { forking (R.history readings.now) task ≡ Some forked }
+    ensures { OnOk result (string_bytes text.new ≡ string_bytes text.old ++ fork_line (R.history readings.now) (sheet_of chart.now.drawn) y task forked) }
+{
+    if is_cancelled_before(readings, forked.scope, forked.place) {
+        let mark = Mark::Never { task };
+        let mark = mark_at(readings, chart, forked.place, y, mark);
+        write!(text, "{mark}")
+    } else {
+        append_life(readings, chart, text, y, task, forked)
+    }
+}
+
+/// Appends the row of the task. It is refused for memory alone.
+fn append_forked<R: Readings>(
+    readings: &R,
+    chart: &Chart<'_>,
+    text: &mut String,
+    row: u32,
+    depth: u32,
+    task: TaskId,
+    forked: Forking,
+) -> Result<(), AllocError>
+    requires chart { IsChartOf chart.now chart.now.drawn (R.history readings.now) }
+    requires forked { forking (R.history readings.now) task ≡ Some forked }
+    ensures { OnOk result (string_bytes text.new ≡ string_bytes text.old ++ forked_text (R.history readings.now) (sheet_of chart.now.drawn) row depth task forked) }
+{
+    let y = row_y(row);
+    let label = label_of(depth, y, fork_of(task, forked), Fate::Open);
+    write!(text, "{label}")?;
+    append_fork_line(readings, chart, text, y, task, forked)
+}
+
+/// Appends the row of the task, if it was forked since the base. It is refused for memory alone.
+#[tactic(auto, unfolding(crate::specs::Lanes::task_lane))]
+fn append_task<R: Readings>(
+    readings: &R,
+    chart: &Chart<'_>,
+    text: &mut String,
+    row: u32,
+    depth: u32,
+    task: TaskId,
+) -> Result<(), AllocError>
+    requires { IsChartOf chart.now chart.now.drawn (R.history readings.now) }
+    ensures { OnOk result (string_bytes text.new ≡ string_bytes text.old ++ task_lane (R.history readings.now) (sheet_of chart.now.drawn) row depth task) }
+{
+    match readings.forking(task) {
+        Some(forking) => append_forked(readings, chart, text, row, depth, task, forking),
+        None => Ok(()),
+    }
+}
+
+/// The scope of the opening.
+fn scope_of(scope: ScopeId, opened: Opening) -> Subject
+    ensures { result ≡ scope_of scope opened }
+{
+    Subject::Scope(ShownScope {
+        scope,
+        owner: opened.actor,
+        policy: opened.policy,
+        options: opened.options,
+    })
+}
+
+/// The shade of the scope's band.
+fn band_shade(closed: Option<usize>) -> Shade
+    ensures { result ≡ band_shade closed }
+{
+    match closed {
+        Some(_) => Shade::Shut,
+        None => Shade::Open,
+    }
+}
+
+/// The shade of a folded row.
+fn folded_shade(folded: Folded) -> Shade
+    ensures { result ≡ folded_shade folded }
+{
+    if folded.failed > 0 {
+        Shade::Fallen
+    } else {
+        Shade::Folded
+    }
+}
+
+/// The earlier one of two places.
+fn earlier(one: Option<usize>, other: Option<usize>) -> Option<usize>
+    ensures { result ≡ earlier one other }
+{
+    match (one, other) {
+        (Some(one), Some(other)) => Some(one.min(other)),
+        (Some(one), None) => Some(one),
+        (None, other) => other,
+    }
+}
+
+/// Where a close gave the scope its own cancel, if one did: its own, or that of another scope that covers it.
+fn covering_place<R: Readings>(readings: &R, scope: ScopeId) -> Option<usize>
+    ensures { result ≡ covering_place (R.history readings.now) scope }
+{
+    match cancellation(readings, scope) {
+        Some((place, cause)) if cause.scope == scope && cause.kind == CauseKind::Close => {
+            Some(place)
+        },
+        _ => None,
+    }
 }
 
 /// Appends the band of the scope from where it became cancelled on, if it did. It is refused for memory alone.
-#[tactic(auto, unfolding(crate::specs::Lanes::cancelled_text))]
 fn append_cancelled<R: Readings>(
     readings: &R,
-    grid: &Grid<'_>,
+    chart: &Chart<'_>,
     text: &mut String,
+    y: u64,
     scope: ScopeId,
+    opened: Opening,
 ) -> Result<(), AllocError>
-    requires { IsGridOf grid.now (R.history readings.now).events }
-    ensures { OnOk result (string_bytes text.new ≡ string_bytes text.old ++ cancelled_text (R.history readings.now) scope) }
+    requires chart { IsChartOf chart.now chart.now.drawn (R.history readings.now) }
+    requires opened { opening (R.history readings.now) scope ≡ Some opened }
+    ensures { OnOk result (string_bytes text.new ≡ string_bytes text.old ++ cancelled_text (R.history readings.now) (sheet_of chart.now.drawn) y scope opened) }
 {
-    let Some(reached) = reached_at(readings, grid, scope) else {
+    let Some((place, cause)) = cancellation(readings, scope) else {
         return Ok(());
     };
-    let band = ShownStretch {
-        right: grid.columns,
-        spot: reached.spot,
-        stretch: Stretch::Cancelled,
+    let shade = if is_accident(readings, chart, place, cause) {
+        Shade::Cancelled
+    } else {
+        Shade::Settled
     };
-    write!(text, "{band}")
+    let closed = close_of(readings, chart, scope);
+    let bar = bar_of(
+        readings,
+        chart,
+        y,
+        scope_of(scope, opened),
+        place,
+        closed,
+        shade,
+        Fate::Cancelled(cause),
+    );
+    write!(text, "{bar}")
 }
 
-/// Appends what stands left of the scope's row. It is refused for memory alone.
-#[tactic(auto, unfolding(crate::specs::Lanes::caption_text))]
-fn append_caption<R: Readings>(
+/// Appends that the scope is closing, from where it does on. It is refused for memory alone.
+fn append_closing<R: Readings>(
     readings: &R,
-    grid: &Grid<'_>,
+    chart: &Chart<'_>,
     text: &mut String,
+    y: u64,
     scope: ScopeId,
+    opened: Opening,
 ) -> Result<(), AllocError>
-    requires { IsGridOf grid.now (R.history readings.now).events }
-    ensures { OnOk result (string_bytes text.new ≡ string_bytes text.old ++ caption_text (R.history readings.now) scope) }
+    requires chart { IsChartOf chart.now chart.now.drawn (R.history readings.now) }
+    requires opened { opening (R.history readings.now) scope ≡ Some opened }
+    ensures { OnOk result (string_bytes text.new ≡ string_bytes text.old ++ closing_text (R.history readings.now) (sheet_of chart.now.drawn) y scope opened) }
+{
+    let began = begin_of(readings, chart, scope);
+    let Some(place) = earlier(began, covering_place(readings, scope)) else {
+        return Ok(());
+    };
+    let closed = close_of(readings, chart, scope);
+    let bar = bar_of(
+        readings,
+        chart,
+        y,
+        scope_of(scope, opened),
+        place,
+        closed,
+        Shade::Closing,
+        Fate::Closing,
+    );
+    write!(text, "{bar}")
+}
+
+/// Appends the band of the scope, from its opening on. It is refused for memory alone.
+fn append_band<R: Readings>(
+    readings: &R,
+    chart: &Chart<'_>,
+    text: &mut String,
+    y: u64,
+    scope: ScopeId,
+    opened: Opening,
+    shade: Shade,
+    fate: Fate,
+) -> Result<(), AllocError>
+    requires chart { IsChartOf chart.now chart.now.drawn (R.history readings.now) }
+    requires opened { opening (R.history readings.now) scope ≡ Some opened }
+    ensures { OnOk result (string_bytes text.new ≡ string_bytes text.old ++ band_text (R.history readings.now) (sheet_of chart.now.drawn) y scope opened shade fate) }
+{
+    let closed = close_of(readings, chart, scope);
+    let bar = bar_of(
+        readings,
+        chart,
+        y,
+        scope_of(scope, opened),
+        opened.place,
+        closed,
+        shade,
+        fate,
+    );
+    write!(text, "{bar}")
+}
+
+/// Appends the row of the scope, which was opened so. It is refused for memory alone.
+fn append_opened<R: Readings>(
+    readings: &R,
+    chart: &Chart<'_>,
+    text: &mut String,
+    row: u32,
+    depth: u32,
+    scope: ScopeId,
+    opened: Opening,
+) -> Result<(), AllocError>
+    requires chart { IsChartOf chart.now chart.now.drawn (R.history readings.now) }
+    requires opened { opening (R.history readings.now) scope ≡ Some opened }
+    ensures { OnOk result (string_bytes text.new ≡ string_bytes text.old ++ opened_text (R.history readings.now) (sheet_of chart.now.drawn) row depth scope opened) }
+{
+    let y = row_y(row);
+    let label = label_of(depth, y, scope_of(scope, opened), Fate::Open);
+    write!(text, "{label}")?;
+    let shade = band_shade(close_of(readings, chart, scope));
+    append_band(readings, chart, text, y, scope, opened, shade, Fate::Open)?;
+    append_cancelled(readings, chart, text, y, scope, opened)?;
+    append_closing(readings, chart, text, y, scope, opened)
+}
+
+/// Appends the row of a closed scope with all that lies in it. It is refused for memory alone.
+fn append_folded<R: Readings>(
+    readings: &R,
+    chart: &Chart<'_>,
+    text: &mut String,
+    row: u32,
+    depth: u32,
+    scope: ScopeId,
+    opened: Opening,
+    folded: Folded,
+) -> Result<(), AllocError>
+    requires chart { IsChartOf chart.now chart.now.drawn (R.history readings.now) }
+    requires opened { opening (R.history readings.now) scope ≡ Some opened }
+    ensures { OnOk result (string_bytes text.new ≡ string_bytes text.old ++ folded_lane (R.history readings.now) (sheet_of chart.now.drawn) row depth scope opened folded) }
+{
+    let y = row_y(row);
+    let fate = Fate::Folded(folded);
+    let label = label_of(depth, y, scope_of(scope, opened), fate);
+    write!(text, "{label}")?;
+    append_band(
+        readings,
+        chart,
+        text,
+        y,
+        scope,
+        opened,
+        folded_shade(folded),
+        fate,
+    )
+}
+
+/// Appends the row of the scope, if it was opened since the base. It is refused for memory alone.
+#[tactic(auto, unfolding(crate::specs::Lanes::scope_lane))]
+fn append_scope<R: Readings>(
+    readings: &R,
+    chart: &Chart<'_>,
+    text: &mut String,
+    row: u32,
+    depth: u32,
+    scope: ScopeId,
+    folded: Option<Folded>,
+) -> Result<(), AllocError>
+    requires { IsChartOf chart.now chart.now.drawn (R.history readings.now) }
+    ensures { OnOk result (string_bytes text.new ≡ string_bytes text.old ++ scope_lane (R.history readings.now) (sheet_of chart.now.drawn) row depth scope folded) }
 {
     let Some(opening) = readings.opening(scope) else {
         return Ok(());
     };
-    let Some(spot) = scope_spot(readings, grid, scope) else {
-        return Ok(());
-    };
-    let caption = ScopeCaption {
-        row: spot.row,
-        scope,
-        policy: opening.policy,
-        options: opening.options,
-    };
-    write!(text, "{caption}")
-}
-
-/// Appends the row of the scope, before its events. It is refused for memory alone.
-pub(crate) fn append_scope<R: Readings>(
-    readings: &R,
-    grid: &Grid<'_>,
-    text: &mut String,
-    scope: ScopeId,
-) -> Result<(), AllocError>
-    requires { IsGridOf grid.now (R.history readings.now).events }
-    ensures { OnOk result (string_bytes text.new ≡ string_bytes text.old ++ scope_lane (R.history readings.now) scope) }
-{
-    append_band(readings, grid, text, scope)?;
-    append_cancelled(readings, grid, text, scope)?;
-    append_caption(readings, grid, text, scope)
-}
-
-/// Appends that the task waits for its thread, or never gets one. It is refused for memory alone.
-fn append_fork_line<R: Readings>(
-    readings: &R,
-    grid: &Grid<'_>,
-    text: &mut String,
-    task: TaskId,
-    forking: Forking,
-    spot: Spot,
-) -> Result<(), AllocError>
-    requires { IsGridOf grid.now (R.history readings.now).events }
-    ensures { OnOk result (string_bytes text.new ≡ string_bytes text.old ++ fork_line (R.history readings.now) task forking spot) }
-{
-    if is_cancelled_before(readings, forking.scope, forking.place) {
-        let mark = Mark::Never { task };
-        write!(text, "{}", ShownMark { spot, mark })
-    } else {
-        let waiting = ShownStretch {
-            right: grid.columns,
-            spot,
-            stretch: Stretch::Waiting,
-        };
-        write!(text, "{waiting}")
+    match folded {
+        Some(folded) => append_folded(readings, chart, text, row, depth, scope, opening, folded),
+        None => append_opened(readings, chart, text, row, depth, scope, opening),
     }
 }
 
-/// Appends the row of the task, before its events. It is refused for memory alone.
-#[tactic(auto, unfolding(crate::specs::Lanes::task_lane))]
-pub(crate) fn append_task<R: Readings>(
+/// Appends what the row draws. It is refused for memory alone.
+pub(crate) fn append_row<R: Readings>(
     readings: &R,
-    grid: &Grid<'_>,
+    chart: &Chart<'_>,
     text: &mut String,
-    task: TaskId,
+    index: u32,
+    row: Row,
 ) -> Result<(), AllocError>
-    requires { IsGridOf grid.now (R.history readings.now).events }
-    ensures { OnOk result (string_bytes text.new ≡ string_bytes text.old ++ task_lane (R.history readings.now) task) }
+    requires { IsChartOf chart.now chart.now.drawn (R.history readings.now) }
+    ensures { OnOk result (string_bytes text.new ≡ string_bytes text.old ++ row_text (R.history readings.now) (sheet_of chart.now.drawn) index row) }
 {
-    let Some(forking) = readings.forking(task) else {
-        return Ok(());
-    };
-    let Some(spot) = task_spot(readings, grid, task) else {
-        return Ok(());
-    };
-    let lane = ShownLane {
-        right: grid.columns,
-        row: spot.row,
-    };
-    write!(text, "{lane}")?;
-    append_fork_line(readings, grid, text, task, forking, spot)?;
-    let caption = TaskCaption {
-        row: spot.row,
-        fork: ShownFork {
-            task,
-            name: forking.label.name,
-            scope: forking.scope,
+    match node_of(readings, row.node) {
+        Some(Node::Task(task)) => append_task(readings, chart, text, index, row.depth, task),
+        Some(Node::Scope(scope)) => {
+            append_scope(readings, chart, text, index, row.depth, scope, row.folded)
         },
-    };
-    write!(text, "{caption}")
+        None => Ok(()),
+    }
 }

@@ -1,43 +1,68 @@
 //! The picture of a run: the timeline of a realm as an SVG text, for those who would rather look than read.
 //!
-//! Time goes to the right. Each event since the last retirement has a column, 20 pixels wide, and each scope and
-//! each task that was numbered since has a row, in order of birth; main has none. What comes later is drawn over
-//! what comes before, and goes on to the right edge until something else does.
+//! Each scope and each task that was numbered since the last retirement has a row, in the order of the tree: a scope,
+//! its tasks below it, a task's own scopes below the task, and then the scopes that its owner opened in it. Rows are
+//! indented by depth. If they are more than the view allows, a closed scope is one row with all that lies in it, and
+//! says how many tasks these are and how many of them failed. A view may show one scope alone.
 //!
-//! - A scope is a band from its opening on, with its number, its joiner and its options at the left. It changes
-//!   its colour where the scope becomes cancelled and where its close begins, and ends where it is closed.
-//! - A task is a dashed line from its fork on, a bar from its start on, and ends with a mark: by what can be read
-//!   of it, or that it never starts, as nobody had a thread for it or its scope was cancelled before the fork.
+//! The way to the right is time where the caller hands the times of the events, and else their order; the picture says
+//! which. It fits the page that the view asks for, and is scaled down as a whole up to a fifth, so that some 200 rows
+//! are one screen. What comes later is drawn over what comes before.
+//!
+//! - A scope is a band from its opening to its close, or to the right edge, with its number, its owner if that is a
+//!   task, its joiner and its options at the left. A band that ended is told from an open one. It changes its colour
+//!   where the scope becomes cancelled: by an accident, which is a deadline, a call, a joiner that gave up or a close
+//!   before the join, or else by a normal end. A line in it says from where on it is closing, by its own close or by
+//!   another's that covers it.
+//! - A task is a dashed line from its fork on, a bar from its start to its end, or to the right edge, in the colour of
+//!   what can be read of it, and ends with a mark; one that never starts has another.
 //! - A join, a close and a new deadline leave a mark on the band. A tick is a line through all rows, with the
-//!   moment at its head. A bind and an unbind draw nothing.
+//!   moment. A bind and an unbind draw nothing.
 //! - A cancel is a mark on each scope that it reaches, at the event that did it, and a line to it from the scope
 //!   whose own cancel it was. A line passes over rows between: only a mark says that the cancel reached one.
-//! - A shield that holds is a mark at the cancel of the scope around the shielded one, in the row of the latter.
-//!   So is one that is open then, and not cancelled itself; no cancel's mark and no line's end stands there.
+//! - A shield that holds is a mark at the cancel of the scope around the shielded one, in the row of the latter, which
+//!   is open then, and not cancelled itself.
 //!
-//! Marks say in words what happened, where they are pointed at; they count events from 1. Numbers are decimal,
-//! and names have no character that XML keeps for itself: what is written is XML, without more ado. The colours are
-//! told apart by those who see some of them alike, in light and in the dark. A caption that is too long is cut
-//! where the columns begin.
+//! Bars, labels and marks say in words what they are, where they are pointed at, with the line of the script where the
+//! caller hands the lines, or else the number of the event, from 1. Numbers are decimal, and names have no character
+//! that XML keeps for itself: what is written is XML, without more ado. The colours are told apart by those who see
+//! some of them alike, in light and in the dark. No number is larger than viewers take.
+//!
+//! `trace_of` writes the run as Chrome trace events in place of a picture.
 #![tactic(auto)]
 
-mod around;
+mod arounds;
 mod cancels;
 mod captions;
+mod chart;
 mod events;
+mod forest;
 mod frame;
-mod grid;
+mod landmarks;
 mod lanes;
 mod marks;
+mod nodes;
 mod picture;
 mod pieces;
+mod rows;
 mod shields;
+mod sites;
+mod slices;
 mod spots;
 mod strokes;
+mod trace;
+mod view;
 
-pub use captions::{ScopeCaption, ShownFork, TaskCaption};
-pub use frame::{ShownFoot, ShownHead, Size};
+pub use captions::{Fate, Label, ShownFork, ShownScope, Span, Subject, Title};
+pub use chart::Drawn;
+pub use forest::Placed;
+pub use frame::{Frame, ShownFoot, ShownHead};
+pub use landmarks::Landmark;
 pub use marks::{Mark, ShownMark};
-pub use picture::picture_of;
+pub use picture::{picture_of, picture_with};
+pub use rows::{Class, Folded, Node, Row};
+pub use slices::{Instant, ScopeBegin, ScopeEnd, TaskBegin, TaskEnd};
 pub use spots::Spot;
-pub use strokes::{ShownLane, ShownReach, ShownStretch, ShownTick, Stretch};
+pub use strokes::{Bar, Reach, Shade, Tick};
+pub use trace::trace_of;
+pub use view::View;

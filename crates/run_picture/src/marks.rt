@@ -1,8 +1,10 @@
 //! The marks of a picture.
 ghost use Rattle.std.specs.Prelude.{◌≡◌, Some};
-ghost use Rattle.run_picture.specs.Marks.{at_text, cancel_word, cause_text, ended_text, held_text, mark_text, mark_word, moved_text, note_text, title_text};
+ghost use Rattle.run_picture.specs.MarkText.{cause_text, ended_text, held_text, moved_text};
+ghost use Rattle.run_picture.specs.Marks.{at_text, cancel_word, mark_text, mark_word, note_text, note_title};
 
-use crate::spots::{Spot, column_x, row_y};
+use crate::captions::unit_word;
+use crate::spots::Spot;
 use scope_rules::{Cause, ScopeId, State, TaskId};
 use std::fmt;
 
@@ -39,6 +41,8 @@ pub enum Mark {
     Cancelled {
         scope: ScopeId,
         cause: Cause,
+        /// Whether it is an accident, and no normal end.
+        accident: bool,
     },
     /// The scope's shield held off the cancel of another scope around it.
     Held {
@@ -59,17 +63,23 @@ impl Mark {
             Mark::Closing { .. } => "began",
             Mark::Closed { .. } => "closed",
             Mark::Moved { .. } => "moved",
-            Mark::Cancelled { scope, cause } => cancel_word(scope, cause),
+            Mark::Cancelled {
+                scope,
+                cause,
+                accident,
+            } => cancel_word(scope, cause, accident),
             Mark::Held { .. } => "shield",
         }
     }
 }
 
 /// The mark of a cancel.
-fn cancel_word(scope: ScopeId, cause: Cause) -> &'static str
-    ensures { result.now ≡ cancel_word scope cause }
+fn cancel_word(scope: ScopeId, cause: Cause, accident: bool) -> &'static str
+    ensures { result.now ≡ cancel_word scope cause accident }
 {
-    if cause.scope == scope {
+    if !accident {
+        "settled"
+    } else if cause.scope == scope {
         "cancel"
     } else {
         "reached"
@@ -78,7 +88,7 @@ fn cancel_word(scope: ScopeId, cause: Cause) -> &'static str
 
 /// How a task ended, by what can be read of it.
 #[derive(Clone, Copy)]
-struct ShownState(State);
+pub(crate) struct ShownState(pub(crate) State);
 
 impl fmt::Display for ShownState {
     ghost output = { λ s. Some (ended_text s.0) };
@@ -109,12 +119,12 @@ impl fmt::Display for ShownMove {
 
 /// Why a scope is cancelled.
 #[derive(Clone, Copy)]
-struct ShownCause(Cause);
+pub(crate) struct ShownCause(pub(crate) Cause);
 
 impl fmt::Display for ShownCause {
     ghost output = { λ c. Some (cause_text c.0) };
 
-    #[tactic(auto, unfolding(crate::specs::Marks::cause_text))]
+    #[tactic(auto, unfolding(crate::specs::MarkText::cause_text))]
     fn fmt<W: fmt::Write>(&self, f: &mut fmt::Formatter<W>) -> fmt::Result {
         let kind = self.0.kind.word();
         write!(f, " cancelled from scope {}, {kind}", self.0.scope)
@@ -128,7 +138,7 @@ struct ShownHeld(ScopeId);
 impl fmt::Display for ShownHeld {
     ghost output = { λ h. Some (held_text h.0) };
 
-    #[tactic(auto, unfolding(crate::specs::Marks::held_text))]
+    #[tactic(auto, unfolding(crate::specs::MarkText::held_text))]
     fn fmt<W: fmt::Write>(&self, f: &mut fmt::Formatter<W>) -> fmt::Result {
         write!(f, " shielded from scope {}", self.0)
     }
@@ -149,7 +159,7 @@ impl fmt::Display for ShownNote {
             Mark::Closing { scope } => write!(f, "scope {scope} begins to close"),
             Mark::Closed { scope } => write!(f, "scope {scope} is closed"),
             Mark::Moved { scope, deadline } => write!(f, "scope {scope}{}", ShownMove(deadline)),
-            Mark::Cancelled { scope, cause } => write!(f, "scope {scope}{}", ShownCause(cause)),
+            Mark::Cancelled { scope, cause, .. } => write!(f, "scope {scope}{}", ShownCause(cause)),
             Mark::Held { scope, source } => write!(f, "scope {scope}{}", ShownHeld(source)),
         }
     }
@@ -164,47 +174,43 @@ impl fmt::Display for ShownAt {
 
     #[tactic(auto, unfolding(crate::specs::Marks::at_text))]
     fn fmt<W: fmt::Write>(&self, f: &mut fmt::Formatter<W>) -> fmt::Result {
-        let x = column_x(self.0.column);
-        let y = row_y(self.0.row);
-        write!(f, " x='{x}' y='{y}'")
+        write!(f, " x='{}' y='{}'", self.0.x, self.0.y)
     }
 }
 
 /// What is read where a mark is pointed at.
 #[derive(Clone, Copy)]
-struct ShownTitle {
-    column: u32,
-    mark: Mark,
-}
+struct ShownTitle(ShownMark);
 
 impl fmt::Display for ShownTitle {
-    ghost output = { λ t. Some (title_text t.column t.mark) };
+    ghost output = { λ t. Some (note_title t.0) };
 
-    #[tactic(auto, unfolding(crate::specs::Marks::title_text))]
+    #[tactic(auto, unfolding(crate::specs::Marks::note_title))]
     fn fmt<W: fmt::Write>(&self, f: &mut fmt::Formatter<W>) -> fmt::Result {
-        let number = u64::from(self.column) + 1;
-        let note = ShownNote(self.mark);
-        write!(f, "<title>event {number}: {note}</title>")
+        let unit = unit_word(self.0.lined);
+        let note = ShownNote(self.0.mark);
+        write!(f, "<title>{unit}{}: {note}</title>", self.0.number)
     }
 }
 
-/// The mark at the spot, with what happened at the event of its column.
+/// The mark at the spot, with what happened there.
 #[derive(Clone, Copy)]
 pub struct ShownMark {
     pub spot: Spot,
+    /// Whether the number is that of a line of the script.
+    pub lined: bool,
+    /// The number of the event, or of its line.
+    pub number: u64,
     pub mark: Mark,
 }
 
 impl fmt::Display for ShownMark {
-    ghost output = { λ m. Some (mark_text m.spot m.mark) };
+    ghost output = { λ m. Some (mark_text m) };
 
     fn fmt<W: fmt::Write>(&self, f: &mut fmt::Formatter<W>) -> fmt::Result {
         let shape = self.mark.word();
         let at = ShownAt(self.spot);
-        let title = ShownTitle {
-            column: self.spot.column,
-            mark: self.mark,
-        };
+        let title = ShownTitle(*self);
         write!(f, "<use href='#{shape}'{at}>{title}</use>\n")
     }
 }

@@ -1,56 +1,54 @@
 //! The picture.
 ghost use Rattle.std.specs.Prelude.{◌≡◌, ◌++◌, IfOk, OnOk, string_bytes};
 ghost use Rattle.std.specs.List.{flat_map};
-ghost use Rattle.scope_rules.specs.History.{scope_numbers, task_numbers};
+ghost use Rattle.scope_rules.specs.History.{scope_numbers};
 ghost use Rattle.run_picture.specs.Cancels.{cancel_text};
+ghost use Rattle.run_picture.specs.Chart.{IsChartOf};
+ghost use Rattle.run_picture.specs.Sheet.{sheet_of};
 ghost use Rattle.run_picture.specs.Events.{event_text, moment_line};
-ghost use Rattle.run_picture.specs.Grids.{IsGridOf};
-ghost use Rattle.run_picture.specs.Lanes.{scope_lane, task_lane};
 ghost use Rattle.run_picture.specs.Shields.{shield_text};
-ghost use Rattle.run_picture.specs.Picture.{picture_text, places};
+ghost use Rattle.run_picture.specs.Picture.{body_text, drawn_text, indexes, picture_text, places, row_at_text};
 
 use crate::cancels::append_cancel;
+use crate::chart::{Chart, Drawn, chart_of};
 use crate::events::{append_event, append_moment};
-use crate::grid::{Grid, grid_of};
-use crate::lanes::{append_scope, append_task};
+use crate::frame::{Frame, ShownFoot, ShownHead};
+use crate::lanes::append_row;
 use crate::shields::append_shield;
-use crate::{ShownFoot, ShownHead, Size};
+use crate::view::View;
 use scope_checks::Readings;
 use scope_rules::Event;
 use std::alloc::{AllocError, Global};
 
-/// Appends the rows of the scopes, before their events. It is refused for memory alone.
-#[tactic(auto, using(std::proofs::lemmas::Grind::common_steps, scope_log::proofs::LogSteps::flat_map_more))]
-fn append_scopes<R: Readings>(
+/// Appends the row with this index. It is refused for memory alone.
+#[tactic(auto, unfolding(crate::specs::Picture::row_at_text))]
+fn append_row_at<R: Readings>(
     readings: &R,
-    grid: &Grid<'_>,
+    chart: &Chart<'_>,
     text: &mut String,
+    index: u32,
 ) -> Result<(), AllocError>
-    requires { IsGridOf grid.now (R.history readings.now).events }
-    ensures { OnOk result (string_bytes text.new ≡ string_bytes text.old ++ flat_map (scope_lane (R.history readings.now)) (scope_numbers (R.history readings.now))) }
+    requires { IsChartOf chart.now chart.now.drawn (R.history readings.now) }
+    ensures { OnOk result (string_bytes text.new ≡ string_bytes text.old ++ row_at_text (R.history readings.now) (sheet_of chart.now.drawn) index) }
 {
-    let before = readings.retired_scopes();
-    let last = readings.scopes();
-    for index in 0..last - before {
-        append_scope(readings, grid, text, before + 1 + index)?;
+    match chart.rows.get(index as usize) {
+        Some(row) => append_row(readings, chart, text, index, *row),
+        None => Ok(()),
     }
-    Ok(())
 }
 
-/// Appends the rows of the tasks, before their events. It is refused for memory alone.
+/// Appends the rows. It is refused for memory alone.
 #[tactic(auto, using(std::proofs::lemmas::Grind::common_steps, scope_log::proofs::LogSteps::flat_map_more))]
-fn append_tasks<R: Readings>(
+fn append_rows_of<R: Readings>(
     readings: &R,
-    grid: &Grid<'_>,
+    chart: &Chart<'_>,
     text: &mut String,
 ) -> Result<(), AllocError>
-    requires { IsGridOf grid.now (R.history readings.now).events }
-    ensures { OnOk result (string_bytes text.new ≡ string_bytes text.old ++ flat_map (task_lane (R.history readings.now)) (task_numbers (R.history readings.now))) }
+    requires { IsChartOf chart.now chart.now.drawn (R.history readings.now) }
+    ensures { OnOk result (string_bytes text.new ≡ string_bytes text.old ++ flat_map (row_at_text (R.history readings.now) (sheet_of chart.now.drawn)) (indexes (R.history readings.now) (sheet_of chart.now.drawn))) }
 {
-    let before = readings.retired_tasks();
-    let last = readings.tasks();
-    for index in 0..last - before {
-        append_task(readings, grid, text, before + 1 + index)?;
+    for index in 0..chart.height {
+        append_row_at(readings, chart, text, index)?;
     }
     Ok(())
 }
@@ -59,14 +57,14 @@ fn append_tasks<R: Readings>(
 #[tactic(auto, using(std::proofs::lemmas::Grind::common_steps, scope_log::proofs::LogSteps::flat_map_more))]
 fn append_events<R: Readings>(
     readings: &R,
-    grid: &Grid<'_>,
+    chart: &Chart<'_>,
     text: &mut String,
 ) -> Result<(), AllocError>
-    requires { IsGridOf grid.now (R.history readings.now).events }
-    ensures { OnOk result (string_bytes text.new ≡ string_bytes text.old ++ flat_map (event_text (R.history readings.now)) (places (R.history readings.now))) }
+    requires { IsChartOf chart.now chart.now.drawn (R.history readings.now) }
+    ensures { OnOk result (string_bytes text.new ≡ string_bytes text.old ++ flat_map (event_text (R.history readings.now) (sheet_of chart.now.drawn)) (places (R.history readings.now))) }
 {
-    for place in 0..grid.columns {
-        append_event(readings, grid, text, place)?;
+    for place in 0..chart.columns {
+        append_event(readings, chart, text, place)?;
     }
     Ok(())
 }
@@ -75,14 +73,14 @@ fn append_events<R: Readings>(
 #[tactic(auto, using(std::proofs::lemmas::Grind::common_steps, scope_log::proofs::LogSteps::flat_map_more))]
 fn append_moments<R: Readings>(
     readings: &R,
-    grid: &Grid<'_>,
+    chart: &Chart<'_>,
     text: &mut String,
 ) -> Result<(), AllocError>
-    requires { IsGridOf grid.now (R.history readings.now).events }
-    ensures { OnOk result (string_bytes text.new ≡ string_bytes text.old ++ flat_map (moment_line (R.history readings.now)) (places (R.history readings.now))) }
+    requires { IsChartOf chart.now chart.now.drawn (R.history readings.now) }
+    ensures { OnOk result (string_bytes text.new ≡ string_bytes text.old ++ flat_map (moment_line (R.history readings.now) (sheet_of chart.now.drawn)) (places (R.history readings.now))) }
 {
-    for place in 0..grid.columns {
-        append_moment(readings, grid, text, place)?;
+    for place in 0..chart.columns {
+        append_moment(readings, chart, text, place)?;
     }
     Ok(())
 }
@@ -91,16 +89,16 @@ fn append_moments<R: Readings>(
 #[tactic(auto, using(std::proofs::lemmas::Grind::common_steps, scope_log::proofs::LogSteps::flat_map_more))]
 fn append_cancels<R: Readings>(
     readings: &R,
-    grid: &Grid<'_>,
+    chart: &Chart<'_>,
     text: &mut String,
 ) -> Result<(), AllocError>
-    requires { IsGridOf grid.now (R.history readings.now).events }
-    ensures { OnOk result (string_bytes text.new ≡ string_bytes text.old ++ flat_map (cancel_text (R.history readings.now)) (scope_numbers (R.history readings.now))) }
+    requires { IsChartOf chart.now chart.now.drawn (R.history readings.now) }
+    ensures { OnOk result (string_bytes text.new ≡ string_bytes text.old ++ flat_map (cancel_text (R.history readings.now) (sheet_of chart.now.drawn)) (scope_numbers (R.history readings.now))) }
 {
     let before = readings.retired_scopes();
     let last = readings.scopes();
     for index in 0..last - before {
-        append_cancel(readings, grid, text, before + 1 + index)?;
+        append_cancel(readings, chart, text, before + 1 + index)?;
     }
     Ok(())
 }
@@ -109,24 +107,70 @@ fn append_cancels<R: Readings>(
 #[tactic(auto, using(std::proofs::lemmas::Grind::common_steps, scope_log::proofs::LogSteps::flat_map_more))]
 fn append_shields<R: Readings>(
     readings: &R,
-    grid: &Grid<'_>,
+    chart: &Chart<'_>,
     text: &mut String,
 ) -> Result<(), AllocError>
-    requires { IsGridOf grid.now (R.history readings.now).events }
-    ensures { OnOk result (string_bytes text.new ≡ string_bytes text.old ++ flat_map (shield_text (R.history readings.now)) (scope_numbers (R.history readings.now))) }
+    requires { IsChartOf chart.now chart.now.drawn (R.history readings.now) }
+    ensures { OnOk result (string_bytes text.new ≡ string_bytes text.old ++ flat_map (shield_text (R.history readings.now) (sheet_of chart.now.drawn)) (scope_numbers (R.history readings.now))) }
 {
     let before = readings.retired_scopes();
     let last = readings.scopes();
     for index in 0..last - before {
-        append_shield(readings, grid, text, before + 1 + index)?;
+        append_shield(readings, chart, text, before + 1 + index)?;
     }
     Ok(())
 }
 
-/// The picture of what was read, as an SVG text. The events are those of the history that is read.
+/// Appends all of the picture but its head. It is refused for memory alone.
+fn append_body<R: Readings>(
+    readings: &R,
+    chart: &Chart<'_>,
+    text: &mut String,
+) -> Result<(), AllocError>
+    requires { IsChartOf chart.now chart.now.drawn (R.history readings.now) }
+    ensures { OnOk result (string_bytes text.new ≡ string_bytes text.old ++ body_text (R.history readings.now) (sheet_of chart.now.drawn)) }
+{
+    append_moments(readings, chart, text)?;
+    append_rows_of(readings, chart, text)?;
+    append_events(readings, chart, text)?;
+    append_cancels(readings, chart, text)?;
+    append_shields(readings, chart, text)?;
+    write!(text, "{}", ShownFoot(chart.height))
+}
+
+/// The picture of what was read, as an SVG text: as much of it as the view says, with the lines of the script and
+/// the times of the events, if they are known. The events are those of the history that is read.
 ///
 /// # Errors
-/// It is refused for memory alone. Of 2^32 events and more, which no realm takes, it asks none, and is refused too.
+/// It is refused for memory alone. Of 2^31 events or nodes and more, which no realm takes, it asks none, and is
+/// refused too.
+pub fn picture_with<R: Readings>(
+    alloc: Global,
+    readings: &R,
+    drawn: Drawn<'_>,
+) -> Result<String, AllocError>
+    requires { drawn.events.now ≡ (R.history readings.now).events }
+    ensures { IfOk result (λ text. string_bytes text ≡ drawn_text (R.history readings.now) (sheet_of drawn.entry)) }
+{
+    let chart = chart_of(alloc, readings, drawn)?;
+    let frame = Frame {
+        width: chart.drawn.view.width,
+        columns: chart.columns,
+        rows: chart.height,
+        now: readings.moment(),
+        timed: !chart.drawn.times.is_empty(),
+    };
+    let head = ShownHead(frame);
+    let mut text = format!(in alloc; "{head}")?;
+    append_body(readings, &chart, &mut text)?;
+    Ok(text)
+}
+
+/// The picture of the whole run, as an SVG text. The events are those of the history that is read.
+///
+/// # Errors
+/// It is refused for memory alone. Of 2^31 events or nodes and more, which no realm takes, it asks none, and is
+/// refused too.
 pub fn picture_of<R: Readings>(
     alloc: Global,
     readings: &R,
@@ -135,22 +179,14 @@ pub fn picture_of<R: Readings>(
     requires { events.now ≡ (R.history readings.now).events }
     ensures { IfOk result (λ text. string_bytes text ≡ picture_text (R.history readings.now)) }
 {
-    let grid = grid_of(alloc, events)?;
-    let size = Size {
-        columns: grid.columns,
-        rows: grid.height,
-    };
-    let head = ShownHead {
-        size,
-        now: readings.moment(),
-    };
-    let mut text = format!(in alloc; "{head}")?;
-    append_scopes(readings, &grid, &mut text)?;
-    append_tasks(readings, &grid, &mut text)?;
-    append_events(readings, &grid, &mut text)?;
-    append_moments(readings, &grid, &mut text)?;
-    append_cancels(readings, &grid, &mut text)?;
-    append_shields(readings, &grid, &mut text)?;
-    write!(text, "{}", ShownFoot(grid.height))?;
-    Ok(text)
+    picture_with(
+        alloc,
+        readings,
+        Drawn {
+            events,
+            lines: &[],
+            times: &[],
+            view: View::whole(),
+        },
+    )
 }

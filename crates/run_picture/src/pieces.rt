@@ -7,7 +7,7 @@ ghost use Rattle.run_picture.specs.Pieces.{cancel_legend, dark, end_shapes, ligh
 pub(crate) fn svg_begin() -> &'static str
     ensures { result.now ≡ svg_begin }
 {
-    "<svg xmlns='http://www.w3.org/2000/svg' role='img'"
+    "<svg xmlns='http://www.w3.org/2000/svg'"
 }
 
 /// The style in light.
@@ -15,7 +15,7 @@ pub(crate) fn svg_begin() -> &'static str
 pub(crate) fn light() -> &'static str
     ensures { result.now ≡ light }
 {
-    "<style>text{font:11px system-ui,sans-serif;fill:#222}.scope{font-weight:600;transform:translate(8px,4px);clip-path:url(#left)}.task{transform:translate(20px,4px);clip-path:url(#left)}.moment{font-size:10px;fill:#666}path{fill:none}.open,.cancelled,.closing,.waiting,.running,.lane,.over{shape-rendering:crispEdges}.lane{stroke:#eee}.open{stroke:#a6d3f2;stroke-width:12}.cancelled{stroke:#e9bcd3;stroke-width:12}.closing{stroke:#c8c8c8;stroke-width:12}.waiting{stroke:#0072b2;stroke-width:2;stroke-dasharray:4 3}.running{stroke:#0072b2;stroke-width:8}.ground{fill:#fff}.over{stroke:#fff;stroke-width:18}.tick{stroke:#999;stroke-dasharray:1 3}.reach{stroke:#a3195b;stroke-width:2;stroke-dasharray:3 2}"
+    "<style>text{font:11px system-ui,sans-serif;fill:#222}.scope{font-weight:600;clip-path:url(#left)}.task{clip-path:url(#left)}.moment{font-size:10px;fill:#666}path{fill:none}.open,.shut,.cancelled,.settled,.closing,.folded,.fallen,.waiting,.running,.done,.failed,.lost{shape-rendering:crispEdges}.open{stroke:#8cc8f0;stroke-width:14}.shut{stroke:#dceaf4;stroke-width:14}.cancelled{stroke:#e9bcd3;stroke-width:14}.settled{stroke:#d5e5d8;stroke-width:14}.closing{stroke:#aaa;stroke-width:4}.folded{stroke:#b9d8c4;stroke-width:16}.fallen{stroke:#f0b98d;stroke-width:16}.waiting{stroke:#0072b2;stroke-width:2;stroke-dasharray:4 3}.running{stroke:#0072b2;stroke-width:8}.done{stroke:#009e73;stroke-width:8}.failed{stroke:#d55e00;stroke-width:8}.lost{stroke:#888;stroke-width:8}.ground{fill:#fff}.tick{stroke:#999;stroke-dasharray:1 3}.reach{stroke:#a3195b;stroke-width:2;stroke-dasharray:3 2}"
 }
 
 /// The style in the dark.
@@ -23,7 +23,7 @@ pub(crate) fn light() -> &'static str
 pub(crate) fn dark() -> &'static str
     ensures { result.now ≡ dark }
 {
-    "@media(prefers-color-scheme:dark){text{fill:#ddd}.moment{fill:#aaa}.open{stroke:#2c5878}.cancelled{stroke:#6e2f4e}.closing{stroke:#555}.waiting,.running{stroke:#56b4e9}.lane{stroke:#2a2d33}.ground{fill:#16181c}.over{stroke:#16181c}.reach{stroke:#ec6aa6}}</style>\n"
+    "@media(prefers-color-scheme:dark){text{fill:#ddd}.moment{fill:#aaa}.open{stroke:#2f6c96}.shut{stroke:#24343f}.cancelled{stroke:#6e2f4e}.settled{stroke:#2b4232}.closing{stroke:#777}.folded{stroke:#2f5a43}.fallen{stroke:#7a4a22}.waiting,.running{stroke:#56b4e9}.ground{fill:#16181c}.reach{stroke:#ec6aa6}}</style>\n"
 }
 
 /// The shapes of the ends of tasks.
@@ -31,7 +31,7 @@ pub(crate) fn dark() -> &'static str
 pub(crate) fn end_shapes() -> &'static str
     ensures { result.now ≡ end_shapes }
 {
-    "<defs><clipPath id='left'><rect x='-8' y='-9999999' width='232' height='99999999'/></clipPath><g id='success'><circle r='6' fill='#009e73'/><path d='M-3 0L-1 2L3 -2' stroke='#fff' stroke-width='2'/></g><g id='failed'><circle r='6' fill='#d55e00'/><path d='M-3 -3L3 3M3 -3L-3 3' stroke='#fff' stroke-width='2'/></g><g id='unavailable'><circle r='5' fill='#fff' stroke='#777' stroke-width='2'/></g><g id='never'><path d='M-4 -4L4 4M4 -4L-4 4' stroke='#777' stroke-width='2'/></g>\n"
+    "<defs><clipPath id='left'><rect x='0' y='0' width='244' height='7999999'/></clipPath><g id='success'><circle r='6' fill='#009e73'/><path d='M-3 0L-1 2L3 -2' stroke='#fff' stroke-width='2'/></g><g id='failed'><circle r='6' fill='#d55e00'/><path d='M-3 -3L3 3M3 -3L-3 3' stroke='#fff' stroke-width='2'/></g><g id='unavailable'><circle r='5' fill='#fff' stroke='#777' stroke-width='2'/></g><g id='never'><path d='M-4 -4L4 4M4 -4L-4 4' stroke='#777' stroke-width='2'/></g>\n"
 }
 
 /// The shapes of what happens to scopes, and the ground.
@@ -39,7 +39,7 @@ pub(crate) fn end_shapes() -> &'static str
 pub(crate) fn scope_shapes() -> &'static str
     ensures { result.now ≡ scope_shapes }
 {
-    "<g id='joined'><path d='M0 -7L7 0L0 7L-7 0Z' style='fill:#0072b2'/></g><g id='began'><path d='M-4 -8H-9V8H-4' stroke='#777' stroke-width='2'/></g><g id='closed'><path d='M-2 -8H3V8H-2' stroke='#777' stroke-width='2'/></g><g id='moved'><path d='M-5 -6H5L-5 6H5Z' style='fill:#e69f00'/></g><g id='cancel'><rect x='-6' y='-6' width='12' height='12' fill='#a3195b'/><path d='M-3 -3L3 3M3 -3L-3 3' stroke='#fff' stroke-width='2'/></g><g id='reached'><circle r='5' fill='#a3195b'/></g><g id='shield'><path d='M0 -9L8 -6V1C8 5 4 8 0 10C-4 8 -8 5 -8 1V-6Z' style='fill:#f0e442' stroke='#444'/></g></defs>\n<rect class='ground' width='100%' height='100%'/>\n"
+    "<g id='joined'><path d='M0 -7L7 0L0 7L-7 0Z' style='fill:#0072b2'/></g><g id='began'><path d='M-4 -8H-9V8H-4' stroke='#777' stroke-width='2'/></g><g id='closed'><path d='M-2 -8H3V8H-2' stroke='#777' stroke-width='2'/></g><g id='moved'><path d='M-5 -6H5L-5 6H5Z' style='fill:#e69f00'/></g><g id='cancel'><rect x='-6' y='-6' width='12' height='12' fill='#a3195b'/><path d='M-3 -3L3 3M3 -3L-3 3' stroke='#fff' stroke-width='2'/></g><g id='reached'><circle r='5' fill='#a3195b'/></g><g id='settled'><circle r='3' fill='#777'/></g><g id='shield'><path d='M0 -9L8 -6V1C8 5 4 8 0 10C-4 8 -8 5 -8 1V-6Z' style='fill:#f0e442' stroke='#444'/></g></defs>\n<rect class='ground' width='100%' height='100%'/>\n"
 }
 
 /// What the lines mean.
@@ -47,7 +47,7 @@ pub(crate) fn scope_shapes() -> &'static str
 pub(crate) fn line_legend() -> &'static str
     ensures { result.now ≡ line_legend }
 {
-    "<g transform='translate(0 0)'><path class='open' d='M0 0H24'/><text x='32' y='4'>scope open</text></g><g transform='translate(116 0)'><path class='cancelled' d='M0 0H24'/><text x='32' y='4'>cancelled</text></g><g transform='translate(232 0)'><path class='closing' d='M0 0H24'/><text x='32' y='4'>closing</text></g><g transform='translate(348 0)'><path class='waiting' d='M0 0H24'/><text x='32' y='4'>task waits</text></g><g transform='translate(464 0)'><path class='running' d='M0 0H24'/><text x='32' y='4'>task runs</text></g><g transform='translate(580 0)'><path class='tick' d='M0 0H24'/><text x='32' y='4'>moment</text></g><g transform='translate(696 0)'><path class='reach' d='M0 0H24'/><text x='32' y='4'>reach of a cancel</text></g>\n"
+    "<g transform='translate(0 0)'><path class='open' d='M0 0H24'/><text x='32' y='4'>scope open</text></g><g transform='translate(116 0)'><path class='shut' d='M0 0H24'/><text x='32' y='4'>closed</text></g><g transform='translate(232 0)'><path class='cancelled' d='M0 0H24'/><text x='32' y='4'>cancelled</text></g><g transform='translate(348 0)'><path class='settled' d='M0 0H24'/><text x='32' y='4'>ended early</text></g><g transform='translate(464 0)'><path class='closing' d='M0 0H24'/><text x='32' y='4'>closing</text></g><g transform='translate(580 0)'><path class='waiting' d='M0 0H24'/><text x='32' y='4'>task waits</text></g><g transform='translate(696 0)'><path class='running' d='M0 0H24'/><text x='32' y='4'>runs</text></g><g transform='translate(812 0)'><path class='done' d='M0 0H24'/><text x='32' y='4'>succeeded</text></g><g transform='translate(928 0)'><path class='failed' d='M0 0H24'/><text x='32' y='4'>failed</text></g><g transform='translate(1044 0)'><path class='lost' d='M0 0H24'/><text x='32' y='4'>unavailable</text></g>\n"
 }
 
 /// What the marks mean.
@@ -63,5 +63,5 @@ pub(crate) fn mark_legend() -> &'static str
 pub(crate) fn cancel_legend() -> &'static str
     ensures { result.now ≡ cancel_legend }
 {
-    "<g transform='translate(0 48)'><use href='#cancel' x='12'/><text x='32' y='4'>own cancel</text></g><g transform='translate(116 48)'><use href='#reached' x='12'/><text x='32' y='4'>reached</text></g><g transform='translate(232 48)'><use href='#shield' x='12'/><text x='32' y='4'>shield held</text></g>\n</g>\n</svg>\n"
+    "<g transform='translate(0 48)'><use href='#cancel' x='12'/><text x='32' y='4'>own cancel</text></g><g transform='translate(116 48)'><use href='#reached' x='12'/><text x='32' y='4'>reached</text></g><g transform='translate(232 48)'><use href='#settled' x='12'/><text x='32' y='4'>normal end</text></g><g transform='translate(348 48)'><use href='#shield' x='12'/><text x='32' y='4'>shield held</text></g>\n</g>\n</svg>\n"
 }

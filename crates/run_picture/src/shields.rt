@@ -1,52 +1,56 @@
 //! Which shields held off a cancel, and where.
-ghost use Rattle.std.specs.Prelude.{◌≡◌, ◌++◌, ◌+◌, ◌<◌, OnOk, IfSome, Some, length, string_bytes};
+ghost use Rattle.std.specs.Prelude.{◌≡◌, ◌++◌, ◌+◌, ◌<◌, OnOk, Some, length, string_bytes};
 ghost use Rattle.scope_rules.specs.History.{opening};
-ghost use Rattle.run_picture.specs.Grids.{IsGridOf};
+ghost use Rattle.run_picture.specs.Chart.{IsChartOf};
+ghost use Rattle.run_picture.specs.Sheet.{sheet_of};
 ghost use Rattle.run_picture.specs.Shields.{goes_on, held_off, held_text, opened_shield, shield_text};
 
-use crate::around::{around, closed_before};
-use crate::cancels::{Reached, is_cancelled_before, reached_at};
-use crate::grid::{Grid, scope_spot};
-use crate::{Mark, ShownMark, Spot};
+use crate::arounds::{around, closed_before};
+use crate::cancels::is_cancelled_before;
+use crate::chart::Chart;
+use crate::marks::Mark;
+use crate::sites::{mark_at, scope_row};
+use crate::spots::row_y;
 use scope_checks::Readings;
-use scope_rules::ScopeId;
+use scope_checks::questions::cancellation;
 use scope_rules::types::records::Opening;
+use scope_rules::{Cause, ScopeId};
 use std::alloc::AllocError;
 
 /// Whether the scope, which was opened so, stood at the event at the place and went on.
 fn goes_on<R: Readings>(
     readings: &R,
-    grid: &Grid<'_>,
+    chart: &Chart<'_>,
     scope: ScopeId,
-    opening: Opening,
-    place: u32,
+    opened: Opening,
+    place: usize,
 ) -> bool
-    requires grid { IsGridOf grid.now (R.history readings.now).events }
+    requires chart { IsChartOf chart.now chart.now.drawn (R.history readings.now) }
+    requires opening { opening (R.history readings.now) scope ≡ Some opened }
     requires place { place < length (R.history readings.now).events }
-    ensures { result ≡ goes_on (R.history readings.now) scope opening place }
+    ensures { result ≡ goes_on (R.history readings.now) scope opened place }
 {
-    let at = place as usize;
-    opening.place < at
-        && !closed_before(readings, grid.events, scope, at)
-        && !is_cancelled_before(readings, scope, at + 1)
+    opened.place < place
+        && !closed_before(readings, &chart.nest.closes, scope, place)
+        && !is_cancelled_before(readings, scope, place + 1)
 }
 
 /// The cancel that the shield of the scope, which was opened so, held off.
-#[tactic(auto, using(crate::proofs::Reaching::reached_within, scope_rules::proofs::Earlier::opening_within), unfolding(crate::specs::Shields::held_off))]
+#[tactic(auto, using(crate::proofs::Reaching::cancelled_within), unfolding(crate::specs::Shields::held_off))]
 fn held_off<R: Readings>(
     readings: &R,
-    grid: &Grid<'_>,
+    chart: &Chart<'_>,
     scope: ScopeId,
     opened: Opening,
-) -> Option<Reached>
-    requires grid { IsGridOf grid.now (R.history readings.now).events }
+) -> Option<(usize, Cause)>
+    requires chart { IsChartOf chart.now chart.now.drawn (R.history readings.now) }
     requires opening { opening (R.history readings.now) scope ≡ Some opened }
     ensures { result ≡ held_off (R.history readings.now) scope opened }
 {
-    let around = around(readings, grid.events, opened)?;
-    let reached = reached_at(readings, grid, around)?;
-    if goes_on(readings, grid, scope, opened, reached.spot.column) {
-        Some(reached)
+    let around = around(readings, &chart.nest, scope, opened)?;
+    let (place, cause) = cancellation(readings, around)?;
+    if goes_on(readings, chart, scope, opened, place) {
+        Some((place, cause))
     } else {
         None
     }
@@ -55,38 +59,36 @@ fn held_off<R: Readings>(
 /// Appends the mark of the scope's shield, which held off the cancel. It is refused for memory alone.
 fn append_held<R: Readings>(
     readings: &R,
-    grid: &Grid<'_>,
+    chart: &Chart<'_>,
     text: &mut String,
     scope: ScopeId,
-    reached: Reached,
+    place: usize,
+    source: ScopeId,
 ) -> Result<(), AllocError>
-    requires { IsGridOf grid.now (R.history readings.now).events }
-    ensures { OnOk result (string_bytes text.new ≡ string_bytes text.old ++ held_text (R.history readings.now) scope reached) }
+    requires { IsChartOf chart.now chart.now.drawn (R.history readings.now) }
+    ensures { OnOk result (string_bytes text.new ≡ string_bytes text.old ++ held_text (R.history readings.now) (sheet_of chart.now.drawn) scope place source) }
 {
-    let Some(born) = scope_spot(readings, grid, scope) else {
+    let Some(row) = scope_row(readings, chart, scope) else {
         return Ok(());
     };
-    let spot = Spot {
-        column: reached.spot.column,
-        row: born.row,
-    };
-    let mark = Mark::Held {
-        scope,
-        source: reached.cause.scope,
-    };
-    write!(text, "{}", ShownMark { spot, mark })
+    let mark = Mark::Held { scope, source };
+    write!(
+        text,
+        "{}",
+        mark_at(readings, chart, place, row_y(row), mark)
+    )
 }
 
 /// Appends the shield of the scope, if it has one that held. It is refused for memory alone.
 #[tactic(auto, unfolding(crate::specs::Shields::shield_text))]
 pub(crate) fn append_shield<R: Readings>(
     readings: &R,
-    grid: &Grid<'_>,
+    chart: &Chart<'_>,
     text: &mut String,
     scope: ScopeId,
 ) -> Result<(), AllocError>
-    requires { IsGridOf grid.now (R.history readings.now).events }
-    ensures { OnOk result (string_bytes text.new ≡ string_bytes text.old ++ shield_text (R.history readings.now) scope) }
+    requires { IsChartOf chart.now chart.now.drawn (R.history readings.now) }
+    ensures { OnOk result (string_bytes text.new ≡ string_bytes text.old ++ shield_text (R.history readings.now) (sheet_of chart.now.drawn) scope) }
 {
     let Some(opening) = readings.opening(scope) else {
         return Ok(());
@@ -94,8 +96,8 @@ pub(crate) fn append_shield<R: Readings>(
     if !opening.options.shield {
         return Ok(());
     }
-    let Some(reached) = held_off(readings, grid, scope, opening) else {
+    let Some((place, cause)) = held_off(readings, chart, scope, opening) else {
         return Ok(());
     };
-    append_held(readings, grid, text, scope, reached)
+    append_held(readings, chart, text, scope, place, cause.scope)
 }

@@ -1,22 +1,15 @@
 //! Where things stand in a picture.
 ghost use Rattle.std.specs.Prelude.{◌≡◌};
-ghost use Rattle.run_picture.specs.Spots.{column_x, row_y};
+ghost use Rattle.run_picture.specs.Spots.{row_y};
 
-/// A point of the picture: the column of an event, by its place, and a row. Both count from 0.
+/// A point of the picture: so far from the left, and from above.
 #[derive(Clone, Copy)]
 pub struct Spot {
-    pub column: u32,
-    pub row: u32,
+    pub x: u64,
+    pub y: u64,
 }
 
-/// The column's middle, in pixels from the left.
-pub(crate) fn column_x(column: u32) -> u64
-    ensures { result ≡ column_x column }
-{
-    256 + 20 * u64::from(column)
-}
-
-/// The row's middle, in pixels from above.
+/// The row's middle, from above.
 pub(crate) fn row_y(row: u32) -> u64
     ensures { result ≡ row_y row }
 {

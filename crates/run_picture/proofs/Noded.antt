@@ -1,0 +1,50 @@
+-- The keys of the nodes, one node after the other.
+use Rattle.std.proofs.Common.{◌≡◌, ℕ, ◌+◌, ◌<◌, ◌≤◌, ◌^◌, zero, suc, subst, min, List, [], ◌∷◌, ◌++◌, map, length, get_or, refl, sym, arith}
+use Rattle.std.proofs.lemmas.List.FromFn.{map-range_with_len_more, length-map-range_with_len}
+use Rattle.std.proofs.lemmas.List.{length-append}
+use Rattle.std.specs.List.{range_with_len}
+use Rattle.scope_rules.specs.History.{History, forked_count, opened_count}
+use Rattle.run_picture.specs.Forest.{AreKeys}
+use Rattle.run_picture.specs.Nodes.{node_count, keys, task_key, scope_key, task_keys, scope_keys}
+
+pub task_keys_none : (h : History) → task_keys h 0 ≡ []
+unfolding task_keys
+task_keys_none h = refl
+
+pub scope_keys_none : (h : History) → scope_keys h 0 ≡ []
+unfolding scope_keys
+scope_keys_none h = refl
+
+pub task_keys_more : (h : History) (n : ℕ) → task_keys h (n + 1) ≡ task_keys h n ++ min (task_key h (h.base.tasks + 1 + n)) (node_count h) ∷ []
+unfolding task_keys
+task_keys_more h n = map-range_with_len_more (λ k. min (task_key h k) (node_count h)) (h.base.tasks + 1) n (h.base.tasks + 1 + n) (omega arith)
+
+pub scope_keys_more : (h : History) (n : ℕ) → scope_keys h (n + 1) ≡ scope_keys h n ++ min (scope_key h (h.base.scopes + 1 + n)) (node_count h) ∷ []
+unfolding scope_keys
+scope_keys_more h n = map-range_with_len_more (λ s. min (scope_key h s) (node_count h)) (h.base.scopes + 1) n (h.base.scopes + 1 + n) (omega arith)
+
+small_map : (f : ℕ → ℕ) (n : ℕ) (xs : List ℕ) (i : ℕ) → get_or (map (λ k. min (f k) n) xs) i 0 ≤ n
+small_map f n [] i = omega arith
+small_map f n (x ∷ xs) zero = omega arith
+small_map f n (x ∷ xs) (suc i) = small_map f n xs i
+
+small_both : (n : ℕ) (xs ys : List ℕ) → ((i : ℕ) → get_or xs i 0 ≤ n) → ((i : ℕ) → get_or ys i 0 ≤ n) → (i : ℕ) → get_or (xs ++ ys) i 0 ≤ n
+small_both n [] ys first second i = second i
+small_both n (x ∷ xs) ys first second zero = first 0
+small_both n (x ∷ xs) ys first second (suc i) = small_both n xs ys (λ j. first (suc j)) second i
+
+pub keys_long : (h : History) → length (keys h) ≡ node_count h
+unfolding task_keys scope_keys
+keys_long h = omega (arith, length-append (task_keys h (forked_count h)) (scope_keys h (opened_count h)), length-map-range_with_len (λ k. min (task_key h k) (node_count h)) (h.base.tasks + 1) (forked_count h), length-map-range_with_len (λ s. min (scope_key h s) (node_count h)) (h.base.scopes + 1) (opened_count h))
+
+-- each key is a node's or none's
+pub keys_are : (h : History) (xs : List ℕ) → xs ≡ keys h → node_count h < 2 ^ 31 → AreKeys xs
+unfolding task_keys scope_keys
+keys_are h xs is few = subst AreKeys (sym is) (record {
+  few = omega (arith, keys_long h);
+  each = λ i within.
+      let small = small_both (node_count h) (task_keys h (forked_count h)) (scope_keys h (opened_count h))
+      (small_map (task_key h) (node_count h) (range_with_len (h.base.tasks + 1) (forked_count h)))
+      (small_map (scope_key h) (node_count h) (range_with_len (h.base.scopes + 1) (opened_count h))) i in
+      omega (arith, small, keys_long h);
+})

@@ -1,0 +1,17 @@
+-- A scope is closed where its first close stands before the place.
+use Rattle.std.proofs.Common.{ℕ, ◌∙◌, sym, ap, false, nat_lt, Option}
+use Rattle.std.specs.Option.{option_map_or}
+use Rattle.run_picture.proofs.Searched.{closed_at_place, kept_first}
+use Rattle.run_picture.proofs.arounds.closed_before.Goals as goal
+
+pub returns-in-Some : goal.returns-in-Some
+returns-in-Some g c =
+    let h = g.R.Readings.history c.args.readings.now in
+    let is = kept_first h c.args.closes.now c.args.scope c.place.result c.requires.closes c.requires.opened c.place.ensures in
+    ap (λ (o : Option ℕ). option_map_or (λ j. nat_lt j c.args.place) o false) (sym c.in-Some.is ∙ is) ∙ sym (closed_at_place h c.args.scope c.args.place c.requires.within)
+
+pub returns-in-None : goal.returns-in-None
+returns-in-None g c =
+    let h = g.R.Readings.history c.args.readings.now in
+    let is = kept_first h c.args.closes.now c.args.scope c.place.result c.requires.closes c.requires.opened c.place.ensures in
+    ap (λ (o : Option ℕ). option_map_or (λ j. nat_lt j c.args.place) o false) (sym c.in-None.is ∙ is) ∙ sym (closed_at_place h c.args.scope c.args.place c.requires.within)

@@ -1,0 +1,45 @@
+-- Where in the picture something stands.
+use Rattle.std.specs.Prelude.{ℕ, ◌+◌, min, nat_lt, not, Option, None, option_map, length, slice_get, ◌==◌, if◌then◌else◌}
+use Rattle.std.specs.Option.{option_map_or}
+use Rattle.scope_rules.specs.History.{History}
+use Rattle.run_picture.specs.declared.captions.Span.{Span}
+use Rattle.run_picture.specs.Sheet.{Sheet}
+use Rattle.run_picture.specs.declared.landmarks.Landmark.TheVariants as landmark
+use Rattle.run_picture.specs.declared.marks.Mark.{Mark}
+use Rattle.run_picture.specs.declared.marks.ShownMark.{ShownMark}
+use Rattle.run_picture.specs.Chart.{drawn_rows, row_of}
+use Rattle.run_picture.specs.Landmarks.{first_place}
+use Rattle.run_picture.specs.Nodes.{node_count, scope_node}
+use Rattle.run_picture.specs.View.{x_at}
+
+-- a place as a column
+abbrev pub column_of : ℕ → ℕ
+column_of place = min place 4294967295
+
+-- how far from the left the event at the place stands
+abbrev pub x_in : History → Sheet → ℕ → ℕ
+x_in h d place = x_at d.view d.times (length h.events) (length (drawn_rows h d)) (column_of place)
+
+-- how far from the left it ends, if it ends at a place, or else the right edge
+abbrev pub end_x : History → Sheet → Option ℕ → ℕ
+end_x h d place = option_map_or (x_in h d) place (x_in h d (length h.events))
+
+-- the number of the event at the place, or of its line, if that is known
+abbrev pub number_in : Sheet → ℕ → ℕ
+number_in d place = option_map_or (λ line. line) (slice_get d.lines (column_of place)) (column_of place + 1)
+
+-- from the one place to the other, in such numbers
+abbrev pub span_in : Sheet → ℕ → Option ℕ → Span
+span_in d from to = record { lined = not (length d.lines == 0); from = number_in d from; to = option_map (number_in d) to }
+
+-- the mark at the place, so far from above
+abbrev pub mark_at : History → Sheet → ℕ → ℕ → Mark → ShownMark
+mark_at h d place y mark = record { spot = record { x = x_in h d place; y = y }; lined = not (length d.lines == 0); number = number_in d place; mark = mark }
+
+-- the row of scope s, unless it is not drawn or lies in another
+abbrev pub scope_row : History → Sheet → ℕ → Option ℕ
+scope_row h d s = if nat_lt (scope_node h s) (node_count h) then row_of (drawn_rows h d) (scope_node h s) else None
+
+-- where scope s was closed, if it was
+abbrev pub closed_place : History → ℕ → Option ℕ
+closed_place h s = first_place landmark.Closed h.events s

@@ -1,0 +1,41 @@
+-- How large a picture is, and how far from the left its events stand.
+use Rattle.std.specs.Prelude.{ℕ, ◌+◌, ◌-◌, ◌*◌, ◌/◌, max, min, None, List, [], ◌∷◌, length, get_or}
+use Rattle.run_picture.specs.declared.view.View.{View}
+
+-- the whole run, on a page 1,200 pixels wide
+abbrev pub whole : View
+whole = record { width = 1200; rows = 300; from = 0; to = 4294967295; scope = None }
+
+-- how high so many rows are, of those heights that a page is drawn for
+abbrev pub high : ℕ → ℕ
+high rows = min (max (168 + 22 * rows) 1000) 5000
+
+-- the width of the page
+abbrev pub page_width : ℕ → ℕ
+page_width width = min (max width 320) 100000
+
+-- the picture's width before it is scaled to the page, with so many rows
+abbrev pub natural_width : ℕ → ℕ → ℕ
+natural_width width rows = min (page_width width * high rows / 1000) 500000
+
+-- the time of the event at the place, or of the last one behind all; without times, the place
+abbrev pub time_at : List ℕ → ℕ → ℕ
+time_at [] place = place
+time_at (t ∷ times) place = get_or (t ∷ times) (min place (length (t ∷ times) - 1)) 0
+
+abbrev pub last_place : View → ℕ → ℕ
+last_place view columns = min view.to columns
+
+abbrev pub first_place : View → ℕ → ℕ
+first_place view columns = min view.from (last_place view columns)
+
+-- how far from the left the event at the place stands, of so many events: between those that the view begins and
+-- ends at, by the times, or else by the places
+unfoldable pub x_at : View → List ℕ → ℕ → ℕ → ℕ → ℕ
+x_at view times columns rows place =
+    let first = first_place view columns in
+    let last = last_place view columns in
+    let begin = time_at times first in
+    let span = time_at times last - begin in
+    let here = time_at times (min (max place first) last) in
+    256 + min (here - begin) span * (natural_width view.width rows - 280) / max span 1

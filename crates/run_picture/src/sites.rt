@@ -1,0 +1,169 @@
+//! Where in the chart something stands.
+ghost use Rattle.std.specs.Prelude.{◌≡◌, true, is_some};
+ghost use Rattle.scope_rules.specs.History.{forking, opening};
+ghost use Rattle.run_picture.specs.declared.landmarks.Landmark.TheVariants as landmark;
+ghost use Rattle.run_picture.specs.Chart.{IsChartOf};
+ghost use Rattle.run_picture.specs.Sheet.{sheet_of};
+ghost use Rattle.run_picture.specs.Landmarks.{first_place};
+ghost use Rattle.run_picture.specs.Sites.{closed_place, column_of, end_x, mark_at, number_in, scope_row, span_in, x_in};
+
+use crate::captions::Span;
+use crate::chart::{Chart, Drawn};
+use crate::marks::{Mark, ShownMark};
+use crate::nodes::{node_count, scope_node};
+use crate::spots::Spot;
+use crate::view::x_at;
+use scope_checks::Readings;
+use scope_rules::{ScopeId, TaskId};
+
+/// The place as a column.
+pub(crate) fn column_of(place: usize) -> u32
+    ensures { result ≡ column_of place }
+{
+    place.min(u32::MAX as usize) as u32
+}
+
+/// How far from the left the event at the place stands.
+pub(crate) fn x_of<R: Readings>(readings: &R, chart: &Chart<'_>, place: usize) -> u64
+    requires { IsChartOf chart.now chart.now.drawn (R.history readings.now) }
+    ensures { result ≡ x_in (R.history readings.now) (sheet_of chart.now.drawn) place }
+{
+    let _readings = readings;
+    x_at(
+        chart.drawn.view,
+        chart.drawn.times,
+        chart.columns,
+        chart.height,
+        column_of(place),
+    )
+}
+
+/// How far from the left it ends, if it ends at a place, or else the right edge.
+pub(crate) fn end_x<R: Readings>(readings: &R, chart: &Chart<'_>, place: Option<usize>) -> u64
+    requires { IsChartOf chart.now chart.now.drawn (R.history readings.now) }
+    ensures { result ≡ end_x (R.history readings.now) (sheet_of chart.now.drawn) place }
+{
+    match place {
+        Some(place) => x_of(readings, chart, place),
+        None => x_of(readings, chart, chart.columns as usize),
+    }
+}
+
+/// The number of the event at the place, or of its line.
+pub(crate) fn number_of(drawn: &Drawn<'_>, place: usize) -> u64
+    ensures { result ≡ number_in (sheet_of drawn.now) place }
+{
+    let column = column_of(place);
+    match drawn.lines.get(column as usize) {
+        Some(line) => u64::from(*line),
+        None => u64::from(column) + 1,
+    }
+}
+
+/// From the one place to the other, in such numbers.
+pub(crate) fn span_of(drawn: &Drawn<'_>, from: usize, to: Option<usize>) -> Span
+    ensures { result ≡ span_in (sheet_of drawn.now) from to }
+{
+    let last = match to {
+        Some(place) => Some(number_of(drawn, place)),
+        None => None,
+    };
+    Span {
+        lined: !drawn.lines.is_empty(),
+        from: number_of(drawn, from),
+        to: last,
+    }
+}
+
+/// The mark at the place, so far from above.
+pub(crate) fn mark_at<R: Readings>(
+    readings: &R,
+    chart: &Chart<'_>,
+    place: usize,
+    y: u64,
+    mark: Mark,
+) -> ShownMark
+    requires { IsChartOf chart.now chart.now.drawn (R.history readings.now) }
+    ensures { result ≡ mark_at (R.history readings.now) (sheet_of chart.now.drawn) place y mark }
+{
+    ShownMark {
+        spot: Spot {
+            x: x_of(readings, chart, place),
+            y,
+        },
+        lined: !chart.drawn.lines.is_empty(),
+        number: number_of(&chart.drawn, place),
+        mark,
+    }
+}
+
+/// The row of the scope, unless it is not drawn or lies in another.
+pub(crate) fn scope_row<R: Readings>(readings: &R, chart: &Chart<'_>, scope: ScopeId) -> Option<u32>
+    requires { IsChartOf chart.now chart.now.drawn (R.history readings.now) }
+    ensures { result ≡ scope_row (R.history readings.now) (sheet_of chart.now.drawn) scope }
+{
+    let node = scope_node(readings, scope);
+    if node < node_count(readings) {
+        chart.shown[node as usize]
+    } else {
+        None
+    }
+}
+
+/// Where the task got its thread, if it did.
+pub(crate) fn start_of<R: Readings>(readings: &R, chart: &Chart<'_>, task: TaskId) -> Option<usize>
+    requires chart { IsChartOf chart.now chart.now.drawn (R.history readings.now) }
+    requires forked { is_some (forking (R.history readings.now) task) ≡ true }
+    ensures { result ≡ first_place landmark.Started (R.history readings.now).events task }
+{
+    let _readings = readings;
+    chart.starts.place(task)
+}
+
+/// Where the task ended, or was rejected, if it did.
+pub(crate) fn end_of<R: Readings>(readings: &R, chart: &Chart<'_>, task: TaskId) -> Option<usize>
+    requires chart { IsChartOf chart.now chart.now.drawn (R.history readings.now) }
+    requires forked { is_some (forking (R.history readings.now) task) ≡ true }
+    ensures { result ≡ first_place landmark.Ended (R.history readings.now).events task }
+{
+    let _readings = readings;
+    chart.ends.place(task)
+}
+
+/// Where the scope was joined, if it was.
+pub(crate) fn join_of<R: Readings>(readings: &R, chart: &Chart<'_>, scope: ScopeId) -> Option<usize>
+    requires chart { IsChartOf chart.now chart.now.drawn (R.history readings.now) }
+    requires opened { is_some (opening (R.history readings.now) scope) ≡ true }
+    ensures { result ≡ first_place landmark.Joined (R.history readings.now).events scope }
+{
+    let _readings = readings;
+    chart.joins.place(scope)
+}
+
+/// Where a close of the scope itself began, if one did.
+pub(crate) fn begin_of<R: Readings>(
+    readings: &R,
+    chart: &Chart<'_>,
+    scope: ScopeId,
+) -> Option<usize>
+    requires chart { IsChartOf chart.now chart.now.drawn (R.history readings.now) }
+    requires opened { is_some (opening (R.history readings.now) scope) ≡ true }
+    ensures { result ≡ first_place landmark.Began (R.history readings.now).events scope }
+{
+    let _readings = readings;
+    chart.begins.place(scope)
+}
+
+/// Where the scope was closed, if it was.
+pub(crate) fn close_of<R: Readings>(
+    readings: &R,
+    chart: &Chart<'_>,
+    scope: ScopeId,
+) -> Option<usize>
+    requires chart { IsChartOf chart.now chart.now.drawn (R.history readings.now) }
+    requires opened { is_some (opening (R.history readings.now) scope) ≡ true }
+    ensures { result ≡ closed_place (R.history readings.now) scope }
+{
+    let _readings = readings;
+    chart.nest.closes.place(scope)
+}

@@ -1,0 +1,82 @@
+//! What of a run is drawn, and how large.
+ghost use Rattle.std.specs.Prelude.{◌≡◌, ◌<◌, ◌≤◌};
+ghost use Rattle.run_picture.specs.View.{high, natural_width, page_width, time_at, whole, x_at};
+
+use scope_rules::ScopeId;
+
+/// What of a run is drawn, and how large.
+#[derive(Clone, Copy)]
+pub struct View {
+    /// The picture's width, in pixels: at least 320, at most 100,000.
+    pub width: u32,
+    /// With more rows than these, each closed scope is one row, with all that lies in it.
+    pub rows: u32,
+    /// The place of the first event that is drawn apart from those before it.
+    pub from: u32,
+    /// The place of the last one.
+    pub to: u32,
+    /// The one scope that is drawn with what lies in it, if not all.
+    pub scope: Option<ScopeId>,
+}
+
+impl View {
+    /// The whole run, on a page 1,200 pixels wide.
+    pub fn whole() -> View
+        ensures { result ≡ whole }
+    {
+        View {
+            width: 1200,
+            rows: 300,
+            from: 0,
+            to: u32::MAX,
+            scope: None,
+        }
+    }
+}
+
+/// How high so many rows are, of those heights that a page is drawn for.
+pub(crate) fn high(rows: u32) -> u64
+    ensures { result ≡ high rows }
+{
+    (168 + 22 * u64::from(rows)).max(1000).min(5000)
+}
+
+/// The width of the page, in pixels.
+pub(crate) fn page_width(width: u32) -> u32
+    ensures { result ≡ page_width width }
+{
+    width.max(320).min(100_000)
+}
+
+/// The picture's width before it is scaled to the page, with so many rows.
+pub(crate) fn natural_width(width: u32, rows: u32) -> u64
+    ensures is { result ≡ natural_width width rows }
+    ensures bound { result ≤ 500000 }
+{
+    (u64::from(page_width(width)) * high(rows) / 1000).min(500_000)
+}
+
+/// The time of the event at the place, or of the last one behind all; without times, the place.
+pub(crate) fn time_at(times: &[u32], place: u32) -> u64
+    ensures is { result ≡ time_at times.now place }
+    ensures bound { result < 4294967296 }
+{
+    if times.is_empty() {
+        return u64::from(place);
+    }
+    u64::from(times[(place as usize).min(times.len() - 1)])
+}
+
+/// How far from the left the event at the place stands, of so many events.
+#[tactic(auto, unfolding(crate::specs::View::x_at))]
+pub(crate) fn x_at(view: View, times: &[u32], columns: u32, rows: u32, place: u32) -> u64
+    ensures { result ≡ x_at view times.now columns rows place }
+{
+    let last = view.to.min(columns);
+    let first = view.from.min(last);
+    let begin = time_at(times, first);
+    let span = time_at(times, last).saturating_sub(begin);
+    let here = time_at(times, place.max(first).min(last));
+    let far = here.saturating_sub(begin).min(span);
+    256 + far * (natural_width(view.width, rows) - 280) / span.max(1)
+}
