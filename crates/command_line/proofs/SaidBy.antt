@@ -3,7 +3,7 @@ use Rattle.std.proofs.Common.{◌≡◌, ◌∙◌, ap, ap₂, sym, refl, subst,
 use Rattle.std.specs.Prelude.{option_map}
 use Rattle.clap.specs.Matches.{one_text}
 use Rattle.clap.specs.declared.parser.matches.Found.{Found}
-use Rattle.command_line.specs.CommandLine.{Said, ScriptSaid, dump, replay, said_by, script_by, timeline, tree}
+use Rattle.command_line.specs.CommandLine.{ScriptSaid, dump, replay, said_by, script_by, timeline, tree}
 use Rattle.command_line.specs.Parsing.{TellsFlags}
 use Rattle.command_line.specs.Settings.{bool_text, flag_name}
 use Rattle.command_line.specs.declared.lines.Job.{Job}
