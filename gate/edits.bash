@@ -1,13 +1,10 @@
 # Which must-fail edits were refused on the texts as they are: gate/edits-tried has a line a crate, with the digest of
 # all that its edits stand on, the day and how many they are. ./test sources it.
 # shellcheck shell=bash
-
 # By crate: how many edits it has, the digest that its line would need, and the day of its line, if that digest is there.
 declare -A edit_count=() edit_digest=() tried_day=()
-
 # edits_of NAME: the names of the crate's edits.
 edits_of() { [[ ! -d $top/crates/$1/must-fail ]] || (cd "$top/crates/$1/must-fail" && LC_ALL=C ls); }
-
 # read_tried: fills the three for all crates that have edits. A digest is of the logic that the toolchain proves in
 # (toolchains of one logic differ in libraries and speed alone), the edits, and the sources of the crate and all below.
 read_tried() {
@@ -21,7 +18,6 @@ read_tried() {
         [[ $name == \#* || $digest != "${edit_digest[$name]:-none}" ]] || tried_day[$name]=$day
     done <gate/edits-tried
 }
-
 # note_refused LOG NAME..: of these crates those have a line now of which the toolchain refused every edit. What it said
 # of any other edit is said again, and the status is then 1.
 note_refused() {

@@ -24,7 +24,7 @@ use Rattle.bad_words.specs.declared.shapes.FieldKind.TheVariants as kind
 use Rattle.bad_words.specs.declared.shapes.Shape.{Shape}
 use Rattle.bad_words.specs.declared.shapes.Shape.TheVariants as shape
 use Rattle.bad_words.specs.Shapes.{shape_of}
-use Rattle.bad_words.specs.Faults.{is_kind, misfit, left_over, stray_fault, open_fault, shape_fault, form_fault, fields_fault, fault_of}
+use Rattle.bad_words.specs.Faults.{is_kind, misfit, left_over, options_taken, stray_fault, open_fault, shape_fault, form_fault, fields_fault, fault_of}
 use Rattle.bad_words.specs.Fits.{is_bad}
 
 -- ---- what is found or not
@@ -98,14 +98,14 @@ three_fields said also more f s k l m tells tell tell' (a ∷ b ∷ c ∷ d ∷ 
 
 -- ---- the form of `open`
 
-empty_by : {A : Type 0} (l : List (List ℕ)) (x : A) → not (is_some (cond (is_empty l) (Some x) None)) ≡ is_some (stray_fault l)
-empty_by [] x = refl
-empty_by (w ∷ ws) x = refl
+empty_by : {A : Type 0} (n : ℕ) (l : List (List ℕ)) (x : A) → not (is_some (cond (is_empty l) (Some x) None)) ≡ is_some (stray_fault n l)
+empty_by n [] x = refl
+empty_by n (w ∷ ws) x = refl
 
-open_by : (o : Option ℕ) (words : List (List ℕ)) → not (is_some (o >>= (λ n. opened n words))) ≡ is_some (cond (is_some o) (stray_fault (left_over words)) (Some (fault.Wrong shape.Open 0 kind.Actor)))
+open_by : (o : Option ℕ) (words : List (List ℕ)) → not (is_some (o >>= (λ n. opened n words))) ≡ is_some (cond (is_some o) (stray_fault (1 + options_taken words) (left_over words)) (Some (fault.Wrong shape.Open 0 kind.Actor)))
 unfolding opened left_over
 open_by None words = refl
-open_by (Some n) words = empty_by (left_over words) _
+open_by (Some n) words = empty_by (1 + options_taken words) (left_over words) _
 
 open_fits : (args : List (List ℕ)) → not (is_some (open_said args)) ≡ is_some (open_fault args)
 unfolding open_said

@@ -2,3 +2,5 @@ mod Ascii
 mod Tables
 mod Options
 mod FaultsFit
+mod FirstWrong
+mod PlacesFit

@@ -4,12 +4,11 @@ use Rattle.std.specs.Option.{option_map_or, option_or, option_and_then}
 use Rattle.std.specs.Str.{bytes_eq}
 use Rattle.std.proofs.lemmas.Option.{some_pair_parts}
 use Rattle.scope_rules.specs.declared.types.joiners.Policy.TheVariants.{AwaitOk}
-use Rattle.scope_rules.specs.declared.types.joiners.Rule.{Rule}
 use Rattle.script_words.specs.Fields.{first_and_rest}
 use Rattle.script_words.specs.Joiners.{after, policy_said, rule_said, failures_said, successes_said, sum_said}
 use Rattle.script_words.specs.Numbers.{small_said, integer_said}
 use Rattle.script_words.specs.Openings.{found_or, next_said, policy_next, deadline_said, deadline_next, flag_said, flag_next}
-use Rattle.bad_words.specs.Faults.{is_small_after, is_integer_after}
+use Rattle.bad_words.specs.Faults.{is_small_after, is_integer_after, count_of, count_next}
 
 -- ---- rules
 
@@ -116,3 +115,15 @@ flag_taken flag fs word others first is = taken false (flag_said flag) fs word o
 pub flag_kept : (flag : List ℕ) (fs : List (List ℕ)) (word : List ℕ) (others : List (List ℕ)) → Some (word, others) ≡ first_and_rest fs → bytes_eq word flag ≡ false → fs ≡ (flag_next flag fs).1
 unfolding flag_next
 flag_kept flag fs word others first is = kept false (flag_said flag) fs word others first (flag_is flag word ∙ is)
+
+-- ---- how many come next
+
+pub count_none : (is : List ℕ → Bool) (fs : List (List ℕ)) → None ≡ first_and_rest fs → 0 ≡ count_next is fs
+count_none is [] none = refl
+count_none is (w ∷ ws) none = absurd cc
+
+pub count_some : (is : List ℕ → Bool) (fs : List (List ℕ)) (word : List ℕ) (others : List (List ℕ)) (b : Bool) (n : ℕ) → Some (word, others) ≡ first_and_rest fs → b ≡ is word → n ≡ count_of b → n ≡ count_next is fs
+count_some is [] word others b n first so count = absurd cc
+count_some is (w ∷ ws) word others b n first so count =
+    let parts = some_pair_parts word w others ws first in
+    count ∙ ap count_of (so ∙ ap is parts.0)

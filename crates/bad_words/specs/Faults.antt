@@ -1,6 +1,7 @@
 -- Why a line is no command: the first of its fields that its form does not have there.
-use Rattle.std.specs.Prelude.{ℕ, ◌+◌, Bool, true, false, nat_lt, List, [], ◌∷◌, length, Option, Some, None, option_map, is_some, codes, if◌then◌else◌}
+use Rattle.std.specs.Prelude.{ℕ, ◌+◌, Bool, false, nat_lt, List, [], ◌∷◌, length, Option, Some, None, option_map, is_some, codes, if◌then◌else◌}
 use Rattle.std.specs.Option.{option_map_or}
+use Rattle.std.specs.Str.{bytes_eq}
 use Rattle.script_words.specs.declared.lines.TheConstants.{LINE_LIMIT}
 use Rattle.script_words.specs.Fields.{fields}
 use Rattle.script_words.specs.Forms.{new_deadline_said}
@@ -8,7 +9,7 @@ use Rattle.script_words.specs.Joiners.{after, policy_said}
 use Rattle.script_words.specs.Keywords.{keyword_said}
 use Rattle.script_words.specs.Lines.{begins_comment}
 use Rattle.script_words.specs.Numbers.{small_said, moment_said, integer_said}
-use Rattle.script_words.specs.Openings.{policy_next, deadline_next, flag_next}
+use Rattle.script_words.specs.Openings.{policy_next, deadline_said, deadline_next, flag_next}
 use Rattle.script_words.specs.Words.{name_said, value_said}
 use Rattle.bad_words.specs.declared.faults.WordFault.{WordFault}
 use Rattle.bad_words.specs.declared.faults.WordFault.TheVariants as fault
@@ -46,15 +47,41 @@ misfit s n (k ∷ ks) (word ∷ words) = if is_kind k word then misfit s (n + 1)
 unfoldable pub left_over : List (List ℕ) → List (List ℕ)
 left_over words = (flag_next (codes "shield") (flag_next (codes "move-on") (deadline_next (policy_next words).1).1).1).1
 
--- a word that is left over is none of an open's options, or out of order, or twice
-abbrev pub stray_fault : List (List ℕ) → Option WordFault
-stray_fault [] = None
-stray_fault (word ∷ words) = Some fault.Stray
+-- one, or none
+abbrev pub count_of : Bool → ℕ
+count_of is = if is then 1 else 0
+
+-- how many words come next that are such: one or none
+abbrev pub count_next : (List ℕ → Bool) → List (List ℕ) → ℕ
+count_next is [] = 0
+count_next is (word ∷ words) = count_of (is word)
+
+-- the word is a joiner, a deadline, or the flag
+abbrev pub is_joiner : List ℕ → Bool
+is_joiner word = is_some (policy_said word)
+
+abbrev pub is_due : List ℕ → Bool
+is_due word = is_some (deadline_said word)
+
+abbrev pub is_flag : List ℕ → List ℕ → Bool
+is_flag flag word = bytes_eq word flag
+
+-- how many of the words after the actor of an open are its joiner, its deadline and its flags
+unfoldable pub options_taken : List (List ℕ) → ℕ
+options_taken words =
+    let behind = (policy_next words).1 in
+    let flagged = (deadline_next behind).1 in
+    count_next is_joiner words + count_next is_due behind + count_next (is_flag (codes "move-on")) flagged + count_next (is_flag (codes "shield")) (flag_next (codes "move-on") flagged).1
+
+-- the word that is left over, at the index, is none of an open's options, or out of order, or twice
+abbrev pub stray_fault : ℕ → List (List ℕ) → Option WordFault
+stray_fault n [] = None
+stray_fault n (word ∷ words) = Some (fault.Stray n)
 
 -- of an open the actor is looked at, and then what is left over
 abbrev pub open_fault : List (List ℕ) → Option WordFault
 open_fault [] = Some (fault.Missing shape.Open kind.Actor)
-open_fault (actor ∷ words) = if is_kind kind.Actor actor then stray_fault (left_over words) else Some (fault.Wrong shape.Open 0 kind.Actor)
+open_fault (actor ∷ words) = if is_kind kind.Actor actor then stray_fault (1 + options_taken words) (left_over words) else Some (fault.Wrong shape.Open 0 kind.Actor)
 
 -- why these fields are not those of the shape
 abbrev pub shape_fault : Shape → List (List ℕ) → Option WordFault

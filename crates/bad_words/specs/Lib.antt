@@ -1,5 +1,9 @@
 pub mod Shown
 pub mod Shapes
 pub mod Faults
+pub mod Causes
+pub mod Guesses
 pub mod Sentences
+pub mod Places
 pub mod Fits
+pub mod FirstWrong

@@ -3,7 +3,7 @@ ghost use Rattle.std.specs.Prelude.{◌≡◌, Some};
 ghost use Rattle.script_words.specs.Fields.{fields};
 ghost use Rattle.bad_words.specs.Faults.{stray_fault, open_fault, shape_fault, fields_fault, fault_of};
 
-use crate::fields::{left_over, misfit};
+use crate::fields::{left_over, misfit, options_taken};
 use crate::shapes::{FieldKind, Shape, kinds, shape_of_word};
 use crate::words::is_kind;
 use script_words::{LINE_LIMIT, next_field};
@@ -33,16 +33,18 @@ pub enum WordFault {
         shape: Shape,
         index: usize,
     },
-    /// A word of an open is none of its options, or out of their order, or there twice.
-    Stray,
+    /// The field of an open is none of its options, or out of their order, or there twice.
+    Stray {
+        index: usize,
+    },
 }
 
-/// The fault of a word that is left over, if there is one.
-fn stray_fault(text: &[u8]) -> Option<WordFault>
-    ensures { result ≡ stray_fault (fields text.now) }
+/// The fault of a word that is left over, if there is one. It is the field at the index.
+fn stray_fault(index: usize, text: &[u8]) -> Option<WordFault>
+    ensures { result ≡ stray_fault index (fields text.now) }
 {
     match next_field(text) {
-        Some(_) => Some(WordFault::Stray),
+        Some(_) => Some(WordFault::Stray { index }),
         None => None,
     }
 }
@@ -57,7 +59,7 @@ fn open_fault(text: &[u8]) -> Option<WordFault>
         return Some(WordFault::Missing { shape, kind });
     };
     if is_kind(kind, actor) {
-        return stray_fault(left_over(rest));
+        return stray_fault(1 + options_taken(rest), left_over(rest));
     }
     Some(WordFault::Wrong {
         shape,

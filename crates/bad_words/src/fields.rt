@@ -2,7 +2,7 @@
 ghost use Rattle.std.specs.Prelude.{◌≡◌, ◌+◌, ◌≤◌, length, codes};
 ghost use Rattle.script_words.specs.Fields.{fields};
 ghost use Rattle.script_words.specs.Openings.{policy_next, deadline_next, flag_next};
-ghost use Rattle.bad_words.specs.Faults.{misfit, left_over};
+ghost use Rattle.bad_words.specs.Faults.{misfit, left_over, count_of, count_next, is_joiner, is_due, is_flag, options_taken};
 ghost use Rattle.bad_words.specs.Sentences.{field_at};
 
 use crate::faults::WordFault;
@@ -93,4 +93,63 @@ pub(crate) fn left_over(text: &[u8]) -> &[u8]
 {
     let rest = after_deadline(after_policy(text));
     after_flag(b"shield", after_flag(b"move-on", rest))
+}
+
+/// How many words of the text come next that are a joiner: one or none.
+#[tactic(auto, using(crate::proofs::Options::count_none, crate::proofs::Options::count_some))]
+fn policies_next(text: &[u8]) -> usize
+    ensures count { result ≡ count_next is_joiner (fields text.now) }
+    ensures within { result ≤ 1 }
+{
+    match next_field(text) {
+        Some((word, _)) => count_of(is_policy(word)),
+        None => 0,
+    }
+}
+
+/// How many words of the text come next that are a deadline: one or none.
+#[tactic(auto, using(crate::proofs::Options::count_none, crate::proofs::Options::count_some))]
+fn deadlines_next(text: &[u8]) -> usize
+    ensures count { result ≡ count_next is_due (fields text.now) }
+    ensures within { result ≤ 1 }
+{
+    match next_field(text) {
+        Some((word, _)) => count_of(is_deadline(word)),
+        None => 0,
+    }
+}
+
+/// How many words of the text come next that are the flag: one or none.
+#[tactic(auto, using(crate::proofs::Options::count_none, crate::proofs::Options::count_some))]
+fn flags_next(flag: &[u8], text: &[u8]) -> usize
+    ensures count { result ≡ count_next (is_flag flag.now) (fields text.now) }
+    ensures within { result ≤ 1 }
+{
+    match next_field(text) {
+        Some((word, _)) => count_of(word == flag),
+        None => 0,
+    }
+}
+
+/// One, or none.
+fn count_of(is_there: bool) -> usize
+    ensures count { result ≡ count_of is_there }
+    ensures within { result ≤ 1 }
+{
+    if is_there { 1 } else { 0 }
+}
+
+/// How many words of the text after the actor of an open are its joiner, its deadline and its flags.
+#[tactic(auto, unfolding(crate::specs::Faults::options_taken))]
+pub(crate) fn options_taken(text: &[u8]) -> usize
+    ensures count { result ≡ options_taken (fields text.now) }
+    ensures within { result ≤ 4 }
+{
+    let policies = policies_next(text);
+    let behind = after_policy(text);
+    let deadlines = deadlines_next(behind);
+    let flagged = after_deadline(behind);
+    let moves = flags_next(b"move-on", flagged);
+    let shields = flags_next(b"shield", after_flag(b"move-on", flagged));
+    policies + deadlines + moves + shields
 }

@@ -1,14 +1,17 @@
 //! The sentences of faults.
-ghost use Rattle.std.specs.Prelude.{◌≡◌, Some};
+ghost use Rattle.std.specs.Prelude.{◌≡◌, None, Some, codes, option_map};
 ghost use Rattle.script_words.specs.Fields.{fields};
-ghost use Rattle.bad_words.specs.Sentences.{field_at, behind, shape_text, kind_text, wanted_text, form_text, field_text, stray_text, line_fault_text};
-ghost use Rattle.bad_words.specs.Shown.{shown_text};
+ghost use Rattle.script_words.specs.Joiners.{after};
+ghost use Rattle.bad_words.specs.Sentences.{behind, shape_text, kind_text, wanted_text, form_text, alien_text, strange_text, cause_text, misfit_text, wrong_text, guess_text, unknown_text, extra_text, is_option, other_text, stray_text, later_field, line_fault_text};
 
+use crate::causes::{Alien, Cause, alien_in, cause_of};
 use crate::faults::WordFault;
-use crate::fields::{field_at, left_over};
+use crate::fields::field_at;
+use crate::guesses::nearest;
 use crate::shapes::{FieldKind, Shape};
-use crate::shown::ShownBytes;
-use script_words::next_field;
+use crate::shown::{ShownByte, ShownBytes};
+use crate::words::{is_deadline, is_policy};
+use script_words::{LINE_LIMIT, next_field};
 use std::fmt;
 
 /// The text behind the first field.
@@ -98,44 +101,212 @@ impl fmt::Display for ShownForm<'_> {
     }
 }
 
-/// The field at the index behind the first word of the line.
-#[derive(Clone, Copy)]
-struct ShownField<'a> {
-    line: &'a [u8],
-    index: usize,
-}
+/// The first words of commands.
+const COMMANDS: [&[u8]; 23] = [
+    b"open", b"fork", b"reject", b"start", b"ok", b"fail", b"cancel", b"move", b"tick", b"bind",
+    b"unbind", b"join", b"close", b"closed", b"retire", b"state", b"stage", b"result", b"fault",
+    b"cause", b"until", b"counts", b"get",
+];
 
-impl fmt::Display for ShownField<'_> {
-    ghost output = { λ s. Some (field_text (fields s.line.now) s.index) };
+/// The words of an open that have no number.
+const OPTIONS: [&[u8]; 6] = [b"all", b"any", b"await", b"await-ok", b"move-on", b"shield"];
 
-    fn fmt<W: fmt::Write>(&self, f: &mut fmt::Formatter<W>) -> fmt::Result {
-        write!(f, "{}", ShownBytes(field_at(behind(self.line), self.index)))
+/// What other systems leave in a word, and what it is to be instead.
+fn alien_words(alien: Alien) -> &'static str
+    ensures { result.now ≡ alien_text alien }
+{
+    match alien {
+        Alien::ByteOrderMark => "a byte order mark: a script is text without one",
+        Alien::Utf16 => "a byte 0, as in UTF-16: a script is ASCII text",
+        Alien::CarriageReturn => "a carriage return: a line ends in a line feed alone",
+        Alien::Tab => "a tab: fields stand between spaces",
     }
 }
 
-/// The first word of an open that is left over, behind the actor and the options.
+/// A byte that is strange in a word.
+#[derive(Clone, Copy)]
+struct ShownStrange(u8);
+
+impl fmt::Display for ShownStrange {
+    ghost output = { λ b. Some (strange_text b.0) };
+
+    fn fmt<W: fmt::Write>(&self, f: &mut fmt::Formatter<W>) -> fmt::Result {
+        if self.0 > 127 {
+            return f.write_str("a byte that is not ASCII");
+        }
+        write!(f, "{}", ShownByte(self.0))
+    }
+}
+
+/// Why a word is not what it must be, behind what it must be.
+#[derive(Clone, Copy)]
+struct ShownCause(Cause);
+
+impl fmt::Display for ShownCause {
+    ghost output = { λ c. Some (cause_text c.0) };
+
+    #[tactic(auto, unfolding(crate::specs::Sentences::cause_text))]
+    fn fmt<W: fmt::Write>(&self, f: &mut fmt::Formatter<W>) -> fmt::Result {
+        match self.0 {
+            Cause::Plain => Ok(()),
+            Cause::TooGreat => f.write_str(" (it is too great)"),
+            Cause::TooWide => f.write_str(" (it has more than 64 bits)"),
+            Cause::NeedlessZero => f.write_str(" (it begins with a needless 0)"),
+            Cause::Signed => f.write_str(" (it has a sign)"),
+            Cause::NoDigit(other) => write!(f, " ({} is not a digit)", ShownStrange(other)),
+            Cause::HasUnit => f.write_str(" (it is in milliseconds, without a unit)"),
+            Cause::TooLongName(bytes) => write!(f, " (it has {bytes} bytes)"),
+            Cause::BeginsWith(first) => write!(f, " (it begins with {})", ShownStrange(first)),
+            Cause::HasByte(other) => write!(f, " (it has {})", ShownStrange(other)),
+        }
+    }
+}
+
+/// Why the word is not of the kind.
+#[derive(Clone, Copy)]
+struct ShownMisfit<'a> {
+    kind: FieldKind,
+    word: &'a [u8],
+}
+
+impl fmt::Display for ShownMisfit<'_> {
+    ghost output = { λ m. Some (misfit_text m.kind m.word.now) };
+
+    fn fmt<W: fmt::Write>(&self, f: &mut fmt::Formatter<W>) -> fmt::Result {
+        let kind = ShownKind(self.kind);
+        let word = ShownBytes(self.word);
+        let wanted = ShownWanted(self.kind);
+        let cause = ShownCause(cause_of(self.kind, self.word));
+        write!(f, "{kind} is {word}, but must be {wanted}{cause}")
+    }
+}
+
+/// The same, but where the word has bytes that no script has, what they are.
+#[derive(Clone, Copy)]
+struct ShownWrong<'a>(ShownMisfit<'a>);
+
+impl fmt::Display for ShownWrong<'_> {
+    ghost output = { λ m. Some (wrong_text m.0.kind m.0.word.now) };
+
+    fn fmt<W: fmt::Write>(&self, f: &mut fmt::Formatter<W>) -> fmt::Result {
+        match alien_in(self.0.word) {
+            Some(alien) => f.write_str(alien_words(alien)),
+            None => write!(f, "{}", self.0),
+        }
+    }
+}
+
+/// The word that may be meant, as a question.
+#[derive(Clone, Copy)]
+struct ShownGuess<'a>(Option<&'a [u8]>);
+
+impl fmt::Display for ShownGuess<'_> {
+    ghost output = { λ g. Some (guess_text (option_map (λ word. word.now) g.0)) };
+
+    fn fmt<W: fmt::Write>(&self, f: &mut fmt::Formatter<W>) -> fmt::Result {
+        match self.0 {
+            Some(word) => write!(f, "; did you mean {}?", ShownBytes(word)),
+            None => Ok(()),
+        }
+    }
+}
+
+/// A first word with which no form begins.
+#[derive(Clone, Copy)]
+struct ShownUnknown<'a>(&'a [u8]);
+
+impl fmt::Display for ShownUnknown<'_> {
+    ghost output = { λ w. Some (unknown_text w.0.now) };
+
+    fn fmt<W: fmt::Write>(&self, f: &mut fmt::Formatter<W>) -> fmt::Result {
+        if let Some(alien) = alien_in(self.0) {
+            return f.write_str(alien_words(alien));
+        }
+        let word = ShownBytes(self.0);
+        let guess = ShownGuess(nearest(&COMMANDS, self.0));
+        write!(f, "unknown command: {word}{guess}")
+    }
+}
+
+/// A field that is one too many.
+#[derive(Clone, Copy)]
+struct ShownExtra<'a>(&'a [u8]);
+
+impl fmt::Display for ShownExtra<'_> {
+    ghost output = { λ w. Some (extra_text w.0.now) };
+
+    fn fmt<W: fmt::Write>(&self, f: &mut fmt::Formatter<W>) -> fmt::Result {
+        match alien_in(self.0) {
+            Some(alien) => f.write_str(alien_words(alien)),
+            None => write!(f, "unexpected field: {}", ShownBytes(self.0)),
+        }
+    }
+}
+
+/// Whether the word is an option of an open.
+fn is_option(word: &[u8]) -> bool
+    ensures { result ≡ is_option word.now }
+{
+    is_policy(word)
+        || is_deadline(word)
+        || word == b"move-on".as_slice()
+        || word == b"shield".as_slice()
+}
+
+/// A word that is no option of an open: a deadline of what is no moment, or none at all.
+#[derive(Clone, Copy)]
+struct ShownOther<'a>(&'a [u8]);
+
+impl fmt::Display for ShownOther<'_> {
+    ghost output = { λ w. Some (other_text w.0.now (after (codes "deadline=") w.0.now)) };
+
+    #[tactic(auto, unfolding(script_words::specs::Joiners::after))]
+    fn fmt<W: fmt::Write>(&self, f: &mut fmt::Formatter<W>) -> fmt::Result {
+        let kind = FieldKind::Moment;
+        match self.0.strip_prefix(b"deadline=".as_slice()) {
+            Some(word) => write!(f, "{}", ShownMisfit { kind, word }),
+            None => write!(f, "{}", ShownNoOption(self.0)),
+        }
+    }
+}
+
+/// A word that is nothing like an option of an open.
+#[derive(Clone, Copy)]
+struct ShownNoOption<'a>(&'a [u8]);
+
+impl fmt::Display for ShownNoOption<'_> {
+    ghost output = { λ w. Some (other_text w.0.now None) };
+
+    fn fmt<W: fmt::Write>(&self, f: &mut fmt::Formatter<W>) -> fmt::Result {
+        let word = ShownBytes(self.0);
+        let guess = ShownGuess(nearest(&OPTIONS, self.0));
+        write!(f, "unknown option: {word}{guess}")
+    }
+}
+
+/// The word of an open that is left over.
 #[derive(Clone, Copy)]
 struct ShownStray<'a>(&'a [u8]);
 
 impl fmt::Display for ShownStray<'_> {
-    ghost output = { λ s. Some (stray_text (fields s.0.now)) };
+    ghost output = { λ w. Some (stray_text w.0.now) };
 
     fn fmt<W: fmt::Write>(&self, f: &mut fmt::Formatter<W>) -> fmt::Result {
-        let rest = left_over(behind(behind(self.0)));
-        write!(f, "{}", ShownBytes(field_at(rest, 0)))
+        if let Some(alien) = alien_in(self.0) {
+            return f.write_str(alien_words(alien));
+        }
+        if is_option(self.0) {
+            return write!(f, "repeated or out of order: {}", ShownBytes(self.0));
+        }
+        write!(f, "{}", ShownOther(self.0))
     }
 }
 
-/// The first word of the line.
-#[derive(Clone, Copy)]
-struct ShownWord<'a>(&'a [u8]);
-
-impl fmt::Display for ShownWord<'_> {
-    ghost output = { λ s. Some (shown_text (field_at (fields s.0.now) 0)) };
-
-    fn fmt<W: fmt::Write>(&self, f: &mut fmt::Formatter<W>) -> fmt::Result {
-        write!(f, "{}", ShownBytes(field_at(self.0, 0)))
-    }
+/// The field at the index behind the first word of the line.
+fn later_field(line: &[u8], index: usize) -> &[u8]
+    ensures { result.now ≡ later_field (fields line.now) index }
+{
+    field_at(behind(line), index)
 }
 
 /// The sentence of the fault of this line, without a full stop.
@@ -153,15 +324,15 @@ impl fmt::Display for ShownFault<'_> {
         let line = self.line;
         match self.fault {
             WordFault::TooLong { bytes } => {
-                write!(f, "the line has {bytes} bytes, and the limit is 200")
+                let limit = LINE_LIMIT;
+                write!(f, "the line has {bytes} bytes, and the limit is {limit}")
             }
-            WordFault::NoForm => write!(f, "unknown command: {}", ShownWord(line)),
+            WordFault::NoForm => write!(f, "{}", ShownUnknown(field_at(line, 0))),
             WordFault::Wrong { shape, index, kind } => {
                 let form = ShownForm { line, shape };
-                let field = ShownField { line, index };
-                let wanted = ShownWanted(kind);
-                let kind = ShownKind(kind);
-                write!(f, "{form}: {kind} is {field}, but must be {wanted}")
+                let word = later_field(line, index);
+                let wrong = ShownWrong(ShownMisfit { kind, word });
+                write!(f, "{form}: {wrong}")
             }
             WordFault::Missing { shape, kind } => {
                 let form = ShownForm { line, shape };
@@ -170,14 +341,14 @@ impl fmt::Display for ShownFault<'_> {
             }
             WordFault::Extra { shape, index } => {
                 let form = ShownForm { line, shape };
-                let field = ShownField { line, index };
-                write!(f, "{form}: unexpected field: {field}")
+                let extra = ShownExtra(later_field(line, index));
+                write!(f, "{form}: {extra}")
             }
-            WordFault::Stray => {
+            WordFault::Stray { index } => {
                 let shape = Shape::Open;
                 let form = ShownForm { line, shape };
-                let field = ShownStray(line);
-                write!(f, "{form}: unexpected, repeated or out of order: {field}")
+                let stray = ShownStray(later_field(line, index));
+                write!(f, "{form}: {stray}")
             }
         }
     }

@@ -21,7 +21,7 @@ fn shown_byte(byte: u8) -> u8
 
 /// A byte.
 #[derive(Clone, Copy)]
-struct ShownByte(u8);
+pub(crate) struct ShownByte(pub(crate) u8);
 
 impl fmt::Display for ShownByte {
     ghost output = { λ b. Some (shown_alone b.0) };
@@ -34,7 +34,7 @@ impl fmt::Display for ShownByte {
 
 /// Bytes, each as it is shown.
 #[derive(Clone, Copy)]
-struct AllShown<'a>(&'a [u8]);
+pub(crate) struct AllShown<'a>(pub(crate) &'a [u8]);
 
 impl fmt::Display for AllShown<'_> {
     ghost output = { λ b. Some (all_shown b.0.now) };

@@ -156,9 +156,9 @@ module _ (numbers : Numbers) where
 
 module _ (said : Said) where
   -- a job that runs a script has its limits
-  script_has : (strict : Bool) (f : ScriptSaid → Said) (a : Option Numbers) → option_map f (option_map (λ numbers. record { numbers = numbers; strict = strict }) a) ≡ Some said → HasSome Numbers a
-  script_has strict f None e = absurd (cc)
-  script_has strict f (Some numbers) e = some numbers refl
+  script_has : (strict quiet : Bool) (f : ScriptSaid → Said) (a : Option Numbers) → option_map f (option_map (λ numbers. record { numbers = numbers; strict = strict; quiet = quiet }) a) ≡ Some said → HasSome Numbers a
+  script_has strict quiet f None e = absurd (cc)
+  script_has strict quiet f (Some numbers) e = some numbers refl
 
   after_has : (deadline : Option ℕ) (c : Option (Option NameAndMillis)) → option_map (λ after. quote deadline after) c ≡ Some said → HasSome (Option NameAndMillis) c
   after_has deadline None e = absurd (cc)
@@ -194,10 +194,10 @@ no_flags job final said e name text own is = go job e own
     limits has own = limits_flagless (text_given final) has name own text is
 
     go : (job : Job) → job_said job final ≡ Some said → has_option job name ≡ true → is_no_flag text ≡ true
-    go Replay e own = limits (script_has said _ _ _ e) own
-    go Dump e own = limits (script_has said _ _ _ e) own
-    go Tree e own = limits (script_has said _ _ _ e) own
-    go Timeline e own = limits (script_has said _ _ _ e) own
+    go Replay e own = limits (script_has said _ _ _ _ e) own
+    go Dump e own = limits (script_has said _ _ _ _ e) own
+    go Tree e own = limits (script_has said _ _ _ _ e) own
+    go Timeline e own = limits (script_has said _ _ _ _ e) own
     go Quote e own = let have = times_have said _ _ e in times_flagless (text_given final) have.0 have.1 name own text is
 
 -- ---- words that say a command

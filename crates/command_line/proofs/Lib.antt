@@ -13,3 +13,5 @@ mod Requests
 mod Saying
 mod TopLevel
 mod Walking
+mod SaidBy
+mod Filed

@@ -10,7 +10,7 @@ use Rattle.command_line.specs.declared.lines.CommandLine.{CommandLine}
 use Rattle.command_line.specs.declared.lines.CommandLine.TheVariants as line
 use Rattle.command_line.specs.declared.settings.ScriptOptions.{ScriptOptions}
 use Rattle.command_line.specs.declared.settings.Flag.{Flag}
-use Rattle.command_line.specs.declared.settings.Flag.TheVariants.{Strict, Explain, Trace}
+use Rattle.command_line.specs.declared.settings.Flag.TheVariants.{Strict, Explain, Trace, Quiet, Lenient}
 use Rattle.command_line.specs.declared.settings.Setting.{Setting}
 use Rattle.command_line.specs.declared.lines.Job.{Job}
 use Rattle.command_line.specs.declared.lines.Job.TheVariants.{Replay, Dump, Tree, Timeline, Quote}
@@ -50,13 +50,13 @@ option_names Tree = limit_names
 option_names Timeline = limit_names
 option_names Quote = time_names
 
--- the names of the options without a text that a job has: each that runs a script may be strict, and a replay can be
--- explained and traced
+-- the names of the options without a text that a job has: each that runs a script may be strict and quiet, a replay can
+-- be explained and traced, and a view for people may be lenient
 abbrev pub flag_names : Job → List (List ℕ)
-flag_names Replay = flag_name Strict ∷ flag_name Explain ∷ flag_name Trace ∷ []
-flag_names Dump = flag_name Strict ∷ []
-flag_names Tree = flag_name Strict ∷ []
-flag_names Timeline = flag_name Strict ∷ []
+flag_names Replay = flag_name Strict ∷ flag_name Quiet ∷ flag_name Explain ∷ flag_name Trace ∷ []
+flag_names Dump = flag_name Strict ∷ flag_name Quiet ∷ []
+flag_names Tree = flag_name Strict ∷ flag_name Quiet ∷ flag_name Lenient ∷ []
+flag_names Timeline = flag_name Strict ∷ flag_name Quiet ∷ flag_name Lenient ∷ []
 flag_names Quote = []
 
 -- ---- options
@@ -111,32 +111,33 @@ given_to job words = options_said job [] words
 
 -- ---- commands
 
--- how a script is run: the numbers of its realm's limits, and whether it is strict
+-- how a script is run: the numbers of its realm's limits, and whether it is strict and quiet
 pub record ScriptSaid : Type 0 where
   pub numbers : Numbers
   pub strict : Bool
+  pub quiet : Bool
 
 -- a job, and what its options say
 pub data Said : Type 0 where
   replay : ScriptSaid → (explain trace : Bool) → Said
   dump : ScriptSaid → Said
-  tree : ScriptSaid → Said
-  timeline : ScriptSaid → Said
+  tree : ScriptSaid → (lenient : Bool) → Said
+  timeline : ScriptSaid → (lenient : Bool) → Said
   quote : (deadline : Option ℕ) (after : Option NameAndMillis) → Said
 
-abbrev pub script_by : (Setting → Option (List ℕ)) → (strict : Bool) → Option ScriptSaid
-script_by given strict =
-    option_map (λ numbers. record { numbers = numbers; strict = strict }) (numbers_by given)
+abbrev pub script_by : (Setting → Option (List ℕ)) → (strict quiet : Bool) → Option ScriptSaid
+script_by given strict quiet =
+    option_map (λ numbers. record { numbers = numbers; strict = strict; quiet = quiet }) (numbers_by given)
 
 abbrev pub quote_by : (Setting → Option (List ℕ)) → Option Said
 quote_by given = option_and_then (λ deadline. option_map (λ after. quote deadline after) (delay_by (given After))) (deadline_by (given Deadline))
 
 -- what is said of a job by the texts of its options, and by those options without a text that were given
 abbrev pub said_by : Job → (Setting → Option (List ℕ)) → (Flag → Bool) → Option Said
-said_by Replay given has = option_map (λ script. replay script (has Explain) (has Trace)) (script_by given (has Strict))
-said_by Dump given has = option_map (λ script. dump script) (script_by given (has Strict))
-said_by Tree given has = option_map (λ script. tree script) (script_by given (has Strict))
-said_by Timeline given has = option_map (λ script. timeline script) (script_by given (has Strict))
+said_by Replay given has = option_map (λ script. replay script (has Explain) (has Trace)) (script_by given (has Strict) (has Quiet))
+said_by Dump given has = option_map (λ script. dump script) (script_by given (has Strict) (has Quiet))
+said_by Tree given has = option_map (λ script. tree script (has Lenient)) (script_by given (has Strict) (has Quiet))
+said_by Timeline given has = option_map (λ script. timeline script (has Lenient)) (script_by given (has Strict) (has Quiet))
 said_by Quote given has = quote_by given
 
 -- what is said of a job by the options that were given
@@ -150,13 +151,13 @@ command_said (program ∷ command ∷ options) = option_and_then (λ job. option
 command_said _ = None
 
 abbrev pub script_of : ScriptOptions → ScriptSaid
-script_of options = record { numbers = numbers_of options.limits; strict = options.strict }
+script_of options = record { numbers = numbers_of options.limits; strict = options.strict; quiet = options.quiet }
 
 abbrev pub said_of : CommandLine → Said
 said_of (line.Replay script explain trace) = replay (script_of script) explain trace
 said_of (line.Dump script) = dump (script_of script)
-said_of (line.Tree script) = tree (script_of script)
-said_of (line.Timeline script) = timeline (script_of script)
+said_of (line.Tree script lenient) = tree (script_of script) lenient
+said_of (line.Timeline script lenient) = timeline (script_of script) lenient
 said_of (line.Quote deadline after) = quote deadline (option_map delay_of after)
 
 -- the words say the command, as they are read

@@ -1,6 +1,7 @@
 pub mod Application
 pub mod CommandLine
 pub mod Faults
+pub mod Files
 pub mod HelpWord
 pub mod Hints
 pub mod Parsing

@@ -10,7 +10,7 @@ use Rattle.scope_rules.specs.declared.types.capacity.Limits.{Limits}
 use Rattle.scope_rules.specs.declared.types.capacity.TheConstants.{SCOPE_LIMIT, TASK_LIMIT, LOAD_LIMIT}
 use Rattle.command_line.specs.declared.settings.Delay.{Delay}
 use Rattle.command_line.specs.declared.settings.Flag.{Flag}
-use Rattle.command_line.specs.declared.settings.Flag.TheVariants.{Strict, Explain, Trace}
+use Rattle.command_line.specs.declared.settings.Flag.TheVariants.{Strict, Explain, Trace, Quiet, Lenient}
 use Rattle.command_line.specs.declared.settings.Setting.{Setting}
 use Rattle.command_line.specs.declared.settings.Setting.TheVariants.{Scopes, Tasks, Load, Deadline, After}
 use Rattle.command_line.specs.declared.settings.TheConstants.{DAY_MILLIS}
@@ -28,6 +28,8 @@ abbrev pub flag_name : Flag → List ℕ
 flag_name Strict = codes "strict"
 flag_name Explain = codes "explain"
 flag_name Trace = codes "trace"
+flag_name Quiet = codes "quiet"
+flag_name Lenient = codes "lenient"
 
 -- the text by which `clap` says whether such an option was given
 abbrev pub bool_text : Bool → List ℕ

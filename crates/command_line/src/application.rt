@@ -48,20 +48,31 @@ fn command<'a>(alloc: Global, job: Job) -> Result<Command<'a>, AllocError>
     let bare = Command::new(alloc, word);
     match job {
         Job::Replay => with_notes(alloc, with_limits(alloc, bare)?),
-        Job::Dump | Job::Tree | Job::Timeline => with_limits(alloc, bare),
+        Job::Dump => with_limits(alloc, bare),
+        Job::Tree => with_lenience(alloc, with_limits(alloc, bare)?),
+        Job::Timeline => with_lenience(alloc, with_limits(alloc, bare)?),
         Job::Quote => with_times(alloc, bare),
     }
 }
 
-// The command with the options of a script: those that set the limits of its realm, and `--strict`.
+// The command with the options of a script: those that set the limits of its realm, `--strict` and `--quiet`.
 fn with_limits<'a>(alloc: Global, bare: Command<'a>) -> Result<Command<'a>, AllocError>
-    ensures app { IfOk result (λ command. app_of command ≡ with_flags (with_options (app_of bare.entry) limit_names) (flag_name Flag.Strict ∷ [])) }
+    ensures app { IfOk result (λ command. app_of command ≡ with_flags (with_options (app_of bare.entry) limit_names) (flag_name Flag.Strict ∷ flag_name Flag.Quiet ∷ [])) }
     ensures local { IfOk result (λ command. (fields_of command).has_globals ≡ (fields_of bare.entry).has_globals) }
 {
     bare.arg(option(alloc, Setting::Scopes))?
         .arg(option(alloc, Setting::Tasks))?
         .arg(option(alloc, Setting::Load))?
-        .arg(flag(alloc, Flag::Strict))
+        .arg(flag(alloc, Flag::Strict))?
+        .arg(flag(alloc, Flag::Quiet))
+}
+
+// The command with the option that lets lines pass that are no commands.
+fn with_lenience<'a>(alloc: Global, bare: Command<'a>) -> Result<Command<'a>, AllocError>
+    ensures app { IfOk result (λ command. app_of command ≡ with_flags (app_of bare.entry) (flag_name Flag.Lenient ∷ [])) }
+    ensures local { IfOk result (λ command. (fields_of command).has_globals ≡ (fields_of bare.entry).has_globals) }
+{
+    bare.arg(flag(alloc, Flag::Lenient))
 }
 
 // The command with the options that ask for notes on the lines of a script.

@@ -16,12 +16,15 @@ pub const HELP: &str = "Replays scripts of commands on task scopes, by proved ru
 Usage: scopectl <COMMAND>
 
 Commands:
-  replay    Replay a script from standard input and write the replies
-  dump      Replay a script from standard input and write what is open at its end, as JSON
-  tree      Replay a script from standard input and write what is open at its end, as text
-  timeline  Replay a script from standard input and draw the run as an SVG picture
-  quote     Ask the offers of a plan from standard input, on threads, and write the answer
+  replay    Replay a script and write the replies
+  dump      Replay a script and write what is open at its end, as JSON
+  tree      Replay a script and write what is open at its end, as text
+  timeline  Replay a script and draw the run as an SVG picture
+  quote     Ask the offers of a plan, on threads, and write the answer
   help      Print this message or the help of a command
+  version   Print version
+
+Scripts and plans are read from standard input, or from the FILE that is named.
 
 Options:
   -h, --help     Print help
@@ -31,15 +34,16 @@ Exit status:
   0  the script was read to its end, even if commands were refused; or the plan was answered
   1  standard error has one line that names the fault, such as scopectl: read
   2  the command line was not understood
-  3  with --strict: the script was read to its end, and lines were refused
+  3  the script was read to its end, and lines were refused: with --strict any, in tree and timeline
+     any that is not a command, unless --lenient
 
 For an example, try 'scopectl replay --help' or the help of another command.
 ";
 
 /// The help of a job that runs a script: what it does and how it is called, its options, those of this job
-/// alone, an example, and the statuses.
+/// alone, an example, and the statuses, with what the last one means.
 macro_rules! script_help {
-    ($begin:literal, $options:literal, $example:literal) => {
+    ($begin:literal, $options:literal, $example:literal, $refused:literal) => {
         concat!(
             $begin,
             "
@@ -48,6 +52,7 @@ Options:
       --tasks <N>   How many tasks may be forked, from 1 to 65536 [default: 65536]
       --load <N>    How much load the realm takes, from 1 to 1048576 units [default: 1048576]
       --strict      End with status 3 if lines were refused
+      --quiet       Do not say how many lines were refused
 ",
             $options,
             "  -h, --help        Print help
@@ -58,9 +63,11 @@ Exit status:
   0  the script was read to its end, even if commands were refused
   1  standard error has one line: scopectl: read, scopectl: write or scopectl: memory
   2  the command line was not understood
-  3  with --strict: the script was read to its end, and lines were refused
-
-If lines were refused, standard error says how many, and how many of them are not commands.
+",
+            $refused,
+            "
+If lines were refused, standard error says how many, and how many of them are not commands. It also
+says so if no line of the input looks like one of a script.
 "
         )
     };
@@ -68,10 +75,10 @@ If lines were refused, standard error says how many, and how many of them are no
 
 /// What `scopectl replay --help` writes.
 pub const REPLAY_HELP: &str = script_help!(
-    "Reads a script from standard input, one command per line, and writes one reply per line to
+    "Reads a script from FILE or standard input, one command per line, and writes one reply per line to
 standard output. A line that is empty or begins with # gets no reply.
 
-Usage: scopectl replay [OPTIONS]
+Usage: scopectl replay [OPTIONS] [FILE]
 ",
     "      --explain     Explain each refused line on standard error
       --trace       Report each line with its reply on standard error
@@ -86,16 +93,18 @@ Example: the script on the left gets the replies on the right.
   join 0 1        outcome done
   close 0 1       closing
   closed 0 1      closed
+",
+    "  3  with --strict: the script was read to its end, and lines were refused
 "
 );
 
 /// What `scopectl dump --help` writes.
 pub const DUMP_HELP: &str = script_help!(
-    "Reads a script from standard input, one command per line, and writes no replies. At the end it
+    "Reads a script from FILE or standard input, one command per line, and writes no replies. It then
 writes one line of JSON: the tree of the scopes that are not closed. The tree shows the tasks of
 each scope, the scopes inside it and inside its tasks, and why a scope is cancelled.
 
-Usage: scopectl dump [OPTIONS]
+Usage: scopectl dump [OPTIONS] [FILE]
 ",
     "",
     "
@@ -109,17 +118,20 @@ has this dump (one line, broken here to fit)
   {\"moment\":0,\"root\":{\"cause\":null,\"deadline\":100,\"expiry\":\"fail\",\"id\":1,\"inner\":null,
   \"joined\":false,\"joiner\":\"all\",\"owner\":0,\"shield\":false,\"stage\":\"open\",\"tasks\":[
   {\"id\":1,\"inner\":null,\"name\":\"a\",\"stage\":\"waiting\",\"state\":\"unavailable\"}]}}
+",
+    "  3  with --strict: the script was read to its end, and lines were refused
 "
 );
 
 /// What `scopectl tree --help` writes.
 pub const TREE_HELP: &str = script_help!(
-    "Reads a script from standard input, one command per line, and writes no replies. At the end it
+    "Reads a script from FILE or standard input, one command per line, and writes no replies. It then
 writes the tree of the scopes that are not closed, as text: one indented line per scope or task.
 
-Usage: scopectl tree [OPTIONS]
+Usage: scopectl tree [OPTIONS] [FILE]
 ",
-    "",
+    "      --lenient     End with status 0 even if lines are not commands
+",
     "
 Example: the script
 
@@ -131,30 +143,37 @@ has this tree
   moment 0
   scope 1 open, of main, joins all, deadline 100, awaits 1 of 1
     task 1 a: waiting
+",
+    "  3  the script was read to its end, and lines are not commands, unless with --lenient; or lines
+     were refused, with --strict
 "
 );
 
 /// What `scopectl timeline --help` writes.
 pub const TIMELINE_HELP: &str = script_help!(
-    "Reads a script from standard input, one command per line, and writes no replies. At the end it
+    "Reads a script from FILE or standard input, one command per line, and writes no replies. It then
 draws the run as an SVG picture: a band per scope, a lane per task, and events from left to right.
 
-Usage: scopectl timeline [OPTIONS]
+Usage: scopectl timeline [OPTIONS] [FILE]
 ",
-    "",
+    "      --lenient     End with status 0 even if lines are not commands
+",
     "
 Example: the journal of a service is a script too.
 
-  scopectl timeline < FILE > run.svg
+  scopectl timeline FILE > run.svg
+",
+    "  3  the script was read to its end, and lines are not commands, unless with --lenient; or lines
+     were refused, with --strict
 "
 );
 
 /// What `scopectl quote --help` writes.
 pub const QUOTE_HELP: &str =
-    "Reads a plan from standard input: a mode, and offers, each with a price or a fault. Asks each
-offer in a task of its own, on threads, in one scope, and writes the answer as one line.
+    "Reads a plan from FILE or standard input: a mode, and offers, each with a price or a fault. Asks
+each offer in a task of its own, on threads, in one scope, and writes the answer as one line.
 
-Usage: scopectl quote [OPTIONS]
+Usage: scopectl quote [OPTIONS] [FILE]
 
 Options:
       --deadline <MS>    After MS milliseconds, answer with the prices so far: partial NAME=PRICE ..
@@ -182,7 +201,8 @@ Example: with --deadline 50 --after b=600 the same plan gets the answer partial 
 Exit status:
   0  the plan was answered
   1  standard error has one line: scopectl: plan line N: bad-word: CAUSE, if line N is the first bad
-     one; or else scopectl: read, write, memory, time, rejected, cancelled or lost
+     one; or else scopectl: read, write, memory, time, after, rejected, cancelled
+     or lost
   2  the command line was not understood
 ";
 

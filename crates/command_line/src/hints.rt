@@ -1,30 +1,33 @@
 //! What is hinted at behind a usage error.
-ghost use Rattle.std.specs.Prelude.{◌≡◌, option_map, map};
+ghost use Rattle.std.specs.Prelude.{◌≡◌, ◌∷◌, [], option_map, map};
 ghost use Rattle.std.specs.List.{before_first};
 ghost use Rattle.clap.specs.Lexer.{strip_byte};
 ghost use Rattle.command_line.specs.Hints.{hint_at, hint_behind, hint_for, input_hint, is_dashed, is_flag, is_stray, long_name, may_take, option_hint, sets_limit};
 ghost use Rattle.command_line.specs.CommandLine.{flag_names, is_among};
-ghost use Rattle.command_line.specs.Settings.{is_equals};
+ghost use Rattle.command_line.specs.Settings.{flag_name, is_equals};
 
 use crate::lines::Job;
 use crate::settings::{Flag, Setting};
 
 /// Where the script of a replay comes from.
 pub const REPLAY_INPUT: &str =
-    "hint: the script is read from standard input: scopectl replay < FILE";
+    "hint: one FILE is read, or else standard input: scopectl replay [OPTIONS] [FILE]";
 
 /// Where the script of a dump comes from.
-pub const DUMP_INPUT: &str = "hint: the script is read from standard input: scopectl dump < FILE";
+pub const DUMP_INPUT: &str =
+    "hint: one FILE is read, or else standard input: scopectl dump [OPTIONS] [FILE]";
 
 /// Where the script of a tree comes from.
-pub const TREE_INPUT: &str = "hint: the script is read from standard input: scopectl tree < FILE";
+pub const TREE_INPUT: &str =
+    "hint: one FILE is read, or else standard input: scopectl tree [OPTIONS] [FILE]";
 
 /// Where the script of a timeline comes from.
 pub const TIMELINE_INPUT: &str =
-    "hint: the script is read from standard input: scopectl timeline < FILE";
+    "hint: one FILE is read, or else standard input: scopectl timeline [OPTIONS] [FILE]";
 
 /// Where a plan comes from.
-pub const QUOTE_INPUT: &str = "hint: the plan is read from standard input: scopectl quote < FILE";
+pub const QUOTE_INPUT: &str =
+    "hint: one FILE is read, or else standard input: scopectl quote [OPTIONS] [FILE]";
 
 /// Which options a quote has, and which it has not.
 pub const QUOTE_OPTIONS: &str =
@@ -91,7 +94,7 @@ fn option_hint(job: Job, word: &str) -> Option<&'static str>
 
 // Whether the word is not an option, and not the text of one, behind the word `before`. Behind `--` no
 // word is one.
-fn is_stray(job: Job, before: &str, word: &str) -> bool
+pub(crate) fn is_stray(job: Job, before: &str, word: &str) -> bool
     ensures { result ≡ is_stray job before.now word.now }
 {
     before == "--" || (!is_dashed(word) && !may_take(job, before))
@@ -126,14 +129,26 @@ fn has_flag(job: Job, name: &str) -> bool
     ensures { result ≡ is_among (flag_names job) name.now }
 {
     match job {
-        Job::Replay => {
-            name == Flag::Strict.name()
-                || name == Flag::Explain.name()
-                || name == Flag::Trace.name()
-        }
-        Job::Dump | Job::Tree | Job::Timeline => name == Flag::Strict.name(),
+        Job::Replay => is_script_flag(name) || is_note_flag(name),
+        Job::Dump => is_script_flag(name),
+        Job::Tree => is_script_flag(name) || name == Flag::Lenient.name(),
+        Job::Timeline => is_script_flag(name) || name == Flag::Lenient.name(),
         Job::Quote => false,
     }
+}
+
+// Whether each job on a script has an option of this name that has no text.
+fn is_script_flag(name: &str) -> bool
+    ensures { result ≡ is_among (flag_name Flag.Strict ∷ flag_name Flag.Quiet ∷ []) name.now }
+{
+    name == Flag::Strict.name() || name == Flag::Quiet.name()
+}
+
+// Whether a replay alone has an option of this name that has no text.
+fn is_note_flag(name: &str) -> bool
+    ensures { result ≡ is_among (flag_name Flag.Explain ∷ flag_name Flag.Trace ∷ []) name.now }
+{
+    name == Flag::Explain.name() || name == Flag::Trace.name()
 }
 
 // Whether the word is an option that sets a limit.

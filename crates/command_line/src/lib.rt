@@ -2,12 +2,13 @@
 //! that they ask for.
 //!
 //! ```text
-//! scopectl replay [--scopes N] [--tasks N] [--load N] [--strict] [--explain] [--trace]
-//! scopectl dump [--scopes N] [--tasks N] [--load N] [--strict]
-//! scopectl tree [--scopes N] [--tasks N] [--load N] [--strict]
-//! scopectl timeline [--scopes N] [--tasks N] [--load N] [--strict]
-//! scopectl quote [--deadline MS] [--after NAME=MS]
+//! scopectl replay [--scopes N] [--tasks N] [--load N] [--strict] [--quiet] [--explain] [--trace] [FILE]
+//! scopectl dump [--scopes N] [--tasks N] [--load N] [--strict] [--quiet] [FILE]
+//! scopectl tree [--scopes N] [--tasks N] [--load N] [--strict] [--quiet] [--lenient] [FILE]
+//! scopectl timeline [--scopes N] [--tasks N] [--load N] [--strict] [--quiet] [--lenient] [FILE]
+//! scopectl quote [--deadline MS] [--after NAME=MS] [FILE]
 //! scopectl help [COMMAND]
+//! scopectl version
 //! ```
 //!
 //! An N is a number in decimal with no needless zero in front, from 1 to its limit; an MS is such a number of
@@ -15,11 +16,13 @@
 //! a plan has one. Each option stands once at most, as `--scopes N` or `--scopes=N`, and `--` may stand last.
 //! Help, of the program and of each command, and the version are texts of this crate: `clap` only says that
 //! the words ask for them. `help COMMAND` asks for what `COMMAND --help` asks for, and `help help` for what
-//! `--help` does. Behind what `clap` says of words that it does not understand may stand a hint.
+//! `--help` does. The FILE is taken out of the words before the others are read. Behind what `clap` says of words
+//! that it does not understand may stand a hint.
 #![tactic(auto)]
 
 mod application;
 mod faults;
+mod files;
 mod help;
 mod help_word;
 mod hints;
@@ -27,6 +30,7 @@ mod lines;
 mod settings;
 
 pub use faults::LineFault;
+pub use files::{Parted, part_words};
 pub use help::{VERSION_LINE, help_of};
 pub use lines::{CommandLine, Job, line};
 pub use settings::{Delay, ScriptOptions};

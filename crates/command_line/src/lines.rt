@@ -29,9 +29,17 @@ pub enum CommandLine {
     /// Runs the script on standard input without replies, and writes the tree of what it leaves as JSON.
     Dump(ScriptOptions),
     /// Does the same, and writes the tree as text for a terminal.
-    Tree(ScriptOptions),
+    Tree {
+        script: ScriptOptions,
+        /// Whether the status is 0 though lines are no commands.
+        lenient: bool,
+    },
     /// Does the same, and writes a picture of the run.
-    Timeline(ScriptOptions),
+    Timeline {
+        script: ScriptOptions,
+        /// Whether the status is 0 though lines are no commands.
+        lenient: bool,
+    },
     /// Serves the plan on standard input, and writes the answer.
     Quote {
         /// After how many milliseconds the plan is answered by what is there, if it is.
@@ -151,8 +159,16 @@ fn said(alloc: Global, job: Job, options: &ArgMatches<'_>) -> Result<CommandLine
             })
         }
         Job::Dump => Ok(CommandLine::Dump(settings::script(alloc, options)?)),
-        Job::Tree => Ok(CommandLine::Tree(settings::script(alloc, options)?)),
-        Job::Timeline => Ok(CommandLine::Timeline(settings::script(alloc, options)?)),
+        Job::Tree => {
+            let script = settings::script(alloc, options)?;
+            let lenient = settings::is_set(options, Flag::Lenient);
+            Ok(CommandLine::Tree { script, lenient })
+        }
+        Job::Timeline => {
+            let script = settings::script(alloc, options)?;
+            let lenient = settings::is_set(options, Flag::Lenient);
+            Ok(CommandLine::Timeline { script, lenient })
+        }
         Job::Quote => {
             let deadline = settings::deadline(alloc, options)?;
             let after = settings::after(alloc, options)?;

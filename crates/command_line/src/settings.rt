@@ -88,6 +88,10 @@ pub enum Flag {
     Explain,
     /// Each reply is to be said with its line.
     Trace,
+    /// Nothing is to be said of how many lines were refused.
+    Quiet,
+    /// The status is to be 0 though lines are no commands.
+    Lenient,
 }
 
 impl Flag {
@@ -99,6 +103,8 @@ impl Flag {
             Flag::Strict => "strict",
             Flag::Explain => "explain",
             Flag::Trace => "trace",
+            Flag::Quiet => "quiet",
+            Flag::Lenient => "lenient",
         }
     }
 }
@@ -110,6 +116,8 @@ pub struct ScriptOptions {
     pub limits: Limits,
     /// Whether the status is to tell that lines were refused.
     pub strict: bool,
+    /// Whether nothing is to be said of how many lines were refused.
+    pub quiet: bool,
 }
 
 /// A job of a plan's offer that is to take time.
@@ -121,20 +129,25 @@ pub struct Delay {
     pub millis: u32,
 }
 
-/// How the options of a job say that its script is run, where `--strict` is such an option.
+/// How the options of a job say that its script is run, where `--strict` and `--quiet` are such options.
 ///
 /// # Errors
 /// `Usage` where a number is none or too great, `Memory` where memory was refused.
 pub fn script(alloc: Global, matches: &ArgMatches<'_>) -> Result<ScriptOptions, LineFault>
-    ensures said { (strict : Bool) → one_text (found_of matches.now) (flag_name Flag.Strict) ≡ Some (bool_text strict) → IfOk result (λ options.
-        script_by (λ setting. first_value (found_of matches.now) (name_of setting)) strict ≡ Some (script_of options)) }
-    ensures refused { (strict : Bool) → IfErr result (λ fault. (fault ≡ LineFault.Memory)
-        ⊎ (script_by (λ setting. first_value (found_of matches.now) (name_of setting)) strict ≡ None)) }
+    ensures said { (strict quiet : Bool) → one_text (found_of matches.now) (flag_name Flag.Strict) ≡ Some (bool_text strict) → one_text (found_of matches.now) (flag_name Flag.Quiet) ≡ Some (bool_text quiet) → IfOk result (λ options.
+        script_by (λ setting. first_value (found_of matches.now) (name_of setting)) strict quiet ≡ Some (script_of options)) }
+    ensures refused { (strict quiet : Bool) → IfErr result (λ fault. (fault ≡ LineFault.Memory)
+        ⊎ (script_by (λ setting. first_value (found_of matches.now) (name_of setting)) strict quiet ≡ None)) }
     ensures told { IfErr result IsUsageOrMemory }
 {
     let limits = limits(alloc, matches)?;
     let strict = is_set(matches, Flag::Strict);
-    Ok(ScriptOptions { limits, strict })
+    let quiet = is_set(matches, Flag::Quiet);
+    Ok(ScriptOptions {
+        limits,
+        strict,
+        quiet,
+    })
 }
 
 /// Whether the option was given, which is one of the job's: `clap` has a text for either case.

@@ -1,5 +1,5 @@
 -- What was read and written makes what a job did.
-use Rattle.std.proofs.Common.{◌≡◌, ◌≢◌, ◌≤◌, ◌∙◌, ap, ap₂, arith, inl, inr, ℕ, Bool, true, refl, sym, subst, List, [], Option, None, Some, append-nil}
+use Rattle.std.proofs.Common.{◌≡◌, ◌≢◌, ◌≤◌, ◌∙◌, ap, arith, inl, inr, ℕ, Bool, true, false, refl, sym, subst, List, [], Option, None, Some, Result, Ok, Err, append-nil}
 use Rattle.std.proofs.KnownBytes.{Appends-nil, Appends-trans}
 use Rattle.std.specs.Io.KnownBytes.{Appends}
 use Rattle.scope_script.specs.Running.{RunsPartly}
@@ -11,13 +11,13 @@ use Rattle.script_jobs.specs.Jobs.{ReadSome, Replayed, ReplayedNoted, Showed}
 use Rattle.script_jobs.specs.declared.showing.View.{View}
 use Rattle.script_jobs.specs.declared.showing.View.TheVariants as view
 use Rattle.scopectl.specs.Naming.{CameFrom, NamesFault}
-use Rattle.scopectl.specs.Program.{AnswersPlan, DidJob, DidPart, DidWhole, FailedAtEnd, Made, Makes, Shows, Told, ToldNotes, WroteLate, WrotePart, command_of, is_strict, notes_wanted, tally_of}
+use Rattle.scopectl.specs.Program.{AnswersPlan, DidJob, DidPart, DidWhole, FailedAtEnd, Made, Makes, Shows, Told, ToldNotes, WroteLate, WrotePart, command_of, count_of, is_lenient, is_strict, lenience, notes_wanted}
 use Rattle.script_jobs.specs.Notes.{notes_text}
 use Rattle.script_jobs.specs.declared.notes.Notes.{Notes}
 use Rattle.scopectl.specs.Saying.{Noted, SaidNotes, status_of}
 use Rattle.scopectl.specs.Texts.{fault_of_run}
-use Rattle.scope_script.specs.Tallies.{tally_of_script}
-use Rattle.scope_script.specs.declared.session.tally.Tally.{Tally}
+use Rattle.script_jobs.specs.Counts.{count_of_script}
+use Rattle.script_jobs.specs.declared.counting.Count.{Count}
 use Rattle.command_line.specs.declared.lines.CommandLine.{CommandLine}
 use Rattle.command_line.specs.declared.lines.CommandLine.TheVariants as line
 use Rattle.command_line.specs.declared.settings.Delay.{Delay}
@@ -31,31 +31,55 @@ well_ended status small well = omega arith
 
 -- ---- faults
 
--- a fault of the run came from the stream that it names
-pub came_of : (fault : ScriptFault) (ByReader ByWriter : Type 0) (OfPlan : ProgramFault → Type 0) → (fault ≡ ended.Read → ByReader) → (fault ≡ ended.Write → ByWriter)
-    → CameFrom (fault_of_run fault) ByReader ByWriter OfPlan
-came_of ended.Read ByReader ByWriter OfPlan read write = read refl
-came_of ended.Write ByReader ByWriter OfPlan read write = write refl
-came_of ended.Memory ByReader ByWriter OfPlan read write = tt
+-- a fault of the run came from the stream that it names, or else the streams are sound
+pub came_of : (fault : ScriptFault) (ByReader ByWriter Sound : Type 0) (OfPlan : ProgramFault → Type 0) → (fault ≡ ended.Read → ByReader) → (fault ≡ ended.Write → ByWriter) → (fault ≡ ended.Memory → Sound)
+    → CameFrom (fault_of_run fault) ByReader ByWriter Sound OfPlan
+came_of ended.Read ByReader ByWriter Sound OfPlan read write memory = read refl
+came_of ended.Write ByReader ByWriter Sound OfPlan read write memory = write refl
+came_of ended.Memory ByReader ByWriter Sound OfPlan read write memory = memory refl
+
+module _ {T : Type 0} (failed : Bool) (stream : ScriptFault) (r : Result T ScriptFault) where
+  -- a stream whose fault would be told did not fail where memory was refused
+  pub sound_at : (fault : ScriptFault) → r ≡ Err fault → (failed ≡ true → r ≡ Err stream) → fault ≡ ended.Memory → (stream ≡ ended.Memory → ⊥) → failed ≡ false
+  sound_at fault is tells memory other = by failed tells
+    where
+      by : (b : Bool) → (b ≡ true → r ≡ Err stream) → b ≡ false
+      by false tells = refl
+      by true tells = absurd (other (let e = tells refl in cc))
+
+  -- nor where the run came to its end
+  pub sound_in : (x : T) → r ≡ Ok x → (failed ≡ true → r ≡ Err stream) → failed ≡ false
+  sound_in x is tells = by failed tells
+    where
+      by : (b : Bool) → (b ≡ true → r ≡ Err stream) → b ≡ false
+      by false tells = refl
+      by true tells = absurd (let e = tells refl in cc)
+
+pub read_is_other : ended.Read ≡ ended.Memory → ⊥
+read_is_other e = cc
+
+pub write_is_other : ended.Write ≡ ended.Memory → ⊥
+write_is_other e = cc
 
 -- what is known of a plan's faults may be said with less
-pub came_weaker : (fault : ProgramFault) (ByReader ByWriter Writer : Type 0) (OfPlan Plan : ProgramFault → Type 0) → (ByWriter → Writer) → ((f : ProgramFault) → OfPlan f → Plan f)
-    → CameFrom fault ByReader ByWriter OfPlan → CameFrom fault ByReader Writer Plan
-came_weaker program.Read ByReader ByWriter Writer OfPlan Plan writes weaker came = came
-came_weaker program.Write ByReader ByWriter Writer OfPlan Plan writes weaker came = writes came
-came_weaker program.Memory ByReader ByWriter Writer OfPlan Plan writes weaker came = tt
-came_weaker (program.PlanLine line why) ByReader ByWriter Writer OfPlan Plan writes weaker came = weaker (program.PlanLine line why) came
-came_weaker program.Strange ByReader ByWriter Writer OfPlan Plan writes weaker came = weaker program.Strange came
-came_weaker program.Rejected ByReader ByWriter Writer OfPlan Plan writes weaker came = weaker program.Rejected came
-came_weaker program.Cancelled ByReader ByWriter Writer OfPlan Plan writes weaker came = weaker program.Cancelled came
-came_weaker program.Lost ByReader ByWriter Writer OfPlan Plan writes weaker came = weaker program.Lost came
-came_weaker program.Time ByReader ByWriter Writer OfPlan Plan writes weaker came = tt
+pub came_weaker : (fault : ProgramFault) (ByReader ByWriter Writer Sound Sounder : Type 0) (OfPlan Plan : ProgramFault → Type 0) → (ByWriter → Writer) → (Sound → Sounder) → ((f : ProgramFault) → OfPlan f → Plan f)
+    → CameFrom fault ByReader ByWriter Sound OfPlan → CameFrom fault ByReader Writer Sounder Plan
+came_weaker program.Read ByReader ByWriter Writer Sound Sounder OfPlan Plan writes sounds weaker came = came
+came_weaker program.Write ByReader ByWriter Writer Sound Sounder OfPlan Plan writes sounds weaker came = writes came
+came_weaker program.Memory ByReader ByWriter Writer Sound Sounder OfPlan Plan writes sounds weaker came = sounds came
+came_weaker (program.PlanLine line why) ByReader ByWriter Writer Sound Sounder OfPlan Plan writes sounds weaker came = weaker (program.PlanLine line why) came
+came_weaker program.Strange ByReader ByWriter Writer Sound Sounder OfPlan Plan writes sounds weaker came = weaker program.Strange came
+came_weaker program.Rejected ByReader ByWriter Writer Sound Sounder OfPlan Plan writes sounds weaker came = weaker program.Rejected came
+came_weaker program.Cancelled ByReader ByWriter Writer Sound Sounder OfPlan Plan writes sounds weaker came = weaker program.Cancelled came
+came_weaker program.Lost ByReader ByWriter Writer Sound Sounder OfPlan Plan writes sounds weaker came = weaker program.Lost came
+came_weaker program.NoOffer ByReader ByWriter Writer Sound Sounder OfPlan Plan writes sounds weaker came = weaker program.NoOffer came
+came_weaker program.Time ByReader ByWriter Writer Sound Sounder OfPlan Plan writes sounds weaker came = weaker program.Time came
 
-pub names_weaker : (said said_new : Option (List ℕ)) (failed : Bool) (ByReader ByWriter : Type 0) (OfPlan Plan : ProgramFault → Type 0) → ((f : ProgramFault) → OfPlan f → Plan f)
-    → NamesFault said said_new failed ByReader ByWriter OfPlan → NamesFault said said_new failed ByReader ByWriter Plan
-names_weaker said said_new failed ByReader ByWriter OfPlan Plan weaker names = record {
+pub names_weaker : (said said_new : Option (List ℕ)) (failed : Bool) (ByReader ByWriter Sound : Type 0) (OfPlan Plan : ProgramFault → Type 0) → ((f : ProgramFault) → OfPlan f → Plan f)
+    → NamesFault said said_new failed ByReader ByWriter Sound OfPlan → NamesFault said said_new failed ByReader ByWriter Sound Plan
+names_weaker said said_new failed ByReader ByWriter Sound OfPlan Plan weaker names = record {
   fault = names.fault;
-  came = came_weaker names.fault ByReader ByWriter ByWriter OfPlan Plan (λ w. w) weaker names.came;
+  came = came_weaker names.fault ByReader ByWriter ByWriter Sound Sound OfPlan Plan (λ w. w) (λ s. s) weaker names.came;
   line = names.line;
 }
 
@@ -66,8 +90,8 @@ module _ (script : ScriptOptions) (explain trace : Bool) (unread unread_new writ
   replayed_part failed run = record { bytes = run.script; read = run.read; wrote = run.replied }
 
   -- where all was written, so was a part
-  pub replayed_all : (failed : Bool) (tally : Tally) → Replayed unread unread_new written written_new script.limits tally → DidPart (line.Replay script explain trace) unread unread_new written written_new failed
-  replayed_all failed tally it = record {
+  pub replayed_all : (failed : Bool) (count : Count) → Replayed unread unread_new written written_new script.limits count → DidPart (line.Replay script explain trace) unread unread_new written written_new failed
+  replayed_all failed count it = record {
     bytes = it.script;
     read = it.read;
     wrote = record { part = _; rest = []; whole = sym (append-nil _); appended = it.wrote };
@@ -75,38 +99,33 @@ module _ (script : ScriptOptions) (explain trace : Bool) (unread unread_new writ
 
 -- ---- the command of a view
 
-makes_view : (v : View) (script : ScriptOptions) (bytes text : List ℕ) → Shows v script.limits bytes text → Makes (command_of v script) bytes text
-makes_view view.Dump script bytes text is = is
-makes_view view.Tree script bytes text is = is
-makes_view view.Timeline script bytes text is = is
+makes_view : (v : View) (script : ScriptOptions) (lenient : Bool) (bytes text : List ℕ) → Shows v script.limits bytes text → Makes (command_of v script lenient) bytes text
+makes_view view.Dump script lenient bytes text is = is
+makes_view view.Tree script lenient bytes text is = is
+makes_view view.Timeline script lenient bytes text is = is
 
-tally_view : (v : View) (script : ScriptOptions) (bytes : List ℕ) → tally_of_script script.limits bytes ≡ tally_of (command_of v script) bytes
-tally_view view.Dump script bytes = refl
-tally_view view.Tree script bytes = refl
-tally_view view.Timeline script bytes = refl
+status_view : (v : View) (script : ScriptOptions) (lenient : Bool) (bytes : List ℕ) → status_of script.strict (lenience v lenient) (count_of_script script.limits bytes) ≡ status_of (is_strict (command_of v script lenient)) (is_lenient (command_of v script lenient)) (count_of (command_of v script lenient) bytes)
+status_view view.Dump script lenient bytes = refl
+status_view view.Tree script lenient bytes = refl
+status_view view.Timeline script lenient bytes = refl
 
-strict_view : (v : View) (script : ScriptOptions) → script.strict ≡ is_strict (command_of v script)
-strict_view view.Dump script = refl
-strict_view view.Tree script = refl
-strict_view view.Timeline script = refl
+told_view : (v : View) (script : ScriptOptions) (lenient : Bool) (bytes : List ℕ) (Kept : Type 0) (said said_new : Option (List ℕ)) (failed : Bool) → Noted script.quiet (count_of_script script.limits bytes) Kept said said_new failed
+    → Told (command_of v script lenient) bytes Kept said said_new failed
+told_view view.Dump script lenient bytes Kept said said_new failed it = it
+told_view view.Tree script lenient bytes Kept said said_new failed it = it
+told_view view.Timeline script lenient bytes Kept said said_new failed it = it
 
-told_view : (v : View) (script : ScriptOptions) (bytes : List ℕ) (Kept : Type 0) (said said_new : Option (List ℕ)) (failed : Bool) → Noted (tally_of_script script.limits bytes) Kept said said_new failed
-    → Told (command_of v script) bytes Kept said said_new failed
-told_view view.Dump script bytes Kept said said_new failed it = it
-told_view view.Tree script bytes Kept said said_new failed it = it
-told_view view.Timeline script bytes Kept said said_new failed it = it
+wrote_view : (v : View) (script : ScriptOptions) (lenient : Bool) (bytes : List ℕ) (unread_new written written_new : Option (List ℕ)) (failed : Bool)
+    → WroteLate (command_of v script lenient) bytes unread_new written written_new failed → WrotePart (command_of v script lenient) bytes unread_new written written_new failed
+wrote_view view.Dump script lenient bytes unread_new written written_new failed it = it
+wrote_view view.Tree script lenient bytes unread_new written written_new failed it = it
+wrote_view view.Timeline script lenient bytes unread_new written written_new failed it = it
 
-wrote_view : (v : View) (script : ScriptOptions) (bytes : List ℕ) (unread_new written written_new : Option (List ℕ)) (failed : Bool)
-    → WroteLate (command_of v script) bytes unread_new written written_new failed → WrotePart (command_of v script) bytes unread_new written written_new failed
-wrote_view view.Dump script bytes unread_new written written_new failed it = it
-wrote_view view.Tree script bytes unread_new written written_new failed it = it
-wrote_view view.Timeline script bytes unread_new written written_new failed it = it
-
-pub made : (v : View) (script : ScriptOptions) (unread unread_new : Option (List ℕ)) (text : List ℕ) (tally : Tally) → Showed unread unread_new script.limits v text tally → Made (Makes (command_of v script)) unread unread_new text
-made v script unread unread_new text tally shown = record {
+pub made : (v : View) (script : ScriptOptions) (lenient : Bool) (unread unread_new : Option (List ℕ)) (text : List ℕ) (count : Count) → Showed unread unread_new script.limits v text count → Made (Makes (command_of v script lenient)) unread unread_new text
+made v script lenient unread unread_new text count shown = record {
   bytes = shown.script;
   whole = record { read = shown.read; all = shown.all };
-  makes = makes_view v script shown.script text shown.is;
+  makes = makes_view v script lenient shown.script text shown.is;
 }
 
 -- ---- a text that is made of all that is read, and then written
@@ -139,25 +158,25 @@ module _ (command : CommandLine) (unread unread_new written mid written_new : Op
   pub late : (failed : Bool) → AppendsPart mid written_new text → failed ≡ true → WroteLate command made.bytes unread_new written written_new failed
   late failed wrote fails = inr (failed_at_end failed wrote fails)
 
-module _ (v : View) (script : ScriptOptions) (unread unread_new written mid written_new : Option (List ℕ)) (failed : Bool) where
-  pub view_told_part : (text : List ℕ) → Made (Makes (command_of v script)) unread unread_new text → Appends written mid [] → AppendsPart mid written_new text → failed ≡ true
-      → DidPart (command_of v script) unread unread_new written written_new failed
+module _ (v : View) (script : ScriptOptions) (lenient : Bool) (unread unread_new written mid written_new : Option (List ℕ)) (failed : Bool) where
+  pub view_told_part : (text : List ℕ) → Made (Makes (command_of v script lenient)) unread unread_new text → Appends written mid [] → AppendsPart mid written_new text → failed ≡ true
+      → DidPart (command_of v script lenient) unread unread_new written written_new failed
   view_told_part text made unwritten wrote fails = record {
     bytes = made.bytes;
     read = made.whole.read;
-    wrote = wrote_view v script made.bytes unread_new written written_new failed (late (command_of v script) unread unread_new written mid written_new text made unwritten failed wrote fails);
+    wrote = wrote_view v script lenient made.bytes unread_new written written_new failed (late (command_of v script lenient) unread unread_new written mid written_new text made unwritten failed wrote fails);
   }
 
-pub view_stopped : (v : View) (script : ScriptOptions) (unread unread_new written written_new : Option (List ℕ)) (failed : Bool) → ReadSome unread unread_new → Appends written written_new []
-    → DidPart (command_of v script) unread unread_new written written_new failed
-view_stopped v script unread unread_new written written_new failed some unwritten =
-    record { bytes = some.bytes; read = some.read; wrote = wrote_view v script some.bytes unread_new written written_new failed (inl unwritten) }
+pub view_stopped : (v : View) (script : ScriptOptions) (lenient : Bool) (unread unread_new written written_new : Option (List ℕ)) (failed : Bool) → ReadSome unread unread_new → Appends written written_new []
+    → DidPart (command_of v script lenient) unread unread_new written written_new failed
+view_stopped v script lenient unread unread_new written written_new failed some unwritten =
+    record { bytes = some.bytes; read = some.read; wrote = wrote_view v script lenient some.bytes unread_new written written_new failed (inl unwritten) }
 
 module _ (deadline : Option ℕ) (after : Option Delay) (unread unread_new written written_new : Option (List ℕ)) where
-  pub quote_told : (text : List ℕ) → Made (AnswersPlan deadline) unread unread_new text → Appends written written_new text → DidJob (line.Quote deadline after) unread unread_new written written_new
+  pub quote_told : (text : List ℕ) → Made (AnswersPlan deadline after) unread unread_new text → Appends written written_new text → DidJob (line.Quote deadline after) unread unread_new written written_new
   quote_told text made wrote = told (line.Quote deadline after) unread unread_new written written written_new text made (Appends-nil written) wrote
 
-  pub quote_told_part : (failed : Bool) (text : List ℕ) → Made (AnswersPlan deadline) unread unread_new text → AppendsPart written written_new text → failed ≡ true
+  pub quote_told_part : (failed : Bool) (text : List ℕ) → Made (AnswersPlan deadline after) unread unread_new text → AppendsPart written written_new text → failed ≡ true
       → DidPart (line.Quote deadline after) unread unread_new written written_new failed
   quote_told_part failed text made wrote fails =
       record { bytes = made.bytes; read = made.whole.read; wrote = late (line.Quote deadline after) unread unread_new written written written_new text made (Appends-nil written) failed wrote fails }
@@ -169,34 +188,34 @@ quote_stopped deadline after unread unread_new written failed some =
 -- ---- a command that was done, with what was said of the lines that were refused
 
 module _ (Kept : Type 0) (unread unread_new written written_new said said_new : Option (List ℕ)) (failed : Bool) (result : ℕ) where
-  module _ (script : ScriptOptions) (tally : Tally) (status : result ≡ status_of script.strict tally) where
-    told_notes : (wanted wanted_so : Option Notes) → wanted_so ≡ wanted → (bytes : List ℕ) → ToldNotes wanted script.limits bytes Kept said said_new failed → ToldNotes wanted_so script.limits bytes Kept said said_new failed
-    told_notes wanted wanted_so same bytes it = subst (λ (w : Option Notes). ToldNotes w script.limits bytes Kept said said_new failed) (sym same) it
+  module _ (script : ScriptOptions) (count : Count) where
+    told_notes : (wanted wanted_so : Option Notes) → wanted_so ≡ wanted → (bytes : List ℕ) → ToldNotes wanted script bytes Kept said said_new failed → ToldNotes wanted_so script bytes Kept said said_new failed
+    told_notes wanted wanted_so same bytes it = subst (λ (w : Option Notes). ToldNotes w script bytes Kept said said_new failed) (sym same) it
 
-    module _ (explain trace : Bool) where
-      pub replay_noted : (notes : Notes) (text : List ℕ) → notes_wanted explain trace ≡ Some notes → SaidNotes text tally said said_new failed → ReplayedNoted unread unread_new written written_new script.limits notes text tally
+    module _ (status : result ≡ status_of script.strict true count) (explain trace : Bool) where
+      pub replay_noted : (notes : Notes) (text : List ℕ) → notes_wanted explain trace ≡ Some notes → SaidNotes text script.quiet count said said_new failed → ReplayedNoted unread unread_new written written_new script.limits notes text count
           → DidWhole (line.Replay script explain trace) Kept unread unread_new written written_new said said_new failed result
       replay_noted notes text same noted it = record {
         did = record { bytes = it.replay.script; read = it.replay.read; all = it.replay.all; text = _; makes = refl; wrote = it.replay.wrote };
         noted = told_notes (Some notes) (notes_wanted explain trace) same it.replay.script
-            (subst (λ (t : Tally). SaidNotes (notes_text notes script.limits it.replay.script) t said said_new failed) it.replay.counted (subst (λ (bytes : List ℕ). SaidNotes bytes tally said said_new failed) it.noted noted));
-        status = status ∙ ap (status_of script.strict) it.replay.counted;
+            (subst (λ (t : Count). SaidNotes (notes_text notes script.limits it.replay.script) script.quiet t said said_new failed) it.replay.counted (subst (λ (bytes : List ℕ). SaidNotes bytes script.quiet count said said_new failed) it.noted noted));
+        status = status ∙ ap (status_of script.strict true) it.replay.counted;
       }
 
-      pub replay_whole : notes_wanted explain trace ≡ None → Noted tally Kept said said_new failed → Replayed unread unread_new written written_new script.limits tally
+      pub replay_whole : notes_wanted explain trace ≡ None → Noted script.quiet count Kept said said_new failed → Replayed unread unread_new written written_new script.limits count
           → DidWhole (line.Replay script explain trace) Kept unread unread_new written written_new said said_new failed result
       replay_whole same noted it = record {
         did = record { bytes = it.script; read = it.read; all = it.all; text = _; makes = refl; wrote = it.wrote };
-        noted = told_notes None (notes_wanted explain trace) same it.script (subst (λ (t : Tally). Noted t Kept said said_new failed) it.counted noted);
-        status = status ∙ ap (status_of script.strict) it.counted;
+        noted = told_notes None (notes_wanted explain trace) same it.script (subst (λ (t : Count). Noted script.quiet t Kept said said_new failed) it.counted noted);
+        status = status ∙ ap (status_of script.strict true) it.counted;
       }
 
-    pub view_whole : Noted tally Kept said said_new failed → (v : View) (mid : Option (List ℕ)) (text : List ℕ) → Showed unread unread_new script.limits v text tally → Appends written mid [] → Appends mid written_new text
-        → DidWhole (command_of v script) Kept unread unread_new written written_new said said_new failed result
-    view_whole noted v mid text it unwritten wrote = record {
-      did = record { bytes = it.script; read = it.read; all = it.all; text = text; makes = makes_view v script it.script text it.is; wrote = Appends-trans written mid written_new [] text unwritten wrote };
-      noted = told_view v script it.script Kept said said_new failed (subst (λ (t : Tally). Noted t Kept said said_new failed) it.counted noted);
-      status = status ∙ ap₂ status_of (strict_view v script) (it.counted ∙ tally_view v script it.script);
+    pub view_whole : (v : View) (lenient : Bool) → result ≡ status_of script.strict (lenience v lenient) count → Noted script.quiet count Kept said said_new failed → (mid : Option (List ℕ)) (text : List ℕ) → Showed unread unread_new script.limits v text count → Appends written mid [] → Appends mid written_new text
+        → DidWhole (command_of v script lenient) Kept unread unread_new written written_new said said_new failed result
+    view_whole v lenient status noted mid text it unwritten wrote = record {
+      did = record { bytes = it.script; read = it.read; all = it.all; text = text; makes = makes_view v script lenient it.script text it.is; wrote = Appends-trans written mid written_new [] text unwritten wrote };
+      noted = told_view v script lenient it.script Kept said said_new failed (subst (λ (t : Count). Noted script.quiet t Kept said said_new failed) it.counted noted);
+      status = status ∙ (ap (status_of script.strict (lenience v lenient)) it.counted ∙ status_view v script lenient it.script);
     }
 
   pub quote_whole : (deadline : Option ℕ) (after : Option Delay) → DidJob (line.Quote deadline after) unread unread_new written written_new → Kept → result ≡ 0

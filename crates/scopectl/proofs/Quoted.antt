@@ -1,6 +1,9 @@
 -- Why a plan that was read has no answer.
-use Rattle.std.proofs.Common.{◌≡◌, ℕ, ◌++◌, Option, List, Result, Ok, Err, inl, inr, subst, take}
-use Rattle.std.proofs.lemmas.List.{append-nil}
+use Rattle.std.proofs.Common.{◌≡◌, ℕ, Bool, true, false, not, is_some, ◌||◌, ◌++◌, Option, List, Result, Ok, Err, inl, inr, refl, subst, sym, take, ◌+◌, ◌<◌, ◌≤◌, ◌∙◌, add-one, ap, arith, drop, length, Some, None, slice_get}
+use Rattle.std.proofs.Math.Seq.{drop-cons}
+use Rattle.std.proofs.lemmas.List.{append-nil, drop_all}
+use Rattle.std.proofs.lemmas.Option.{get_or_from_slice_get, slice_get-get_or, slice_get_within}
+use Rattle.std.specs.List.{list_any}
 use Rattle.std.specs.Io.KnownBytes.{Consumes, IsAtEnd}
 use Rattle.std.proofs.KnownBytes.{Consumes-trans}
 use Rattle.std.specs.Prelude.{◌⊎◌, IfOk, MatchResult, OnErr}
@@ -13,13 +16,14 @@ use Rattle.quote_plan.specs.Plans.{PlanValue}
 use Rattle.quote_plan.specs.declared.answers.Answer.{Answer}
 use Rattle.quote_plan.specs.declared.reading.PlanFault.{PlanFault}
 use Rattle.quote_plan.specs.declared.reading.PlanFault.TheVariants as plan_fault
+use Rattle.command_line.specs.declared.settings.Delay.{Delay}
 use Rattle.quote_gateway.specs.Requests.{Fails, RestsOn}
 use Rattle.quote_gateway.specs.declared.faults.GatewayFault.{GatewayFault}
 use Rattle.quote_gateway.specs.declared.faults.GatewayFault.TheVariants as service
 use Rattle.scopectl.specs.declared.fault.ProgramFault.{ProgramFault}
 use Rattle.scopectl.specs.declared.fault.ProgramFault.TheVariants as program
-use Rattle.scopectl.specs.Naming.{CameFrom, IsBadLine, IsOfPlan, MayEndPlan}
-use Rattle.scopectl.specs.Program.{ReadPlan}
+use Rattle.scopectl.specs.Naming.{CameFrom, IsBadLine, IsOfPlan, MayEndPlan, is_timed}
+use Rattle.scopectl.specs.Program.{ReadPlan, has_late}
 use Rattle.scopectl.specs.Texts.{fault_of_plan, fault_of_service}
 
 -- by a deadline the plan allows the line, or it says some of the prices
@@ -29,41 +33,74 @@ allowed_by plan deadline reading found a is allowed =
     elim here [ inl whole ↦ inl whole | inr part ↦ inr part.1 ]
 
 -- a cause of the service's, whose jobs were the plan's, is one that may come at a plan
-may_end : (old new : OwnerValue) (plan : PlanValue) (options : Options) (Expired : Type 0) (why : GatewayFault) → Fails old new plan options Expired why → MayEndPlan (fault_of_service why)
-may_end old new plan options Expired service.Memory fails = tt
-may_end old new plan options Expired service.Strange fails = absurd fails
-may_end old new plan options Expired service.Rejected fails = tt
-may_end old new plan options Expired service.Cancelled fails = tt
-may_end old new plan options Expired service.Lost fails = tt
+may_end : (timed lacks : Bool) (old new : OwnerValue) (plan : PlanValue) (options : Options) (Expired : Type 0) (why : GatewayFault) → Fails old new plan options Expired why → MayEndPlan timed lacks (fault_of_service why)
+may_end timed lacks old new plan options Expired service.Memory fails = tt
+may_end timed lacks old new plan options Expired service.Strange fails = absurd fails
+may_end timed lacks old new plan options Expired service.Rejected fails = tt
+may_end timed lacks old new plan options Expired service.Cancelled fails = tt
+may_end timed lacks old new plan options Expired service.Lost fails = tt
 
-pub not_found : (old new : OwnerValue) (plan : PlanValue) (options : Options) (Expired : Type 0) (found : Result Answer GatewayFault) (why : GatewayFault) → found ≡ Err why
-    → MatchResult found (RestsOn old new plan options) (Fails old new plan options Expired) → MayEndPlan (fault_of_service why)
-not_found old new plan options Expired found why is rests =
-    may_end old new plan options Expired why (subst (λ (r : Result Answer GatewayFault). MatchResult r (RestsOn old new plan options) (Fails old new plan options Expired)) is rests)
+pub not_found : (timed lacks : Bool) (old new : OwnerValue) (plan : PlanValue) (options : Options) (Expired : Type 0) (found : Result Answer GatewayFault) (why : GatewayFault) → found ≡ Err why
+    → MatchResult found (RestsOn old new plan options) (Fails old new plan options Expired) → MayEndPlan timed lacks (fault_of_service why)
+not_found timed lacks old new plan options Expired found why is rests =
+    may_end timed lacks old new plan options Expired why (subst (λ (r : Result Answer GatewayFault). MatchResult r (RestsOn old new plan options) (Fails old new plan options Expired)) is rests)
 
 -- such a fault at the plan that was read is one of the plan
-pub of_plan : (plan : PlanValue) (unread unread_new : Option (List ℕ)) (fault : ProgramFault) (ByReader : Type 0) → ReadPlan unread unread_new plan → MayEndPlan fault → CameFrom fault ByReader ⊥ (IsOfPlan unread unread_new)
-of_plan plan unread unread_new program.Memory ByReader read it = tt
-of_plan plan unread unread_new program.Time ByReader read it = tt
-of_plan plan unread unread_new (program.PlanLine line why) ByReader read it = absurd it
-of_plan plan unread unread_new program.Read ByReader read it = absurd it
-of_plan plan unread unread_new program.Write ByReader read it = absurd it
-of_plan plan unread unread_new program.Strange ByReader read it = absurd it
-of_plan plan unread unread_new program.Rejected ByReader read it = record { plan = plan; read = read; may = it }
-of_plan plan unread unread_new program.Cancelled ByReader read it = record { plan = plan; read = read; may = it }
-of_plan plan unread unread_new program.Lost ByReader read it = record { plan = plan; read = read; may = it }
+pub of_plan : (deadline : Option ℕ) (after : Option Delay) (plan : PlanValue) (unread unread_new : Option (List ℕ)) (fault : ProgramFault) (ByReader Sound : Type 0) → Sound → ReadPlan unread unread_new plan → MayEndPlan (is_timed deadline after) (not (has_late after plan)) fault → CameFrom fault ByReader ⊥ Sound (IsOfPlan deadline after unread unread_new)
+of_plan deadline after plan unread unread_new program.Memory ByReader Sound sound read it = sound
+of_plan deadline after plan unread unread_new program.Time ByReader Sound sound read it = record { plan = plan; read = read; may = it }
+of_plan deadline after plan unread unread_new (program.PlanLine line why) ByReader Sound sound read it = absurd it
+of_plan deadline after plan unread unread_new program.Read ByReader Sound sound read it = absurd it
+of_plan deadline after plan unread unread_new program.Write ByReader Sound sound read it = absurd it
+of_plan deadline after plan unread unread_new program.Strange ByReader Sound sound read it = absurd it
+of_plan deadline after plan unread unread_new program.Rejected ByReader Sound sound read it = record { plan = plan; read = read; may = it }
+of_plan deadline after plan unread unread_new program.Cancelled ByReader Sound sound read it = record { plan = plan; read = read; may = it }
+of_plan deadline after plan unread unread_new program.NoOffer ByReader Sound sound read it = record { plan = plan; read = read; may = it }
+of_plan deadline after plan unread unread_new program.Lost ByReader Sound sound read it = record { plan = plan; read = read; may = it }
+
+-- ---- the offers from a place on
+
+module _ {X : Type 0} (p : X → Bool) (xs : List X) (place : ℕ) where
+  pub none_left : place ≡ length xs → false ≡ list_any p (drop place xs)
+  none_left is =
+      let past : length xs ≤ place = omega (arith, is) in
+      sym (ap (list_any p) (drop_all place xs past))
+
+  pub one_left : (x : X) → Some x ≡ slice_get xs place → list_any p (drop place xs) ≡ (p x || list_any p (drop (place + 1) xs))
+  one_left x is =
+      let within = slice_get_within xs place x (sym is) in
+      rw (add-one, drop-cons xs place x within, get_or_from_slice_get xs place x x (sym is)) refl
+
+  pub past_none : (d : X) → place < length xs → None ≡ slice_get xs place → ⊥
+  past_none d within none = let some = slice_get-get_or xs place d within in cc
+
+-- an offer that the plan lacks, and a time that the system does not give
+pub lacks_offer : (timed : Bool) (after : Option Delay) (plan : PlanValue) (has : Bool) → has ≡ has_late after plan → not has ≡ true → MayEndPlan timed (not (has_late after plan)) program.NoOffer
+lacks_offer timed after plan has is lacks = subst (λ (b : Bool). not b ≡ true) is lacks
+
+or_true : (a b : Bool) → b ≡ true → (a || b) ≡ true
+or_true true b is = refl
+or_true false b is = is
+
+pub lacks_time : (deadline : Option ℕ) (after : Option Delay) (lacks : Bool) (fault : ProgramFault) → (fault ≡ program.Time) × (is_some after ≡ true) → MayEndPlan (is_timed deadline after) lacks fault
+lacks_time deadline after lacks fault it = subst (MayEndPlan (is_timed deadline after) lacks) (sym it.0) (or_true (is_some deadline) (is_some after) it.1)
 
 -- a bad line is one too
-pub of_line : (unread unread_new : Option (List ℕ)) (fault : ProgramFault) (ByReader : Type 0) → CameFrom fault ByReader ⊥ (IsBadLine unread unread_new) → CameFrom fault ByReader ⊥ (IsOfPlan unread unread_new)
-of_line unread unread_new program.Memory ByReader it = tt
-of_line unread unread_new program.Time ByReader it = tt
-of_line unread unread_new (program.PlanLine line why) ByReader it = it
-of_line unread unread_new program.Read ByReader it = it
-of_line unread unread_new program.Write ByReader it = absurd it
-of_line unread unread_new program.Strange ByReader it = absurd it
-of_line unread unread_new program.Rejected ByReader it = absurd it
-of_line unread unread_new program.Cancelled ByReader it = absurd it
-of_line unread unread_new program.Lost ByReader it = absurd it
+pub of_line : (deadline : Option ℕ) (after : Option Delay) (unread unread_new : Option (List ℕ)) (fault : ProgramFault) (ByReader Sound : Type 0) → CameFrom fault ByReader ⊥ Sound (IsBadLine unread unread_new) → CameFrom fault ByReader ⊥ Sound (IsOfPlan deadline after unread unread_new)
+of_line deadline after unread unread_new program.Memory ByReader Sound it = it
+of_line deadline after unread unread_new program.Time ByReader Sound it = absurd it
+of_line deadline after unread unread_new (program.PlanLine line why) ByReader Sound it = it
+of_line deadline after unread unread_new program.Read ByReader Sound it = it
+of_line deadline after unread unread_new program.Write ByReader Sound it = absurd it
+of_line deadline after unread unread_new program.Strange ByReader Sound it = absurd it
+of_line deadline after unread unread_new program.Rejected ByReader Sound it = absurd it
+of_line deadline after unread unread_new program.Cancelled ByReader Sound it = absurd it
+of_line deadline after unread unread_new program.NoOffer ByReader Sound it = absurd it
+of_line deadline after unread unread_new program.Lost ByReader Sound it = absurd it
+
+pub both_ok : {T E : Type 0} (r : Result T E) (P Q : T → Type 0) → IfOk r P → IfOk r Q → IfOk r (λ x. P x × Q x)
+both_ok (Ok x) P Q p q = (p, q)
+both_ok (Err e) P Q p q = tt
 
 pub on_err : {T E P : Type 0} (r : Result T E) → P → OnErr r P
 on_err (Ok x) it = tt
@@ -77,13 +114,13 @@ at_end a b c bytes piece n none before last =
     let nothing : bytes ++ take n piece ≡ bytes = rw none (append-nil bytes) in
     subst (Consumes a c) nothing (Consumes-trans a b c bytes (take n piece) before last)
 
-module _ (unread unread_new : Option (List ℕ)) (bytes : List ℕ) (read : Consumes unread unread_new bytes) (ByReader : Type 0) where
+module _ (unread unread_new : Option (List ℕ)) (bytes : List ℕ) (read : Consumes unread unread_new bytes) (ByReader Sound : Type 0) (sound : Sound) where
   -- the fault comes, whatever comes after the bytes
-  pub bad_early : (fault : PlanFault) → ((more : List ℕ) → NamesLine (bytes ++ more) fault) → CameFrom (fault_of_plan fault) ByReader ⊥ (IsBadLine unread unread_new)
-  bad_early plan_fault.Memory names = tt
+  pub bad_early : (fault : PlanFault) → ((more : List ℕ) → NamesLine (bytes ++ more) fault) → CameFrom (fault_of_plan fault) ByReader ⊥ Sound (IsBadLine unread unread_new)
+  bad_early plan_fault.Memory names = sound
   bad_early (plan_fault.Word line why) names = record { bytes = bytes; read = read; bad = inr names }
 
   -- the fault is of all bytes
-  pub bad_at_end : (fault : PlanFault) → IsAtEnd unread_new → NamesLine bytes fault → CameFrom (fault_of_plan fault) ByReader ⊥ (IsBadLine unread unread_new)
-  bad_at_end plan_fault.Memory end names = tt
+  pub bad_at_end : (fault : PlanFault) → IsAtEnd unread_new → NamesLine bytes fault → CameFrom (fault_of_plan fault) ByReader ⊥ Sound (IsBadLine unread unread_new)
+  bad_at_end plan_fault.Memory end names = sound
   bad_at_end (plan_fault.Word line why) end names = record { bytes = bytes; read = read; bad = inl (end, names) }

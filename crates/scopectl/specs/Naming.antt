@@ -1,5 +1,5 @@
 -- What a fault that is named on standard error says of the streams and of the plan.
-use Rattle.std.specs.Prelude.{◌≡◌, ◌⊎◌, ◌++◌, ⊤, ℕ, Bool, Option, List}
+use Rattle.std.specs.Prelude.{◌≡◌, ◌⊎◌, ◌++◌, ◌||◌, ⊤, ℕ, Bool, true, not, Option, List, is_some}
 use Rattle.quote_plan.specs.Passing.{NamesLine}
 use Rattle.quote_plan.specs.Plans.{PlanValue}
 use Rattle.quote_plan.specs.declared.reading.PlanFault.TheVariants as plan_fault
@@ -10,20 +10,26 @@ use Rattle.command_line.specs.declared.settings.Delay.{Delay}
 use Rattle.scopectl.specs.declared.fault.ProgramFault.{ProgramFault}
 use Rattle.scopectl.specs.declared.fault.ProgramFault.TheVariants as program
 use Rattle.command_line.specs.CommandLine.{Says}
-use Rattle.scopectl.specs.Program.{ReadPlan}
+use Rattle.scopectl.specs.Program.{ReadPlan, has_late}
 use Rattle.scopectl.specs.Saying.{IsSaid}
 use Rattle.scopectl.specs.Texts.{line_of}
 
 -- ---- a plan's faults
 
--- what may come at a plan that was read: the jobs are never strange
-abbrev pub MayEndPlan : ProgramFault → Type 0
-MayEndPlan program.Rejected = ⊤
-MayEndPlan program.Cancelled = ⊤
-MayEndPlan program.Lost = ⊤
-MayEndPlan program.Memory = ⊤
-MayEndPlan program.Time = ⊤
-MayEndPlan _ = ⊥
+-- the time is asked for a deadline, or for a job that is to take time
+abbrev pub is_timed : (deadline : Option ℕ) (after : Option Delay) → Bool
+is_timed deadline after = is_some deadline || is_some after
+
+-- what may come at a plan that was read: the jobs are never strange, `time` comes only where it is asked for, and that
+-- an offer is missing only where the plan lacks the one that is to take time
+abbrev pub MayEndPlan : (timed lacks : Bool) → ProgramFault → Type 0
+MayEndPlan timed lacks program.Rejected = ⊤
+MayEndPlan timed lacks program.Cancelled = ⊤
+MayEndPlan timed lacks program.Lost = ⊤
+MayEndPlan timed lacks program.Memory = ⊤
+MayEndPlan timed lacks program.Time = timed ≡ true
+MayEndPlan timed lacks program.NoOffer = lacks ≡ true
+MayEndPlan timed lacks _ = ⊥
 
 -- the first bad line of what was read is this one, for this cause: of all bytes, or whatever comes after those that were
 -- read
@@ -38,35 +44,35 @@ IsBadLine unread unread_new (program.PlanLine line why) = HasBadLine unread unre
 IsBadLine unread unread_new other = ⊥
 
 -- all bytes were read, they are a plan, and the fault is one that may come then
-pub record IsUnanswered (unread unread_new : Option (List ℕ)) (fault : ProgramFault) : Type 0 where
+pub record IsUnanswered (deadline : Option ℕ) (after : Option Delay) (unread unread_new : Option (List ℕ)) (fault : ProgramFault) : Type 0 where
   pub plan : PlanValue
   pub read : ReadPlan unread unread_new plan
-  pub may : MayEndPlan fault
+  pub may : MayEndPlan (is_timed deadline after) (not (has_late after plan)) fault
 
 -- the plan that is read has the bad line, or else has no answer
-abbrev pub IsOfPlan : (unread unread_new : Option (List ℕ)) → ProgramFault → Type 0
-IsOfPlan unread unread_new (program.PlanLine line why) = HasBadLine unread unread_new line why
-IsOfPlan unread unread_new other = IsUnanswered unread unread_new other
+abbrev pub IsOfPlan : (deadline : Option ℕ) (after : Option Delay) (unread unread_new : Option (List ℕ)) → ProgramFault → Type 0
+IsOfPlan deadline after unread unread_new (program.PlanLine line why) = HasBadLine unread unread_new line why
+IsOfPlan deadline after unread unread_new other = IsUnanswered deadline after unread unread_new other
 
--- the words say a quote
-pub record SaysQuote (words : List (List ℕ)) : Type 0 where
+-- the words say a quote, and the fault is of its plan
+pub record IsOfQuote (words : List (List ℕ)) (unread unread_new : Option (List ℕ)) (fault : ProgramFault) : Type 0 where
   pub deadline : Option ℕ
   pub after : Option Delay
   pub said : Says words (line.Quote deadline after)
+  pub is : IsOfPlan deadline after unread unread_new fault
 
 -- ---- all faults
 
--- `read` comes only where the reader ended the run, `write` only where the writer did, and what is not
--- of the streams, the memory or the time only of a plan
-abbrev pub CameFrom : ProgramFault → (ByReader ByWriter : Type 0) → (OfPlan : ProgramFault → Type 0) → Type 0
-CameFrom program.Read ByReader ByWriter OfPlan = ByReader
-CameFrom program.Write ByReader ByWriter OfPlan = ByWriter
-CameFrom program.Memory ByReader ByWriter OfPlan = ⊤
-CameFrom program.Time ByReader ByWriter OfPlan = ⊤
-CameFrom other ByReader ByWriter OfPlan = OfPlan other
+-- `read` comes only where the reader ended the run, `write` only where the writer did, `memory` only where the streams
+-- are sound, and any other only of a plan
+abbrev pub CameFrom : ProgramFault → (ByReader ByWriter Sound : Type 0) → (OfPlan : ProgramFault → Type 0) → Type 0
+CameFrom program.Read ByReader ByWriter Sound OfPlan = ByReader
+CameFrom program.Write ByReader ByWriter Sound OfPlan = ByWriter
+CameFrom program.Memory ByReader ByWriter Sound OfPlan = Sound
+CameFrom other ByReader ByWriter Sound OfPlan = OfPlan other
 
 -- one line was said, which names a fault that came
-pub record NamesFault (said said_new : Option (List ℕ)) (failed : Bool) (ByReader ByWriter : Type 0) (OfPlan : ProgramFault → Type 0) : Type 0 where
+pub record NamesFault (said said_new : Option (List ℕ)) (failed : Bool) (ByReader ByWriter Sound : Type 0) (OfPlan : ProgramFault → Type 0) : Type 0 where
   pub fault : ProgramFault
-  pub came : CameFrom fault ByReader ByWriter OfPlan
+  pub came : CameFrom fault ByReader ByWriter Sound OfPlan
   pub line : IsSaid (line_of fault) said said_new failed

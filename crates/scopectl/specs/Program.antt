@@ -3,8 +3,9 @@ use Rattle.std.specs.Prelude.{◌≡◌, ◌⊎◌, ◌++◌, ℕ, Bool, true, f
 use Rattle.std.specs.Io.KnownBytes.{Appends, Consumes, IsAtEnd}
 use Rattle.scope_rules.specs.declared.types.capacity.Limits.{Limits}
 use Rattle.scope_script.specs.Sessions.{replies_of, realm_of_script}
-use Rattle.scope_script.specs.Tallies.{no_refusals, tally_of_script}
-use Rattle.scope_script.specs.declared.session.tally.Tally.{Tally}
+use Rattle.scope_script.specs.Tallies.{no_refusals}
+use Rattle.script_jobs.specs.Counts.{count_of_script}
+use Rattle.script_jobs.specs.declared.counting.Count.{Count}
 use Rattle.script_jobs.specs.Notes.{notes_text}
 use Rattle.script_jobs.specs.declared.notes.Notes.{Notes}
 use Rattle.script_jobs.specs.declared.notes.Notes.TheVariants as notes
@@ -18,6 +19,10 @@ use Rattle.quote_plan.specs.PlanReading.{SayPlan, lines_of}
 use Rattle.quote_plan.specs.Plans.{PlanValue}
 use Rattle.command_line.specs.declared.lines.CommandLine.{CommandLine}
 use Rattle.command_line.specs.declared.lines.CommandLine.TheVariants as line
+use Rattle.command_line.specs.declared.settings.Delay.{Delay}
+use Rattle.scope_rules.specs.Names.{same_name}
+use Rattle.scope_rules.specs.declared.types.names.Name.{Name}
+use Rattle.std.specs.List.{list_any}
 use Rattle.command_line.specs.declared.settings.ScriptOptions.{ScriptOptions}
 use Rattle.command_line.specs.CommandLine.{Says, SaysNone}
 use Rattle.command_line.specs.Faults.{IsNoRequest}
@@ -53,17 +58,33 @@ pub record SaysAllowed (deadline : Option ℕ) (plan : PlanValue) (text : List �
   pub allowed : AllowedIn deadline plan line
   pub is : text ≡ line ++ 10 ∷ []
 
--- the bytes are a plan, and the text is such of it
-pub record AnswersPlan (deadline : Option ℕ) (bytes text : List ℕ) : Type 0 where
+-- an offer of the plan has the name
+abbrev pub has_offer : Name → PlanValue → Bool
+has_offer name plan = list_any (λ named. same_name named.0 name) plan.offers
+
+-- the offer whose job is to take time, if one is to, is in the plan
+abbrev pub has_late : Option Delay → PlanValue → Bool
+has_late None plan = true
+has_late (Some delay) plan = has_offer delay.name plan
+
+-- the bytes are a plan, which has the offer that is to take time, and the text is such of it
+pub record AnswersPlan (deadline : Option ℕ) (after : Option Delay) (bytes text : List ℕ) : Type 0 where
   pub plan : PlanValue
   pub say_plan : SayPlan (lines_of bytes) plan
+  pub late : has_late after plan ≡ true
   pub says : SaysAllowed deadline plan text
 
 -- the command that shows a view of what a script leaves
-abbrev pub command_of : View → ScriptOptions → CommandLine
-command_of view.Dump script = line.Dump script
-command_of view.Tree script = line.Tree script
-command_of view.Timeline script = line.Timeline script
+abbrev pub command_of : View → ScriptOptions → (lenient : Bool) → CommandLine
+command_of view.Dump script lenient = line.Dump script
+command_of view.Tree script lenient = line.Tree script lenient
+command_of view.Timeline script lenient = line.Timeline script lenient
+
+-- whether lines may be no commands: in a dump they may
+abbrev pub lenience : View → (lenient : Bool) → Bool
+lenience view.Dump lenient = true
+lenience view.Tree lenient = lenient
+lenience view.Timeline lenient = lenient
 
 -- the text is the view of the realm of these limits that the script leaves
 abbrev pub Shows : View → Limits → (bytes text : List ℕ) → Type 0
@@ -74,9 +95,9 @@ Shows view limits bytes text = text ≡ shown_text view (realm_of_script limits 
 abbrev pub Makes : CommandLine → (bytes text : List ℕ) → Type 0
 Makes (line.Replay script explain trace) bytes text = text ≡ replies_of script.limits bytes
 Makes (line.Dump script) bytes text = Shows view.Dump script.limits bytes text
-Makes (line.Tree script) bytes text = Shows view.Tree script.limits bytes text
-Makes (line.Timeline script) bytes text = Shows view.Timeline script.limits bytes text
-Makes (line.Quote deadline after) bytes text = AnswersPlan deadline bytes text
+Makes (line.Tree script lenient) bytes text = Shows view.Tree script.limits bytes text
+Makes (line.Timeline script lenient) bytes text = Shows view.Timeline script.limits bytes text
+Makes (line.Quote deadline after) bytes text = AnswersPlan deadline after bytes text
 
 -- the command was done: all bytes were read, and exactly a text that it makes of them was written
 pub record DidJob (command : CommandLine) (unread unread_new written written_new : Option (List ℕ)) : Type 0 where
@@ -87,21 +108,38 @@ pub record DidJob (command : CommandLine) (unread unread_new written written_new
   pub makes : Makes command bytes text
   pub wrote : Appends written written_new text
 
--- how many lines a command refuses of the bytes that it reads: of a plan none
-abbrev pub tally_of : CommandLine → List ℕ → Tally
-tally_of (line.Replay script explain trace) bytes = tally_of_script script.limits bytes
-tally_of (line.Dump script) bytes = tally_of_script script.limits bytes
-tally_of (line.Tree script) bytes = tally_of_script script.limits bytes
-tally_of (line.Timeline script) bytes = tally_of_script script.limits bytes
-tally_of (line.Quote deadline after) bytes = no_refusals
+-- how many lines a command refuses of the bytes that it reads, and whether they look like a script: of a plan none
+abbrev pub no_count : Count
+no_count = record { tally = no_refusals; is_foreign = false }
+
+abbrev pub count_of : CommandLine → List ℕ → Count
+count_of (line.Replay script explain trace) bytes = count_of_script script.limits bytes
+count_of (line.Dump script) bytes = count_of_script script.limits bytes
+count_of (line.Tree script lenient) bytes = count_of_script script.limits bytes
+count_of (line.Timeline script lenient) bytes = count_of_script script.limits bytes
+count_of (line.Quote deadline after) bytes = no_count
 
 -- the status is to tell that lines were refused
 abbrev pub is_strict : CommandLine → Bool
 is_strict (line.Replay script explain trace) = script.strict
 is_strict (line.Dump script) = script.strict
-is_strict (line.Tree script) = script.strict
-is_strict (line.Timeline script) = script.strict
+is_strict (line.Tree script lenient) = script.strict
+is_strict (line.Timeline script lenient) = script.strict
 is_strict (line.Quote deadline after) = false
+
+-- the status is 0 though lines are no commands
+abbrev pub is_lenient : CommandLine → Bool
+is_lenient (line.Tree script lenient) = lenient
+is_lenient (line.Timeline script lenient) = lenient
+is_lenient _ = true
+
+-- nothing is to be said of how many lines were refused
+abbrev pub is_quiet : CommandLine → Bool
+is_quiet (line.Replay script explain trace) = script.quiet
+is_quiet (line.Dump script) = script.quiet
+is_quiet (line.Tree script lenient) = script.quiet
+is_quiet (line.Timeline script lenient) = script.quiet
+is_quiet (line.Quote deadline after) = true
 
 -- the notes that are wanted: on the lines that were refused, on each line's reply, or on both
 abbrev pub notes_wanted : (explain trace : Bool) → Option Notes
@@ -111,26 +149,26 @@ notes_wanted false true = Some notes.Replies
 notes_wanted true true = Some notes.All
 
 -- what was said of the lines of a script: the notes that are wanted, and how many were refused
-abbrev pub ToldNotes : Option Notes → Limits → (bytes : List ℕ) (ErrorsKept : Type 0) (said said_new : Option (List ℕ)) (errors_failed : Bool) → Type 0
-ToldNotes (Some wanted) limits bytes ErrorsKept said said_new errors_failed =
-    SaidNotes (notes_text wanted limits bytes) (tally_of_script limits bytes) said said_new errors_failed
-ToldNotes None limits bytes ErrorsKept said said_new errors_failed =
-    Noted (tally_of_script limits bytes) ErrorsKept said said_new errors_failed
+abbrev pub ToldNotes : Option Notes → ScriptOptions → (bytes : List ℕ) (ErrorsKept : Type 0) (said said_new : Option (List ℕ)) (errors_failed : Bool) → Type 0
+ToldNotes (Some wanted) script bytes ErrorsKept said said_new errors_failed =
+    SaidNotes (notes_text wanted script.limits bytes) script.quiet (count_of_script script.limits bytes) said said_new errors_failed
+ToldNotes None script bytes ErrorsKept said said_new errors_failed =
+    Noted script.quiet (count_of_script script.limits bytes) ErrorsKept said said_new errors_failed
 
 -- what was said of the bytes that were read: the notes that are wanted on the lines of a replay, and how many lines
 -- were refused
 abbrev pub Told : CommandLine → (bytes : List ℕ) (ErrorsKept : Type 0) (said said_new : Option (List ℕ)) (errors_failed : Bool) → Type 0
 Told (line.Replay script explain trace) bytes ErrorsKept said said_new errors_failed =
-    ToldNotes (notes_wanted explain trace) script.limits bytes ErrorsKept said said_new errors_failed
+    ToldNotes (notes_wanted explain trace) script bytes ErrorsKept said said_new errors_failed
 Told command bytes ErrorsKept said said_new errors_failed =
-    Noted (tally_of command bytes) ErrorsKept said said_new errors_failed
+    Noted (is_quiet command) (count_of command bytes) ErrorsKept said said_new errors_failed
 
 -- the command was done, it was said how many lines were refused, with the notes that are wanted, and the status is as
 -- it should be
 pub record DidWhole (command : CommandLine) (ErrorsKept : Type 0) (unread unread_new written written_new said said_new : Option (List ℕ)) (errors_failed : Bool) (result : ℕ) : Type 0 where
   pub did : DidJob command unread unread_new written written_new
   pub noted : Told command did.bytes ErrorsKept said said_new errors_failed
-  pub status : result ≡ status_of (is_strict command) (tally_of command did.bytes)
+  pub status : result ≡ status_of (is_strict command) (is_lenient command) (count_of command did.bytes)
 
 -- all bytes were read, and the writer failed and took a beginning of a text that the command makes of them
 pub record FailedAtEnd (command : CommandLine) (bytes : List ℕ) (unread_new written written_new : Option (List ℕ)) (failed : Bool) : Type 0 where

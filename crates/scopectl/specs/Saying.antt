@@ -1,9 +1,10 @@
 -- What is said on standard error.
-use Rattle.std.specs.Prelude.{◌≡◌, ◌⊎◌, ◌++◌, ◌==◌, ℕ, Bool, true, false, Option, List, [], ◌∷◌, codes, if◌then◌else◌}
+use Rattle.std.specs.Prelude.{◌≡◌, ◌⊎◌, ◌++◌, ◌||◌, ◌==◌, ℕ, Bool, true, false, Option, List, [], ◌∷◌, codes, if◌then◌else◌}
 use Rattle.std.specs.Fmt.{decimal}
 use Rattle.std.specs.Io.KnownBytes.{Appends}
 use Rattle.scope_script.specs.Streams.{AppendsPart}
 use Rattle.scope_script.specs.declared.session.tally.Tally.{Tally}
+use Rattle.script_jobs.specs.declared.counting.Count.{Count}
 
 -- the stream took the whole text, or failed and took a beginning of it
 abbrev pub IsSaid : (text : List ℕ) (said said_new : Option (List ℕ)) (failed : Bool) → Type 0
@@ -16,22 +17,47 @@ IsSaid text said said_new failed =
 abbrev pub tally_line : Tally → List ℕ
 tally_line tally = codes "scopectl: lines refused: " ++ decimal tally.refused ++ codes ", not a command: " ++ decimal tally.bad_words ++ 10 ∷ []
 
--- the same, or nothing where there are none
-abbrev pub refusals_text : Tally → List ℕ
-refusals_text tally = if tally.refused == 0 then [] else tally_line tally
+-- what is said of a text that looks like no script
+abbrev pub foreign_text : Count → List ℕ
+foreign_text count = if count.is_foreign then codes "scopectl: this does not look like a script: no line of it did anything\n" else []
+
+-- what is said of a script with refused lines
+abbrev pub count_text : Count → List ℕ
+count_text count = tally_line count.tally ++ foreign_text count
+
+-- nothing is said where it is to be quiet, or where there are none
+abbrev pub is_silent : (quiet : Bool) → Count → Bool
+is_silent quiet count = quiet || (count.tally.refused == 0)
+
+abbrev pub refusals_text : (quiet : Bool) → Count → List ℕ
+refusals_text quiet count = if is_silent quiet count then [] else count_text count
 
 abbrev pub EitherBy : Bool → Type 0 → Type 0 → Type 0
 EitherBy true A B = A
 EitherBy false A B = B
 
--- nothing was said where there are none, so that the stream is as it was, and else that line
-abbrev pub Noted : Tally → (Kept : Type 0) (said said_new : Option (List ℕ)) (failed : Bool) → Type 0
-Noted tally Kept said said_new failed = EitherBy (tally.refused == 0) Kept (IsSaid (tally_line tally) said said_new failed)
+-- nothing was said where there is nothing to say, so that the stream is as it was, and else that text
+abbrev pub Noted : (quiet : Bool) → Count → (Kept : Type 0) (said said_new : Option (List ℕ)) (failed : Bool) → Type 0
+Noted quiet count Kept said said_new failed = EitherBy (is_silent quiet count) Kept (IsSaid (count_text count) said said_new failed)
 
--- the notes on a script's lines were said, and then that line
-abbrev pub SaidNotes : (notes : List ℕ) → Tally → (said said_new : Option (List ℕ)) (failed : Bool) → Type 0
-SaidNotes notes tally said said_new failed = IsSaid (notes ++ refusals_text tally) said said_new failed
+-- the notes on a script's lines were said, and then that text
+abbrev pub SaidNotes : (notes : List ℕ) → (quiet : Bool) → Count → (said said_new : Option (List ℕ)) (failed : Bool) → Type 0
+SaidNotes notes quiet count said said_new failed = IsSaid (notes ++ refusals_text quiet count) said said_new failed
 
--- the status: 0, but 3 where there are some and it is to tell so
-abbrev pub status_of : (strict : Bool) → Tally → ℕ
-status_of strict tally = if tally.refused == 0 then 0 else (if strict then 3 else 0)
+-- some text was said
+pub record SaidSome (said said_new : Option (List ℕ)) (failed : Bool) : Type 0 where
+  pub text : List ℕ
+  pub some : text ≡ [] → ⊥
+  pub is : IsSaid text said said_new failed
+
+-- the status where some lines make it 3
+abbrev pub three_if_some : ℕ → ℕ
+three_if_some n = if n == 0 then 0 else 3
+
+-- the status: 3 where lines were refused and it is to be strict, or where lines are no commands and it is not to be
+-- lenient
+abbrev pub status_of : (strict lenient : Bool) → Count → ℕ
+status_of strict lenient count =
+    if strict then three_if_some count.tally.refused
+    else if lenient then 0
+    else three_if_some count.tally.bad_words

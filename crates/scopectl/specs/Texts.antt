@@ -9,7 +9,7 @@ use Rattle.quote_plan.specs.PlanWhys.{words_of}
 use Rattle.quote_gateway.specs.declared.faults.GatewayFault.{GatewayFault}
 use Rattle.quote_gateway.specs.declared.faults.GatewayFault.TheVariants as service
 use Rattle.scopectl.specs.declared.fault.ProgramFault.{ProgramFault}
-use Rattle.scopectl.specs.declared.fault.ProgramFault.TheVariants.{Read, Write, Memory, PlanLine, Strange, Rejected, Cancelled, Lost, Time}
+use Rattle.scopectl.specs.declared.fault.ProgramFault.TheVariants.{Read, Write, Memory, PlanLine, Strange, Rejected, Cancelled, Lost, NoOffer, Time}
 
 abbrev pub fault_of_run : ScriptFault → ProgramFault
 fault_of_run script.Read = Read
@@ -36,6 +36,7 @@ word_of Strange = codes "strange"
 word_of Rejected = codes "rejected"
 word_of Cancelled = codes "cancelled"
 word_of Lost = codes "lost"
+word_of NoOffer = codes "after: no offer of the plan has that name"
 word_of Time = codes "time"
 
 -- where the fault is: in which line of the plan, if in one
@@ -47,6 +48,10 @@ place_of _ = []
 abbrev pub cause_of : ProgramFault → List ℕ
 cause_of (PlanLine line why) = codes ": " ++ words_of why
 cause_of _ = []
+
+-- the line that is said of a word that is not UTF-8
+abbrev pub not_utf8_line : List ℕ
+not_utf8_line = codes "error: a word of the command line is not UTF-8" ++ 10 ∷ []
 
 -- the line that names a fault
 abbrev pub line_of : ProgramFault → List ℕ

@@ -1,21 +1,21 @@
 //! All that the program does.
-ghost use Rattle.std.specs.Prelude.{◌≡◌, ◌≢◌, ◌≤◌, ◌⊎◌, ◌++◌, if◌then◌else◌, Bool, None, Some, false, true, map, string_bytes};
+ghost use Rattle.std.specs.Prelude.{◌≡◌, ◌≢◌, ◌≤◌, ◌⊎◌, ◌++◌, Bool, None, Some, false, true, map, string_bytes};
 ghost use Rattle.std.specs.Io.KnownBytes.{Appends};
 ghost use Rattle.scope_script.specs.Streams.{AppendsPart};
-ghost use Rattle.scopectl.specs.Naming.{IsOfPlan, NamesFault, SaysQuote};
-ghost use Rattle.scopectl.specs.Program.{DidAsSaid, DidJob, DidPart, DidPartly, DidWhole, GaveText, GaveTextPartly, IsNotUnderstood, command_of, notes_wanted};
-ghost use Rattle.scopectl.specs.Saying.{IsSaid, Noted, SaidNotes, status_of, tally_line};
-ghost use Rattle.scopectl.specs.Texts.{line_of};
+ghost use Rattle.scopectl.specs.Naming.{IsOfPlan, IsOfQuote, NamesFault};
+ghost use Rattle.scopectl.specs.Program.{DidAsSaid, DidJob, DidPart, DidPartly, DidWhole, GaveText, GaveTextPartly, IsNotUnderstood, command_of, lenience, notes_wanted};
+ghost use Rattle.scopectl.specs.Saying.{IsSaid, Noted, SaidNotes, SaidSome, count_text, is_silent, status_of, three_if_some};
+ghost use Rattle.scopectl.specs.Texts.{line_of, not_utf8_line};
 
-use crate::fault::{ProgramFault, tally_line};
+use crate::fault::{ProgramFault, count_text};
 use crate::quoting::quoted;
 use command_line::{CommandLine, Delay, LineFault, ScriptOptions, VERSION_LINE, help_of, line};
 use job_runner::JobWork;
 use quote_gateway::LateJob;
 use realm_lock::{RealmName, Seed};
 use scope_rules::Due;
-use scope_script::{Tally, Watched};
-use script_jobs::{NotedReplay, Notes, Rendering, View, replayed, replayed_noted, shown};
+use scope_script::Watched;
+use script_jobs::{Count, NotedReplay, Notes, Rendering, View, replayed, replayed_noted, shown};
 use std::alloc::Global;
 use std::io::{ErrorKind, Read, Write};
 use std::rt::Clock as SystemTime;
@@ -31,7 +31,7 @@ pub const FAULT: u8 = 1;
 /// The status of a line that is not understood.
 pub const NOT_UNDERSTOOD: u8 = 2;
 
-/// The status of a strict line that was carried out, where lines of the script were refused.
+/// The status of a line that was carried out, where lines of the script were refused and the status is to tell so.
 pub const LINES_REFUSED: u8 = 3;
 
 /// Does what the words say, of which the first is the program's name, and answers the exit status.
@@ -44,20 +44,24 @@ pub const LINES_REFUSED: u8 = 3;
 /// a realm of the limits that stand in the words; or they said a dump, a tree or a timeline, all bytes were read,
 /// and exactly that text of the realm that they leave was written; or they said a quote, all bytes
 /// were read, which are a plan, and exactly a line that it allows was written, and a line feed; by a deadline
-/// the line may say some of the prices. Where lines of a script were refused, one line on `errors` says how
-/// many, and how many of them are no commands; before it stand the notes on the lines of a replay that are to be
-/// explained or traced; else nothing was said there. The status is 3 where lines were refused and the words are
-/// strict, and else 0.
+/// the line may say some of the prices. Where lines of a script were refused and the words are not quiet, a line on
+/// `errors` says how many, and how many of them are no commands, and another one where no other line did anything;
+/// before it stand the notes on the lines of a replay that are to be explained or traced; else nothing was said
+/// there. The status is 3 where lines were refused and the words are strict, or where lines of a tree or a timeline
+/// are no commands and the words are not lenient, and else 0.
 ///
 /// With status 1 one line on `errors` names the fault: `read` or `write` only where that stream failed,
 /// or the reader was given up after 2^64 - 1 reads; a line of the plan only where it is the first bad one of all
-/// bytes, or of those that were read and whatever comes after them; `rejected`, `cancelled` or `lost` only of a
-/// quote whose bytes were all read; `strange` never; `memory` and `time` where the system refused them.
+/// bytes, or of those that were read and whatever comes after them; `after` only of a quote whose plan lacks the offer
+/// that is to take time; `rejected`, `cancelled` or `lost` only of a
+/// quote whose bytes were all read; `strange` never; `memory` only where no stream failed; `time` only of a quote
+/// whose bytes were all read, with a deadline or a delay.
 /// Nothing was read or written, or the writer failed at the text that was asked for, or what was written
 /// is a beginning of the replies to what was read. Of any other job nothing was written, but where all
 /// bytes were read and the writer failed.
 ///
-/// With status 2 the words say no command and ask for no text, and nothing was read or written. So words
+/// With status 2 the words say no command and ask for no text, nothing was read or written, and some text was said on
+/// `errors`. So words
 /// that say a command or ask for a text never end with 2, and other words with 2, or with 1 where memory
 /// was refused.
 pub fn act<
@@ -90,9 +94,11 @@ pub fn act<
         × GaveTextPartly (map (λ word. word.now) words.now) (W.contents writer.old.inner) (W.contents writer.new.inner) writer.new.failed)
         ⊎ DidPartly (map (λ word. word.now) words.now) (R.remaining reader.old.inner) (R.remaining reader.new.inner) (W.contents writer.old.inner) (W.contents writer.new.inner) writer.new.failed) }
     ensures named { result ≡ 1 → NamesFault (E.contents errors.old.inner) (E.contents errors.new.inner) errors.new.failed ((reader.new.failed ≡ true) ⊎ (reader.new.reads ≡ u64.MAX)) (writer.new.failed ≡ true)
-        (λ fault. SaysQuote (map (λ word. word.now) words.now) × IsOfPlan (R.remaining reader.old.inner) (R.remaining reader.new.inner) fault) }
+        ((reader.new.failed ≡ false) × (writer.new.failed ≡ false))
+        (IsOfQuote (map (λ word. word.now) words.now) (R.remaining reader.old.inner) (R.remaining reader.new.inner)) }
     ensures not_understood { result ≡ 2 → IsNotUnderstood (map (λ word. word.now) words.now)
-        × (reader.new ≡ reader.old) × (writer.new ≡ writer.old) }
+        × (reader.new ≡ reader.old) × (writer.new ≡ writer.old)
+        × SaidSome (E.contents errors.old.inner) (E.contents errors.new.inner) errors.new.failed }
 {
     match line(alloc, words) {
         Ok(
@@ -102,20 +108,29 @@ pub fn act<
                 trace,
             },
         ) => replay(alloc, script, explain, trace, reader, writer, errors),
-        Ok(CommandLine::Dump(script)) => show(alloc, script, View::Dump, reader, writer, errors),
-        Ok(CommandLine::Tree(script)) => show(alloc, script, View::Tree, reader, writer, errors),
-        Ok(CommandLine::Timeline(script)) => {
-            show(alloc, script, View::Timeline, reader, writer, errors)
+        Ok(CommandLine::Dump(script)) => {
+            show(alloc, script, View::Dump, true, reader, writer, errors)
+        }
+        Ok(CommandLine::Tree { script, lenient }) => {
+            show(alloc, script, View::Tree, lenient, reader, writer, errors)
+        }
+        Ok(CommandLine::Timeline { script, lenient }) => {
+            show(
+                alloc,
+                script,
+                View::Timeline,
+                lenient,
+                reader,
+                writer,
+                errors,
+            )
         }
         Ok(CommandLine::Quote { deadline, after }) => quote::<N, S, T, R, W, E>(
             rt, alloc, seed, spawner, deadline, after, reader, writer, errors,
         ),
         Err(LineFault::Help) => tell(help_of(words), writer, errors),
         Err(LineFault::Version) => tell(VERSION_LINE, writer, errors),
-        Err(LineFault::Usage(text)) => {
-            say(&text, errors);
-            NOT_UNDERSTOOD
-        }
+        Err(LineFault::Usage(text)) => refuse_line(&text, errors),
         Err(LineFault::Memory) => fail(ProgramFault::Memory, errors),
     }
 }
@@ -125,12 +140,26 @@ pub fn act<
 pub fn refuse_words<E: Write + Drop>(kind: ErrorKind, errors: &mut Watched<E>) -> u8
     ensures memory { kind ≡ ErrorKind.OutOfMemory → (result ≡ 1)
         × IsSaid (line_of ProgramFault.Memory) (E.contents errors.old.inner) (E.contents errors.new.inner) errors.new.failed }
-    ensures other { kind ≢ ErrorKind.OutOfMemory → result ≡ 2 }
+    ensures other { kind ≢ ErrorKind.OutOfMemory → (result ≡ 2)
+        × IsSaid not_utf8_line (E.contents errors.old.inner) (E.contents errors.new.inner) errors.new.failed }
 {
     if kind == ErrorKind::OutOfMemory {
         return fail(ProgramFault::Memory, errors);
     }
     say("error: a word of the command line is not UTF-8\n", errors);
+    NOT_UNDERSTOOD
+}
+
+/// Says why the words are not understood.
+fn refuse_line<E: Write + Drop>(why: &str, errors: &mut Watched<E>) -> u8
+    ensures status { result ≡ 2 }
+    ensures said { SaidSome (E.contents errors.old.inner) (E.contents errors.new.inner) errors.new.failed }
+{
+    if why.is_empty() {
+        say("error: the command line is not understood\n", errors);
+    } else {
+        say(why, errors);
+    }
     NOT_UNDERSTOOD
 }
 
@@ -161,7 +190,7 @@ fn replay<R: Read + Drop, W: Write + Drop, E: Write + Drop>(
     ensures status { (result ≤ 3) × (result ≢ 2) }
     ensures done { result ≢ 1 → DidWhole (CommandLine.Replay script explain trace) (errors.new ≡ errors.old) (R.remaining reader.old.inner) (R.remaining reader.new.inner) (W.contents writer.old.inner) (W.contents writer.new.inner) (E.contents errors.old.inner) (E.contents errors.new.inner) errors.new.failed result }
     ensures fault { result ≡ 1 → DidPart (CommandLine.Replay script explain trace) (R.remaining reader.old.inner) (R.remaining reader.new.inner) (W.contents writer.old.inner) (W.contents writer.new.inner) writer.new.failed }
-    ensures named { result ≡ 1 → NamesFault (E.contents errors.old.inner) (E.contents errors.new.inner) errors.new.failed ((reader.new.failed ≡ true) ⊎ (reader.new.reads ≡ u64.MAX)) (writer.new.failed ≡ true) (λ _. ⊥) }
+    ensures named { result ≡ 1 → NamesFault (E.contents errors.old.inner) (E.contents errors.new.inner) errors.new.failed ((reader.new.failed ≡ true) ⊎ (reader.new.reads ≡ u64.MAX)) (writer.new.failed ≡ true) ((reader.new.failed ≡ false) × (writer.new.failed ≡ false)) (λ _. ⊥) }
 {
     match notes_wanted(explain, trace) {
         Some(notes) => replay_noted(alloc, script, notes, reader, writer, errors),
@@ -182,10 +211,10 @@ fn replay_plainly<R: Read + Drop, W: Write + Drop, E: Write + Drop>(
     ensures status { (result ≤ 3) × (result ≢ 2) }
     ensures done { (explain trace : Bool) → notes_wanted explain trace ≡ None → result ≢ 1 → DidWhole (CommandLine.Replay script explain trace) (errors.new ≡ errors.old) (R.remaining reader.old.inner) (R.remaining reader.new.inner) (W.contents writer.old.inner) (W.contents writer.new.inner) (E.contents errors.old.inner) (E.contents errors.new.inner) errors.new.failed result }
     ensures fault { (explain trace : Bool) → result ≡ 1 → DidPart (CommandLine.Replay script explain trace) (R.remaining reader.old.inner) (R.remaining reader.new.inner) (W.contents writer.old.inner) (W.contents writer.new.inner) writer.new.failed }
-    ensures named { result ≡ 1 → NamesFault (E.contents errors.old.inner) (E.contents errors.new.inner) errors.new.failed ((reader.new.failed ≡ true) ⊎ (reader.new.reads ≡ u64.MAX)) (writer.new.failed ≡ true) (λ _. ⊥) }
+    ensures named { result ≡ 1 → NamesFault (E.contents errors.old.inner) (E.contents errors.new.inner) errors.new.failed ((reader.new.failed ≡ true) ⊎ (reader.new.reads ≡ u64.MAX)) (writer.new.failed ≡ true) ((reader.new.failed ≡ false) × (writer.new.failed ≡ false)) (λ _. ⊥) }
 {
     let fault = match replayed(alloc, script.limits, reader, writer) {
-        Ok(tally) => return note(script.strict, tally, errors),
+        Ok(count) => return note(script, true, count, errors),
         Err(fault) => fault,
     };
     fail(ProgramFault::of_run(fault), errors)
@@ -205,48 +234,52 @@ fn replay_noted<R: Read + Drop, W: Write + Drop, E: Write + Drop>(
     ensures status { (result ≤ 3) × (result ≢ 2) }
     ensures done { (explain trace : Bool) → notes_wanted explain trace ≡ Some notes → result ≢ 1 → DidWhole (CommandLine.Replay script explain trace) (errors.new ≡ errors.old) (R.remaining reader.old.inner) (R.remaining reader.new.inner) (W.contents writer.old.inner) (W.contents writer.new.inner) (E.contents errors.old.inner) (E.contents errors.new.inner) errors.new.failed result }
     ensures fault { (explain trace : Bool) → result ≡ 1 → DidPart (CommandLine.Replay script explain trace) (R.remaining reader.old.inner) (R.remaining reader.new.inner) (W.contents writer.old.inner) (W.contents writer.new.inner) writer.new.failed }
-    ensures named { result ≡ 1 → NamesFault (E.contents errors.old.inner) (E.contents errors.new.inner) errors.new.failed ((reader.new.failed ≡ true) ⊎ (reader.new.reads ≡ u64.MAX)) (writer.new.failed ≡ true) (λ _. ⊥) }
+    ensures named { result ≡ 1 → NamesFault (E.contents errors.old.inner) (E.contents errors.new.inner) errors.new.failed ((reader.new.failed ≡ true) ⊎ (reader.new.reads ≡ u64.MAX)) (writer.new.failed ≡ true) ((reader.new.failed ≡ false) × (writer.new.failed ≡ false)) (λ _. ⊥) }
 {
     match replayed_noted(alloc, script.limits, notes, reader, writer) {
-        Ok(noted) => say_notes(script.strict, noted, errors),
+        Ok(noted) => say_notes(script, noted, errors),
         Err(reason) => fail(ProgramFault::of_run(reason), errors),
     }
 }
 
-/// Says the notes on a script's lines, and how many were refused, if some were, and answers the status of a script
-/// that was read to its end. Where memory is refused for it, that is said instead.
-fn say_notes<E: Write + Drop>(strict: bool, noted: NotedReplay, errors: &mut Watched<E>) -> u8
-    ensures status { (result ≤ 3) × (result ≢ 2) }
-    ensures told { result ≢ 1 → result ≡ status_of strict noted.tally }
-    ensures said { result ≢ 1 → SaidNotes (string_bytes noted.notes) noted.tally (E.contents errors.old.inner) (E.contents errors.new.inner) errors.new.failed }
-    ensures memory { result ≡ 1 → IsSaid (line_of ProgramFault.Memory) (E.contents errors.old.inner) (E.contents errors.new.inner) errors.new.failed }
-{
-    let NotedReplay { notes, tally } = noted;
-    if tally.refused > 0 {
-        return say_both(strict, notes, tally, errors);
-    }
-    say(&notes, errors);
-    DONE
-}
-
-/// Says the notes, and then how many lines were refused, which some were.
-fn say_both<E: Write + Drop>(
-    strict: bool,
-    notes: String,
-    tally: Tally,
+/// Says the notes on a script's lines, and how many were refused, if that is to be said, and answers the status of a
+/// script that was read to its end. Where memory is refused for it, that is said instead.
+fn say_notes<E: Write + Drop>(
+    script: ScriptOptions,
+    noted: NotedReplay,
     errors: &mut Watched<E>,
 ) -> u8
     ensures status { (result ≤ 3) × (result ≢ 2) }
-    ensures told { result ≢ 1 → result ≡ (if strict then 3 else 0) }
-    ensures said { result ≢ 1 → IsSaid (string_bytes notes ++ tally_line tally) (E.contents errors.old.inner) (E.contents errors.new.inner) errors.new.failed }
+    ensures told { result ≢ 1 → result ≡ status_of script.strict true noted.count }
+    ensures said { result ≢ 1 → SaidNotes (string_bytes noted.notes) script.quiet noted.count (E.contents errors.old.inner) (E.contents errors.new.inner) errors.new.failed }
+    ensures memory { result ≡ 1 → IsSaid (line_of ProgramFault.Memory) (E.contents errors.old.inner) (E.contents errors.new.inner) errors.new.failed }
+{
+    let NotedReplay { notes, count } = noted;
+    if is_silent(script.quiet, count) {
+        say(&notes, errors);
+        return status_of(script.strict, true, count);
+    }
+    say_both(script.strict, notes, count, errors)
+}
+
+/// Says the notes, and then how many lines were refused.
+fn say_both<E: Write + Drop>(
+    strict: bool,
+    notes: String,
+    count: Count,
+    errors: &mut Watched<E>,
+) -> u8
+    ensures status { (result ≤ 3) × (result ≢ 2) }
+    ensures told { result ≢ 1 → result ≡ status_of strict true count }
+    ensures said { result ≢ 1 → IsSaid (string_bytes notes ++ count_text count) (E.contents errors.old.inner) (E.contents errors.new.inner) errors.new.failed }
     ensures memory { result ≡ 1 → IsSaid (line_of ProgramFault.Memory) (E.contents errors.old.inner) (E.contents errors.new.inner) errors.new.failed }
 {
     let mut text = notes;
-    match text.push_str(tally_line(tally).as_str()) {
+    match text.push_str(count_text(count).as_str()) {
         Ok(()) => say(&text, errors),
         Err(_) => return fail(ProgramFault::Memory, errors),
     }
-    if strict { LINES_REFUSED } else { DONE }
+    status_of(strict, true, count)
 }
 
 /// Shows the realm that the script which is read leaves.
@@ -254,6 +287,7 @@ fn show<R: Read + Drop, W: Write + Drop, E: Write + Drop>(
     alloc: Global,
     script: ScriptOptions,
     view: View,
+    lenient: bool,
     reader: &mut Watched<R>,
     writer: &mut Watched<W>,
     errors: &mut Watched<E>,
@@ -261,27 +295,28 @@ fn show<R: Read + Drop, W: Write + Drop, E: Write + Drop>(
     requires reader { reader.old.failed ≡ false }
     requires writer { writer.old.failed ≡ false }
     ensures status { (result ≤ 3) × (result ≢ 2) }
-    ensures done { result ≢ 1 → DidWhole (command_of view script) (errors.new ≡ errors.old) (R.remaining reader.old.inner) (R.remaining reader.new.inner) (W.contents writer.old.inner) (W.contents writer.new.inner) (E.contents errors.old.inner) (E.contents errors.new.inner) errors.new.failed result }
-    ensures fault { result ≡ 1 → DidPart (command_of view script) (R.remaining reader.old.inner) (R.remaining reader.new.inner) (W.contents writer.old.inner) (W.contents writer.new.inner) writer.new.failed }
-    ensures named { result ≡ 1 → NamesFault (E.contents errors.old.inner) (E.contents errors.new.inner) errors.new.failed ((reader.new.failed ≡ true) ⊎ (reader.new.reads ≡ u64.MAX)) (writer.new.failed ≡ true) (λ _. ⊥) }
+    ensures done { result ≢ 1 → DidWhole (command_of view script lenient) (errors.new ≡ errors.old) (R.remaining reader.old.inner) (R.remaining reader.new.inner) (W.contents writer.old.inner) (W.contents writer.new.inner) (E.contents errors.old.inner) (E.contents errors.new.inner) errors.new.failed result }
+    ensures fault { result ≡ 1 → DidPart (command_of view script lenient) (R.remaining reader.old.inner) (R.remaining reader.new.inner) (W.contents writer.old.inner) (W.contents writer.new.inner) writer.new.failed }
+    ensures named { result ≡ 1 → NamesFault (E.contents errors.old.inner) (E.contents errors.new.inner) errors.new.failed ((reader.new.failed ≡ true) ⊎ (reader.new.reads ≡ u64.MAX)) (writer.new.failed ≡ true) ((reader.new.failed ≡ false) × (writer.new.failed ≡ false)) (λ _. ⊥) }
 {
     match shown(alloc, script.limits, view, reader, writer) {
-        Ok(shown) => tell_shown(script.strict, &shown, writer, errors),
+        Ok(shown) => tell_shown(script, lenience(view, lenient), &shown, writer, errors),
         Err(cause) => fail(ProgramFault::of_run(cause), errors),
     }
 }
 
 /// Writes what is shown, and says how many lines were refused.
 fn tell_shown<W: Write + Drop, E: Write + Drop>(
-    strict: bool,
+    script: ScriptOptions,
+    lenient: bool,
     shown: &Rendering,
     writer: &mut Watched<W>,
     errors: &mut Watched<E>,
 ) -> u8
     ensures status { (result ≤ 3) × (result ≢ 2) }
     ensures done { result ≢ 1 → Appends (W.contents writer.old.inner) (W.contents writer.new.inner) (string_bytes shown.now.text) }
-    ensures noted { result ≢ 1 → Noted shown.now.tally (errors.new ≡ errors.old) (E.contents errors.old.inner) (E.contents errors.new.inner) errors.new.failed }
-    ensures told { result ≢ 1 → result ≡ status_of strict shown.now.tally }
+    ensures noted { result ≢ 1 → Noted script.quiet shown.now.count (errors.new ≡ errors.old) (E.contents errors.old.inner) (E.contents errors.new.inner) errors.new.failed }
+    ensures told { result ≢ 1 → result ≡ status_of script.strict lenient shown.now.count }
     ensures fault { result ≡ 1 → AppendsPart (W.contents writer.old.inner) (W.contents writer.new.inner) (string_bytes shown.now.text) }
     ensures failed { result ≡ 1 → writer.new.failed ≡ true }
     ensures named { result ≡ 1 → IsSaid (line_of ProgramFault.Write) (E.contents errors.old.inner) (E.contents errors.new.inner) errors.new.failed }
@@ -289,7 +324,17 @@ fn tell_shown<W: Write + Drop, E: Write + Drop>(
     if tell(&shown.text, writer, errors) == FAULT {
         return FAULT;
     }
-    note(strict, shown.tally, errors)
+    note(script, lenient, shown.count, errors)
+}
+
+/// Whether lines may be no commands.
+fn lenience(view: View, lenient: bool) -> bool
+    ensures { result ≡ lenience view lenient }
+{
+    match view {
+        View::Dump => true,
+        View::Tree | View::Timeline => lenient,
+    }
 }
 
 /// Serves the plan that is read, by the deadline if there is one, in milliseconds from now. The job of the
@@ -313,11 +358,13 @@ fn quote<
     errors: &mut Watched<E>,
 ) -> u8
     requires named { seed ≡ N.table }
+    requires reader { reader.old.failed ≡ false }
+    requires writer { writer.old.failed ≡ false }
     ensures status { result ≤ 1 }
     ensures done { result ≡ 0 → DidJob (CommandLine.Quote deadline after) (R.remaining reader.old.inner) (R.remaining reader.new.inner) (W.contents writer.old.inner) (W.contents writer.new.inner) }
     ensures silent { result ≡ 0 → errors.new ≡ errors.old }
     ensures fault { result ≡ 1 → DidPart (CommandLine.Quote deadline after) (R.remaining reader.old.inner) (R.remaining reader.new.inner) (W.contents writer.old.inner) (W.contents writer.new.inner) writer.new.failed }
-    ensures named { result ≡ 1 → NamesFault (E.contents errors.old.inner) (E.contents errors.new.inner) errors.new.failed ((reader.new.failed ≡ true) ⊎ (reader.new.reads ≡ u64.MAX)) (writer.new.failed ≡ true) (IsOfPlan (R.remaining reader.old.inner) (R.remaining reader.new.inner)) }
+    ensures named { result ≡ 1 → NamesFault (E.contents errors.old.inner) (E.contents errors.new.inner) errors.new.failed ((reader.new.failed ≡ true) ⊎ (reader.new.reads ≡ u64.MAX)) (writer.new.failed ≡ true) ((reader.new.failed ≡ false) × (writer.new.failed ≡ false)) (IsOfPlan deadline after (R.remaining reader.old.inner) (R.remaining reader.new.inner)) }
 {
     match quoted::<N, S, T, R>(rt, alloc, seed, spawner, deadline, after, reader) {
         Ok(answer) => tell(&answer, writer, errors),
@@ -325,25 +372,58 @@ fn quote<
     }
 }
 
-/// Says how many lines of a script were refused, if some were, and answers the status of a script that was read to
-/// its end.
-fn note<E: Write + Drop>(strict: bool, tally: Tally, errors: &mut Watched<E>) -> u8
-    ensures status { result ≡ status_of strict tally }
+/// Says how many lines of a script were refused, if that is to be said, and answers the status of a script that was
+/// read to its end.
+fn note<E: Write + Drop>(
+    script: ScriptOptions,
+    lenient: bool,
+    count: Count,
+    errors: &mut Watched<E>,
+) -> u8
+    ensures status { result ≡ status_of script.strict lenient count }
     ensures well { (result ≤ 3) × (result ≢ 1) × (result ≢ 2) }
-    ensures noted { Noted tally (errors.new ≡ errors.old) (E.contents errors.old.inner) (E.contents errors.new.inner) errors.new.failed }
+    ensures noted { Noted script.quiet count (errors.new ≡ errors.old) (E.contents errors.old.inner) (E.contents errors.new.inner) errors.new.failed }
 {
-    if tally.refused == 0 {
-        return DONE;
+    if !is_silent(script.quiet, count) {
+        say_count(count, errors);
     }
-    say_tally(tally, errors);
-    if strict { LINES_REFUSED } else { DONE }
+    status_of(script.strict, lenient, count)
+}
+
+/// Whether nothing is to be said of refused lines.
+fn is_silent(quiet: bool, count: Count) -> bool
+    ensures { result ≡ is_silent quiet count }
+{
+    quiet || count.tally.refused == 0
+}
+
+/// The status of a script that was read to its end.
+fn status_of(strict: bool, lenient: bool, count: Count) -> u8
+    ensures status { result ≡ status_of strict lenient count }
+    ensures well { (result ≤ 3) × (result ≢ 1) × (result ≢ 2) }
+{
+    if strict {
+        three_if_some(count.tally.refused)
+    } else if lenient {
+        DONE
+    } else {
+        three_if_some(count.tally.bad_words)
+    }
+}
+
+/// The status where some lines make it `LINES_REFUSED`.
+fn three_if_some(lines: u64) -> u8
+    ensures status { result ≡ three_if_some lines }
+    ensures well { (result ≤ 3) × (result ≢ 1) × (result ≢ 2) }
+{
+    if lines == 0 { DONE } else { LINES_REFUSED }
 }
 
 /// Says how many lines of a script were refused.
-fn say_tally<E: Write + Drop>(tally: Tally, errors: &mut Watched<E>)
-    ensures { IsSaid (tally_line tally) (E.contents errors.old.inner) (E.contents errors.new.inner) errors.new.failed }
+fn say_count<E: Write + Drop>(count: Count, errors: &mut Watched<E>)
+    ensures { IsSaid (count_text count) (E.contents errors.old.inner) (E.contents errors.new.inner) errors.new.failed }
 {
-    say(tally_line(tally).as_str(), errors);
+    say(count_text(count).as_str(), errors);
 }
 
 /// Writes the text that was asked for.

@@ -1,12 +1,13 @@
 //! What the program says on standard error: why it ends with status 1, and how many lines were refused.
 ghost use Rattle.std.specs.Prelude.{◌≡◌, ◌≤◌, length};
-ghost use Rattle.scopectl.specs.Saying.{tally_line};
+ghost use Rattle.scopectl.specs.Saying.{count_text, foreign_text};
 ghost use Rattle.scopectl.specs.Texts.{fault_of_plan, fault_of_run, fault_of_service, line_of, word_of};
 
 use arrayvec::ArrayString;
 use itoa::Buffer;
 use quote_gateway::{GatewayFault, PlanFault, PlanWhy};
-use scope_script::{ScriptFault, Tally};
+use scope_script::ScriptFault;
+use script_jobs::Count;
 use thiserror::Error;
 
 /// Why the program ends with status 1. It is shown as on standard error, but for the program's name and the line's end.
@@ -37,13 +38,16 @@ pub enum ProgramFault {
     /// The answer would rest on an end that is not the offer's.
     #[error("lost")]
     Lost,
+    /// No offer of the plan has the name of the one that is to take time.
+    #[error("after: no offer of the plan has that name")]
+    NoOffer,
     /// The system gives no time.
     #[error("time")]
     Time,
 }
 
 /// How many bytes the line that names a fault may have: a line of a plan has its number and its cause.
-pub const LINE_ROOM: usize = 144;
+pub const LINE_ROOM: usize = 192;
 
 impl ProgramFault {
     /// The program's fault for a fault of the run.
@@ -109,7 +113,7 @@ impl ProgramFault {
     /// The word at the end of the line that names the fault.
     fn word(self) -> &'static str
         ensures word { result.now ≡ word_of self }
-        ensures short { length result.now ≤ 9 }
+        ensures short { length result.now ≤ 48 }
     {
         match self {
             ProgramFault::Read => "read",
@@ -120,24 +124,41 @@ impl ProgramFault {
             ProgramFault::Rejected => "rejected",
             ProgramFault::Cancelled => "cancelled",
             ProgramFault::Lost => "lost",
+            ProgramFault::NoOffer => "after: no offer of the plan has that name",
             ProgramFault::Time => "time",
         }
     }
 }
 
-/// The one line on standard error that says how many lines of a script were refused, with its end. It takes no
-/// memory.
-pub fn tally_line(tally: Tally) -> ArrayString<LINE_ROOM>
-    ensures { result.bytes ≡ tally_line tally }
+/// How many bytes the text on refused lines may have.
+pub const COUNT_ROOM: usize = 192;
+
+/// What is said on standard error of a script with refused lines: how many they are, and whether the text looks like
+/// no script. It takes no memory.
+pub fn count_text(count: Count) -> ArrayString<COUNT_ROOM>
+    ensures { result.bytes ≡ count_text count }
 {
     let mut digits = Buffer::new();
-    let mut line = ArrayString::new();
-    line.push_str("scopectl: lines refused: ");
-    line.push_str(digits.format(tally.refused));
-    line.push_str(", not a command: ");
-    line.push_str(digits.format(tally.bad_words));
-    line.push_str("\n");
-    line
+    let mut text = ArrayString::new();
+    text.push_str("scopectl: lines refused: ");
+    text.push_str(digits.format(count.tally.refused));
+    text.push_str(", not a command: ");
+    text.push_str(digits.format(count.tally.bad_words));
+    text.push_str("\n");
+    text.push_str(foreign_text(count));
+    text
+}
+
+/// What is said of a text that looks like no script.
+fn foreign_text(count: Count) -> &'static str
+    ensures text { result.now ≡ foreign_text count }
+    ensures short { length result.now ≤ 80 }
+{
+    if count.is_foreign {
+        "scopectl: this does not look like a script: no line of it did anything\n"
+    } else {
+        ""
+    }
 }
 
 #[cfg(test)]
@@ -146,7 +167,7 @@ mod tests {
     use quote_gateway::PlanWhy;
     use std::alloc::{AllocError, Global};
 
-    const FAULTS: [ProgramFault; 10] = [
+    const FAULTS: [ProgramFault; 11] = [
         ProgramFault::Read,
         ProgramFault::Write,
         ProgramFault::Memory,
@@ -162,6 +183,7 @@ mod tests {
         ProgramFault::Rejected,
         ProgramFault::Cancelled,
         ProgramFault::Lost,
+        ProgramFault::NoOffer,
         ProgramFault::Time,
     ];
 

@@ -4,37 +4,53 @@
 
 mod act;
 mod fault;
+mod opening;
+mod pipes;
 mod quoting;
-mod terminal;
 mod threads;
 
+use command_line::part_words;
+use opening::{GREETING, Input, act_from, input_of};
+use pipes::{Messages, Output};
 use scope_script::Watched;
+use std::cell::Cell;
 use std::io;
-use std::io::IsTerminal;
+use std::io::{ErrorKind, IsTerminal};
 use std::process::ExitCode;
-use terminal::{GREETING, read_input};
-use threads::act_on;
+use threads::borrowed;
 
 fn main(rt: HostRuntime) -> ExitCode {
-    let mut errors = Watched::new(rt.stderr());
-    let status = match words_of_the_line(&rt) {
-        Ok(owned) => {
+    let broken = Cell::new(false);
+    let mut errors = Watched::new(Messages {
+        inner: rt.stderr(),
+        broken: &broken,
+    });
+    let owned = match words_of_the_line(&rt) {
+        Ok(owned) => owned,
+        Err(error) => return ExitCode::from(act::refuse_words(error.kind(), &mut errors)),
+    };
+    let alloc = rt.alloc();
+    let Ok(words) = borrowed(alloc, &owned) else {
+        return ExitCode::from(act::refuse_words(ErrorKind::OutOfMemory, &mut errors));
+    };
+    let Ok(parted) = part_words(alloc, &words) else {
+        return ExitCode::from(act::refuse_words(ErrorKind::OutOfMemory, &mut errors));
+    };
+    let words = &parted.words;
+    let output = Output {
+        inner: rt.stdout(),
+        broken: &broken,
+    };
+    let status = match input_of(&rt, alloc, words, parted.file, &mut errors) {
+        Input::Standard { greets } => {
             let input = rt.reader();
-            if input.is_terminal() && read_input(&owned) {
+            if greets && input.is_terminal() {
                 let _said = errors.write_bytes(GREETING.as_bytes());
             }
-            let mut reader = Watched::new(input);
-            let mut writer = Watched::new(rt.stdout());
-            act_on(
-                &rt,
-                rt.alloc(),
-                &owned,
-                &mut reader,
-                &mut writer,
-                &mut errors,
-            )
+            act_from(&rt, alloc, words, input, output, &mut errors)
         }
-        Err(error) => act::refuse_words(error.kind(), &mut errors),
+        Input::File(file) => act_from(&rt, alloc, words, file, output, &mut errors),
+        Input::Refused(status) => status,
     };
     ExitCode::from(status)
 }

@@ -1,12 +1,14 @@
 //! The answer to the plan that is read. Nothing is written here.
-ghost use Rattle.std.specs.Prelude.{◌≡◌, ◌⊎◌, ◌++◌, [], ◌∷◌, true, None, Some, IfOk, IfErr, OnErr, string_bytes};
+ghost use Rattle.std.specs.Prelude.{◌≡◌, ◌⊎◌, ◌++◌, [], ◌∷◌, Bool, false, true, not, None, Some, is_some, drop, length, ◌+◌, ◌<◌, ◌^◌, IfOk, IfErr, OnErr, OnOk, string_bytes};
 ghost use Rattle.quote_plan.specs.AnswerText.{answer_text};
 ghost use Rattle.quote_plan.specs.Allowed.{AllowedText};
 ghost use Rattle.quote_plan.specs.Plans.{labels_of};
 ghost use Rattle.quote_gateway.specs.Offers.{labels_in};
-ghost use Rattle.scopectl.specs.Program.{AllowedIn, AnswersPlan, Made, ReadPlan, SaysAllowed};
+ghost use Rattle.std.specs.List.{list_any};
+ghost use Rattle.scope_rules.specs.Names.{same_name};
+ghost use Rattle.scopectl.specs.Program.{AllowedIn, AnswersPlan, Made, ReadPlan, SaysAllowed, has_late};
 ghost use Rattle.script_jobs.specs.Jobs.{ReadSome};
-ghost use Rattle.scopectl.specs.Naming.{CameFrom, IsBadLine, IsOfPlan, MayEndPlan};
+ghost use Rattle.scopectl.specs.Naming.{CameFrom, IsBadLine, IsOfPlan, MayEndPlan, is_timed};
 
 use crate::fault::ProgramFault;
 use command_line::Delay;
@@ -15,7 +17,7 @@ use quote_gateway::{
     Answer, Late, LateJob, Plan, PlanReader, Served, late_jobs_of, serve, serve_by,
 };
 use realm_lock::{RealmName, Seed};
-use scope_rules::Due;
+use scope_rules::{Due, Name};
 use scope_script::Watched;
 use std::alloc::{AllocError, Global};
 use std::io::Read;
@@ -30,7 +32,7 @@ const PIECE: usize = 4096;
 ///
 /// # Errors
 /// `Read` where the reader failed or was given up; else `PlanLine` as soon as the first bad line has ended, or once
-/// all was read, and then what the service answers. `Memory` where memory was refused, `Time` where the system gives
+/// all was read, and then what the service answers. `NoOffer` where the plan lacks the offer that is to take time. `Memory` where memory was refused, `Time` where the system gives
 /// no time and a deadline or a late job is asked for.
 pub fn quoted<
     N: RealmName,
@@ -47,9 +49,10 @@ pub fn quoted<
     reader: &mut Watched<R>,
 ) -> Result<String, ProgramFault>
     requires named { seed ≡ N.table }
-    ensures ok { IfOk result (λ text. Made (AnswersPlan deadline) (R.remaining reader.old.inner) (R.remaining reader.new.inner) (string_bytes text)) }
+    requires reader { reader.old.failed ≡ false }
+    ensures ok { IfOk result (λ text. Made (AnswersPlan deadline after) (R.remaining reader.old.inner) (R.remaining reader.new.inner) (string_bytes text)) }
     ensures part { OnErr result (ReadSome (R.remaining reader.old.inner) (R.remaining reader.new.inner)) }
-    ensures came { IfErr result (λ fault. CameFrom fault ((reader.new.failed ≡ true) ⊎ (reader.new.reads ≡ u64.MAX)) ⊥ (IsOfPlan (R.remaining reader.old.inner) (R.remaining reader.new.inner))) }
+    ensures came { IfErr result (λ fault. CameFrom fault ((reader.new.failed ≡ true) ⊎ (reader.new.reads ≡ u64.MAX)) ⊥ (reader.new.failed ≡ false) (IsOfPlan deadline after (R.remaining reader.old.inner) (R.remaining reader.new.inner))) }
 {
     match read_from(alloc, reader) {
         Ok(plan) => answered::<N, S, T>(rt, alloc, seed, spawner, deadline, after, &plan),
@@ -59,9 +62,11 @@ pub fn quoted<
 
 /// The plan that is read, up to its end or its first bad line.
 fn read_from<R: Read + Drop>(alloc: Global, reader: &mut Watched<R>) -> Result<Plan, ProgramFault>
+    requires reader { reader.old.failed ≡ false }
+    ensures sound { OnOk result (reader.new.failed ≡ false) }
     ensures plan { IfOk result (ReadPlan (R.remaining reader.old.inner) (R.remaining reader.new.inner)) }
     ensures part { OnErr result (ReadSome (R.remaining reader.old.inner) (R.remaining reader.new.inner)) }
-    ensures came { IfErr result (λ fault. CameFrom fault ((reader.new.failed ≡ true) ⊎ (reader.new.reads ≡ u64.MAX)) ⊥ (IsBadLine (R.remaining reader.old.inner) (R.remaining reader.new.inner))) }
+    ensures came { IfErr result (λ fault. CameFrom fault ((reader.new.failed ≡ true) ⊎ (reader.new.reads ≡ u64.MAX)) ⊥ (reader.new.failed ≡ false) (IsBadLine (R.remaining reader.old.inner) (R.remaining reader.new.inner))) }
 {
     let mut plan = PlanReader::new(alloc);
     let mut piece = [0; PIECE];
@@ -99,8 +104,12 @@ fn answered<
 ) -> Result<String, ProgramFault>
     requires named { seed ≡ N.table }
     ensures ok { IfOk result (λ text. SaysAllowed deadline plan.now (string_bytes text)) }
-    ensures fault { IfErr result MayEndPlan }
+    ensures late { IfOk result (λ text. has_late after plan.now ≡ true) }
+    ensures fault { IfErr result (MayEndPlan (is_timed deadline after) (not (has_late after plan.now))) }
 {
+    if !has_late(plan, after) {
+        return Err(ProgramFault::NoOffer);
+    }
     let answer = match answer_to::<N, S, T>(rt, alloc, seed, spawner, deadline, after, plan) {
         Ok(answer) => answer,
         Err(fault) => return Err(fault),
@@ -127,7 +136,7 @@ fn answer_to<
 ) -> Result<Answer, ProgramFault>
     requires named { seed ≡ N.table }
     ensures ok { IfOk result (λ a. AllowedIn deadline plan.now (answer_text a)) }
-    ensures fault { IfErr result MayEndPlan }
+    ensures fault { IfErr result (MayEndPlan (is_timed deadline after) (not (has_late after plan.now))) }
 {
     let clock = SystemClock::starting_at(*rt, 0);
     let late = match late_by(after, clock) {
@@ -148,12 +157,42 @@ fn answer_to<
     }
 }
 
+/// Whether the offer whose job is to take time, if one is to, is in the plan.
+fn has_late(plan: &Plan, after: Option<Delay>) -> bool
+    ensures { result ≡ has_late after plan.now }
+{
+    match after {
+        None => true,
+        Some(delay) => has_offer_from(plan, &delay.name, 0, plan.len()),
+    }
+}
+
+/// Whether an offer of the plan from the place on, of which so many are left, has the name.
+fn has_offer_from(plan: &Plan, name: &Name, place: usize, left: usize) -> bool
+    requires left { place + left ≡ length plan.now.offers }
+    requires fits { place + left < 2 ^ 64 }
+    ensures { result ≡ list_any (λ named. same_name named.0 name.now) (drop place plan.now.offers) }
+{
+    if left == 0 {
+        return false;
+    }
+    match plan.named_at(place) {
+        None => false,
+        Some((other, _offer)) => {
+            if other.is_same(name) {
+                return true;
+            }
+            has_offer_from(plan, name, place + 1, left - 1)
+        }
+    }
+}
+
 /// Which job is late, by the clock. `Time` where one is and there is no clock.
 fn late_by<T: Copy>(
     after: Option<Delay>,
     clock: Option<SystemClock<T>>,
 ) -> Result<Option<Late<T>>, ProgramFault>
-    ensures { IfErr result (λ fault. fault ≡ ProgramFault.Time) }
+    ensures { IfErr result (λ fault. (fault ≡ ProgramFault.Time) × (is_some after ≡ true)) }
 {
     match after {
         None => Ok(None),
@@ -184,7 +223,7 @@ fn asked<
     requires named { seed ≡ N.table }
     requires labelled { labels_in jobs.items ≡ labels_of plan.now }
     ensures ok { IfOk result (λ a. AllowedText plan.now (answer_text a)) }
-    ensures fault { IfErr result MayEndPlan }
+    ensures fault { (timed lacks : Bool) → IfErr result (MayEndPlan timed lacks) }
 {
     let served = match serve::<N, LateJob<T>, S, T>(rt, alloc, seed, plan, jobs, spawner) {
         Ok(served) => served,
@@ -216,7 +255,7 @@ fn asked_by<
     requires named { seed ≡ N.table }
     requires labelled { labels_in jobs.items ≡ labels_of plan.now }
     ensures ok { IfOk result (λ a. AllowedIn (Some deadline) plan.now (answer_text a)) }
-    ensures fault { IfErr result MayEndPlan }
+    ensures fault { (timed lacks : Bool) → IfErr result (MayEndPlan timed lacks) }
 {
     let mut clock = clock;
     let by = u64::from(deadline);

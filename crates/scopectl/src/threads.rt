@@ -22,33 +22,30 @@ const KEPT: usize = 4;
 
 /// Does what the words say, and answers the exit status: `act` over threads where the words say a quote,
 /// and over none else. Of words that memory is refused for, it says so and does nothing.
-pub fn act_on<T: CrewRuntime + SystemTime, R: Read + Drop, W: Write + Drop, E: Write + Drop>(
+pub fn act_on<'a, T: CrewRuntime + SystemTime, R: Read + Drop, W: Write + Drop, E: Write + Drop>(
     rt: &T,
     alloc: Global,
-    owned: &[String],
+    words: &'a [&'a str],
     reader: &mut Watched<R>,
     writer: &mut Watched<W>,
     errors: &mut Watched<E>,
 ) -> u8
     requires reader { reader.old.failed ≡ false }
     requires writer { writer.old.failed ≡ false }
-    ensures acts { Acts (map string_bytes owned.now) (reader.new ≡ reader.old) (writer.new ≡ writer.old) (errors.new ≡ errors.old) ((reader.new.failed ≡ true) ⊎ (reader.new.reads ≡ u64.MAX)) (R.remaining reader.old.inner) (R.remaining reader.new.inner) (W.contents writer.old.inner) (W.contents writer.new.inner) (E.contents errors.old.inner) (E.contents errors.new.inner) writer.new.failed errors.new.failed result }
+    ensures acts { Acts (map (λ word. word.now) words.now) (reader.new ≡ reader.old) (writer.new ≡ writer.old) (errors.new ≡ errors.old) ((reader.new.failed ≡ true) ⊎ (reader.new.reads ≡ u64.MAX)) ((reader.new.failed ≡ false) × (writer.new.failed ≡ false)) (R.remaining reader.old.inner) (R.remaining reader.new.inner) (W.contents writer.old.inner) (W.contents writer.new.inner) (E.contents errors.old.inner) (E.contents errors.new.inner) writer.new.failed errors.new.failed result }
 {
-    let Ok(words) = borrowed(alloc, owned) else {
-        return refuse_words(ErrorKind::OutOfMemory, errors);
-    };
     let Ok(seed) = Seed::new(alloc) else {
         return refuse_words(ErrorKind::OutOfMemory, errors);
     };
-    if needs_threads(&words) {
-        act_with_crew::<Brand, T, R, W, E>(rt, alloc, seed, &words, reader, writer, errors)
+    if needs_threads(words) {
+        act_with_crew::<Brand, T, R, W, E>(rt, alloc, seed, words, reader, writer, errors)
     } else {
-        act_alone::<Brand, T, R, W, E>(rt, alloc, seed, &words, reader, writer, errors)
+        act_alone::<Brand, T, R, W, E>(rt, alloc, seed, words, reader, writer, errors)
     }
 }
 
 /// The words, borrowed. Refused where memory is.
-fn borrowed<'a>(alloc: Global, owned: &'a [String]) -> Result<Vec<&'a str>, AllocError>
+pub fn borrowed<'a>(alloc: Global, owned: &'a [String]) -> Result<Vec<&'a str>, AllocError>
     ensures { IfOk result (λ words. map (λ word. word.now) words.items ≡ map string_bytes owned.now) }
 {
     let mut words = Vec::new(alloc);
@@ -86,7 +83,7 @@ fn act_alone<
     requires named { seed ≡ N.table }
     requires reader { reader.old.failed ≡ false }
     requires writer { writer.old.failed ≡ false }
-    ensures acts { Acts (map (λ word. word.now) words.now) (reader.new ≡ reader.old) (writer.new ≡ writer.old) (errors.new ≡ errors.old) ((reader.new.failed ≡ true) ⊎ (reader.new.reads ≡ u64.MAX)) (R.remaining reader.old.inner) (R.remaining reader.new.inner) (W.contents writer.old.inner) (W.contents writer.new.inner) (E.contents errors.old.inner) (E.contents errors.new.inner) writer.new.failed errors.new.failed result }
+    ensures acts { Acts (map (λ word. word.now) words.now) (reader.new ≡ reader.old) (writer.new ≡ writer.old) (errors.new ≡ errors.old) ((reader.new.failed ≡ true) ⊎ (reader.new.reads ≡ u64.MAX)) ((reader.new.failed ≡ false) × (writer.new.failed ≡ false)) (R.remaining reader.old.inner) (R.remaining reader.new.inner) (W.contents writer.old.inner) (W.contents writer.new.inner) (E.contents errors.old.inner) (E.contents errors.new.inner) writer.new.failed errors.new.failed result }
 {
     act::<N, Nobody, T, R, W, E>(rt, alloc, seed, Nobody, words, reader, writer, errors)
 }
@@ -112,7 +109,7 @@ fn act_with_crew<
     requires named { seed ≡ N.table }
     requires reader { reader.old.failed ≡ false }
     requires writer { writer.old.failed ≡ false }
-    ensures acts { Acts (map (λ word. word.now) words.now) (reader.new ≡ reader.old) (writer.new ≡ writer.old) (errors.new ≡ errors.old) ((reader.new.failed ≡ true) ⊎ (reader.new.reads ≡ u64.MAX)) (R.remaining reader.old.inner) (R.remaining reader.new.inner) (W.contents writer.old.inner) (W.contents writer.new.inner) (E.contents errors.old.inner) (E.contents errors.new.inner) writer.new.failed errors.new.failed result }
+    ensures acts { Acts (map (λ word. word.now) words.now) (reader.new ≡ reader.old) (writer.new ≡ writer.old) (errors.new ≡ errors.old) ((reader.new.failed ≡ true) ⊎ (reader.new.reads ≡ u64.MAX)) ((reader.new.failed ≡ false) × (writer.new.failed ≡ false)) (R.remaining reader.old.inner) (R.remaining reader.new.inner) (W.contents writer.old.inner) (W.contents writer.new.inner) (E.contents errors.old.inner) (E.contents errors.new.inner) writer.new.failed errors.new.failed result }
 {
     let Ok(crew) = Crew::<N, JobWork<Due, N, LateJob<T>>>::open(rt, alloc, KEPT) else {
         return act_alone::<N, T, R, W, E>(rt, alloc, seed, words, reader, writer, errors);
@@ -144,7 +141,7 @@ fn act_over<
     requires named { seed ≡ N.table }
     requires reader { reader.old.failed ≡ false }
     requires writer { writer.old.failed ≡ false }
-    ensures acts { Acts (map (λ word. word.now) words.now) (reader.new ≡ reader.old) (writer.new ≡ writer.old) (errors.new ≡ errors.old) ((reader.new.failed ≡ true) ⊎ (reader.new.reads ≡ u64.MAX)) (R.remaining reader.old.inner) (R.remaining reader.new.inner) (W.contents writer.old.inner) (W.contents writer.new.inner) (E.contents errors.old.inner) (E.contents errors.new.inner) writer.new.failed errors.new.failed result }
+    ensures acts { Acts (map (λ word. word.now) words.now) (reader.new ≡ reader.old) (writer.new ≡ writer.old) (errors.new ≡ errors.old) ((reader.new.failed ≡ true) ⊎ (reader.new.reads ≡ u64.MAX)) ((reader.new.failed ≡ false) × (writer.new.failed ≡ false)) (R.remaining reader.old.inner) (R.remaining reader.new.inner) (W.contents writer.old.inner) (W.contents writer.new.inner) (E.contents errors.old.inner) (E.contents errors.new.inner) writer.new.failed errors.new.failed result }
 {
     match crew.threads() {
         Ok(threads) => act::<N, OsThreads<N, JobWork<Due, N, LateJob<T>>>, T, R, W, E>(

@@ -3,8 +3,12 @@ use Rattle.std.proofs.Common.{◌≡◌, ◌∙◌, ℕ, ap, refl, subst, List, 
 use Rattle.std.specs.Io.KnownBytes.{Appends}
 use Rattle.scope_rules.specs.Replies.{Realm}
 use Rattle.scope_rules.specs.declared.types.capacity.Limits.{Limits}
+use Rattle.scope_script.specs.Sessions.{realm_of_script}
+use Rattle.scope_script.specs.Tallies.{tally_of_script}
 use Rattle.scope_script.specs.Running.{RunsPartly, RunsTallied}
 use Rattle.scope_script.specs.declared.session.tally.Tally.{Tally}
+use Rattle.script_jobs.specs.Counts.{count_in, count_of_script}
+use Rattle.script_jobs.specs.declared.counting.Count.{Count}
 use Rattle.scope_script.specs.declared.session.run.Mode.TheVariants.{Quiet, Replies}
 use Rattle.script_jobs.specs.Jobs.{ReadSome, Replayed, Showed, shown_text}
 use Rattle.script_jobs.specs.declared.showing.View.{View}
@@ -13,26 +17,32 @@ no_part : (part rest : List ℕ) → [] ≡ part ++ rest → part ≡ []
 no_part [] rest e = refl
 no_part (b ∷ part) rest e = absurd cc
 
+-- what is counted of the run is what is counted of its script
+pub count_is : (limits : Limits) (script : List ℕ) (realm : Realm) (tally : Tally) (count : Count) → realm ≡ realm_of_script limits script → tally ≡ tally_of_script limits script → count ≡ count_in tally realm.history → count ≡ count_of_script limits script
+count_is limits script realm tally count left counted is =
+    is ∙ (ap (λ (t : Tally). count_in t realm.history) counted ∙ ap (λ (r : Realm). count_in (tally_of_script limits script) r.history) left)
+
 module _ (limits : Limits) (unread unread_new written written_new : Option (List ℕ)) where
-  pub replayed : (realm : Realm) (tally : Tally) → RunsTallied unread unread_new written written_new Replies limits realm tally → Replayed unread unread_new written written_new limits tally
-  replayed realm tally run = record {
+  pub replayed : (realm : Realm) (tally : Tally) (count : Count) → RunsTallied unread unread_new written written_new Replies limits realm tally → count ≡ count_in tally realm.history
+      → Replayed unread unread_new written written_new limits count
+  replayed realm tally count run is = record {
     script = run.ends.script;
     read = run.ends.read;
     all = run.ends.all;
     wrote = run.ends.replied;
-    counted = run.counted;
+    counted = count_is limits run.ends.script realm tally count run.ends.left run.counted is;
   }
 
   -- ---- a run that writes nothing
 
-  pub shown : (view : View) (realm : Realm) (tally : Tally) (text : List ℕ) (counted : Tally) → RunsTallied unread unread_new written written_new Quiet limits realm tally → (text ≡ shown_text view realm.history) × (counted ≡ tally)
-      → Showed unread unread_new limits view text counted
-  shown view realm tally text counted run is = record {
+  pub shown : (view : View) (realm : Realm) (tally : Tally) (text : List ℕ) (count : Count) → RunsTallied unread unread_new written written_new Quiet limits realm tally → (text ≡ shown_text view realm.history) × (count ≡ count_in tally realm.history)
+      → Showed unread unread_new limits view text count
+  shown view realm tally text count run is = record {
     script = run.ends.script;
     read = run.ends.read;
     all = run.ends.all;
     is = is.0 ∙ ap (λ (r : Realm). shown_text view r.history) run.ends.left;
-    counted = is.1 ∙ run.counted;
+    counted = count_is limits run.ends.script realm tally count run.ends.left run.counted is.1;
   }
 
   pub read_all : (realm : Realm) (tally : Tally) → RunsTallied unread unread_new written written_new Quiet limits realm tally → ReadSome unread unread_new

@@ -1,3 +1,4 @@
+pub mod Counts
 pub mod Jobs
 pub mod Whys
 pub mod Notes

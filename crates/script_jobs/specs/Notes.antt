@@ -16,7 +16,9 @@ use Rattle.scope_script.specs.Cutting.{ended_lines, begun_line}
 use Rattle.scope_script.specs.Replying.{reply_to}
 use Rattle.scope_script.specs.Sessions.{realm_after_line}
 use Rattle.bad_words.specs.Faults.{fault_of}
+use Rattle.bad_words.specs.Places.{picture_text, place_of}
 use Rattle.bad_words.specs.Shown.{shown_text}
+use Rattle.bad_words.specs.declared.places.Place.{Place}
 use Rattle.script_jobs.specs.declared.notes.Notes.{Notes}
 use Rattle.script_jobs.specs.declared.notes.Notes.TheVariants.{Refusals, Replies, All}
 use Rattle.script_jobs.specs.declared.whys.Why.{Why}
@@ -31,14 +33,31 @@ head_text n line = codes "line " ++ (decimal n ++ (codes ": " ++ shown_text line
 abbrev pub replied_text : ℕ → List ℕ → Reply → List ℕ
 replied_text n line reply = head_text n line ++ (codes " -> " ++ reply_text reply)
 
--- these words and why, on a line
+-- `line N, column C`
+abbrev pub place_text : ℕ → Place → List ℕ
+place_text n place = codes "line " ++ (decimal n ++ (codes ", column " ++ decimal place.column))
+
+-- how the note of a refused line begins: a word that is wrong has a place
+abbrev pub refused_text : ℕ → List ℕ → Why → List ℕ
+refused_text n line (why.BadWord (Some fault)) = place_text n (place_of line fault)
+refused_text n line w = head_text n line
+
+-- what stands below it: the line with that place
+abbrev pub below_text : List ℕ → Why → List ℕ
+below_text line (why.BadWord (Some fault)) = picture_text line (place_of line fault)
+below_text line w = []
+
+-- why, behind a line's words, and what stands below
+abbrev pub why_below : List ℕ → Why → List ℕ
+why_below line w = codes ": " ++ (why_text line w ++ (codes "\n" ++ below_text line w))
+
 abbrev pub explained_text : List ℕ → List ℕ → Why → List ℕ
-explained_text words line w = words ++ (codes ": " ++ (why_text line w ++ codes "\n"))
+explained_text words line w = words ++ why_below line w
 
 -- the note of the line with this number and reply, which was refused for that, if it was
 unfoldable pub note : Notes → ℕ → List ℕ → Reply → Option Why → List ℕ
 note Refusals n line reply None = []
-note Refusals n line reply (Some w) = explained_text (head_text n line) line w
+note Refusals n line reply (Some w) = explained_text (refused_text n line w) line w
 note Replies n line reply w = replied_text n line reply ++ codes "\n"
 note All n line reply None = replied_text n line reply ++ codes "\n"
 note All n line reply (Some w) = explained_text (replied_text n line reply) line w

@@ -2,19 +2,22 @@
 //! given as it is to be shown. For a person there are notes: why each refused line was refused, and what each line
 //! was answered.
 //!
-//! A note is one line of text. N is the number of the script's line, from 1, TEXT the line as it is shown, REPLY
+//! A note is one line of text, but for that. N is the number of the script's line, from 1, TEXT the line as it is shown, REPLY
 //! its reply, and WHY the sentence that says why it was refused:
 //!
 //! ```text
 //! line N: TEXT: WHY             a refused line, where refusals alone are wanted
+//! line N, column C: WHY         the same of a line that is no command, for its field at byte C, from 1
 //! line N: TEXT -> REPLY         any line with a reply, where replies alone are wanted
 //! line N: TEXT -> REPLY: WHY    a refused line, where all is wanted
 //! ```
 //!
+//! Below a WHY of a line that is no command the whole line is shown, with a caret below each byte of that field.
 //! TEXT has at most 60 bytes, with `...` behind them where the line has more, and `?` in place of each byte that
 //! is not printable ASCII. A line without a reply gets no note.
 #![tactic(auto)]
 
+mod counting;
 pub mod laws;
 mod notes;
 mod noting;
@@ -24,6 +27,7 @@ mod walk;
 mod whole;
 mod whys;
 
+pub use counting::Count;
 pub use notes::Notes;
 pub use noting::{NotedReplay, replayed_noted};
 pub use replaying::replayed;

@@ -1,9 +1,9 @@
 //! The note of a line.
 ghost use Rattle.std.specs.Prelude.{Some};
-ghost use Rattle.script_jobs.specs.Notes.{head_text, replied_text, explained_text, note};
+ghost use Rattle.script_jobs.specs.Notes.{head_text, replied_text, refused_text, below_text, why_below, note};
 
 use crate::whys::{ShownWhy, Why};
-use bad_words::ShownBytes;
+use bad_words::{ShownBytes, ShownPlace, place_of};
 use scope_script::Reply;
 use std::fmt;
 
@@ -48,6 +48,68 @@ impl fmt::Display for ShownReplied<'_> {
     }
 }
 
+/// How the note of a refused line begins: a word that is wrong has a place.
+#[derive(Clone, Copy)]
+struct ShownRefused<'a> {
+    head: ShownHead<'a>,
+    why: Why,
+}
+
+impl fmt::Display for ShownRefused<'_> {
+    ghost output = { λ r. Some (refused_text r.head.number r.head.line.now r.why) };
+
+    fn fmt<W: fmt::Write>(&self, f: &mut fmt::Formatter<W>) -> fmt::Result {
+        match self.why {
+            Why::BadWord(Some(fault)) => {
+                let number = self.head.number;
+                let column = place_of(self.head.line, fault).column;
+                write!(f, "line {number}, column {column}")
+            }
+            _ => write!(f, "{}", self.head),
+        }
+    }
+}
+
+/// What stands below a note: the line with the place of a word that is wrong.
+#[derive(Clone, Copy)]
+struct ShownBelow<'a> {
+    line: &'a [u8],
+    why: Why,
+}
+
+impl fmt::Display for ShownBelow<'_> {
+    ghost output = { λ b. Some (below_text b.line.now b.why) };
+
+    fn fmt<W: fmt::Write>(&self, f: &mut fmt::Formatter<W>) -> fmt::Result {
+        let line = self.line;
+        match self.why {
+            Why::BadWord(Some(fault)) => {
+                let place = place_of(line, fault);
+                write!(f, "{}", ShownPlace { line, place })
+            }
+            _ => Ok(()),
+        }
+    }
+}
+
+/// Why a line was refused, and what stands below that.
+#[derive(Clone, Copy)]
+struct ShownExplained<'a> {
+    line: &'a [u8],
+    why: Why,
+}
+
+impl fmt::Display for ShownExplained<'_> {
+    ghost output = { λ e. Some (why_below e.line.now e.why) };
+
+    fn fmt<W: fmt::Write>(&self, f: &mut fmt::Formatter<W>) -> fmt::Result {
+        let line = self.line;
+        let why = self.why;
+        let below = ShownBelow { line, why };
+        write!(f, ": {}\n{below}", ShownWhy { line, why })
+    }
+}
+
 /// The note of the line with this number and reply, which was refused for that, if it was. It is no text
 /// where no note is wanted.
 #[derive(Clone, Copy)]
@@ -75,8 +137,11 @@ impl fmt::Display for ShownNote<'_> {
         };
         match (self.wanted, self.why) {
             (Notes::Refusals, None) => Ok(()),
-            (Notes::Refusals, Some(why)) => write!(f, "{head}: {}\n", ShownWhy { line, why }),
-            (Notes::All, Some(why)) => write!(f, "{replied}: {}\n", ShownWhy { line, why }),
+            (Notes::Refusals, Some(why)) => {
+                let refused = ShownRefused { head, why };
+                write!(f, "{refused}{}", ShownExplained { line, why })
+            }
+            (Notes::All, Some(why)) => write!(f, "{replied}{}", ShownExplained { line, why }),
             (Notes::Replies, _) | (Notes::All, None) => write!(f, "{replied}\n"),
         }
     }

@@ -3,13 +3,14 @@ ghost use Rattle.std.specs.Prelude.{◌≡◌, ◌⊎◌, false, true, IfOk, OnE
 ghost use Rattle.scope_script.specs.Running.{RunsPartly};
 ghost use Rattle.script_jobs.specs.Jobs.{Replayed};
 
+use crate::counting::{Count, count_of};
 use scope_rules::Limits;
-use scope_script::{Mode, ScriptFault, Tally, Watched, run_tallied};
+use scope_script::{Mode, ScriptFault, Watched, run_tallied};
 use std::alloc::Global;
 use std::io::{Read, Write};
 
 /// Writes the replies to the script that is read, in a realm of these limits, and answers how many lines were
-/// refused.
+/// refused, and whether it looks like a script.
 ///
 /// # Errors
 /// `Read` where the reader failed or was given up, `Write` where the writer failed, `Memory` where memory
@@ -19,16 +20,18 @@ pub fn replayed<R: Read + Drop, W: Write + Drop>(
     limits: Limits,
     reader: &mut Watched<R>,
     writer: &mut Watched<W>,
-) -> Result<Tally, ScriptFault>
+) -> Result<Count, ScriptFault>
     requires reader { reader.old.failed ≡ false }
     requires writer { writer.old.failed ≡ false }
     ensures ok { IfOk result (Replayed (R.remaining reader.old.inner) (R.remaining reader.new.inner) (W.contents writer.old.inner) (W.contents writer.new.inner) limits) }
     ensures fault { OnErr result (RunsPartly (R.remaining reader.old.inner) (R.remaining reader.new.inner) (W.contents writer.old.inner) (W.contents writer.new.inner) Mode.Replies limits) }
     ensures read { IsErrOf result ScriptFault.Read → (reader.new.failed ≡ true) ⊎ (reader.new.reads ≡ u64.MAX) }
+    ensures read_failed { reader.new.failed ≡ true → IsErrOf result ScriptFault.Read }
     ensures write { IsErrOf result ScriptFault.Write → writer.new.failed ≡ true }
+    ensures write_failed { writer.new.failed ≡ true → IsErrOf result ScriptFault.Write }
 {
     let fault = match run_tallied(alloc, reader, writer, limits, Mode::Replies) {
-        Ok(ran) => return Ok(ran.tally),
+        Ok(ran) => return Ok(count_of(&ran)),
         Err(fault) => fault,
     };
     Err(fault)

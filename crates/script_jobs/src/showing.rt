@@ -3,12 +3,14 @@ ghost use Rattle.std.specs.Prelude.{◌≡◌, ◌⊎◌, ◌++◌, [], ◌∷�
 ghost use Rattle.std.specs.Io.KnownBytes.{Appends};
 ghost use Rattle.scope_book.specs.Books.{history_of};
 ghost use Rattle.tree_dump.specs.Tree.{dump_text};
+ghost use Rattle.script_jobs.specs.Counts.{count_in};
 ghost use Rattle.script_jobs.specs.Jobs.{ReadSome, Showed, shown_text};
 
+use crate::counting::{Count, count_of};
 use run_picture::picture_of;
 use scope_book::BookState;
 use scope_rules::{AnyEnd, Limits};
-use scope_script::{Mode, Ran, ScriptFault, Tally, Watched, run_tallied};
+use scope_script::{Mode, Ran, ScriptFault, Watched, run_tallied};
 use std::alloc::{AllocError, Global};
 use std::io::{Read, Write};
 use tree_dump::{dump, tree_of};
@@ -29,8 +31,8 @@ pub enum View {
 pub struct Rendering {
     /// The text, with its last line's end.
     pub text: String,
-    /// How many lines of the script were refused.
-    pub tally: Tally,
+    /// How many lines of the script were refused, and whether it looks like one.
+    pub count: Count,
 }
 
 /// The view of the realm of these limits that the script which is read leaves. Nothing is written; the writer
@@ -48,11 +50,13 @@ pub fn shown<R: Read + Drop, W: Write + Drop>(
 ) -> Result<Rendering, ScriptFault>
     requires reader { reader.old.failed ≡ false }
     requires writer { writer.old.failed ≡ false }
-    ensures ok { IfOk result (λ s. Showed (R.remaining reader.old.inner) (R.remaining reader.new.inner) limits view (string_bytes s.text) s.tally) }
+    ensures ok { IfOk result (λ s. Showed (R.remaining reader.old.inner) (R.remaining reader.new.inner) limits view (string_bytes s.text) s.count) }
     ensures part { OnErr result (ReadSome (R.remaining reader.old.inner) (R.remaining reader.new.inner)) }
     ensures unwritten { Appends (W.contents writer.old.inner) (W.contents writer.new.inner) [] }
     ensures read { IsErrOf result ScriptFault.Read → (reader.new.failed ≡ true) ⊎ (reader.new.reads ≡ u64.MAX) }
+    ensures read_failed { reader.new.failed ≡ true → IsErrOf result ScriptFault.Read }
     ensures write { IsErrOf result ScriptFault.Write → writer.new.failed ≡ true }
+    ensures write_failed { writer.new.failed ≡ true → IsErrOf result ScriptFault.Write }
 {
     match run_tallied(alloc, reader, writer, limits, Mode::Quiet) {
         Ok(ran) => shown_of_run(alloc, view, &ran),
@@ -62,13 +66,13 @@ pub fn shown<R: Read + Drop, W: Write + Drop>(
 
 /// The view of what a run left.
 fn shown_of_run(alloc: Global, view: View, ran: &Ran) -> Result<Rendering, ScriptFault>
-    ensures ok { IfOk result (λ s. (string_bytes s.text ≡ shown_text view (history_of ran.now.book)) × (s.tally ≡ ran.now.tally)) }
+    ensures ok { IfOk result (λ s. (string_bytes s.text ≡ shown_text view (history_of ran.now.book)) × (s.count ≡ count_in ran.now.tally (history_of ran.now.book))) }
     ensures memory { IfErr result (λ fault. fault ≡ ScriptFault.Memory) }
 {
     match text_of(alloc, view, &ran.book) {
         Ok(text) => Ok(Rendering {
             text,
-            tally: ran.tally,
+            count: count_of(ran),
         }),
         Err(_) => Err(ScriptFault::Memory),
     }

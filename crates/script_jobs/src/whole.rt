@@ -1,5 +1,5 @@
 //! A script that is read whole.
-ghost use Rattle.std.specs.Prelude.{◌≡◌, ◌⊎◌, true, IfOk, OnErr, IsErrOf};
+ghost use Rattle.std.specs.Prelude.{◌≡◌, ◌⊎◌, false, true, IfOk, OnErr, IsErrOf};
 ghost use Rattle.std.specs.Io.KnownBytes.{Consumes, IsAtEnd};
 ghost use Rattle.script_jobs.specs.Jobs.{ReadSome};
 
@@ -16,9 +16,11 @@ pub(crate) fn read_whole<R: Read + Drop>(
     alloc: Global,
     reader: &mut Watched<R>,
 ) -> Result<Vec<u8>, ScriptFault>
+    requires reader { reader.old.failed ≡ false }
     ensures ok { IfOk result (λ script. Consumes (R.remaining reader.old.inner) (R.remaining reader.new.inner) script.items × IsAtEnd (R.remaining reader.new.inner)) }
     ensures part { OnErr result (ReadSome (R.remaining reader.old.inner) (R.remaining reader.new.inner)) }
     ensures read { IsErrOf result ScriptFault.Read → (reader.new.failed ≡ true) ⊎ (reader.new.reads ≡ u64.MAX) }
+    ensures read_failed { reader.new.failed ≡ true → IsErrOf result ScriptFault.Read }
     ensures write { IsErrOf result ScriptFault.Write → ⊥ }
 {
     let mut script = Vec::new(alloc);

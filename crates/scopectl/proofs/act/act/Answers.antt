@@ -12,7 +12,7 @@ pub returns-in-Ok-Replay-clause-fault : goal.returns-in-Ok-Replay-clause-fault
 returns-in-Ok-Replay-clause-fault g c = λ e. inr (inr (record { command = _; said = subst (Says _) c.in-Ok-Replay.field-0-is c.in-Ok-Replay.ensures.said; did = c.replay.ensures.fault e }))
 
 pub returns-in-Ok-Replay-clause-named : goal.returns-in-Ok-Replay-clause-named
-returns-in-Ok-Replay-clause-named g c = λ e. names_weaker _ _ _ _ _ _ _ (λ f none. absurd none) (c.replay.ensures.named e)
+returns-in-Ok-Replay-clause-named g c = λ e. names_weaker _ _ _ _ _ _ _ _ (λ f none. absurd none) (c.replay.ensures.named e)
 
 pub returns-in-Ok-Dump-clause-done : goal.returns-in-Ok-Dump-clause-done
 returns-in-Ok-Dump-clause-done g c = λ e f. inr (record { command = _; says = subst (Says _) c.in-Ok-Dump.field-0-is c.in-Ok-Dump.ensures.said; did = c.show.ensures.done e })
@@ -21,7 +21,7 @@ pub returns-in-Ok-Dump-clause-fault : goal.returns-in-Ok-Dump-clause-fault
 returns-in-Ok-Dump-clause-fault g c = λ e. inr (inr (record { command = _; said = subst (Says _) c.in-Ok-Dump.field-0-is c.in-Ok-Dump.ensures.said; did = c.show.ensures.fault e }))
 
 pub returns-in-Ok-Dump-clause-named : goal.returns-in-Ok-Dump-clause-named
-returns-in-Ok-Dump-clause-named g c = λ e. names_weaker _ _ _ _ _ _ _ (λ f none. absurd none) (c.show.ensures.named e)
+returns-in-Ok-Dump-clause-named g c = λ e. names_weaker _ _ _ _ _ _ _ _ (λ f none. absurd none) (c.show.ensures.named e)
 
 pub returns-in-Ok-Tree-clause-done : goal.returns-in-Ok-Tree-clause-done
 returns-in-Ok-Tree-clause-done g c = λ e f. inr (record { command = _; says = subst (Says _) c.in-Ok-Tree.field-0-is c.in-Ok-Tree.ensures.said; did = c.show-in-Ok-Tree.ensures.done e })
@@ -30,7 +30,7 @@ pub returns-in-Ok-Tree-clause-fault : goal.returns-in-Ok-Tree-clause-fault
 returns-in-Ok-Tree-clause-fault g c = λ e. inr (inr (record { command = _; said = subst (Says _) c.in-Ok-Tree.field-0-is c.in-Ok-Tree.ensures.said; did = c.show-in-Ok-Tree.ensures.fault e }))
 
 pub returns-in-Ok-Tree-clause-named : goal.returns-in-Ok-Tree-clause-named
-returns-in-Ok-Tree-clause-named g c = λ e. names_weaker _ _ _ _ _ _ _ (λ f none. absurd none) (c.show-in-Ok-Tree.ensures.named e)
+returns-in-Ok-Tree-clause-named g c = λ e. names_weaker _ _ _ _ _ _ _ _ (λ f none. absurd none) (c.show-in-Ok-Tree.ensures.named e)
 
 pub returns-in-Ok-Timeline-clause-done : goal.returns-in-Ok-Timeline-clause-done
 returns-in-Ok-Timeline-clause-done g c = λ e f. inr (record { command = _; says = subst (Says _) c.in-Ok-Timeline.field-0-is c.in-Ok-Timeline.ensures.said; did = c.show-in-Ok-Timeline.ensures.done e })
@@ -39,7 +39,7 @@ pub returns-in-Ok-Timeline-clause-fault : goal.returns-in-Ok-Timeline-clause-fau
 returns-in-Ok-Timeline-clause-fault g c = λ e. inr (inr (record { command = _; said = subst (Says _) c.in-Ok-Timeline.field-0-is c.in-Ok-Timeline.ensures.said; did = c.show-in-Ok-Timeline.ensures.fault e }))
 
 pub returns-in-Ok-Timeline-clause-named : goal.returns-in-Ok-Timeline-clause-named
-returns-in-Ok-Timeline-clause-named g c = λ e. names_weaker _ _ _ _ _ _ _ (λ f none. absurd none) (c.show-in-Ok-Timeline.ensures.named e)
+returns-in-Ok-Timeline-clause-named g c = λ e. names_weaker _ _ _ _ _ _ _ _ (λ f none. absurd none) (c.show-in-Ok-Timeline.ensures.named e)
 
 pub returns-in-Ok-Quote-clause-done : goal.returns-in-Ok-Quote-clause-done
 returns-in-Ok-Quote-clause-done g c =
@@ -50,7 +50,7 @@ returns-in-Ok-Quote-clause-fault g c = λ e. inr (inr (record { command = _; sai
 
 pub returns-in-Ok-Quote-clause-named : goal.returns-in-Ok-Quote-clause-named
 returns-in-Ok-Quote-clause-named g c =
-    λ e. names_weaker _ _ _ _ _ _ _ (λ f it. (record { deadline = c.in-Ok-Quote.deadline; after = c.in-Ok-Quote.after; said = subst (Says _) c.in-Ok-Quote.field-0-is c.in-Ok-Quote.ensures.said }, it)) (c.quote.ensures.named e)
+    λ e. names_weaker _ _ _ _ _ _ _ _ (λ f it. (record { deadline = c.in-Ok-Quote.deadline; after = c.in-Ok-Quote.after; said = subst (Says _) c.in-Ok-Quote.field-0-is c.in-Ok-Quote.ensures.said; is = it })) (c.quote.ensures.named e)
 
 pub returns-in-Err-Help-clause-done : goal.returns-in-Err-Help-clause-done
 returns-in-Err-Help-clause-done g c = λ e f. (let none = well_ended _ c.tell.ensures.status e in inl (
@@ -91,4 +91,5 @@ returns-in-Err-Usage-clause-not_understood g c = λ e. (
   ),
   refl,
   refl,
+  c.refuse_line.ensures.said,
 )

@@ -18,7 +18,7 @@ returns-in-Err-clause-fault g c = λ e. quote_stopped _ _ _ _ _ _ c.in-Err.ensur
 pub returns-in-Err-clause-named : goal.returns-in-Err-clause-named
 returns-in-Err-clause-named g c = λ e. record {
   fault = c.in-Err.reason;
-  came = came_weaker c.in-Err.reason _ _ _ _ _ (λ w. absurd w) (λ f it. it) c.in-Err.ensures.came;
+  came = came_weaker c.in-Err.reason _ _ _ _ _ _ _ (λ w. absurd w) (λ sound. (sound, c.requires.writer)) (λ f it. it) c.in-Err.ensures.came;
   line = c.fail.ensures.named;
 }
 

@@ -1,9 +1,8 @@
-use Rattle.std.proofs.Common.{◌≡◌, ◌<◌, ◌==◌, ℕ, arith, false}
-use Rattle.std.proofs.lemmas.Bool.Decides.{nat_tests}
+use Rattle.std.proofs.Common.{◌≡◌, ◌∙◌, false, sym}
+use Rattle.scopectl.specs.Saying.{is_silent}
 use Rattle.scopectl.proofs.act.say_notes.Goals as goal
 
-some_refused : (n : ℕ) → 0 < n → (n == 0) ≡ false
-some_refused n some = grind (arith, nat_tests)
-
-pub returns-then-tally-gt0-clause-said : goal.returns-then-tally-gt0-clause-said
-returns-then-tally-gt0-clause-said g c = rw (some_refused c.args.noted.tally.refused c.if-tally-gt0.true) c.say_both.ensures.said
+pub returns-clause-said : goal.returns-clause-said
+returns-clause-said g c =
+    let some : is_silent c.args.script.quiet c.args.noted.count ≡ false = sym c.is_silent.ensures ∙ c.if-is_silent.false in
+    rw some c.say_both.ensures.said

@@ -1,20 +1,26 @@
-use Rattle.std.proofs.Common.{◌≡◌, ◌∙◌, ◌⊎◌, true, sym, ap, subst, Err}
+use Rattle.std.proofs.Common.{◌≡◌, ◌∙◌, ◌⊎◌, ℕ, Bool, true, false, sym, ap, subst, Err}
 use Rattle.scopectl.specs.Naming.{CameFrom}
 use Rattle.scopectl.specs.declared.fault.ProgramFault.{ProgramFault}
 use Rattle.scopectl.specs.declared.fault.ProgramFault.TheVariants.{Write}
-use Rattle.scopectl.proofs.Jobs.{came_of, made, view_stopped, view_told_part, view_whole}
+use Rattle.script_jobs.specs.declared.counting.Count.{Count}
+use Rattle.scopectl.specs.Program.{lenience}
+use Rattle.scopectl.specs.Saying.{status_of}
+use Rattle.scopectl.proofs.Jobs.{came_of, made, read_is_other, sound_at, view_stopped, view_told_part, view_whole, write_is_other}
 use Rattle.scopectl.proofs.act.show.Goals as goal
+
+told_as : (status : ℕ) (strict a b : Bool) (count : Count) → a ≡ b → status ≡ status_of strict a count → status ≡ status_of strict b count
+told_as status strict a b count same told = told ∙ ap (λ (lenient : Bool). status_of strict lenient count) same
 
 pub returns-in-Ok-clause-done : goal.returns-in-Ok-clause-done
 returns-in-Ok-clause-done g c =
-    λ e. view_whole _ _ _ _ _ _ _ _ _ _ _ (c.tell_shown.ensures.told e) (c.tell_shown.ensures.noted e) c.args.view _ _ c.in-Ok.ensures.ok c.shown.ensures.unwritten (c.tell_shown.ensures.done e)
+    λ e. view_whole _ _ _ _ _ _ _ _ _ _ _ c.args.view c.args.lenient (told_as c.tell_shown.result c.args.script.strict c.lenience.result (lenience c.args.view c.args.lenient) c.in-Ok.shown.count c.lenience.ensures (c.tell_shown.ensures.told e)) (c.tell_shown.ensures.noted e) _ _ c.in-Ok.ensures.ok c.shown.ensures.unwritten (c.tell_shown.ensures.done e)
 
 pub returns-in-Ok-clause-fault : goal.returns-in-Ok-clause-fault
 returns-in-Ok-clause-fault g c =
-    λ e. view_told_part c.args.view _ _ _ _ _ _ _ _ (made c.args.view _ _ _ _ _ c.in-Ok.ensures.ok) c.shown.ensures.unwritten (c.tell_shown.ensures.fault e) (c.tell_shown.ensures.failed e)
+    λ e. view_told_part c.args.view _ c.args.lenient _ _ _ _ _ _ _ (made c.args.view _ c.args.lenient _ _ _ _ c.in-Ok.ensures.ok) c.shown.ensures.unwritten (c.tell_shown.ensures.fault e) (c.tell_shown.ensures.failed e)
 
 pub returns-in-Err-clause-fault : goal.returns-in-Err-clause-fault
-returns-in-Err-clause-fault g c = λ e. view_stopped c.args.view _ _ _ _ _ _ c.in-Err.ensures.part c.shown.ensures.unwritten
+returns-in-Err-clause-fault g c = λ e. view_stopped c.args.view _ c.args.lenient _ _ _ _ _ c.in-Err.ensures.part c.shown.ensures.unwritten
 
 pub returns-in-Ok-clause-named : goal.returns-in-Ok-clause-named
 returns-in-Ok-clause-named g c =
@@ -23,7 +29,8 @@ returns-in-Ok-clause-named g c =
 pub returns-in-Err-clause-named : goal.returns-in-Err-clause-named
 returns-in-Err-clause-named g c = λ e. record {
   fault = c.of_run.result;
-  came = subst (λ (f : ProgramFault). CameFrom f ((c.shown.new.reader.failed ≡ true) ⊎ (c.shown.new.reader.reads ≡ 18446744073709551615)) (c.shown.new.writer.failed ≡ true) (λ _. ⊥)) (sym c.of_run.ensures)
-      (came_of c.in-Err.cause _ _ _ (λ is. c.shown.ensures.read (c.in-Err.is ∙ ap Err is)) (λ is. c.shown.ensures.write (c.in-Err.is ∙ ap Err is)));
+  came = subst (λ (f : ProgramFault). CameFrom f ((c.shown.new.reader.failed ≡ true) ⊎ (c.shown.new.reader.reads ≡ 18446744073709551615)) (c.shown.new.writer.failed ≡ true) ((c.shown.new.reader.failed ≡ false) × (c.shown.new.writer.failed ≡ false)) (λ _. ⊥)) (sym c.of_run.ensures)
+      (came_of c.in-Err.cause _ _ _ _ (λ is. c.shown.ensures.read (c.in-Err.is ∙ ap Err is)) (λ is. c.shown.ensures.write (c.in-Err.is ∙ ap Err is))
+      (λ is. (sound_at _ _ _ _ c.in-Err.is c.shown.ensures.read_failed is read_is_other, sound_at _ _ _ _ c.in-Err.is c.shown.ensures.write_failed is write_is_other)));
   line = c.fail.ensures.named;
 }

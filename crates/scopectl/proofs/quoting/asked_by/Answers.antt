@@ -8,4 +8,4 @@ returns-in-Ok-found-clause-ok g c = allowed_by c.args.plan.now _ _ c.in-Ok.serve
 
 pub returns-clause-fault : goal.returns-clause-fault
 returns-clause-fault g c =
-    subst MayEndPlan (sym c.of_service-in-Err-found.ensures) (not_found _ _ _ _ _ c.in-Ok.served.found c.in-Err-found.fault c.in-Err-found.is c.in-Ok.ensures.rests)
+    λ timed lacks. subst (MayEndPlan timed lacks) (sym c.of_service-in-Err-found.ensures) (not_found timed lacks _ _ _ _ _ c.in-Ok.served.found c.in-Err-found.fault c.in-Err-found.is c.in-Ok.ensures.rests)

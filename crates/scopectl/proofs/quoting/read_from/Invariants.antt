@@ -1,5 +1,5 @@
 -- What was read so far was taken.
-use Rattle.std.proofs.Common.{ℕ, ◌-◌, ◌<◌, List, length}
+use Rattle.std.proofs.Common.{◌≡◌, ℕ, ◌-◌, false, ◌<◌, List, length}
 use Rattle.std.specs.Io.KnownBytes.{Consumes}
 use Rattle.quote_plan.specs.Passing.{HasTaken}
 use Rattle.scopectl.proofs.quoting.read_from.Given as goal
@@ -11,4 +11,5 @@ abbrev pub invariant-reading : goal.invariant-reading
 invariant-reading g l = record {
   so_far : (bytes : List ℕ) × Consumes (g.R.Read.remaining l.fn.reader.inner) (g.R.Read.remaining l.reader.inner) bytes × HasTaken l.plan bytes;
   room : 0 < length l.piece;
+  sound : l.reader.failed ≡ false;
 }

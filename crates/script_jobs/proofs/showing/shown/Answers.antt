@@ -6,7 +6,7 @@ use Rattle.script_jobs.proofs.showing.shown.Goals as goal
 pub returns-in-Ok-clause-ok : goal.returns-in-Ok-clause-ok
 returns-in-Ok-clause-ok g c =
     IfOk-weaker c.shown_of_run.result _ _
-    (λ s is. shown _ _ _ _ _ c.args.view (realm_of c.in-Ok.ran.book) _ _ s.tally c.in-Ok.ensures.ok is)
+    (λ s is. shown _ _ _ _ _ c.args.view (realm_of c.in-Ok.ran.book) _ _ s.count c.in-Ok.ensures.ok is)
     c.shown_of_run.ensures.ok
 
 pub returns-in-Err-clause-part : goal.returns-in-Err-clause-part

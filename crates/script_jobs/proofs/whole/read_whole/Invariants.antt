@@ -1,5 +1,5 @@
 -- What was read so far is kept.
-use Rattle.std.proofs.Common.{ℕ, ◌-◌, ◌<◌, length}
+use Rattle.std.proofs.Common.{◌≡◌, ℕ, ◌-◌, false, ◌<◌, length}
 use Rattle.std.specs.Io.KnownBytes.{Consumes}
 use Rattle.script_jobs.proofs.whole.read_whole.Given as goal
 
@@ -10,4 +10,5 @@ abbrev pub invariant-reading : goal.invariant-reading
 invariant-reading g l = record {
   so_far : Consumes (g.R.Read.remaining l.fn.reader.inner) (g.R.Read.remaining l.reader.inner) l.script.items;
   room : 0 < length l.piece;
+  sound : l.reader.failed ≡ false;
 }

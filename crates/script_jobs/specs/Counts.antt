@@ -1,0 +1,28 @@
+-- How much of a script was understood.
+use Rattle.std.specs.Prelude.{ℕ, Bool, true, false, ◌==◌, ◌&&◌, nat_lt, List, [], ◌∷◌}
+use Rattle.scope_rules.specs.declared.types.capacity.Limits.{Limits}
+use Rattle.scope_rules.specs.History.{History}
+use Rattle.scope_script.specs.Sessions.{realm_of_script}
+use Rattle.scope_script.specs.Tallies.{tally_of_script}
+use Rattle.scope_script.specs.declared.session.tally.Tally.{Tally}
+use Rattle.script_jobs.specs.declared.counting.Count.{Count}
+
+abbrev pub is_nil : {A : Type 0} → List A → Bool
+is_nil [] = true
+is_nil (x ∷ xs) = false
+
+-- nothing was ever recorded
+abbrev pub is_untouched : History → Bool
+is_untouched h = is_nil h.events && ((h.base.moment == 0) && ((h.base.scopes == 0) && ((h.base.tasks == 0) && is_nil h.base.binds)))
+
+-- so many lines were refused of a script that leaves this history; it looks like another kind of text where all of
+-- them are no commands, and no other line recorded anything
+abbrev pub count_in : Tally → History → Count
+count_in t h = record {
+  tally = t;
+  is_foreign = nat_lt 0 t.refused && ((t.refused == t.bad_words) && is_untouched h);
+}
+
+-- of a whole script, on a fresh realm of these limits
+abbrev pub count_of_script : Limits → List ℕ → Count
+count_of_script L bytes = count_in (tally_of_script L bytes) (realm_of_script L bytes).history
