@@ -38,7 +38,7 @@ label_class (subject.Task f) = codes "task"
 
 -- what lies in a folded row
 unfoldable pub folded_text : Folded → List ℕ
-folded_text f = codes ": " ++ decimal f.tasks ++ codes " tasks, " ++ decimal f.failed ++ codes " failed"
+folded_text f = codes " (" ++ decimal f.tasks ++ codes " tasks, " ++ decimal f.failed ++ codes " failed)"
 
 -- what there is to say of a stretch of a row
 abbrev pub fate_text : Fate → List ℕ

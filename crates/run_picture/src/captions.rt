@@ -119,7 +119,7 @@ impl fmt::Display for ShownFolded {
 
     #[tactic(auto, unfolding(crate::specs::Captions::folded_text))]
     fn fmt<W: fmt::Write>(&self, f: &mut fmt::Formatter<W>) -> fmt::Result {
-        write!(f, ": {} tasks, {} failed", self.0.tasks, self.0.failed)
+        write!(f, " ({} tasks, {} failed)", self.0.tasks, self.0.failed)
     }
 }
 
