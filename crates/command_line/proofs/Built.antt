@@ -11,7 +11,7 @@ use Rattle.clap.specs.Walk.{Names, Row, Rule, Text, arg_by_id, arg_by_index, arg
 use Rattle.command_line.specs.Application.{flag_rule, option_rule, scopectl, with_flags, with_options}
 use Rattle.command_line.specs.CommandLine.{command_word, flag_names, is_among, option_names}
 use Rattle.command_line.specs.declared.lines.Job.{Job}
-use Rattle.command_line.specs.declared.lines.Job.TheVariants.{Replay, Dump, Tree, Timeline, Quote}
+use Rattle.command_line.specs.declared.lines.Job.TheVariants.{Replay, Dump, Tree, Timeline, TraceEvents, Quote}
 use Rattle.command_line.proofs.Levels.{IsLevel}
 
 -- the job has an option of this name, with a text
@@ -76,11 +76,11 @@ built_top = record (built_command Replay) { name = codes "scopectl"; rules = top
 abbrev pub built_app : App
 built_app = record {
   top = built_top;
-  subs = built_command Replay ∷ built_command Dump ∷ built_command Tree ∷ built_command Timeline ∷ built_command Quote ∷ [];
+  subs = built_command Replay ∷ built_command Dump ∷ built_command Tree ∷ built_command Timeline ∷ built_command TraceEvents ∷ built_command Quote ∷ [];
 }
 
 abbrev pub command_names : Names
-command_names = (command_word Replay, []) ∷ (command_word Dump, []) ∷ (command_word Tree, []) ∷ (command_word Timeline, []) ∷ (command_word Quote, []) ∷ []
+command_names = (command_word Replay, []) ∷ (command_word Dump, []) ∷ (command_word Tree, []) ∷ (command_word Timeline, []) ∷ (command_word TraceEvents, []) ∷ (command_word Quote, []) ∷ []
 
 pub is_built : built scopectl ≡ built_app
 unfolding scopectl with_options with_flags job_rules top_rules
@@ -191,6 +191,7 @@ flag_no_option Replay = of_each (λ n. has_option Replay n ≡ false) (flag_name
 flag_no_option Dump = of_each (λ n. has_option Dump n ≡ false) (flag_names Dump) (refl, (refl, tt))
 flag_no_option Tree = of_each (λ n. has_option Tree n ≡ false) (flag_names Tree) (refl, (refl, (refl, tt)))
 flag_no_option Timeline = of_each (λ n. has_option Timeline n ≡ false) (flag_names Timeline) (refl, (refl, (refl, tt)))
+flag_no_option TraceEvents = of_each (λ n. has_option TraceEvents n ≡ false) (flag_names TraceEvents) (refl, (refl, (refl, tt)))
 flag_no_option Quote = of_each (λ n. has_option Quote n ≡ false) (flag_names Quote) tt
 
 pub option_no_flag : (job : Job) (name : Text) → has_option job name ≡ true → has_flag job name ≡ false
@@ -241,6 +242,7 @@ job_level Replay = level_of (built_command Replay) refl refl help_asks
 job_level Dump = level_of (built_command Dump) refl refl help_asks
 job_level Tree = level_of (built_command Tree) refl refl help_asks
 job_level Timeline = level_of (built_command Timeline) refl refl help_asks
+job_level TraceEvents = level_of (built_command TraceEvents) refl refl help_asks
 job_level Quote = level_of (built_command Quote) refl refl help_asks
 
 -- no default of the rule meets a fault
@@ -253,6 +255,7 @@ job_quiet Replay = refl
 job_quiet Dump = refl
 job_quiet Tree = refl
 job_quiet Timeline = refl
+job_quiet TraceEvents = refl
 job_quiet Quote = refl
 
 -- the faults of the words after a job's word

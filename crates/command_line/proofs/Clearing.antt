@@ -15,7 +15,7 @@ use Rattle.command_line.specs.Application.{scopectl}
 use Rattle.command_line.specs.CommandLine.{Given, Said, ScriptSaid, command_said, command_word, given_to, is_among, job_named, job_said, limit_names, quote, text_given, time_names}
 use Rattle.command_line.specs.Settings.{NameAndMillis, Numbers, deadline_by, delay_by, delay_said, greatest_of, if_given, is_digit, is_plain, name_of, numbers_by, plain_number, setting_number}
 use Rattle.command_line.specs.declared.lines.Job.{Job}
-use Rattle.command_line.specs.declared.lines.Job.TheVariants.{Replay, Dump, Tree, Timeline, Quote}
+use Rattle.command_line.specs.declared.lines.Job.TheVariants.{Replay, Dump, Tree, Timeline, TraceEvents, Quote}
 use Rattle.command_line.specs.declared.settings.Setting.{Setting}
 use Rattle.command_line.specs.declared.settings.Setting.TheVariants.{Scopes, Tasks, Load, Deadline, After}
 use Rattle.command_line.proofs.Built.{built_app, built_command, built_top, command_names, has_option, is_quiet, job_quiet, of_each, job_rules, top_rules, words_fault}
@@ -57,6 +57,7 @@ job_checks Replay rows = refl
 job_checks Dump rows = refl
 job_checks Tree rows = refl
 job_checks Timeline rows = refl
+job_checks TraceEvents rows = refl
 job_checks Quote rows = refl
 
 top_checks : (rows : List Row) → check_fault built_top rows true ≡ []
@@ -76,6 +77,7 @@ top_walk Replay rest = stopped_clear Replay [] rest
 top_walk Dump rest = stopped_clear Dump [] rest
 top_walk Tree rest = stopped_clear Tree [] rest
 top_walk Timeline rest = stopped_clear Timeline [] rest
+top_walk TraceEvents rest = stopped_clear TraceEvents [] rest
 top_walk Quote rest = stopped_clear Quote [] rest
 
 met_checks : (job : Job) (rows : List Row) (rest : List Text) → check_fault built_top rows (is_some (entered built_app (Some (command_word job, rest)))) ≡ []
@@ -83,6 +85,7 @@ met_checks Replay rows rest = top_checks rows
 met_checks Dump rows rest = top_checks rows
 met_checks Tree rows rest = top_checks rows
 met_checks Timeline rows rest = top_checks rows
+met_checks TraceEvents rows rest = top_checks rows
 met_checks Quote rows rest = top_checks rows
 
 built_clear : (job : Job) (rest : List Text) → words_fault job rest ≡ [] → built_fault built_app nothing_held (command_word job ∷ rest) ≡ []
@@ -198,6 +201,7 @@ no_flags job final said e name text own is = go job e own
     go Dump e own = limits (script_has said _ _ _ _ e) own
     go Tree e own = limits (script_has said _ _ _ _ e) own
     go Timeline e own = limits (script_has said _ _ _ _ e) own
+    go TraceEvents e own = limits (script_has said _ _ _ _ e) own
     go Quote e own = let have = times_have said _ _ e in times_flagless (text_given final) have.0 have.1 name own text is
 
 -- ---- words that say a command
@@ -213,17 +217,18 @@ words_clear job rest said e = go (given_to job rest) refl e
 named_word : (word : Text) (job : Job) → job_named word ≡ Some job → command_word job ≡ word
 unfolding job_named
 named_word word job e =
-    go (bytes_eq (codes "replay") word) refl (bytes_eq (codes "dump") word) refl (bytes_eq (codes "tree") word) refl (bytes_eq (codes "timeline") word) refl (bytes_eq (codes "quote") word) refl e
+    go (bytes_eq (codes "replay") word) refl (bytes_eq (codes "dump") word) refl (bytes_eq (codes "tree") word) refl (bytes_eq (codes "timeline") word) refl (bytes_eq (codes "trace") word) refl (bytes_eq (codes "quote") word) refl e
   where
     go : (a : Bool) → bytes_eq (codes "replay") word ≡ a → (b : Bool) → bytes_eq (codes "dump") word ≡ b → (c : Bool) → bytes_eq (codes "tree") word ≡ c → (d : Bool) → bytes_eq (codes "timeline") word ≡ d
-        → (q : Bool) → bytes_eq (codes "quote") word ≡ q
-        → cond a (Some Replay) (cond b (Some Dump) (cond c (Some Tree) (cond d (Some Timeline) (cond q (Some Quote) None)))) ≡ Some job → command_word job ≡ word
-    go true replays b dumps c trees d lines q quotes e = ap (λ o. command_word (unwrap_or o Replay)) (sym e) ∙ (bytes_eq-Decides (codes "replay") word).0 replays
-    go false replays true dumps c trees d lines q quotes e = ap (λ o. command_word (unwrap_or o Replay)) (sym e) ∙ (bytes_eq-Decides (codes "dump") word).0 dumps
-    go false replays false dumps true trees d lines q quotes e = ap (λ o. command_word (unwrap_or o Replay)) (sym e) ∙ (bytes_eq-Decides (codes "tree") word).0 trees
-    go false replays false dumps false trees true lines q quotes e = ap (λ o. command_word (unwrap_or o Replay)) (sym e) ∙ (bytes_eq-Decides (codes "timeline") word).0 lines
-    go false replays false dumps false trees false lines true quotes e = ap (λ o. command_word (unwrap_or o Replay)) (sym e) ∙ (bytes_eq-Decides (codes "quote") word).0 quotes
-    go false replays false dumps false trees false lines false quotes e = absurd (cc)
+        → (t : Bool) → bytes_eq (codes "trace") word ≡ t → (q : Bool) → bytes_eq (codes "quote") word ≡ q
+        → cond a (Some Replay) (cond b (Some Dump) (cond c (Some Tree) (cond d (Some Timeline) (cond t (Some TraceEvents) (cond q (Some Quote) None))))) ≡ Some job → command_word job ≡ word
+    go true replays b dumps c trees d lines t traces q quotes e = ap (λ o. command_word (unwrap_or o Replay)) (sym e) ∙ (bytes_eq-Decides (codes "replay") word).0 replays
+    go false replays true dumps c trees d lines t traces q quotes e = ap (λ o. command_word (unwrap_or o Replay)) (sym e) ∙ (bytes_eq-Decides (codes "dump") word).0 dumps
+    go false replays false dumps true trees d lines t traces q quotes e = ap (λ o. command_word (unwrap_or o Replay)) (sym e) ∙ (bytes_eq-Decides (codes "tree") word).0 trees
+    go false replays false dumps false trees true lines t traces q quotes e = ap (λ o. command_word (unwrap_or o Replay)) (sym e) ∙ (bytes_eq-Decides (codes "timeline") word).0 lines
+    go false replays false dumps false trees false lines true traces q quotes e = ap (λ o. command_word (unwrap_or o Replay)) (sym e) ∙ (bytes_eq-Decides (codes "trace") word).0 traces
+    go false replays false dumps false trees false lines false traces true quotes e = ap (λ o. command_word (unwrap_or o Replay)) (sym e) ∙ (bytes_eq-Decides (codes "quote") word).0 quotes
+    go false replays false dumps false trees false lines false traces false quotes e = absurd (cc)
 
 pub said_clear : (words : List Text) (said : Said) → command_said words ≡ Some said → fault_of scopectl words ≡ []
 unfolding command_said

@@ -3,11 +3,11 @@ use Rattle.std.proofs.Common.{◌≡◌, ◌∙◌, ap, ap₂, sym, refl, subst,
 use Rattle.std.specs.Prelude.{option_map}
 use Rattle.clap.specs.Matches.{one_text}
 use Rattle.clap.specs.declared.parser.matches.Found.{Found}
-use Rattle.command_line.specs.CommandLine.{ScriptSaid, dump, replay, said_by, script_by, timeline, tree}
+use Rattle.command_line.specs.CommandLine.{ScriptSaid, dump, replay, said_by, script_by, timeline, trace_events, tree}
 use Rattle.command_line.specs.Parsing.{TellsFlags}
 use Rattle.command_line.specs.Settings.{bool_text, flag_name}
 use Rattle.command_line.specs.declared.lines.Job.{Job}
-use Rattle.command_line.specs.declared.lines.Job.TheVariants.{Replay, Dump, Tree, Timeline}
+use Rattle.command_line.specs.declared.lines.Job.TheVariants.{Replay, Dump, Tree, Timeline, TraceEvents}
 use Rattle.command_line.specs.declared.settings.Flag.{Flag}
 use Rattle.command_line.specs.declared.settings.Flag.TheVariants.{Strict, Explain, Trace, Quiet, Lenient}
 use Rattle.command_line.specs.declared.settings.Setting.{Setting}
@@ -46,3 +46,10 @@ module _ (job : Job) (found : Found) (has : Flag → Bool) (tells : TellsFlags j
       ap (λ (j : Job). said_by j given has) is
       ∙ (ap (option_map (λ s. timeline s (has Lenient))) (says (has Strict) (has Quiet) (so Strict refl) (so Quiet refl))
       ∙ ap (λ b. Some (timeline script b)) (sym (set (has Lenient) (so Lenient refl))))
+
+  pub says_trace_events : job ≡ TraceEvents → SaysScript → (lenient : Bool) → IsSet Lenient lenient → said_by job given has ≡ Some (trace_events script lenient)
+  says_trace_events is says lenient set =
+      let so : TellsFlags TraceEvents found has = subst (λ (j : Job). TellsFlags j found has) is tells in
+      ap (λ (j : Job). said_by j given has) is
+      ∙ (ap (option_map (λ s. trace_events s (has Lenient))) (says (has Strict) (has Quiet) (so Strict refl) (so Quiet refl))
+      ∙ ap (λ b. Some (trace_events script b)) (sym (set (has Lenient) (so Lenient refl))))

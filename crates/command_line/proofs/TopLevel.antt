@@ -20,7 +20,7 @@ use Rattle.command_line.specs.declared.settings.Setting.{Setting}
 use Rattle.command_line.specs.declared.settings.Setting.TheVariants.{Scopes, Tasks, Load, Deadline, After}
 use Rattle.command_line.proofs.Flagged.{AreFit, flag_filled, one_text-rows, rows_filled, said_fit, text_filled, text_row}
 use Rattle.command_line.specs.declared.lines.Job.{Job}
-use Rattle.command_line.specs.declared.lines.Job.TheVariants.{Replay, Dump, Tree, Timeline, Quote}
+use Rattle.command_line.specs.declared.lines.Job.TheVariants.{Replay, Dump, Tree, Timeline, TraceEvents, Quote}
 use Rattle.command_line.proofs.Built.{asks_help, asks_version, built_app, built_help, built_top, built_version, command_names, has_flag, is_built, job_rules, top_level, top_rules, words_fault}
 use Rattle.command_line.proofs.Levels.{at, dashes, dashes_end, holding, long_clear, no_value, nothing_past_dashes, or_else-nil, past_dashes}
 use Rattle.command_line.proofs.Saying.{reads}
@@ -61,6 +61,7 @@ stops Replay rest = stop_more Replay [] rest
 stops Dump rest = stop_more Dump [] rest
 stops Tree rest = stop_more Tree [] rest
 stops Timeline rest = stop_more Timeline [] rest
+stops TraceEvents rest = stop_more TraceEvents [] rest
 stops Quote rest = stop_more Quote [] rest
 
 -- ---- any other first word meets a fault
@@ -124,6 +125,7 @@ entered_is Replay rest = refl
 entered_is Dump rest = refl
 entered_is Tree rest = refl
 entered_is Timeline rest = refl
+entered_is TraceEvents rest = refl
 entered_is Quote rest = refl
 
 words_clear : (job : Job) (rest : List Text) → built_fault built_app nothing_held (command_word job ∷ rest) ≡ [] → words_fault job rest ≡ []
@@ -146,6 +148,7 @@ named_is Replay = refl
 named_is Dump = refl
 named_is Tree = refl
 named_is Timeline = refl
+named_is TraceEvents = refl
 named_is Quote = refl
 
 -- the rows that a job's command leaves
@@ -157,6 +160,7 @@ rows_entered Replay rest = refl
 rows_entered Dump rest = refl
 rows_entered Tree rest = refl
 rows_entered Timeline rest = refl
+rows_entered TraceEvents rest = refl
 rows_entered Quote rest = refl
 
 said_at : (program : Text) (job : Job) (rest : List Text) → command_said (program ∷ command_word job ∷ rest) ≡ option_and_then (λ given. job_said job given) (given_to job rest)
@@ -188,20 +192,21 @@ read_command program job rest e =
 
 read_after : (program word : Text) (rest : List Text) → built_fault built_app nothing_held (word ∷ rest) ≡ [] → IsRead (program ∷ word ∷ rest)
 read_after program word rest e =
-    go (bytes_eq (codes "replay") word) refl (bytes_eq (codes "dump") word) refl (bytes_eq (codes "tree") word) refl (bytes_eq (codes "timeline") word) refl (bytes_eq (codes "quote") word) refl
+    go (bytes_eq (codes "replay") word) refl (bytes_eq (codes "dump") word) refl (bytes_eq (codes "tree") word) refl (bytes_eq (codes "timeline") word) refl (bytes_eq (codes "trace") word) refl (bytes_eq (codes "quote") word) refl
   where
     at_job : (job : Job) → command_word job ≡ word → IsRead (program ∷ word ∷ rest)
     at_job job same =
         subst (λ w. IsRead (program ∷ w ∷ rest)) same (read_command program job rest (words_clear job rest (subst (λ w. built_fault built_app nothing_held (w ∷ rest) ≡ []) (sym same) e)))
 
     go : (a : Bool) → bytes_eq (codes "replay") word ≡ a → (b : Bool) → bytes_eq (codes "dump") word ≡ b → (c : Bool) → bytes_eq (codes "tree") word ≡ c → (d : Bool) → bytes_eq (codes "timeline") word ≡ d
-        → (q : Bool) → bytes_eq (codes "quote") word ≡ q → IsRead (program ∷ word ∷ rest)
-    go true replays b dumps c trees d lines q quotes = at_job Replay ((bytes_eq-Decides (codes "replay") word).0 replays)
-    go false replays true dumps c trees d lines q quotes = at_job Dump ((bytes_eq-Decides (codes "dump") word).0 dumps)
-    go false replays false dumps true trees d lines q quotes = at_job Tree ((bytes_eq-Decides (codes "tree") word).0 trees)
-    go false replays false dumps false trees true lines q quotes = at_job Timeline ((bytes_eq-Decides (codes "timeline") word).0 lines)
-    go false replays false dumps false trees false lines true quotes = at_job Quote ((bytes_eq-Decides (codes "quote") word).0 quotes)
-    go false replays false dumps false trees false lines false quotes = absurd (no_other word rest (rw (replays, dumps, trees, lines, quotes) refl) e)
+        → (t : Bool) → bytes_eq (codes "trace") word ≡ t → (q : Bool) → bytes_eq (codes "quote") word ≡ q → IsRead (program ∷ word ∷ rest)
+    go true replays b dumps c trees d lines t traces q quotes = at_job Replay ((bytes_eq-Decides (codes "replay") word).0 replays)
+    go false replays true dumps c trees d lines t traces q quotes = at_job Dump ((bytes_eq-Decides (codes "dump") word).0 dumps)
+    go false replays false dumps true trees d lines t traces q quotes = at_job Tree ((bytes_eq-Decides (codes "tree") word).0 trees)
+    go false replays false dumps false trees true lines t traces q quotes = at_job Timeline ((bytes_eq-Decides (codes "timeline") word).0 lines)
+    go false replays false dumps false trees false lines true traces q quotes = at_job TraceEvents ((bytes_eq-Decides (codes "trace") word).0 traces)
+    go false replays false dumps false trees false lines false traces true quotes = at_job Quote ((bytes_eq-Decides (codes "quote") word).0 quotes)
+    go false replays false dumps false trees false lines false traces false quotes = absurd (no_other word rest (rw (replays, dumps, trees, lines, traces, quotes) refl) e)
 
 pub read : (words : List Text) → fault_of scopectl words ≡ [] → IsRead words
 read [] e = absurd (none_met [] refl (sym (fault_is []) ∙ e))
@@ -209,19 +214,20 @@ read (program ∷ []) e = absurd (none_met [] refl (sym (fault_is (program ∷ [
 read (program ∷ word ∷ rest) e = read_after program word rest (sym (fault_is (program ∷ word ∷ rest)) ∙ e)
 
 -- no option with a text is one without
-each_job : (P : Job → Type 0) → P Replay → P Dump → P Tree → P Timeline → P Quote → (job : Job) → P job
-each_job P a b c d e Replay = a
-each_job P a b c d e Dump = b
-each_job P a b c d e Tree = c
-each_job P a b c d e Timeline = d
-each_job P a b c d e Quote = e
+each_job : (P : Job → Type 0) → P Replay → P Dump → P Tree → P Timeline → P TraceEvents → P Quote → (job : Job) → P job
+each_job P a b c d t e Replay = a
+each_job P a b c d t e Dump = b
+each_job P a b c d t e Tree = c
+each_job P a b c d t e Timeline = d
+each_job P a b c d t e TraceEvents = t
+each_job P a b c d t e Quote = e
 
 setting_no_flag : (setting : Setting) (job : Job) → has_flag job (name_of setting) ≡ false
-setting_no_flag Scopes = each_job (λ job. has_flag job (name_of Scopes) ≡ false) refl refl refl refl refl
-setting_no_flag Tasks = each_job (λ job. has_flag job (name_of Tasks) ≡ false) refl refl refl refl refl
-setting_no_flag Load = each_job (λ job. has_flag job (name_of Load) ≡ false) refl refl refl refl refl
-setting_no_flag Deadline = each_job (λ job. has_flag job (name_of Deadline) ≡ false) refl refl refl refl refl
-setting_no_flag After = each_job (λ job. has_flag job (name_of After) ≡ false) refl refl refl refl refl
+setting_no_flag Scopes = each_job (λ job. has_flag job (name_of Scopes) ≡ false) refl refl refl refl refl refl
+setting_no_flag Tasks = each_job (λ job. has_flag job (name_of Tasks) ≡ false) refl refl refl refl refl refl
+setting_no_flag Load = each_job (λ job. has_flag job (name_of Load) ≡ false) refl refl refl refl refl refl
+setting_no_flag Deadline = each_job (λ job. has_flag job (name_of Deadline) ≡ false) refl refl refl refl refl refl
+setting_no_flag After = each_job (λ job. has_flag job (name_of After) ≡ false) refl refl refl refl refl refl
 
 module _ (words : List Text) (found : Found) (got : IsRead words) (same : rows_of found ≡ rows_filled got.job got.given) where
   text_is : (setting : Setting) → first_value found (name_of setting) ≡ text_given got.given (name_of setting)

@@ -13,7 +13,7 @@ use Rattle.command_line.specs.declared.settings.Flag.{Flag}
 use Rattle.command_line.specs.declared.settings.Flag.TheVariants.{Strict, Explain, Trace, Quiet, Lenient}
 use Rattle.command_line.specs.declared.settings.Setting.{Setting}
 use Rattle.command_line.specs.declared.lines.Job.{Job}
-use Rattle.command_line.specs.declared.lines.Job.TheVariants.{Replay, Dump, Tree, Timeline, Quote}
+use Rattle.command_line.specs.declared.lines.Job.TheVariants.{Replay, Dump, Tree, Timeline, TraceEvents, Quote}
 use Rattle.command_line.specs.declared.settings.Setting.TheVariants.{Scopes, Tasks, Load, Deadline, After}
 
 -- ---- jobs
@@ -24,6 +24,7 @@ command_word Replay = codes "replay"
 command_word Dump = codes "dump"
 command_word Tree = codes "tree"
 command_word Timeline = codes "timeline"
+command_word TraceEvents = codes "trace"
 command_word Quote = codes "quote"
 
 -- the job that has this word
@@ -32,7 +33,8 @@ job_named word = if bytes_eq (command_word Replay) word then Some Replay
     else (if bytes_eq (command_word Dump) word then Some Dump
     else (if bytes_eq (command_word Tree) word then Some Tree
     else (if bytes_eq (command_word Timeline) word then Some Timeline
-    else (if bytes_eq (command_word Quote) word then Some Quote else None))))
+    else (if bytes_eq (command_word TraceEvents) word then Some TraceEvents
+    else (if bytes_eq (command_word Quote) word then Some Quote else None)))))
 
 -- the names of the options that set the limits of a realm
 abbrev pub limit_names : List (List ℕ)
@@ -48,6 +50,7 @@ option_names Replay = limit_names
 option_names Dump = limit_names
 option_names Tree = limit_names
 option_names Timeline = limit_names
+option_names TraceEvents = limit_names
 option_names Quote = time_names
 
 -- the names of the options without a text that a job has: each that runs a script may be strict and quiet, a replay can
@@ -57,6 +60,7 @@ flag_names Replay = flag_name Strict ∷ flag_name Quiet ∷ flag_name Explain �
 flag_names Dump = flag_name Strict ∷ flag_name Quiet ∷ []
 flag_names Tree = flag_name Strict ∷ flag_name Quiet ∷ flag_name Lenient ∷ []
 flag_names Timeline = flag_name Strict ∷ flag_name Quiet ∷ flag_name Lenient ∷ []
+flag_names TraceEvents = flag_name Strict ∷ flag_name Quiet ∷ flag_name Lenient ∷ []
 flag_names Quote = []
 
 -- ---- options
@@ -123,6 +127,7 @@ pub data Said : Type 0 where
   dump : ScriptSaid → Said
   tree : ScriptSaid → (lenient : Bool) → Said
   timeline : ScriptSaid → (lenient : Bool) → Said
+  trace_events : ScriptSaid → (lenient : Bool) → Said
   quote : (deadline : Option ℕ) (after : Option NameAndMillis) → Said
 
 abbrev pub script_by : (Setting → Option (List ℕ)) → (strict quiet : Bool) → Option ScriptSaid
@@ -138,6 +143,7 @@ said_by Replay given has = option_map (λ script. replay script (has Explain) (h
 said_by Dump given has = option_map (λ script. dump script) (script_by given (has Strict) (has Quiet))
 said_by Tree given has = option_map (λ script. tree script (has Lenient)) (script_by given (has Strict) (has Quiet))
 said_by Timeline given has = option_map (λ script. timeline script (has Lenient)) (script_by given (has Strict) (has Quiet))
+said_by TraceEvents given has = option_map (λ script. trace_events script (has Lenient)) (script_by given (has Strict) (has Quiet))
 said_by Quote given has = quote_by given
 
 -- what is said of a job by the options that were given
@@ -158,6 +164,7 @@ said_of (line.Replay script explain trace) = replay (script_of script) explain t
 said_of (line.Dump script) = dump (script_of script)
 said_of (line.Tree script lenient) = tree (script_of script) lenient
 said_of (line.Timeline script lenient) = timeline (script_of script) lenient
+said_of (line.TraceEvents script lenient) = trace_events (script_of script) lenient
 said_of (line.Quote deadline after) = quote deadline (option_map delay_of after)
 
 -- the words say the command, as they are read

@@ -7,9 +7,9 @@ use Rattle.std.specs.Str.{bytes_eq}
 use Rattle.clap.specs.Lexer.{strip_byte}
 use Rattle.command_line.specs.CommandLine.{flag_names, is_among, job_named, limit_names}
 use Rattle.command_line.specs.Settings.{is_equals}
-use Rattle.command_line.specs.declared.hints.TheConstants.{REPLAY_INPUT, DUMP_INPUT, TREE_INPUT, TIMELINE_INPUT, QUOTE_INPUT, QUOTE_OPTIONS}
+use Rattle.command_line.specs.declared.hints.TheConstants.{REPLAY_INPUT, DUMP_INPUT, TREE_INPUT, TIMELINE_INPUT, TRACE_INPUT, QUOTE_INPUT, QUOTE_OPTIONS}
 use Rattle.command_line.specs.declared.lines.Job.{Job}
-use Rattle.command_line.specs.declared.lines.Job.TheVariants.{Replay, Dump, Tree, Timeline, Quote}
+use Rattle.command_line.specs.declared.lines.Job.TheVariants.{Replay, Dump, Tree, Timeline, TraceEvents, Quote}
 
 -- ---- words
 
@@ -47,6 +47,7 @@ input_hint Replay = REPLAY_INPUT.now
 input_hint Dump = DUMP_INPUT.now
 input_hint Tree = TREE_INPUT.now
 input_hint Timeline = TIMELINE_INPUT.now
+input_hint TraceEvents = TRACE_INPUT.now
 input_hint Quote = QUOTE_INPUT.now
 
 -- what is hinted at where a job does not have the option

@@ -28,7 +28,8 @@ pub fn application<'a>(alloc: Global) -> Result<Command<'a>, AllocError>
     let with_dump = with_job(alloc, with_replay, Job::Dump)?;
     let with_tree = with_job(alloc, with_dump, Job::Tree)?;
     let with_timeline = with_job(alloc, with_tree, Job::Timeline)?;
-    with_job(alloc, with_timeline, Job::Quote)
+    let with_trace = with_job(alloc, with_timeline, Job::TraceEvents)?;
+    with_job(alloc, with_trace, Job::Quote)
 }
 
 // The program with the command of one job more.
@@ -51,6 +52,7 @@ fn command<'a>(alloc: Global, job: Job) -> Result<Command<'a>, AllocError>
         Job::Dump => with_limits(alloc, bare),
         Job::Tree => with_lenience(alloc, with_limits(alloc, bare)?),
         Job::Timeline => with_lenience(alloc, with_limits(alloc, bare)?),
+        Job::TraceEvents => with_lenience(alloc, with_limits(alloc, bare)?),
         Job::Quote => with_times(alloc, bare),
     }
 }

@@ -20,6 +20,7 @@ Commands:
   dump      Replay a script and write what is open at its end, as JSON
   tree      Replay a script and write what is open at its end, as text
   timeline  Replay a script and draw the run as an SVG picture
+  trace     Replay a script and write the run as Chrome trace events
   quote     Ask the offers of a plan, on threads, and write the answer
   help      Print this message or the help of a command
   version   Print version
@@ -34,8 +35,8 @@ Exit status:
   0  the script was read to its end, even if commands were refused; or the plan was answered
   1  standard error has one line that names the fault, such as scopectl: read
   2  the command line was not understood
-  3  the script was read to its end, and lines were refused: with --strict any, in tree and timeline
-     any that is not a command, unless --lenient
+  3  the script was read to its end, and lines were refused: with --strict any, in tree, timeline
+     and trace any that is not a command, unless --lenient
 
 For an example, try 'scopectl replay --help' or the help of another command.
 ";
@@ -168,6 +169,25 @@ Example: the journal of a service is a script too.
 "
 );
 
+/// What `scopectl trace --help` writes.
+pub const TRACE_HELP: &str = script_help!(
+    "Reads a script from FILE or standard input, one command per line, and writes no replies. It then
+writes the run as Chrome trace events (JSON): a slice per scope and task, an instant per cancel.
+
+Usage: scopectl trace [OPTIONS] [FILE]
+",
+    "      --lenient     End with status 0 even if lines are not commands
+",
+    "
+Example: look at a run in Perfetto or chrome://tracing.
+
+  scopectl trace FILE > run.json
+",
+    "  3  the script was read to its end, and lines are not commands, unless with --lenient; or lines
+     were refused, with --strict
+"
+);
+
 /// What `scopectl quote --help` writes.
 pub const QUOTE_HELP: &str =
     "Reads a plan from FILE or standard input: a mode, and offers, each with a price or a fault. Asks
@@ -239,6 +259,8 @@ fn help_at(command: &str) -> &'static str
         TREE_HELP
     } else if command == "timeline" {
         TIMELINE_HELP
+    } else if command == "trace" {
+        TRACE_HELP
     } else if command == "quote" {
         QUOTE_HELP
     } else {

@@ -25,6 +25,10 @@ pub const TREE_INPUT: &str =
 pub const TIMELINE_INPUT: &str =
     "hint: one FILE is read, or else standard input: scopectl timeline [OPTIONS] [FILE]";
 
+/// Where the script of a trace comes from.
+pub const TRACE_INPUT: &str =
+    "hint: one FILE is read, or else standard input: scopectl trace [OPTIONS] [FILE]";
+
 /// Where a plan comes from.
 pub const QUOTE_INPUT: &str =
     "hint: one FILE is read, or else standard input: scopectl quote [OPTIONS] [FILE]";
@@ -78,6 +82,7 @@ fn input_hint(job: Job) -> &'static str
         Job::Dump => DUMP_INPUT,
         Job::Tree => TREE_INPUT,
         Job::Timeline => TIMELINE_INPUT,
+        Job::TraceEvents => TRACE_INPUT,
         Job::Quote => QUOTE_INPUT,
     }
 }
@@ -133,6 +138,7 @@ fn has_flag(job: Job, name: &str) -> bool
         Job::Dump => is_script_flag(name),
         Job::Tree => is_script_flag(name) || name == Flag::Lenient.name(),
         Job::Timeline => is_script_flag(name) || name == Flag::Lenient.name(),
+        Job::TraceEvents => is_script_flag(name) || name == Flag::Lenient.name(),
         Job::Quote => false,
     }
 }

@@ -6,6 +6,7 @@
 //! scopectl dump [--scopes N] [--tasks N] [--load N] [--strict] [--quiet] [FILE]
 //! scopectl tree [--scopes N] [--tasks N] [--load N] [--strict] [--quiet] [--lenient] [FILE]
 //! scopectl timeline [--scopes N] [--tasks N] [--load N] [--strict] [--quiet] [--lenient] [FILE]
+//! scopectl trace    [--scopes N] [--tasks N] [--load N] [--strict] [--quiet] [--lenient] [FILE]
 //! scopectl quote [--deadline MS] [--after NAME=MS] [FILE]
 //! scopectl help [COMMAND]
 //! scopectl version

@@ -40,6 +40,12 @@ pub enum CommandLine {
         /// Whether the status is 0 though lines are no commands.
         lenient: bool,
     },
+    /// Does the same, and writes the run as Chrome trace events.
+    TraceEvents {
+        script: ScriptOptions,
+        /// Whether the status is 0 though lines are no commands.
+        lenient: bool,
+    },
     /// Serves the plan on standard input, and writes the answer.
     Quote {
         /// After how many milliseconds the plan is answered by what is there, if it is.
@@ -56,6 +62,7 @@ pub enum Job {
     Dump,
     Tree,
     Timeline,
+    TraceEvents,
     Quote,
 }
 
@@ -69,6 +76,7 @@ impl Job {
             Job::Dump => "dump",
             Job::Tree => "tree",
             Job::Timeline => "timeline",
+            Job::TraceEvents => "trace",
             Job::Quote => "quote",
         }
     }
@@ -86,6 +94,8 @@ impl Job {
             Some(Job::Tree)
         } else if word == "timeline" {
             Some(Job::Timeline)
+        } else if word == "trace" {
+            Some(Job::TraceEvents)
         } else if word == "quote" {
             Some(Job::Quote)
         } else {
@@ -168,6 +178,11 @@ fn said(alloc: Global, job: Job, options: &ArgMatches<'_>) -> Result<CommandLine
             let script = settings::script(alloc, options)?;
             let lenient = settings::is_set(options, Flag::Lenient);
             Ok(CommandLine::Timeline { script, lenient })
+        }
+        Job::TraceEvents => {
+            let script = settings::script(alloc, options)?;
+            let lenient = settings::is_set(options, Flag::Lenient);
+            Ok(CommandLine::TraceEvents { script, lenient })
         }
         Job::Quote => {
             let deadline = settings::deadline(alloc, options)?;

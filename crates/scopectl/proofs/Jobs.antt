@@ -103,23 +103,27 @@ makes_view : (v : View) (script : ScriptOptions) (lenient : Bool) (bytes text : 
 makes_view view.Dump script lenient bytes text is = is
 makes_view view.Tree script lenient bytes text is = is
 makes_view view.Timeline script lenient bytes text is = is
+makes_view view.TraceEvents script lenient bytes text is = is
 
 status_view : (v : View) (script : ScriptOptions) (lenient : Bool) (bytes : List ℕ) → status_of script.strict (lenience v lenient) (count_of_script script.limits bytes) ≡ status_of (is_strict (command_of v script lenient)) (is_lenient (command_of v script lenient)) (count_of (command_of v script lenient) bytes)
 status_view view.Dump script lenient bytes = refl
 status_view view.Tree script lenient bytes = refl
 status_view view.Timeline script lenient bytes = refl
+status_view view.TraceEvents script lenient bytes = refl
 
 told_view : (v : View) (script : ScriptOptions) (lenient : Bool) (bytes : List ℕ) (Kept : Type 0) (said said_new : Option (List ℕ)) (failed : Bool) → Noted script.quiet (count_of_script script.limits bytes) Kept said said_new failed
     → Told (command_of v script lenient) bytes Kept said said_new failed
 told_view view.Dump script lenient bytes Kept said said_new failed it = it
 told_view view.Tree script lenient bytes Kept said said_new failed it = it
 told_view view.Timeline script lenient bytes Kept said said_new failed it = it
+told_view view.TraceEvents script lenient bytes Kept said said_new failed it = it
 
 wrote_view : (v : View) (script : ScriptOptions) (lenient : Bool) (bytes : List ℕ) (unread_new written written_new : Option (List ℕ)) (failed : Bool)
     → WroteLate (command_of v script lenient) bytes unread_new written written_new failed → WrotePart (command_of v script lenient) bytes unread_new written written_new failed
 wrote_view view.Dump script lenient bytes unread_new written written_new failed it = it
 wrote_view view.Tree script lenient bytes unread_new written written_new failed it = it
 wrote_view view.Timeline script lenient bytes unread_new written written_new failed it = it
+wrote_view view.TraceEvents script lenient bytes unread_new written written_new failed it = it
 
 pub made : (v : View) (script : ScriptOptions) (lenient : Bool) (unread unread_new : Option (List ℕ)) (text : List ℕ) (count : Count) → Showed unread unread_new script.limits v text count → Made (Makes (command_of v script lenient)) unread unread_new text
 made v script lenient unread unread_new text count shown = record {

@@ -79,12 +79,14 @@ abbrev pub command_of : View → ScriptOptions → (lenient : Bool) → CommandL
 command_of view.Dump script lenient = line.Dump script
 command_of view.Tree script lenient = line.Tree script lenient
 command_of view.Timeline script lenient = line.Timeline script lenient
+command_of view.TraceEvents script lenient = line.TraceEvents script lenient
 
 -- whether lines may be no commands: in a dump they may
 abbrev pub lenience : View → (lenient : Bool) → Bool
 lenience view.Dump lenient = true
 lenience view.Tree lenient = lenient
 lenience view.Timeline lenient = lenient
+lenience view.TraceEvents lenient = lenient
 
 -- the text is the view of the realm of these limits that the script leaves
 abbrev pub Shows : View → Limits → (bytes text : List ℕ) → Type 0
@@ -97,6 +99,7 @@ Makes (line.Replay script explain trace) bytes text = text ≡ replies_of script
 Makes (line.Dump script) bytes text = Shows view.Dump script.limits bytes text
 Makes (line.Tree script lenient) bytes text = Shows view.Tree script.limits bytes text
 Makes (line.Timeline script lenient) bytes text = Shows view.Timeline script.limits bytes text
+Makes (line.TraceEvents script lenient) bytes text = Shows view.TraceEvents script.limits bytes text
 Makes (line.Quote deadline after) bytes text = AnswersPlan deadline after bytes text
 
 -- the command was done: all bytes were read, and exactly a text that it makes of them was written
@@ -117,6 +120,7 @@ count_of (line.Replay script explain trace) bytes = count_of_script script.limit
 count_of (line.Dump script) bytes = count_of_script script.limits bytes
 count_of (line.Tree script lenient) bytes = count_of_script script.limits bytes
 count_of (line.Timeline script lenient) bytes = count_of_script script.limits bytes
+count_of (line.TraceEvents script lenient) bytes = count_of_script script.limits bytes
 count_of (line.Quote deadline after) bytes = no_count
 
 -- the status is to tell that lines were refused
@@ -125,12 +129,14 @@ is_strict (line.Replay script explain trace) = script.strict
 is_strict (line.Dump script) = script.strict
 is_strict (line.Tree script lenient) = script.strict
 is_strict (line.Timeline script lenient) = script.strict
+is_strict (line.TraceEvents script lenient) = script.strict
 is_strict (line.Quote deadline after) = false
 
 -- the status is 0 though lines are no commands
 abbrev pub is_lenient : CommandLine → Bool
 is_lenient (line.Tree script lenient) = lenient
 is_lenient (line.Timeline script lenient) = lenient
+is_lenient (line.TraceEvents script lenient) = lenient
 is_lenient _ = true
 
 -- nothing is to be said of how many lines were refused
@@ -139,6 +145,7 @@ is_quiet (line.Replay script explain trace) = script.quiet
 is_quiet (line.Dump script) = script.quiet
 is_quiet (line.Tree script lenient) = script.quiet
 is_quiet (line.Timeline script lenient) = script.quiet
+is_quiet (line.TraceEvents script lenient) = script.quiet
 is_quiet (line.Quote deadline after) = true
 
 -- the notes that are wanted: on the lines that were refused, on each line's reply, or on both

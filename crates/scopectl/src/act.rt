@@ -41,13 +41,13 @@ pub const LINES_REFUSED: u8 = 3;
 ///
 /// With status 0 or 3 the words asked for help or the version, and exactly that text was written and nothing
 /// read; or they said a replay, all bytes were read, and exactly the reply text of them was written, in
-/// a realm of the limits that stand in the words; or they said a dump, a tree or a timeline, all bytes were read,
+/// a realm of the limits that stand in the words; or they said a dump, a tree, a timeline or a trace, all bytes were read,
 /// and exactly that text of the realm that they leave was written; or they said a quote, all bytes
 /// were read, which are a plan, and exactly a line that it allows was written, and a line feed; by a deadline
 /// the line may say some of the prices. Where lines of a script were refused and the words are not quiet, a line on
 /// `errors` says how many, and how many of them are no commands, and another one where no other line did anything;
 /// before it stand the notes on the lines of a replay that are to be explained or traced; else nothing was said
-/// there. The status is 3 where lines were refused and the words are strict, or where lines of a tree or a timeline
+/// there. The status is 3 where lines were refused and the words are strict, or where lines of a tree, timeline or trace
 /// are no commands and the words are not lenient, and else 0.
 ///
 /// With status 1 one line on `errors` names the fault: `read` or `write` only where that stream failed,
@@ -119,6 +119,17 @@ pub fn act<
                 alloc,
                 script,
                 View::Timeline,
+                lenient,
+                reader,
+                writer,
+                errors,
+            )
+        }
+        Ok(CommandLine::TraceEvents { script, lenient }) => {
+            show(
+                alloc,
+                script,
+                View::TraceEvents,
                 lenient,
                 reader,
                 writer,
@@ -333,7 +344,7 @@ fn lenience(view: View, lenient: bool) -> bool
 {
     match view {
         View::Dump => true,
-        View::Tree | View::Timeline => lenient,
+        View::Tree | View::Timeline | View::TraceEvents => lenient,
     }
 }
 

@@ -72,7 +72,8 @@ fn is_quiet(command: &CommandLine) -> bool {
         CommandLine::Replay { script, .. }
         | CommandLine::Dump(script)
         | CommandLine::Tree { script, .. }
-        | CommandLine::Timeline { script, .. } => script.quiet,
+        | CommandLine::Timeline { script, .. }
+        | CommandLine::TraceEvents { script, .. } => script.quiet,
         CommandLine::Quote { .. } => false,
     }
 }

@@ -9,10 +9,11 @@ use Rattle.scope_rules.specs.History.{History}
 use Rattle.tree_dump.specs.Tree.{dump_text}
 use Rattle.tree_dump.specs.TextTree.{tree_text}
 use Rattle.run_picture.specs.Picture.{picture_text}
+use Rattle.run_picture.specs.Trace.{trace_text}
 use Rattle.script_jobs.specs.Notes.{notes_text}
 use Rattle.script_jobs.specs.declared.notes.Notes.{Notes}
 use Rattle.script_jobs.specs.declared.showing.View.{View}
-use Rattle.script_jobs.specs.declared.showing.View.TheVariants.{Dump, Tree, Timeline}
+use Rattle.script_jobs.specs.declared.showing.View.TheVariants.{Dump, Tree, Timeline, TraceEvents}
 
 -- all bytes were read, and exactly the replies to them were written, in a realm of these limits, which refused so many
 -- lines
@@ -33,6 +34,7 @@ abbrev pub shown_text : View → History → List ℕ
 shown_text Dump h = dump_text h ++ 10 ∷ []
 shown_text Tree h = tree_text h
 shown_text Timeline h = picture_text h
+shown_text TraceEvents h = trace_text h []
 
 -- all bytes were read, and the text is the view of the realm that they leave, which refused so many lines
 pub record Showed (unread unread_new : Option (List ℕ)) (limits : Limits) (view : View) (text : List ℕ) (count : Count) : Type 0 where

@@ -7,7 +7,7 @@ ghost use Rattle.script_jobs.specs.Counts.{count_in};
 ghost use Rattle.script_jobs.specs.Jobs.{ReadSome, Showed, shown_text};
 
 use crate::counting::{Count, count_of};
-use run_picture::picture_of;
+use run_picture::{picture_of, trace_of};
 use scope_book::BookState;
 use scope_rules::{AnyEnd, Limits};
 use scope_script::{Mode, Ran, ScriptFault, Watched, run_tallied};
@@ -24,6 +24,8 @@ pub enum View {
     Tree,
     /// A picture of the run, as SVG.
     Timeline,
+    /// The run as Chrome trace events, as JSON.
+    TraceEvents,
 }
 
 /// What a script leaves, as it is shown.
@@ -89,6 +91,7 @@ fn text_of(alloc: Global, view: View, book: &BookState<AnyEnd>) -> Result<String
         View::Dump => dump_line(alloc, book),
         View::Tree => tree_of(alloc, book.realm()),
         View::Timeline => picture_of(alloc, book.realm(), book.realm().events()),
+        View::TraceEvents => trace_of(alloc, book.realm(), book.realm().events(), &[]),
     }
 }
 

@@ -3,7 +3,7 @@ use Rattle.std.proofs.lemmas.Result.{IfOk-weaker}
 use Rattle.clap.specs.Simple.{on_top}
 use Rattle.clap.specs.Words.{App, app_of, new_app, with_subcommand}
 use Rattle.command_line.specs.Application.{command_of, scopectl}
-use Rattle.command_line.specs.declared.lines.Job.TheVariants.{Replay, Dump, Tree, Timeline, Quote}
+use Rattle.command_line.specs.declared.lines.Job.TheVariants.{Replay, Dump, Tree, Timeline, TraceEvents, Quote}
 use Rattle.command_line.proofs.application.application.Goals as goal
 
 abbrev alone : App
@@ -25,6 +25,9 @@ treeing = with_subcommand dumping (command_of Tree).top
 abbrev timing : App
 timing = with_subcommand treeing (command_of Timeline).top
 
+abbrev tracing : App
+tracing = with_subcommand timing (command_of TraceEvents).top
+
 pub returns : goal.returns
 unfolding scopectl
 returns c =
@@ -33,4 +36,5 @@ returns c =
     let two_is : app_of c.in_ok-with_dump.with_dump ≡ dumping = c.in_ok-with_dump.ensures ∙ ap (λ (a : App). with_subcommand a (command_of Dump).top) one_is in
     let three_is : app_of c.in_ok-with_tree.with_tree ≡ treeing = c.in_ok-with_tree.ensures ∙ ap (λ (a : App). with_subcommand a (command_of Tree).top) two_is in
     let four_is : app_of c.in_ok-with_timeline.with_timeline ≡ timing = c.in_ok-with_timeline.ensures ∙ ap (λ (a : App). with_subcommand a (command_of Timeline).top) three_is in
-    IfOk-weaker c.with_job-5.result _ _ (λ m h. h ∙ ap (λ (a : App). with_subcommand a (command_of Quote).top) four_is) c.with_job-5.ensures
+    let five_is : app_of c.in_ok-with_trace.with_trace ≡ tracing = c.in_ok-with_trace.ensures ∙ ap (λ (a : App). with_subcommand a (command_of TraceEvents).top) four_is in
+    IfOk-weaker c.with_job-6.result _ _ (λ m h. h ∙ ap (λ (a : App). with_subcommand a (command_of Quote).top) five_is) c.with_job-6.ensures

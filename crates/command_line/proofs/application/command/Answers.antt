@@ -4,7 +4,7 @@ use Rattle.clap.specs.Words.{App, app_of, new_app}
 use Rattle.command_line.specs.Application.{command_of, with_flags, with_options}
 use Rattle.command_line.specs.CommandLine.{command_word, flag_names, limit_names, time_names}
 use Rattle.command_line.specs.Settings.{flag_name}
-use Rattle.command_line.specs.declared.lines.Job.TheVariants.{Quote, Replay, Timeline, Tree}
+use Rattle.command_line.specs.declared.lines.Job.TheVariants.{Quote, Replay, Timeline, TraceEvents, Tree}
 use Rattle.command_line.specs.declared.settings.Flag.TheVariants.{Strict, Explain, Trace, Quiet, Lenient}
 use Rattle.command_line.proofs.application.command.Goals as goal
 
@@ -25,6 +25,10 @@ lenient_tree bare = refl
 lenient_timeline : (bare : App) → with_flags (limited bare) (flag_name Lenient ∷ []) ≡ with_flags (with_options bare limit_names) (flag_names Timeline)
 unfolding with_flags
 lenient_timeline bare = refl
+
+lenient_trace : (bare : App) → with_flags (limited bare) (flag_name Lenient ∷ []) ≡ with_flags (with_options bare limit_names) (flag_names TraceEvents)
+unfolding with_flags
+lenient_trace bare = refl
 
 timed : (bare : App) → with_options bare time_names ≡ with_flags (with_options bare time_names) (flag_names Quote)
 unfolding with_flags
@@ -47,6 +51,12 @@ returns-in_ok-with_limits-in-Timeline-clause-app c =
     let base : app_of c.new-bare.result ≡ new_app (command_word Timeline) = c.new-bare.ensures.app ∙ ap new_app (c.word-word.ensures ∙ ap command_word c.in-Timeline.is) in
     let is = ap (λ (a : App). with_flags a (flag_name Lenient ∷ [])) (c.in_ok-with_limits-in-Timeline.ensures.app ∙ ap limited base) ∙ lenient_timeline (new_app (command_word Timeline)) ∙ sym (ap command_of c.in-Timeline.is) in
     IfOk-weaker c.with_lenience-in-Timeline.result _ _ (λ command h. h ∙ is) c.with_lenience-in-Timeline.ensures.app
+
+pub returns-in_ok-with_limits-in-TraceEvents-clause-app : goal.returns-in_ok-with_limits-in-TraceEvents-clause-app
+returns-in_ok-with_limits-in-TraceEvents-clause-app c =
+    let base : app_of c.new-bare.result ≡ new_app (command_word TraceEvents) = c.new-bare.ensures.app ∙ ap new_app (c.word-word.ensures ∙ ap command_word c.in-TraceEvents.is) in
+    let is = ap (λ (a : App). with_flags a (flag_name Lenient ∷ [])) (c.in_ok-with_limits-in-TraceEvents.ensures.app ∙ ap limited base) ∙ lenient_trace (new_app (command_word TraceEvents)) ∙ sym (ap command_of c.in-TraceEvents.is) in
+    IfOk-weaker c.with_lenience-in-TraceEvents.result _ _ (λ command h. h ∙ is) c.with_lenience-in-TraceEvents.ensures.app
 
 pub returns-in-Quote-clause-app : goal.returns-in-Quote-clause-app
 returns-in-Quote-clause-app c =

@@ -41,6 +41,15 @@ returns-in-Ok-Timeline-clause-fault g c = λ e. inr (inr (record { command = _; 
 pub returns-in-Ok-Timeline-clause-named : goal.returns-in-Ok-Timeline-clause-named
 returns-in-Ok-Timeline-clause-named g c = λ e. names_weaker _ _ _ _ _ _ _ _ (λ f none. absurd none) (c.show-in-Ok-Timeline.ensures.named e)
 
+pub returns-in-Ok-TraceEvents-clause-done : goal.returns-in-Ok-TraceEvents-clause-done
+returns-in-Ok-TraceEvents-clause-done g c = λ e f. inr (record { command = _; says = subst (Says _) c.in-Ok-TraceEvents.field-0-is c.in-Ok-TraceEvents.ensures.said; did = c.show-in-Ok-TraceEvents.ensures.done e })
+
+pub returns-in-Ok-TraceEvents-clause-fault : goal.returns-in-Ok-TraceEvents-clause-fault
+returns-in-Ok-TraceEvents-clause-fault g c = λ e. inr (inr (record { command = _; said = subst (Says _) c.in-Ok-TraceEvents.field-0-is c.in-Ok-TraceEvents.ensures.said; did = c.show-in-Ok-TraceEvents.ensures.fault e }))
+
+pub returns-in-Ok-TraceEvents-clause-named : goal.returns-in-Ok-TraceEvents-clause-named
+returns-in-Ok-TraceEvents-clause-named g c = λ e. names_weaker _ _ _ _ _ _ _ _ (λ f none. absurd none) (c.show-in-Ok-TraceEvents.ensures.named e)
+
 pub returns-in-Ok-Quote-clause-done : goal.returns-in-Ok-Quote-clause-done
 returns-in-Ok-Quote-clause-done g c =
     λ e f. (let none = well_ended _ c.quote.ensures.status e in inr (record { command = _; says = subst (Says _) c.in-Ok-Quote.field-0-is c.in-Ok-Quote.ensures.said; did = quote_whole _ _ _ _ _ _ _ _ _ _ _ (c.quote.ensures.done none) (c.quote.ensures.silent none) none }))
