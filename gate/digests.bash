@@ -23,10 +23,12 @@ with_those_below() {
 sum() { sha256sum | cut -d ' ' -f 1; }
 # files PATH..: each file at or below these paths of crates/ with its digest; a path may be missing.
 files() { (cd "$top/crates" && { find "$@" -type f -print0 2>/dev/null || true; } | LC_ALL=C sort -z | xargs -0 -r sha256sum); }
-# sources NAME..: the lines of crates.txt of these crates, and each file that a proof of one of them reads.
+# sources NAME..: the lines of crates.txt of these crates, and each file that a proof of one of them reads, without the
+# lines of comments in it: no proof and no program is another by these. (No string here has a line that begins so.)
 sources() {
     lines_of "$@" | LC_ALL=C sort
-    files "${@/%//src}" "${@/%//specs}" "${@/%//proofs}"
+    (cd "$top/crates" && { find "${@/%//src}" "${@/%//specs}" "${@/%//proofs}" -type f -print0 2>/dev/null || true; } | LC_ALL=C sort -z |
+        xargs -0 -r awk 'FNR == 1 { print FILENAME ":"; comment = FILENAME ~ /[.]antt$/ ? "^[ \t]*--" : "^[ \t]*//" } $0 !~ comment')
 }
 # sources_below NAME: the sources of the crate and of all that it stands on.
 sources_below() {
