@@ -9,7 +9,7 @@ use Rattle.scope_rules.specs.Replies.{AnswersValue, outcome_check}
 use Rattle.balkreyn_c.specs.Numbers.{refused}
 use Rattle.balkreyn_c.specs.Texts.{TellsLine, Writes, outcome_line}
 
--- where there was a value, there might have been no memory
+-- if there was a value, there might have been no memory
 memory_instead : {A : Type 0} (check : Checked) (value : Option A) (x : A) → AnswersValue check value (Ok x) → AnswersValue check value (Err Memory)
 memory_instead (Ok done) value x is = refl
 memory_instead (Err r) value x is = absurd cc

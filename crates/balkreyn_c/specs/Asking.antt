@@ -21,20 +21,20 @@ abbrev pub written : {A : Type 0} → Option Realm → (History → A → A) →
 written None write old = old
 written (Some realm) write old = write realm.history old
 
--- a buffer, with the items at its head where there is room for them all
+-- a buffer, with the items at its head if there is room for them all
 abbrev pub placed : {A : Type 0} → List A → List A → List A
 placed items old = if nat_le (length items) (length old) then items ++ drop (length items) old else old
 
 abbrev pub text_in : List ℕ → List ℕ → List ℕ
 text_in text old = placed text old
 
--- the number, where a number is answered
+-- the number, if a number is answered
 abbrev pub value_written : Result Value Refusal → ℤ → ℤ
 value_written (Ok (Num number)) old = number
 value_written (Ok (Text name)) old = old
 value_written (Err r) old = old
 
--- the text, where a text is answered
+-- the text, if a text is answered
 abbrev pub value_text_in : Result Value Refusal → List ℕ → List ℕ
 value_text_in (Ok (Num number)) old = old
 value_text_in (Ok (Text name)) old = text_in (text_of name) old
@@ -44,7 +44,7 @@ abbrev pub fault_text_in : Result Fault Refusal → List ℕ → List ℕ
 fault_text_in (Ok fault) old = text_in (text_of fault.0) old
 fault_text_in (Err r) old = old
 
--- the moment, where the deadline in effect is one
+-- the moment, if the deadline in effect is one
 abbrev pub until_written : Result Effective Refusal → ℕ → ℕ
 until_written (Ok (At moment)) old = moment
 until_written other old = old

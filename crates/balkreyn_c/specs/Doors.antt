@@ -67,7 +67,7 @@ DidPerform old c (performed.Told said) new = Performs old c new said
 DidPerform old c performed.Untold new = new ≡ realm_after old c
 DidPerform old c performed.Memory new = Stopped old c new
 
--- the line was performed, and its reply was told: it is written where there is room
+-- the line was performed, and its reply was told: it is written if there is room
 pub record Replies (old : Realm) (said : Line) (answer : ℤ) (new : Realm) (was now : List ℕ) : Type 0 where
   pub number : answer ≡ pos (length (line_reply old said))
   pub written : now ≡ text_in (line_reply old said) was

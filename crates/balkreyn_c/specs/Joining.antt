@@ -68,7 +68,7 @@ abbrev pub list_in : Result Outcome Refusal → List OutcomeTask → List Outcom
 list_in (Ok o) old = placed (list_of o) old
 list_in (Err r) old = old
 
--- the list of what the join answered is written where there is room; or want of memory
+-- the list of what the join answered is written if there is room; or want of memory
 pub record Lists (h : History) (scope : ℕ) (answer : ℤ) (old new : List OutcomeTask) : Type 0 where
   pub reply : Result Outcome Refusal
   pub tells : AnswersValue (outcome_check h scope) (outcome h scope) reply

@@ -1,4 +1,4 @@
--- The numbers by which C is answered: 0 and above where there was an answer, below 0 where there was none.
+-- The numbers by which C is answered: 0 and above if there was an answer, below 0 if there was none.
 use Rattle.std.specs.Prelude.{ℕ, ◌+◌, ◌-◌, ◌*◌, ℤ, pos, negsuc, Option, None, Some, Result, Ok, Err, length}
 use Rattle.scope_rules.specs.declared.types.answers.Cause.{Cause}
 use Rattle.scope_rules.specs.declared.types.answers.CauseKind.{CauseKind}
@@ -24,7 +24,7 @@ use Rattle.scope_checks.specs.declared.told.Told.TheVariants as told
 use Rattle.scope_kept.specs.declared.bare.BareOutcome.{BareOutcome}
 use Rattle.scope_kept.specs.declared.bare.BareOutcome.TheVariants as bare
 
--- ---- where there was nothing to refuse: -21 to -24
+-- ---- if there was nothing to refuse: -21 to -24
 
 abbrev pub no_realm : ℤ
 no_realm = negsuc 20
@@ -114,7 +114,7 @@ until_number effective.Never = pos 0
 until_number (effective.At moment) = pos 1
 until_number effective.Past = pos 2
 
--- the number of a scope or task, or 0 where there is none
+-- the number of a scope or task, or 0 if there is none
 abbrev pub some_number : Option ℕ → ℤ
 some_number None = pos 0
 some_number (Some number) = pos number

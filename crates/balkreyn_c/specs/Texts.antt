@@ -21,16 +21,16 @@ pub record Silent (number answer : ℤ) (old new : List ℕ) : Type 0 where
   pub number_is : answer ≡ number
   pub kept : new ≡ old
 
--- the text was written where there is room, and its length is answered
+-- the text was written if there is room, and its length is answered
 pub record Writes (text : List ℕ) (answer : ℤ) (old new : List ℕ) : Type 0 where
   pub number : answer ≡ pos (length text)
   pub written : new ≡ text_in text old
 
--- the text was written where there is room; or there was no memory for it
+-- the text was written if there is room; or there was no memory for it
 abbrev pub WritesReply : List ℕ → ℤ → List ℕ → List ℕ → Type 0
 WritesReply text answer old new = Writes text answer old new ⊎ Silent untold answer old new
 
--- the text was written where there is room; or memory was refused
+-- the text was written if there is room; or memory was refused
 abbrev pub WritesOrNot : List ℕ → ℤ → List ℕ → List ℕ → Type 0
 WritesOrNot text answer old new = Writes text answer old new ⊎ Silent (refused Memory) answer old new
 

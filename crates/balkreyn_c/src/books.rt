@@ -44,7 +44,7 @@ pub extern "C" fn balkreyn_book_open(
     }
 }
 
-/// Closes the book: its realm is let go.
+/// Closes the book: its realm is dropped.
 #[unsafe(no_mangle)]
 pub extern "C" fn balkreyn_book_close(alloc: Global, book: &mut Book) -> i64
     ensures answer { result ≡ closing_number book.old.place.held }

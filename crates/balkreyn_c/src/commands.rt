@@ -33,7 +33,7 @@ pub extern "C" fn balkreyn_open(
     )
 }
 
-/// No thread was had for the task.
+/// No thread was available for the task.
 #[unsafe(no_mangle)]
 pub extern "C" fn balkreyn_reject(alloc: Global, book: &mut Book, task: u32) -> i64
     ensures { Acts book.old.place.held (Some (Event.Reject task)) result book.new.place.held }
@@ -102,7 +102,7 @@ pub extern "C" fn balkreyn_move_never(alloc: Global, book: &mut Book, scope: u32
     )
 }
 
-/// Sets the moment, in milliseconds.
+/// Sets the realm's time, in milliseconds.
 #[unsafe(no_mangle)]
 pub extern "C" fn balkreyn_tick(alloc: Global, book: &mut Book, now: u64) -> i64
     ensures { Acts book.old.place.held (Some (Event.Tick now)) result book.new.place.held }

@@ -168,7 +168,7 @@ pub fn until(answer: Result<Effective, Refusal>) -> i64
     }
 }
 
-/// A scope or task, or 0 where there is none.
+/// A scope or task, or 0 if there is none.
 pub fn some(number: Option<u32>) -> i64
     ensures { result ≡ some_number number }
 {

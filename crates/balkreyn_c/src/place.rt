@@ -69,7 +69,7 @@ impl Place {
     }
 }
 
-/// A place that holds a realm is not let go: its memory would be lost.
+/// A place that holds a realm is not dropped: its memory would be lost.
 impl Drop for Place {
     fn drop(self)
         requires { IsNone self.held }

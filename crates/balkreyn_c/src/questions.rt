@@ -271,7 +271,7 @@ pub extern "C" fn balkreyn_tasks(alloc: Global, book: &mut Book) -> i64
     answer
 }
 
-/// Writes the value: a number, or a text where there is room.
+/// Writes the value: a number, or a text if there is room.
 fn write_value(answer: Result<Value, Refusal>, number: &mut i64, text: &mut [u8]) -> i64
     ensures answer { result ≡ number_of value_number answer }
     ensures number { number.new ≡ value_written answer number.old }
@@ -287,7 +287,7 @@ fn write_value(answer: Result<Value, Refusal>, number: &mut i64, text: &mut [u8]
     }
 }
 
-/// Writes the fault where there is room.
+/// Writes the fault if there is room.
 fn write_fault(answer: Result<Fault, Refusal>, text: &mut [u8]) -> i64
     ensures answer { result ≡ number_of fault_number answer }
     ensures text { text.new ≡ fault_text_in answer text.old }
@@ -298,7 +298,7 @@ fn write_fault(answer: Result<Fault, Refusal>, text: &mut [u8]) -> i64
     }
 }
 
-/// Writes the moment, where the deadline in effect is one.
+/// Writes the moment, if the deadline in effect is one.
 fn write_until(answer: Result<Effective, Refusal>, moment: &mut u64) -> i64
     ensures answer { result ≡ number_of until_number answer }
     ensures moment { moment.new ≡ until_written answer moment.old }

@@ -18,7 +18,7 @@ use std::fmt::Write;
 /// gives may be longer.
 const SHORT_LINE: usize = 96;
 
-/// Writes the text to the buffer's head where there is room for all of it, and answers its length.
+/// Writes the text to the buffer's head if there is room for all of it, and answers its length.
 pub fn write_text(buffer: &mut [u8], text: &[u8]) -> i64
     ensures answer { result ≡ pos (length text.now) }
     ensures text { buffer.new ≡ text_in text.now buffer.old }
@@ -29,7 +29,7 @@ pub fn write_text(buffer: &mut [u8], text: &[u8]) -> i64
     text.len() as i64
 }
 
-/// Writes the line of the reply, with its line feed. Where memory is refused, nothing is written.
+/// Writes the line of the reply, with its line feed. If memory is refused, nothing is written.
 pub fn write_line(alloc: Global, reply: &Reply, buffer: &mut [u8]) -> Result<i64, AllocError>
     ensures { MatchResult result (λ answer. Writes (reply_line reply.now) answer buffer.old buffer.new) (λ _. buffer.new ≡ buffer.old) }
 {

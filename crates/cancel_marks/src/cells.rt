@@ -48,7 +48,7 @@ impl MarkCell {
     }
 
     /// The same cell for one holder more. Nothing is copied, and no memory is taken: it is refused
-    /// only where std's count of holders is full.
+    /// only if std's count of holders is full.
     pub fn share(&self) -> Result<MarkCell, AllocError>
         ensures { IfOk result (λ cell. cell ≡ self.now) }
     {

@@ -46,7 +46,7 @@ impl Seat {
     }
 }
 
-/// The evidence that a scope is cancelled: what its cell holds, and a seat that was shown it.
+/// The evidence that a scope is cancelled: what its cancel cell holds, and a seat that was shown it.
 #[derive(Drop)]
 pub struct Mark {
     pub scope: ScopeId,

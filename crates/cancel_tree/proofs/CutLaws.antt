@@ -20,7 +20,7 @@ nearer_holds P (Some a) (Some b) f g c e =
       | inr w ↦ g c (sym (ap (λ t. cond t (Some a) (Some b)) w) ∙ e)
     ]
 
--- the near one, where the far one is none or not earlier
+-- the near one, if the far one is none or not earlier
 nearer_first : (a : Cut) (b : Option Cut) → ((c : Cut) → b ≡ Some c → a.place ≤ c.place) → nearer (Some a) b ≡ Some a
 nearer_first a None h = refl
 nearer_first a (Some b) h = ap (λ t. cond t (Some a) (Some b)) (le-leb a.place b.place (h b refl))
@@ -90,7 +90,7 @@ module _ (outer : ℕ → Option ℕ) (inward : IsInward outer) (own new : ℕ �
         | inr ne ↦ ap (λ b. cond b (leb 0 t) (R p)) (ne_eqb p s ne)
       ]
 
-  -- whether t itself is reached, where it is not s
+  -- whether t itself is reached, if it is not s
   reached_open : (t : ℕ) → 1 ≤ t → t ≢ s → own t ≡ None → R t ≡ from_outside s 0 t R (outer t)
   reached_open t k ne none =
       reached_law outer inward new s 0 t k

@@ -136,7 +136,7 @@ listed_already cuts xs j c d lt some h = record {
           | inr ne ↦ sym (ap (λ b. cond b true (is_cut cuts s)) (ne_eqb s (suc j) ne))
         ]
 
--- where one has none, fewer are listed than there are
+-- if one has none, fewer are listed than there are
 pub fewer_listed : (cuts : List (Option Cut)) (xs : List ℕ) (j : ℕ) (d : Option Cut) → j < length cuts → is_some (get_or cuts j d) ≡ false → IsListOf cuts xs → length xs < length cuts
 fewer_listed cuts xs j d lt none h = let e = below cuts j d lt none in let n = h.count in omega arith
   where
@@ -165,7 +165,7 @@ at_most_one false = omega arith
 pub listed_once : (cuts : List (Option Cut)) (xs : List ℕ) → IsListOf cuts xs → IsOnce xs
 listed_once cuts xs h s = let e = h.once s in let a = at_most_one (is_cut cuts s) in omega arith
 
--- a new scope is listed where it has a cut from the start
+-- a new scope is listed if it has a cut from the start
 pub listed_new : (cuts : List (Option Cut)) (xs : List ℕ) (o : Option Cut) → IsListOf cuts xs → IsListOf (cuts ++ o ∷ []) (cond (is_some o) (xs ++ suc (length cuts) ∷ []) xs)
 listed_new cuts xs o h = record {
   once = λ s. by o s;

@@ -51,7 +51,7 @@ numbered : (told : List Told) (s n : ℕ) → opened_of told s ≡ Some n → 1 
 numbered told zero n e = absurd (some_none n e)
 numbered told (suc i) n e = omega arith
 
--- where the openings and the cuts of two trees are the same, so are the moments
+-- if the openings and the cuts of two trees are the same, so are the moments
 when_same : (told new : List Told) → ((s : ℕ) → 1 ≤ s → cut_of new s ≡ cut_of told s) → ((s : ℕ) → opened_of new s ≡ opened_of told s) → (s n : ℕ) → cancelled_at told s ≡ Some n → cancelled_at new s ≡ Some n
 when_same told new cuts opened s n e =
     let w = when_of told s n e in
@@ -258,7 +258,7 @@ listed_added ts told told_new links cuts cuts_new is kept parent shield opened t
     (listed_add told links cuts kept parent shield opened (subst (λ xs. IfSome parent (IsAdded xs)) (sym is) there) (subst (λ xs. IsLatest xs opened) (sym is) latest) d roomy new scope k listed
     (cut ∙ ap (λ xs. option_and_then (cut_of xs) o) (sym is) ∙ ap (option_and_then (cut_of told)) at) (number ∙ ap (λ xs. length xs + 1) (sym is)) enough runs moved moment room))
 
--- where a call is refused, the column is as it was
+-- if a call is refused, the column is as it was
 pub refused_same : {A : Type 0} (b : Bool) (put more old : List A) → put ≡ cond b more old → b ≡ false → put ≡ old
 refused_same b put more old e off = e ∙ ap (λ b. cond b more old) off
 

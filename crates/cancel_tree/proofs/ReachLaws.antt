@@ -8,7 +8,7 @@ use Rattle.scope_rules.specs.Chains.{IsInward, onward, chain_by}
 use Rattle.cancel_tree.specs.Reach.{head_is, leads, reached, is_scope, last_inner}
 use Rattle.scope_rules.proofs.ChainLaws.{along, chain_law}
 
--- what comes from outside: nothing, or what reaches the outer scope, where that is not s itself
+-- what comes from outside: nothing, or what reaches the outer scope, if that is not s itself
 abbrev pub from_outside : ℕ → ℕ → ℕ → (ℕ → Bool) → Option ℕ → Bool
 from_outside s k t reach None = false
 from_outside s k t reach (Some p) = cond (eqb p s) (leb k t) (reach p)
@@ -182,7 +182,7 @@ module _ (outer : ℕ → Option ℕ) (inward : IsInward outer) (own : ℕ → O
             ∙ (λ i. (is_none (own t) && cond (sym w i) (leb (suc c) t) (R (suc c) p)) || (m && (eqb t c || (is_none (own t) && cond (eqb p c) (leb 0 t) (C p))))))
       ]
 
-  -- by way of the inner scopes from c on: by way of those after it, or of c itself where it has no own cancel
+  -- by way of the inner scopes from c on: by way of those after it, or of c itself if it has no own cancel
   pub reached_step : (t : ℕ) → 1 ≤ t → R c t ≡ (R (suc c) t || (m && C t))
   reached_step =
       along outer inward (λ t. R c t ≡ (R (suc c) t || (m && C t)))

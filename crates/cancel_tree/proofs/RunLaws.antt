@@ -139,7 +139,7 @@ runs_sorted when l new ys run moment is moved up once r =
       sorted = λ e. rising r.front ys (λ s. let f = times_moved s l.scopes.items (r.front ++ ys) all in let o = once s in omega arith) up;
     }
 
--- where the fields are the same, so are the runs
+-- if the fields are the same, so are the runs
 pub runs_same : (when : ℕ → Option ℕ) (l new : Listed) → new.scopes.items ≡ l.scopes.items → new.run ≡ l.run → new.moment ≡ l.moment → new.in_order ≡ l.in_order → AreRuns when l → AreRuns when new
 runs_same when l new is run moment in_order r = record {
   front = r.front;
@@ -152,7 +152,7 @@ runs_same when l new is run moment in_order r = record {
   sorted = λ e. r.sorted (sym in_order ∙ e);
 }
 
--- all that are listed, where the last run is in order, are in order
+-- all that are listed, if the last run is in order, are in order
 pub all_ordered : (when : ℕ → Option ℕ) (l : Listed) (r : AreRuns when l) → l.in_order ≡ true → AllPairs (IsBefore when) (r.front ++ r.rest)
 all_ordered when l r ok =
     pairs_append (IsBefore when) r.front r.rest r.ordered

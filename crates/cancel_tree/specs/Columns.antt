@@ -23,7 +23,7 @@ pub record AreColumns (told : List Told) (links : List Links) (cuts : List (Opti
   pub named : (s : ℕ) (c : Cut) → own_of told s ≡ Some c → c.cause.scope ≡ s
   pub cut : (i : ℕ) → i < length told → slice_get cuts i ≡ Some (cut_of told (suc i))
 
--- the links, where the scope outside, if there is one, leads to the scope. `none` is read where there are none
+-- the links, if the scope outside, when there is one, leads to the scope. `none` is read if there are none
 abbrev pub led : List Links → Option ℕ → ℕ → Links → List Links
 led links None s none = links
 led links (Some o) s none = set links (o - 1) (record (get_or links (o - 1) none) { first_inner = Some s })

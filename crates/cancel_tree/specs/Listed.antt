@@ -9,11 +9,11 @@ use Rattle.cancel_tree.specs.Rows.{IsLatest, cancelled_at}
 use Rattle.cancel_tree.specs.Order.{IsBefore}
 use Rattle.cancel_tree.specs.Columns.{AreColumns}
 
--- how often the scope stands in the list
+-- how often the scope is in the list
 abbrev pub times : ℕ → List ℕ → ℕ
 times s list = count_by (λ t. t == s) list
 
--- no scope stands in the list twice
+-- no scope is in the list twice
 abbrev pub IsOnce : List ℕ → Type 0
 IsOnce list = (s : ℕ) → times s list ≤ 1
 
@@ -22,7 +22,7 @@ abbrev pub is_cut : List (Option Cut) → ℕ → Bool
 is_cut cuts zero = false
 is_cut cuts (suc i) = is_some (option_and_then (λ o. o) (slice_get cuts i))
 
--- each scope with a cut stands in the list once, and no other does
+-- each scope with a cut is in the list once, and no other does
 pub record IsListOf (cuts : List (Option Cut)) (list : List ℕ) : Type 0 where
   pub once : (s : ℕ) → times s list ≡ cond (is_cut cuts s) 1 0
   pub count : length list ≡ count_by is_some cuts

@@ -13,7 +13,7 @@ pub record IsBefore (when : ℕ → Option ℕ) (s t : ℕ) : Type 0 where
   pub not_later : first ≤ then
   pub by_number : first ≡ then → s < t
 
--- the list has exactly the cancelled scopes, and each comes before those after it, so that none stands twice
+-- the list has exactly the cancelled scopes, and each comes before those after it, so that none is twice
 pub record IsInOrder (is_cancelled : ℕ → Bool) (when : ℕ → Option ℕ) (list : List ℕ) : Type 0 where
   pub all : (s : ℕ) → is_cancelled s ≡ true → Contains list s
   pub only : (s : ℕ) → Contains list s → is_cancelled s ≡ true

@@ -25,7 +25,7 @@ abbrev pub last_inner : (ℕ → Option ℕ) → ℕ → ℕ → Option ℕ
 last_inner outer s zero = None
 last_inner outer s (suc n) = cond (is_scope (outer (suc n)) s) (Some (suc n)) (last_inner outer s n)
 
--- the cut is put where the test says so, and nothing else is changed
+-- the cut is put if the test says so, and nothing else is changed
 abbrev pub IsSpread : (ℕ → Bool) → Cut → List (Option Cut) → List (Option Cut) → Type 0
 IsSpread test cut old new = (i : ℕ) → i < length old → slice_get new i ≡ cond (test (suc i)) (Some (Some cut)) (slice_get old i)
 

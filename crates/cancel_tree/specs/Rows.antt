@@ -69,7 +69,7 @@ opened_of told s = option_map (λ t. t.opened) (row told s)
 abbrev pub cancelled_at : List Told → ℕ → Option ℕ
 cancelled_at told s = option_and_then (λ n. option_map (λ c. max n c.place) (cut_of told s)) (opened_of told s)
 
--- no own cancel and no opening stands at a later place
+-- no own cancel and no opening is at a later place
 pub record IsLatest (told : List Told) (place : ℕ) : Type 0 where
   pub own : (s : ℕ) (c : Cut) → own_of told s ≡ Some c → c.place ≤ place
   pub opening : (s n : ℕ) → opened_of told s ≡ Some n → n ≤ place
@@ -84,7 +84,7 @@ new_row parent shield opened = record { parent = parent; shield = shield; opened
 abbrev pub cut_at : ℕ → ℕ → CauseKind → Cut
 cut_at place scope kind = record { place = place; cause = record { scope = scope; kind = kind } }
 
--- an own cancel stays once it stands
+-- an own cancel stays once it is set
 abbrev pub with_own : Cut → Told → Told
 with_own cut t = record t { own = option_or t.own (Some cut) }
 

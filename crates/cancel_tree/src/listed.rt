@@ -5,7 +5,7 @@ ghost use Rattle.cancel_tree.specs.Listed.{IsOnce, AreRuns, IsGrown};
 use scope_rules::ScopeId;
 use std::alloc::{AllocError, Global};
 
-/// The cancelled scopes. Those that one event cancelled stand in order of their numbers once they are
+/// The cancelled scopes. Those that one event cancelled are in order of their numbers once they are
 /// asked for: the last of these runs is put in order then, or when the next one begins.
 #[derive(Drop)]
 pub(crate) struct Listed {
@@ -33,7 +33,7 @@ impl Listed {
         }
     }
 
-    /// Makes room for so many scopes in all. Refused where memory is.
+    /// Makes room for so many scopes in all. Refused if memory is.
     pub(crate) fn make_room(&mut self, all: usize) -> Result<(), AllocError>
         ensures room { OnOk result (all ≤ vec_capacity self.new.scopes) }
         ensures kept_room { vec_capacity self.old.scopes ≤ vec_capacity self.new.scopes }
@@ -103,7 +103,7 @@ impl Listed {
         self.in_order = false;
     }
 
-    /// Lists the scope at the end, where there is room.
+    /// Lists the scope at the end, if there is room.
     pub(crate) fn push(&mut self, scope: ScopeId)
         requires room { length self.old.scopes.items < vec_capacity self.old.scopes }
         ensures grown { IsGrown self.old self.new }
@@ -127,7 +127,7 @@ impl Listed {
         }
     }
 
-    /// The scopes from the n-th on, from 0: none where there are no more than n.
+    /// The scopes from the n-th on, from 0: none if there are no more than n.
     pub(crate) fn since(&self, n: usize) -> &[ScopeId]
         ensures { result.now ≡ drop n self.now.scopes.items }
     {

@@ -41,7 +41,7 @@ pub(crate) fn spread(
     }
 }
 
-/// Gives the cut to the scope, which is listed where it had none.
+/// Gives the cut to the scope, which is listed if it had none.
 fn put(cuts: &mut [Option<Cut>], listed: &mut Listed, scope: ScopeId, cut: Cut)
     requires number { 1 ≤ scope }
     requires within { scope ≤ length cuts.old }

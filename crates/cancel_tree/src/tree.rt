@@ -58,13 +58,13 @@ impl Tree {
         }
     }
 
-    /// Adds the scope, which has the next number, inside `parent`, or outside all others. Where the
+    /// Adds the scope, which has the next number, inside `parent`, or outside all others. If the
     /// parent is cancelled and no shield is in the way, it is cancelled from the start. `opened` is the
     /// place of its opening, which never falls from one call to the next, nor below that of a cancel.
     ///
     /// # Errors
     ///
-    /// `TooDeep` where it would lie more than 16 levels deep; else `Memory` where memory is refused.
+    /// `TooDeep` where it would lie more than 16 levels deep; else `Memory` if memory is refused.
     /// Then nothing has changed.
     pub fn add(
         &mut self,
@@ -201,7 +201,7 @@ impl Tree {
         self.cut(scope).map(|cut| cut.place as u64)
     }
 
-    /// The earliest deadline in effect for the scope (Trio, `current_effective_deadline`): past where it
+    /// The earliest deadline in effect for the scope (Trio, `current_effective_deadline`): past if it
     /// is cancelled, and else the least deadline on its chain.
     pub fn effective_deadline(&self, scope: ScopeId) -> Effective
         requires { IsAdded self.now scope }
@@ -233,7 +233,7 @@ impl Tree {
     }
 
     /// Cancels the scope: it keeps the first own cancel that it is given. The cancel reaches all inside
-    /// it that no shield is in the way of, and is the cause where none was earlier; of two at one
+    /// it that no shield is in the way of, and is the cause if none was earlier; of two at one
     /// place the nearer is. The place, `number`, never falls from one call to the next. Takes no memory.
     pub fn cancel(&mut self, scope: ScopeId, kind: CauseKind, number: u64)
         requires added { IsAdded self.old scope }
@@ -264,7 +264,7 @@ impl Tree {
     }
 
     /// The cancelled scopes in order of their cancellation, those that one event cancelled by their
-    /// numbers, from the n-th on, from 0: none where no more than n are cancelled. It takes no memory,
+    /// numbers, from the n-th on, from 0: none if no more than n are cancelled. It takes no memory,
     /// and time by the scopes that were cancelled since it was last called, with those of the last event
     /// before them.
     pub fn cancelled_since(&mut self, n: usize) -> &[ScopeId]
@@ -332,7 +332,7 @@ fn least_deadline(told: &[Told], scope: ScopeId) -> Option<u64>
     least
 }
 
-/// The lesser of two deadlines, where they are set.
+/// The lesser of two deadlines, if they are set.
 fn sooner(one: Option<u64>, other: Option<u64>) -> Option<u64>
     ensures { result ≡ sooner one other }
 {

@@ -15,7 +15,7 @@ abbrev pub is_moment : Option ℕ → ℕ → Bool
 is_moment None deadline = false
 is_moment (Some found) deadline = found == deadline
 
--- the order lists a deadline with a scope where the scope has that deadline
+-- the order lists a deadline with a scope if the scope has that deadline
 pub record IsListedInOrder (moments : tree.BTreeMap ℕ ℕ) (order : sorted.BTreeSet (ℕ × ℕ)) : Type 0 where
   pub listed : (deadline scope : ℕ) → sorted.contains pair_cmp order (deadline, scope) ≡ is_moment (tree.get nat_cmp moments scope) deadline
 

@@ -22,7 +22,7 @@ use Rattle.realm_core.specs.Tasks.{Finishes}
 use Rattle.realm_core.proofs.Unopened.{innermost_still, may_finish}
 use Rattle.job_runner.specs.Endings.{NothingOpen, LeavesNothing, Ended, EndsAsMay, has_open}
 
--- where main has no open scope, all is over
+-- if main has no open scope, all is over
 pub leaves_nothing : (token : OwnerValue) → NothingOpen token → LeavesNothing token
 leaves_nothing token left = record {
   left = left;
@@ -69,7 +69,7 @@ found_before old new looked =
     let actor = ap (λ (t : OwnerValue). t.actor) looked.0 in
     ap (innermost (history_seen new)) actor ∙ innermost_still old.limits old.actor old.seen new.seen looked.1.agrees looked.1.legal
 
--- and where it found none, there is none
+-- and if it found none, there is none
 pub found_none : (old new : OwnerValue) → Looked old new → innermost (history_seen new) new.actor ≡ None → NothingOpen new
 found_none old new looked none = record { none = none; legal = subst (λ (L : Limits). IsLegal L new.seen) (sym (ap (λ (t : OwnerValue). t.limits) looked.0)) looked.1.legal }
 

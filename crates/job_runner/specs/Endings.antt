@@ -26,7 +26,7 @@ pub record IsOver (h : History) : Type 0 where
   pub closed : (s : ℕ) (o : Opening) → opening h s ≡ Some o → closed h s ≡ true
   pub settled : (k : ℕ) → is_settled (stage h k) ≡ true
 
--- what the end of a context leaves: no scope of its actor, and none at all where that is main
+-- what the end of a context leaves: no scope of its actor, and none at all if that is main
 pub record LeavesNothing (token : OwnerValue) : Type 0 where
   pub left : NothingOpen token
   pub over : token.actor ≡ 0 → IsOver (history_seen token)
@@ -37,7 +37,7 @@ pub record EndedLeftOpen (ticket : TicketValue) : Type 0 where
   pub text : text_of fault.0 ≡ codes "left-open"
   pub ended : end_in ticket.task ticket.seen ≡ Some (Err fault)
 
--- the ticket's task ended with that fault where a scope was left open, and else as its job answered
+-- the ticket's task ended with that fault if a scope was left open, and else as its job answered
 abbrev pub Ended : Bool → EndValue → TicketValue → Type 0
 Ended true end ticket = EndedLeftOpen ticket
 Ended false end ticket = end_in ticket.task ticket.seen ≡ Some end

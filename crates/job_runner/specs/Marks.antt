@@ -30,6 +30,6 @@ Shows (Some before) (Some after) shown = (after.cell ≡ before.cell) × MatchOp
 Shows _ _ _ = ⊥
 
 -- the mark with which the job of a task in scope s begins: a seat at that scope's cell which was shown nothing; there
--- is none only where the scope isn't listed
+-- is none only if the scope isn't listed
 abbrev pub IsMarkOf : ℕ → List OpenScope → Option Seen → Type 0
 IsMarkOf s opened around = MatchOption around (IsUnlisted s opened) (λ (m : Seen). (m.cell.scope ≡ s) × (m.known ≡ None))

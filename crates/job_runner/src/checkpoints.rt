@@ -33,7 +33,7 @@ impl<C: Catalog, S: Spawner<N>, N: RealmName> TaskCtx<C, S, N> {
 
     /// Waits until `checkpoint` would show a mark, and gives it: for a job that has nothing to do but wait
     /// to be cancelled (Trio, `sleep_forever`). It sleeps meanwhile, and takes no memory. None at once for
-    /// main without an open scope. That it returns else is not promised: where that scope is never
+    /// main without an open scope. That it returns else is not promised: if that scope is never
     /// cancelled it doesn't.
     pub fn wait_cancelled<R: Wait>(&mut self, rt: &R) -> Option<Mark>
         ensures rest { (self.new ≡ record self.old { around = self.new.around; opened = self.new.opened }) × KeepsOthers self.old.around self.new.around self.old.opened.items self.new.opened.items }

@@ -9,7 +9,7 @@ use share_ledger::{Ask, RealmStep};
 use std::sync::Wait;
 use thread_crew::Spawner;
 
-/// Reads the clock, sets the moment to what it reads, and answers that. Refused as `Realm::tick` is; the
+/// Reads the clock, sets the realm's time to what it reads, and answers that. Refused as `Realm::tick` is; the
 /// clock was read then too.
 pub fn pulse<C: Catalog, S: Spawner<N>, N: RealmName, K: Clock, R: Wait>(
     rt: &R,

@@ -28,7 +28,7 @@ impl<C: Catalog, S: Spawner<N>, N: RealmName> TaskCtx<C, S, N> {
         self.realm.lent().unbind(rt, &mut token.held)
     }
 
-    /// Cancels the scope and all that it reaches, whoever's it is (Trio, `cancel`). Refused as
+    /// Cancels the scope and all that it reaches, whoever owns it (Trio, `cancel`). Refused as
     /// `Realm::cancel` is.
     pub fn cancel<R: Wait>(&mut self, rt: &R, scope: ScopeId) -> Result<Cancelling, Refusal>
         ensures answer { (self.new ≡ record self.old { token = self.new.token }) × RecordsOrMemory self.old.token self.new.token (Event.Cancel scope) result }
@@ -37,7 +37,7 @@ impl<C: Catalog, S: Spawner<N>, N: RealmName> TaskCtx<C, S, N> {
         self.realm.lent().cancel(rt, &mut token.held, scope)
     }
 
-    /// Sets the deadline of the scope anew, in milliseconds, or takes it away, whoever's it is (Trio: a
+    /// Sets the deadline of the scope anew, in milliseconds, or takes it away, whoever owns it (Trio: a
     /// cancel scope's deadline may be moved). Refused as `Realm::move_deadline` is.
     pub fn move_deadline<R: Wait>(
         &mut self,
@@ -53,7 +53,7 @@ impl<C: Catalog, S: Spawner<N>, N: RealmName> TaskCtx<C, S, N> {
             .move_deadline(rt, &mut token.held, scope, deadline)
     }
 
-    /// Sets the moment, in milliseconds. Refused as `Realm::tick` is.
+    /// Sets the realm's time, in milliseconds. Refused as `Realm::tick` is.
     pub fn tick<R: Wait>(&mut self, rt: &R, now: u64) -> Result<(), Refusal>
         ensures answer { (self.new ≡ record self.old { token = self.new.token }) × DoesOrMemory self.old.token self.new.token (RealmStep.Asked self.old.token.actor (Ask.Tick now)) (λ _. tt) result }
     {

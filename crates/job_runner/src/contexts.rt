@@ -20,7 +20,7 @@ pub(crate) struct OpenScope {
 
 /// What an actor of a realm acts by: main, or the job of a task (JEP 505 ties such calls to the thread
 /// that opened a scope; here they are tied to the context). It has the actor's token, of which contracts
-/// speak: each call says what the token has seen then. A context can't be let go: main's is left by
+/// speak: each call says what the token has seen then. A context can't be dropped: main's is left by
 /// `leave`, and a task's is ended by its thread.
 pub struct TaskCtx<C: Catalog, S: Spawner<N>, N: RealmName> {
     pub(crate) alloc: Global,

@@ -36,7 +36,7 @@ impl<C: Catalog, S: Spawner<N>, N: RealmName> TaskCtx<C, S, N> {
         (token.into_held(), spawner)
     }
 
-    /// Ends the context's task, whose job has come to this end, and gives the ticket and the spawner. Where the
+    /// Ends the context's task, whose job has come to this end, and gives the ticket and the spawner. If the
     /// job left a scope open, the end is refused: then it closes what is open, the latest first, and records the
     /// fault `left-open`.
     pub(crate) fn end_task<R: Wait>(self, rt: &R, ticket: Ticket, end: End) -> (Ticket, S)
@@ -138,7 +138,7 @@ fn record_end<C: Catalog, N: RealmName, R: Wait>(
     }
 }
 
-/// Returns where the actor is the task. A job that put another context in the place of its own would wait here
+/// Returns if the actor is the task. A job that put another context in the place of its own would wait here
 /// for ever: no function gives it one, so no run comes to that, and no job has to say so in a clause.
 fn is_of_task<R: Wait>(rt: &R, actor: Actor, task: TaskId)
     ensures { actor ≡ task }

@@ -21,7 +21,7 @@ use thread_crew::{Spawner, Spawns};
 pub enum ForkRefusal<C: Catalog, J: Answers> {
     /// The fork was refused, and nothing is recorded.
     Before(Refusal, NamedJob<C, J>),
-    /// No thread was had for the task of this number: its fork is recorded, and its reject.
+    /// No thread was available for the task of this number: its fork is recorded, and its reject.
     Rejected(TaskId, NamedJob<C, J>),
 }
 
@@ -61,8 +61,8 @@ impl<C: Catalog, J: Answers + Drop> From<ForkRefusal<C, J>> for Refusal {
 
 impl<C: Catalog, S: Spawner<N>, N: RealmName> TaskCtx<C, S, N> {
     /// Forks the job in the actor's scope (JEP 505, `fork`), onto a thread of the spawner, or onto none
-    /// where the scope is cancelled: the job is then let go, uncalled. Refused as `Realm::fork` is, and
-    /// before anything is done where there is no room to keep the thread (`Memory`); and rejected where
+    /// if the scope is cancelled: the job is then dropped, uncalled. Refused as `Realm::fork` is, and
+    /// before anything is done if there is no room to keep the thread (`Memory`); and rejected if
     /// the spawner refuses a thread (refusal 16). The job is then handed back. A thread is kept until its
     /// scope is closed.
     pub fn fork_job<J: Answers + Drop, R: Wait>(

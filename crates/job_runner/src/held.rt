@@ -3,7 +3,7 @@ use scope_rules::Catalog;
 use std::marker::Model;
 
 /// A share of the realm. Contracts see nothing of it, since what its calls do is said of tokens and tickets:
-/// so what lies in a realm is compared with nothing where a type has a share of it.
+/// so what lies in a realm is compared with nothing if a type has a share of it.
 #[derive(Drop)]
 pub(crate) struct HeldRealm<C: Catalog, N: RealmName> {
     held: Realm<C, N>,
@@ -26,7 +26,7 @@ impl<C: Catalog, N: RealmName> HeldRealm<C, N> {
         &self.held
     }
 
-    /// One share more. None where std's count of holders is full.
+    /// One share more. None if std's count of holders is full.
     pub(crate) fn again(&self) -> Option<HeldRealm<C, N>> {
         let held = self.held.share().ok()?;
         Some(HeldRealm { held })

@@ -8,7 +8,7 @@ use thread_crew::{Recalls, Spawner};
 
 impl<C: Catalog, S: Spawner<N>, N: RealmName> TaskCtx<C, S, N> {
     /// Runs jobs of the scope that no thread has taken yet, in the caller's own thread, the last that was
-    /// forked first, until there is none left, and answers whether it ran one. Where the caller would only
+    /// forked first, until there is none left, and answers whether it ran one. If the caller would only
     /// wait for these jobs anyway, as before a join that waits for all, that spares two threads' wakes for
     /// each. A job that is run so and waits for what the caller does next, or for a job that is forked
     /// later, waits for ever.

@@ -40,7 +40,7 @@ impl Marker {
         Marker { cell, seat }
     }
 
-    /// A seat at the same cell that was shown nothing, as for another thread. None where std's count of
+    /// A seat at the same cell that was shown nothing, as for another thread. None if std's count of
     /// holders is full.
     pub(crate) fn fresh(&self) -> Option<Marker>
         ensures { IfSome result (λ other. (other.cell ≡ self.now.cell) × (other.known ≡ None)) }

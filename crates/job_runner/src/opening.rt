@@ -18,7 +18,7 @@ impl<C: Catalog, S: Spawner<N>, N: RealmName> TaskCtx<C, S, N> {
     ghost use Rattle.job_runner.specs.Rooms.{DoesInRoom};
 
     /// Opens a scope for the context's actor, inside what lies around it (JEP 505, `open`). Refused as
-    /// `Realm::open` is, and before anything is done where there is no room to keep it (`Memory`); the
+    /// `Realm::open` is, and before anything is done if there is no room to keep it (`Memory`); the
     /// joiner is then handed back.
     pub fn open<R: Wait>(
         &mut self,

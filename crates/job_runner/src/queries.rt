@@ -59,7 +59,7 @@ impl<C: Catalog, S: Spawner<N>, N: RealmName> TaskCtx<C, S, N> {
         self.realm.lent().fault(rt, &mut token.held, task)
     }
 
-    /// One share more of the context's realm, as for a thread that looks at it. It is refused only where
+    /// One share more of the context's realm, as for a thread that looks at it. It is refused only if
     /// std's count of holders is full (`Memory`).
     pub fn realm(&self) -> Result<Realm<C, N>, Refusal>
         ensures { IfErr result (λ refusal. refusal ≡ Refusal.Memory) }
@@ -75,7 +75,7 @@ impl<C: Catalog, S: Spawner<N>, N: RealmName> TaskCtx<C, S, N> {
         self.realm.lent().look(rt, &mut token.held, look)
     }
 
-    /// What can be read of the task, whoever's it is (JEP 505, `Subtask.state`). Refused as
+    /// What can be read of the task, whoever owns it (JEP 505, `Subtask.state`). Refused as
     /// `Realm::state` is.
     pub fn state<R: Wait>(&mut self, rt: &R, task: TaskId) -> Result<State, Refusal>
         ensures answer { (self.new ≡ record self.old { token = self.new.token }) × Reads self.old.token self.new.token (λ h. result ≡ answering (task_check h task) (state h task)) }
@@ -92,7 +92,7 @@ impl<C: Catalog, S: Spawner<N>, N: RealmName> TaskCtx<C, S, N> {
         self.realm.lent().get(rt, &mut token.held, key)
     }
 
-    /// What there is to see of the scope, whoever's it is. Refused as `Realm::view` is.
+    /// What there is to see of the scope, whoever owns it. Refused as `Realm::view` is.
     pub fn view<R: Wait>(&mut self, rt: &R, scope: ScopeId) -> Result<View, Refusal>
         ensures answer { (self.new ≡ record self.old { token = self.new.token }) × Reads self.old.token self.new.token (λ h. ViewAnswers h scope result × Fitting C.fitting h) }
     {
@@ -100,7 +100,7 @@ impl<C: Catalog, S: Spawner<N>, N: RealmName> TaskCtx<C, S, N> {
         self.realm.lent().view(rt, &mut token.held, scope)
     }
 
-    /// The same, where the scope is cancelled as the mark says. Refused as `Realm::view_with` is.
+    /// The same, if the scope is cancelled as the mark says. Refused as `Realm::view_with` is.
     pub fn view_with<R: Wait>(
         &mut self,
         rt: &R,

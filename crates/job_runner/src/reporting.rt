@@ -18,8 +18,8 @@ use thread_crew::Spawner;
 impl<C: Catalog, S: Spawner<N>, N: RealmName> TaskCtx<C, S, N> {
     /// Closes the actor's scope as `close_scope_bare` does, with a report of it and of what was closed
     /// inside it (JEP 505, `close`). The tickets that the joined threads gave back, each its own, show that each
-    /// task has one start and one finish there. Refused as `Realm::close` is: once it has begun only where memory is refused for
-    /// the report (`Memory`), or where the tickets are not those of the scopes (`NotReady`), which no run
+    /// task has one start and one finish there. Refused as `Realm::close` is: once it has begun only if memory is refused for
+    /// the report (`Memory`), or if the tickets are not those of the scopes (`NotReady`), which no run
     /// meets. Then the scope is closing, its threads are joined, and their tickets are kept for the next
     /// call.
     pub fn close_scope<R: Wait>(&mut self, rt: &R, scope: ScopeId) -> Result<CloseReport, Refusal>

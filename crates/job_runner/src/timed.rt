@@ -22,10 +22,10 @@ use thread_crew::Spawner;
 
 /// The waits by a clock, by which deadlines pass while all wait (Trio). Each does what the realm's wait of
 /// that name does, or the context's without a clock: it sleeps until it is woken or the realm's next
-/// deadline has come, and then it ticks to what its clock reads. Where that tick is refused, as where the
+/// deadline has come, and then it ticks to what its clock reads. If that tick is refused, as if the
 /// load is used up (`TooMany`), the wait answers so at once. That one wakes in time is not promised.
 impl<C: Catalog, S: Spawner<N>, N: RealmName> TaskCtx<C, S, N> {
-    /// Joins the actor's scope, as `join` does, by the clock. Refused as that is, and where a tick is: then
+    /// Joins the actor's scope, as `join` does, by the clock. Refused as that is, and if a tick is: then
     /// nothing is joined.
     pub fn join_by<R: Wait + SystemTime, K: Clock>(
         &mut self,
@@ -44,7 +44,7 @@ impl<C: Catalog, S: Spawner<N>, N: RealmName> TaskCtx<C, S, N> {
 
     /// Begins to close the actor's scope, as a close does, and waits by the clock until that can end: until no
     /// task waits or runs of the scope, and of what the actor opened later. Then no close waits. Refused as
-    /// `Realm::close_bare` is, and where a tick is: then the scope is closing. `close_scope_bare` closes it in
+    /// `Realm::close_bare` is, and if a tick is: then the scope is closing. `close_scope_bare` closes it in
     /// either case, and takes no load.
     pub fn await_close_by<R: Wait + SystemTime, K: Clock>(
         &mut self,
@@ -64,7 +64,7 @@ impl<C: Catalog, S: Spawner<N>, N: RealmName> TaskCtx<C, S, N> {
     }
 
     /// Closes the actor's scope, as `close_scope_bare` does, once it has waited by the clock until its tasks
-    /// have ended. Refused as that is, and where a tick is: then the scope is closing, and its threads are not
+    /// have ended. Refused as that is, and if a tick is: then the scope is closing, and its threads are not
     /// joined; `close_scope_bare` closes it, which takes no load.
     pub fn close_scope_bare_by<R: Wait + SystemTime, K: Clock>(
         &mut self,
@@ -107,7 +107,7 @@ impl<C: Catalog, S: Spawner<N>, N: RealmName> TaskCtx<C, S, N> {
     }
 
     /// Waits by the clock until `checkpoint` would show a mark, and gives it, as `wait_cancelled` does. None
-    /// at once for main without an open scope. Refused where a tick is.
+    /// at once for main without an open scope. Refused if a tick is.
     pub fn wait_cancelled_by<R: Wait + SystemTime, K: Clock>(
         &mut self,
         rt: &R,
@@ -122,9 +122,9 @@ impl<C: Catalog, S: Spawner<N>, N: RealmName> TaskCtx<C, S, N> {
         self.await_mark_by(rt, clock, None)
     }
 
-    /// Sleeps until the moment, in milliseconds, or until `checkpoint` would show a mark, and gives that
-    /// (Trio, `sleep_until`, which a cancel ends). Where both have come it gives the mark, and each deadline
-    /// that has come by then is passed first. Refused where a tick is.
+    /// Sleeps until this time of the realm, in milliseconds, or until `checkpoint` would show a mark, and gives that
+    /// (Trio, `sleep_until`, which a cancel ends). If both have come it gives the mark, and each deadline
+    /// that has come by then is passed first. Refused if a tick is.
     pub fn sleep_by<R: Wait + SystemTime, K: Clock>(
         &mut self,
         rt: &R,
@@ -141,7 +141,7 @@ impl<C: Catalog, S: Spawner<N>, N: RealmName> TaskCtx<C, S, N> {
         self.await_mark_by(rt, clock, Some(until))
     }
 
-    /// Waits until the mark is there, or until the moment, if one is given; where there is neither a seat
+    /// Waits until the mark is there, or until the moment, if one is given; if there is neither a seat
     /// nor a moment, it doesn't.
     fn await_mark_by<R: Wait + SystemTime, K: Clock>(
         &mut self,
@@ -170,7 +170,7 @@ impl<C: Catalog, S: Spawner<N>, N: RealmName> TaskCtx<C, S, N> {
     }
 }
 
-/// What is waited for where the context has no open scope: the mark of the scope around, or the moment, or
+/// What is waited for if the context has no open scope: the mark of the scope around, or the moment, or
 /// both, whichever there are.
 fn wait_around_by<C: Catalog, N: RealmName, R: Wait + SystemTime, K: Clock>(
     rt: &R,

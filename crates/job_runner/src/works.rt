@@ -36,7 +36,7 @@ impl<C: Catalog, N: RealmName, J: Answers> Ready for JobWork<C, N, J> {
 impl<C: Catalog, N: RealmName, S: Spawner<N>, J: Job<C, S, N>> Work<N, S> for JobWork<C, N, J> {
     /// Starts the ticket's task, runs the job once, and ends the task: the scopes that the job left open
     /// are closed, the latest first, and then the end is recorded: as the job answered, or the fault
-    /// `left-open` where there were such scopes.
+    /// `left-open` if there were such scopes.
     fn run<R: Wait>(self, rt: &R, spawner: S, ticket: Ticket) -> (Ticket, S)
         requires { IsReadyFor N.table self.job.label ticket }
         ensures returns { Returns N.table ticket result.0 }

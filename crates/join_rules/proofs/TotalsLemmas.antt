@@ -14,7 +14,7 @@ use Rattle.scope_rules.specs.Joining.{has_failed, has_succeeded, meets, fires}
 use Rattle.scope_rules.proofs.Completions.{total_of-push}
 use Rattle.join_rules.specs.Totals.{totals_of, counted, totals_meet, totals_fire}
 
--- some element passes where at least one does
+-- some element passes if at least one does
 any_counted : {X : Type 0} (p : X → Bool) (xs : List X) → list_any p xs ≡ nat_lt 0 (count_by p xs)
 any_counted p [] = refl
 any_counted p (x ∷ xs) =

@@ -19,7 +19,7 @@ pub record StandsFor (kept : JoinerStanding) (list : List Completion) : Type 0 w
   pub totals : totals_of list ≡ kept.totals
   pub seen : kept.has_closure ≡ true → kept.seen ≡ list
 
--- so many more completions can be handed in without memory: any number, where no closure is asked
+-- so many more completions can be handed in without memory: any number, if no closure is asked
 abbrev pub HasRoom : JoinerStanding → ℕ → Type 0
 HasRoom kept n = kept.has_closure ≡ true → n ≤ kept.room
 

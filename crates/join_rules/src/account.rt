@@ -98,7 +98,7 @@ impl Account {
     }
 
     /// Whether the joiner fires at the latest completion, for every list of completions that gives what
-    /// is kept. Where the list is kept, and the joiner waits until the rule of the closure given is met,
+    /// is kept. If the list is kept, and the joiner waits until the rule of the closure given is met,
     /// the closure is shown the list and answers; otherwise the totals answer.
     pub fn fires_by(&self, test: Option<&StoredTest>) -> bool
         requires few { self.now.totals.completions ≤ TASK_LIMIT }

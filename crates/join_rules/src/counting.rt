@@ -45,7 +45,7 @@ impl Progress {
         }
     }
 
-    /// Makes room for so many more completions. Memory is taken only where a closure is asked.
+    /// Makes room for so many more completions. Memory is taken only if a closure is asked.
     pub fn reserve(&mut self, additional: usize) -> Result<(), AllocError>
         ensures ok { OnOk result (HasRoom (standing_of self.new) additional) }
         ensures kept { SameButRoom (standing_of self.old) (standing_of self.new) }
@@ -68,7 +68,7 @@ impl Progress {
         ensures room { OnOk result ((n : ℕ) → HasRoom (standing_of self.old) (n + 1) → HasRoom (standing_of self.new) n) }
         ensures joiner { SameJoiner (standing_of self.old) (standing_of self.new) }
 
-        // It is refused only for want of room, and never where no closure is asked. Nothing changes
+        // It is refused only for want of room, and never if no closure is asked. Nothing changes
         // then.
         ensures succeeds { HasRoom (standing_of self.old) 1 → IsOk result }
         ensures unlisted { (standing_of self.old).has_closure ≡ false → IsOk result }

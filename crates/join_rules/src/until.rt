@@ -36,7 +36,7 @@ impl StoredTest {
 /// The test of a joiner that waits until a rule is met (JEP 505, `Joiner.allUntil`).
 #[derive(Drop)]
 pub enum UntilTest {
-    /// The rule itself, which is told by counts.
+    /// The rule itself, which counts decide.
     Plain(Rule),
     /// A caller's closure that agrees with a rule. It is shown all completions.
     Closure(StoredTest),

@@ -28,7 +28,7 @@ can_tell L h e t scope place legal ok are loaded spare named at = record {
   there = λ other s is. event_trail L h e t s legal ok other are (sym (named other) ∙ is);
 }
 
--- there is, where it was made for the load with the event
+-- there is, if it was made for the load with the event
 pub made_room : (h : History) (e : Event) (t : TrailTable) (n : ℕ) → n ≡ load h + weight e → HasRoomFor t e n → HasLoadRoom (followed h e) t.room
 made_room h e t n is room = omega (arith, load_push h e, is, room.0)
 
@@ -37,7 +37,7 @@ pub free_opens_none : (e : Event) → weight e ≡ 0 → is_open e ≡ true → 
 free_opens_none (Open actor policy options) free opens = absurd cc
 free_opens_none _ free opens = absurd cc
 
--- what a call says of its success, where it did not fail
+-- what a call says of its success, if it did not fail
 pub on_ok : {T E : Type 0} (r : Result T E) (P : Type 0) → is_err r ≡ false → OnOk r P → P
 on_ok (Ok x) P succeeded so = so
 on_ok (Err x) P succeeded so = absurd cc
@@ -46,7 +46,7 @@ on_ok (Err x) P succeeded so = absurd cc
 pub of_next : (P : History → Type 0) (r s t : Realm) (e : Event) → t ≡ with_event s e → s ≡ r → P (followed r.history e) → P t.history
 of_next P r s t e added same so = subst P (sym (ap (λ (x : Realm). x.history) added ∙ ap (λ (x : Realm). followed x.history e) same)) so
 
--- what was answered is the value, where nothing was refused
+-- what was answered is the value, if nothing was refused
 answered : {A : Type 0} (check : Checked) (value x : A) → AnswersOrMemory check value (Ok x) → x ≡ value
 answered (Ok done) value x (inl is) = cc
 answered (Ok done) value x (inr is) = absurd cc

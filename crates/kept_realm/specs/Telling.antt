@@ -19,7 +19,7 @@ pub record CanBeTold (t : TrailTable) (e : Event) (scope : Option ℕ) (place : 
   pub spare : is_open e ≡ true → 1 ≤ t.spare
   pub there : is_open e ≡ false → (s : ℕ) → scope ≡ Some s → HasTrail t s
 
--- whichever legal history the old places are of, where the event is of the scope and there is room for
+-- whichever legal history the old places are of, if the event is of the scope and there is room for
 -- the load with it: the new ones are of it with the event
 abbrev pub HasTold : TrailTable → Event → Option ℕ → TrailTable → Type 0
 HasTold old e scope new = (L : Limits) (h : History) → Legal L h → HasLoadRoom (followed h e) old.room → (is_open e ≡ false → scope ≡ scope_of_event h e) → AreTrailsOf h old → AreTrailsOf (followed h e) new

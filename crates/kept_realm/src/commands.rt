@@ -17,7 +17,7 @@ use scope_rules::types::values::Actor;
 impl KeptRealm {
     /// Performs the command of the event: tries its row of the table of checks, and answers the first
     /// refusal; an accepted one adds exactly its event to the history and answers its reply; a refused one
-    /// changes nothing, nor does one that finds that all is so already. Where the event costs load, it may
+    /// changes nothing, nor does one that finds that all is so already. If the event costs load, it may
     /// be refused room (`Memory`) once every check has passed. `listed` says of a scope that it opens
     /// whether a closure of the caller's is shown its completions; `test` is that closure, where it ends a
     /// task and its scope's joiner has one.
@@ -65,8 +65,8 @@ impl KeptRealm {
     }
 
     /// Takes the events out and leaves a base, once main's outermost scope is closed; what is left goes
-    /// on, with numbers after the base's. It is no event. Refused where the actor is no running task or
-    /// main, is not main (`NotOwner`), while main has a scope that is not closed (`Structure`), and where
+    /// on, with numbers after the base's. It is no event. Refused if the actor is no running task or
+    /// main, is not main (`NotOwner`), while main has a scope that is not closed (`Structure`), and if
     /// memory is refused (`Memory`).
     pub fn retire(&mut self, actor: Actor) -> Result<Base, Refusal>
         ensures { Retires self.old actor result self.new }

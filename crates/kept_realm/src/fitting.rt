@@ -11,7 +11,7 @@ use scope_rules::{Actor, Base, Catalog, Event, Limits, Refusal, ScopeId};
 use std::marker::{Model, PhantomData};
 
 /// A kept realm whose ends fit: its history is legal, and each end in it fits its task's label by the
-/// catalog. It is told events; questions are asked of the kept realm that it lends.
+/// catalog. It applies events; questions are asked of the kept realm that it lends.
 #[derive(Drop)]
 pub struct FittingRealm<C: Catalog> {
     kept: KeptRealm,

@@ -24,7 +24,7 @@ use std::alloc::AllocError;
 impl KeptRealm {
     /// The log of the scope: its own events since the base, in order, with the mark of its cancellation
     /// among them; it has room for an entry more. Refused for an unknown scope (`NoScope`, `Retired`), and
-    /// where memory is refused (`Memory`).
+    /// if memory is refused (`Memory`).
     pub fn project(&self, scope: ScopeId) -> Result<ScopeLog, Refusal>
         ensures log { AnswersValue (scope_check self.now.history scope) (log self.now.history scope) result }
         ensures small { IfOk result (λ l. length l.entries + 1 < 2 ^ 32) }
@@ -34,7 +34,7 @@ impl KeptRealm {
     }
 
     /// What a join of the actor's scope would give next: what it would answer, and the scope's log with
-    /// it. Refused where the join would be, and where memory is refused (`Memory`).
+    /// it. Refused if the join would be, and if memory is refused (`Memory`).
     pub fn join_preview(&self, actor: Actor, scope: ScopeId) -> Result<Preview, Refusal>
         ensures { AnswersValue (check_of self.now.limits self.now.history (Event.Join actor scope)) (preview self.now.history actor scope) result }
     {

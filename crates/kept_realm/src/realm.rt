@@ -53,8 +53,8 @@ impl KeptRealm {
         }
     }
 
-    /// A realm that begins with the base, as a retirement leaves it. Refused where the base has more
-    /// pairs than the limit of load (`TooMany`), and where memory is refused (`Memory`).
+    /// A realm that begins with the base, as a retirement leaves it. Refused if the base has more
+    /// pairs than the limit of load (`TooMany`), and if memory is refused (`Memory`).
     pub fn with_base(alloc: Global, limits: Limits, base: Base) -> Result<KeptRealm, Refusal>
         ensures { AnswersOrMemory (base_check limits base) (starting limits base) result }
     {
@@ -101,7 +101,7 @@ impl KeptRealm {
 /// What is lent.
 impl KeptRealm {
     /// The cancelled scopes in order of their cancellation, those that one event cancelled by their
-    /// numbers, from the n-th on, from 0: none where no more than n are cancelled. It takes no memory,
+    /// numbers, from the n-th on, from 0: none if no more than n are cancelled. It takes no memory,
     /// and time by the scopes that were cancelled since it was last called, with those of the last event
     /// before them.
     pub fn cancelled_since(&mut self, n: usize) -> CancelledScopes<'_>
@@ -169,7 +169,7 @@ impl KeptRealm {
         self.journal.restart(base);
     }
 
-    /// The base that the realm's history leaves. Refused where memory is.
+    /// The base that the realm's history leaves. Refused if memory is.
     #[tactic(auto, unfolding(scope_rules::specs::Replies::base_of))]
     pub(crate) fn base_after(&self, alloc: Global) -> Result<Base, AllocError>
         ensures { IfOk result (λ base. base ≡ base_of self.now.history) }

@@ -51,11 +51,11 @@ fn scope_of_task(rows: &Rows, task: TaskId) -> Option<ScopeId>
     }
 }
 
-/// Makes room for the event, where the load comes to so much with it.
+/// Makes room for the event, if the load comes to so much with it.
 ///
 /// # Errors
 ///
-/// Where memory is refused. Then the places are the same.
+/// If memory is refused. Then the places are the same.
 pub(crate) fn make_room(trails: &mut Trails, event: &Event, load: u64) -> Result<(), AllocError>
     ensures room { OnOk result (HasRoomFor trails.new event.now load) }
     ensures agrees { (h : History) → AreTrailsOf h trails.old → AreTrailsOf h trails.new }

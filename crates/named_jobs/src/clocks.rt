@@ -26,9 +26,9 @@ pub trait Clock {
         ensures { result ≡ Self.reading self.now };
 }
 
-/// The system's monotonic clock, in milliseconds, from a moment of the realm's on. Copies of it count from
+/// The system's monotonic clock, in milliseconds, from some time of the realm on. Copies of it count from
 /// the same start, so main and its jobs have one time. No reading of one is before that moment or before
-/// the one before: where the system gives no time, it stands still.
+/// the one before: if the system gives no time, it stands still.
 #[derive(Clone, Copy)]
 pub struct SystemClock<R> {
     rt: R,
@@ -38,7 +38,7 @@ pub struct SystemClock<R> {
 }
 
 impl<R: SystemTime + Copy> SystemClock<R> {
-    /// A clock that begins now, at the moment: 0 for a realm that begins. None where the system gives no
+    /// A clock that begins now, at this time: 0 for a realm that begins. None if the system gives no
     /// time.
     pub fn starting_at(rt: R, moment: u64) -> Option<SystemClock<R>>
         ensures { IfSome result (λ clock. (clock.first ≡ moment) × (clock.last ≡ None)) }
@@ -59,7 +59,7 @@ impl<R: SystemTime + Copy> SystemClock<R> {
         self.rt
     }
 
-    /// The milliseconds since the start, or 0 where the system gives no time.
+    /// The milliseconds since the start, or 0 if the system gives no time.
     fn since_start(&self) -> u64 {
         match self.start.elapsed(&self.rt) {
             Ok(since) => since
@@ -120,7 +120,7 @@ impl Clock for SetClock {
     }
 }
 
-/// Plain options with a deadline so many milliseconds after what the clock reads; where it passes, the
+/// Plain options with a deadline so many milliseconds after what the clock reads; if it passes, the
 /// scope's outcome is a timeout (Trio, `fail_after`).
 pub fn fail_after<K: Clock>(clock: &mut K, millis: u64) -> Options
     ensures { IfSome (K.reading clock.new) (λ now. K.reads clock.old clock.new now × IsAfter now millis Fail result) }
@@ -128,7 +128,7 @@ pub fn fail_after<K: Clock>(clock: &mut K, millis: u64) -> Options
     Options::by(clock.now().saturating_add(millis))
 }
 
-/// The same, where the scope's outcome is what had come by then (Trio, `move_on_after`).
+/// The same, if the scope's outcome is what had arrived by then (Trio, `move_on_after`).
 pub fn move_on_after<K: Clock>(clock: &mut K, millis: u64) -> Options
     ensures { IfSome (K.reading clock.new) (λ now. K.reads clock.old clock.new now × IsAfter now millis MoveOn result) }
 {

@@ -3,7 +3,7 @@ ghost use Rattle.std.specs.Prelude.{◌≡◌};
 use scope_rules::{Catalog, Label};
 use std::marker::{Model, PhantomData};
 
-/// What a job may answer. It stands apart from how the job runs, so that a job is named before it is known
+/// What a job may answer. It is apart from how the job runs, so that a job is named before it is known
 /// by whom it is run.
 pub trait Answers {
     ghost use Rattle.scope_rules.specs.Ends.{EndValue};

@@ -32,7 +32,7 @@ use Rattle.quote_gateway.proofs.Going.{FindsEnds, nests_find, shapes_find, walke
 use Rattle.quote_gateway.proofs.Following.{Follows, follows_same, follows_event, follows_on, before_there, opening_after}
 use Rattle.quote_gateway.proofs.Asking.{opened_here, scopes_later}
 
--- where the scope stays open, the history goes on by events
+-- if the scope stays open, the history goes on by events
 pub follows_going : (L : Limits) (a s : ℕ) (test : Event → Bool) (old new : List RealmStep) → FindsEnds a test → GoesOn L test old new → IsOpenOf (history_of old) a s → Follows (history_of old) (history_of new)
 follows_going L a s test old new finds on it =
     (walked L a s test finds (Follows (history_of old)) (λ h e legal was ok none so. follows_event (history_of old) h e so) old new on it (follows_same (history_of old))).1
@@ -146,7 +146,7 @@ fresh_none : (a : ℕ) → innermost (history_of []) a ≡ None
 unfolding history_of innermost latest
 fresh_none a = refl
 
--- where main had seen nothing, no scope of its is open
+-- if main had seen nothing, no scope of its is open
 none_left : (old new : OwnerValue) → old ≡ unused old → old.actor ≡ 0 → SeesMore old new → KeepsInnermost old new → innermost (history_seen new) 0 ≡ None
 none_left old new begins main same left =
     let actor = same_actor old new same ∙ main in

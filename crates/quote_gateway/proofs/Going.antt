@@ -1,4 +1,4 @@
--- How lists of steps go on one after the other, and what stays so where an actor's scope is open.
+-- How lists of steps go on one after the other, and what stays so if an actor's scope is open.
 use Rattle.std.proofs.Common.{◌≡◌, ℕ, ◌||◌, Bool, true, false, Some, List, [], ◌∷◌, ◌++◌, refl, sym, ap, ◌∙◌, subst, append_assoc}
 use Rattle.std.proofs.lemmas.Bool.{both_ways, eq-eqb, or_from, false_from_ne_true}
 use Rattle.std.proofs.lemmas.List.{append-nil}
@@ -87,7 +87,7 @@ goes_on L test xs ys zs first second = record {
   legal = second.legal;
 }
 
--- where nothing is forked too, no scope is opened or closed
+-- if nothing is forked too, no scope is opened or closed
 pub scopes_kept : (L : Limits) (a : ℕ) (xs ys : List RealmStep) → GoesOn L (shapes a) xs ys → GoesOn L (nests a) xs ys
 scopes_kept L a xs ys it = record {
   later = it.later;
@@ -179,7 +179,7 @@ nests_find a t = eq-eqb a a refl
 pub shapes_find : (a : ℕ) → FindsEnds a (shapes a)
 shapes_find a t = eq-eqb a a refl
 
--- so where it finds none, the scope stays open
+-- so if it finds none, the scope stays open
 unended : (L : Limits) (h : History) (a s : ℕ) (test : Event → Bool) (e : Event) → FindsEnds a test → IsOpenOf h a s → Accepts L h e → test e ≡ false → ends s e ≡ false
 unended L h a s test e finds it ok none =
     false_from_ne_true (ends s e) (λ ended.

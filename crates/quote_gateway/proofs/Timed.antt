@@ -56,7 +56,7 @@ module _ {K : Type 0} (reads : K → K → ℕ → Type 0) (old : OwnerValue) (s
   joined_keeps new last s (Ok joined) it = then_keeps new last s (Ok joined) it
   joined_keeps new last s (Err refusal) it = elim it [ inl then ↦ then_keeps new last s (Err refusal) then | inr stop ↦ stop_keeps new last refusal stop ]
 
-  -- where it is refused, nothing is found for that cause
+  -- if it is refused, nothing is found for that cause
   pub joined_none : (new : OwnerValue) (last : K) (plan : PlanValue) (s : ℕ) (Expired : Type 0) (refusal : Refusal) (why : GatewayFault) → JoinsBy reads old new start last s (Err refusal) → IsOfCall why → (refusal ≡ Memory → why ≡ fault.Memory) → FindsNone old new plan s Expired why
   joined_none new last plan s Expired refusal why it call memory = elim it [
     | inl then ↦
@@ -72,7 +72,7 @@ module _ {K : Type 0} (reads : K → K → ℕ → Type 0) (old : OwnerValue) (s
         (turned_down _ refusal why call memory (λ other. inl (record { step = x; of = sym (same_actor stop.there new tick.same); refused = refused_or_memory stop.there new x refusal tick.same tick.refused other }))))
   ]
 
--- where it joined, the scope is joined
+-- if it joined, the scope is joined
 pub joined_by : {K : Type 0} (reads : K → K → ℕ → Type 0) (old new : OwnerValue) (start last : K) (s : ℕ) (ls : List LabelValue) (ks : List ℕ) (joined : Joined) → JoinsBy reads old new start last s (Ok joined) → HasForked old s ls ks → HasJoined new s ks
 joined_by reads old new start last s ls ks joined it was =
     let there = forked_still old it.there s ls ks (waited_sees it.there last it.waited) (waited_keeps reads old start was.here.legal it.there last it.waited) was in
@@ -143,7 +143,7 @@ turned_call Why fault.Strange it = it
 
 -- ---- what is told
 
--- a tick is refused as back only where the moment has come further
+-- a tick is refused as back only if the moment has come further
 back : (L : Limits) (h : History) (now : ℕ) → check_of L h (event.Tick now) ≡ Err ClockBack → now ≤ moment h
 unfolding check_of checks then_check
 back L h now is = by (nat_lt now (moment h)) refl (over_load L h STEP_LOAD) refl

@@ -14,7 +14,7 @@ pub enum GatewayFault {
     /// Memory was refused.
     #[error("memory was refused")]
     Memory,
-    /// A thread was refused, or a call for another cause than memory, as where the jobs used up the limits
+    /// A thread was refused, or a call for another cause than memory, as if the jobs used up the limits
     /// of the realm.
     #[error("a thread or a call was refused")]
     Rejected,
@@ -27,7 +27,7 @@ pub enum GatewayFault {
 }
 
 impl GatewayFault {
-    /// Why there is no answer where a call was refused.
+    /// Why there is no answer if a call was refused.
     pub(crate) fn of_refusal(refusal: Refusal) -> GatewayFault
         ensures call { IsOfCall result }
         ensures memory { refusal ≡ Refusal.Memory → result ≡ GatewayFault.Memory }

@@ -105,7 +105,7 @@ fn task_in(reply: ForkReply) -> TaskId
     }
 }
 
-/// Joins the scope, and answers the plan by what its tasks came to.
+/// Joins the scope, and answers the plan by what its tasks returned.
 pub(crate) fn join_and_answer<N: RealmName, S: Spawner<N>, R: Wait>(
     rt: &R,
     alloc: Global,
@@ -126,8 +126,8 @@ pub(crate) fn join_and_answer<N: RealmName, S: Spawner<N>, R: Wait>(
     }
 }
 
-/// Answers the plan by what the tasks of a joined scope came to. `expired` says whether the clock of the
-/// request has come to its deadline: only then is an answer made of what was there by then.
+/// Answers the plan by what the tasks of a joined scope returned. `expired` says whether the clock of the
+/// request has reached its deadline: only then is an answer made of what was there by then.
 pub(crate) fn answer_joined<N: RealmName, S: Spawner<N>, R: Wait>(
     rt: &R,
     alloc: Global,
@@ -216,7 +216,7 @@ fn is_partial(outcome: &Outcome) -> bool
     }
 }
 
-/// Closes the scope, with a report where memory is had for one, and without else.
+/// Closes the scope, with a report if memory is obtained for one, and without else.
 pub(crate) fn close_scope<N: RealmName, S: Spawner<N>, R: Wait>(
     rt: &R,
     ctx: &mut TaskCtx<Due, S, N>,

@@ -33,8 +33,8 @@ pub struct Served<S: Spawner<N>, N: RealmName> {
 /// and gives the context back beside the answer.
 ///
 /// # Errors
-/// `Strange` exactly where the jobs' labels are not those of the plan's offers, in order, one each, and
-/// `Memory` where no realm is had. Else the context is given back, and why there is no answer is found beside
+/// `Strange` exactly if the jobs' labels are not those of the plan's offers, in order, one each, and
+/// `Memory` if no realm is obtained. Else the context is given back, and why there is no answer is found beside
 /// it: a fault of `serve_in`.
 pub fn serve<N: RealmName, J: Answers + Drop, S: Spawns<N, JobWork<Due, N, J>> + Drop, R: Wait>(
     rt: &R,

@@ -28,9 +28,9 @@ use thread_crew::{Spawner, Spawns};
 /// promised.
 ///
 /// # Errors
-/// `Strange` exactly where the jobs' labels are not those of the plan's offers, in order, one each; nothing
-/// is done then. Else, of what is refused first, `Memory` where memory is, and `Rejected` where a thread
-/// or something else is; `Cancelled` where the scope was cancelled; `Lost` where the answer would rest on an
+/// `Strange` exactly if the jobs' labels are not those of the plan's offers, in order, one each; nothing
+/// is done then. Else, of what is refused first, `Memory` if memory is, and `Rejected` if a thread
+/// or something else is; `Cancelled` if the scope was cancelled; `Lost` if the answer would rest on an
 /// end that is not the offer's.
 pub fn serve_in<N: RealmName, J: Answers + Drop, S: Spawns<N, JobWork<Due, N, J>>, R: Wait>(
     rt: &R,
@@ -55,12 +55,12 @@ pub fn serve_in<N: RealmName, J: Answers + Drop, S: Spawns<N, JobWork<Due, N, J>
 
 /// Serves the request as `serve_in` does, by a deadline, in milliseconds: it waits by the clock until all
 /// jobs have ended or the deadline has come, and jobs that look for their mark end then too. By the clock it
-/// also waits for the end of those that go on, before it closes their scope. It reads the clock once more; where
-/// that has come to the deadline, the answer may be of the prices that were there by then (`Answer::Partial`).
+/// also waits for the end of those that go on, before it closes their scope. It reads the clock once more; if
+/// that has reached the deadline, the answer may be of the prices that were there by then (`Answer::Partial`).
 ///
 /// # Errors
-/// As those of `serve_in`. `Rejected` also where a tick was refused, as where the load is used up.
-/// `Cancelled` also where another's clock came to the deadline before this one.
+/// As those of `serve_in`. `Rejected` also if a tick was refused, as if the load is used up.
+/// `Cancelled` also if another's clock reached the deadline before this one.
 pub fn serve_in_by<
     N: RealmName,
     J: Answers + Drop,
@@ -245,7 +245,7 @@ fn answer_in_time<N: RealmName, S: Spawner<N>, K: Clock, R: Wait + SystemTime>(
 }
 
 /// Begins the close of the scope, and waits by the clock until its jobs have ended: so deadlines inside it pass
-/// meanwhile, also behind a shield. Where a tick is refused, the end of the close waits without the clock.
+/// meanwhile, also behind a shield. If a tick is refused, the end of the close waits without the clock.
 fn end_jobs<N: RealmName, S: Spawner<N>, K: Clock, R: Wait + SystemTime>(
     rt: &R,
     ctx: &mut TaskCtx<Due, S, N>,
@@ -259,8 +259,8 @@ fn end_jobs<N: RealmName, S: Spawner<N>, K: Clock, R: Wait + SystemTime>(
     let _waited = ctx.await_close_by(rt, scope, clock);
 }
 
-/// Tells the realm the moment that the clock reads, unless it has come that far by another's clock. Where
-/// the deadline passed by that, the answer may be of what was there, since this clock has come to it too.
+/// Tells the realm the moment that the clock reads, unless it has come that far by another's clock. If
+/// the deadline passed by that, the answer may be of what was there, since this clock has reached it too.
 fn tell<N: RealmName, S: Spawner<N>, K: Clock, R: Wait>(
     rt: &R,
     ctx: &mut TaskCtx<Due, S, N>,

@@ -54,7 +54,7 @@ available_part [] tasks = tt
 available_part (e ∷ es) [] = tt
 available_part (e ∷ es) (t ∷ ts) = part_at t.state e (available es ts) (quotes_in es) (available_part es ts)
 
--- where all tasks succeeded as their offers say, all offers have prices
+-- if all tasks succeeded as their offers say, all offers have prices
 priced_at : (offer : Offer) (there : Option TaskValue) → option_map (λ (t : TaskValue). state.Success t.value) there ≡ Some (state_due offer) → HasPrice offer
 priced_at (Price price) there is = tt
 priced_at (Fails fault) None is = absurd cc

@@ -13,7 +13,7 @@ module _ {A : Type 0} where
       let rest : xs ≡ ys = same_places xs ys (omega arith) (λ k below. same (suc k) (omega arith)) in
       cc
 
-  -- all places agree: the lists are one where they are equally long
+  -- all places agree: the lists are one if they are equally long
   pub agree : (xs ys : List A) (m n : ℕ) → length xs ≡ m → length ys ≡ n → ((k : ℕ) → k < m → slice_get xs k ≡ slice_get ys k) → IsTrue (m == n) ↔ (xs ≡ ys)
   agree xs ys m n len other same =
       (λ yes. same_places xs ys (len ∙ (eqb-true m n yes ∙ sym other)) (λ k below. same k (omega (arith, len))), λ is. eq-eqb m n (sym len ∙ (ap length is ∙ other)))

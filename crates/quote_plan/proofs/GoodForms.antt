@@ -1,4 +1,4 @@
--- Nothing is wrong with the words of an offer exactly where they are in a good form.
+-- Nothing is wrong with the words of an offer exactly if they are in a good form.
 use Rattle.std.proofs.Common.{◌≡◌, ℕ, ℤ, Bool, true, false, Option, None, Some, List, [], ◌∷◌, refl, if◌then◌else◌}
 use Rattle.std.specs.Prelude.{is_none, is_some}
 use Rattle.std.specs.Option.{option_or}

@@ -17,7 +17,7 @@ abbrev pub priced : Name → Offer → Option Quote
 priced name (Price price) = Some (record { name = name; price = price })
 priced name (Fails fault) = None
 
--- the offer's name and price, where it has one
+-- the offer's name and price, if it has one
 abbrev pub quote_in : Named → Option Quote
 quote_in named = priced named.0 named.1
 
@@ -44,7 +44,7 @@ pub record IsBest (quotes : List Quote) (best : Quote) : Type 0 where
   pub least : (k : ℕ) (quote : Quote) → slice_get quotes k ≡ Some quote → best.price ≤ℤ quote.price
   pub first : (k : ℕ) (quote : Quote) → k < place → slice_get quotes k ≡ Some quote → best.price <ℤ quote.price
 
--- the best quote, where there is one
+-- the best quote, if there is one
 abbrev pub IsBestOf : List Quote → Option Quote → Type 0
 IsBestOf quotes None = quotes ≡ []
 IsBestOf quotes (Some best) = IsBest quotes best

@@ -63,7 +63,7 @@ NoneSucceeds offers tasks = AreDue offers tasks × (quotes_in offers ≡ [])
 unfoldable pub offer_of : List Named → List TaskState → ℕ → Option Named
 offer_of offers tasks task = option_and_then (λ k. slice_get offers k) (position (λ (t : TaskState). t.task == task) tasks)
 
--- that the offer fails, where it is to fail so
+-- that the offer fails, if it is to fail so
 abbrev pub failed_by : Name → Offer → FaultValue → Option Answer
 failed_by name (Fails due) fault = if same_name due.0 fault.0 then Some (answer.Failed name due) else None
 failed_by name (Price due) fault = None
@@ -81,7 +81,7 @@ abbrev pub first_answer : Option Named → Value → Option Answer
 first_answer None value = None
 first_answer (Some named) value = first_by named.0 named.1 value
 
--- the offer's price, where its task has ended
+-- the offer's price, if its task has ended
 abbrev pub quote_there : State → Named → Option Quote
 quote_there state.Unavailable named = None
 quote_there _ named = quote_in named
@@ -93,7 +93,7 @@ available (e ∷ es) [] = []
 available (e ∷ es) (t ∷ ts) = cons_option (quote_there t.state e) (available es ts)
 
 -- the answer rests on the ends that the outcome shows, and each of these is its offer's:
---   in mode `best`, where all tasks have ended, on all ends;
+--   in mode `best`, if all tasks have ended, on all ends;
 --   in mode `all`, on all ends, or on the first failure;
 --   in mode `first`, on the first success, or else on all ends, the first failure being named;
 --   after the deadline, on all ends so far
@@ -107,7 +107,7 @@ Answers mode.First offers tasks (outcome.Failed task fault) a = NoneSucceeds off
 Answers mode.First offers tasks outcome.Empty a = (offers ≡ []) × (a ≡ answer.Empty)
 Answers _ offers tasks _ a = ⊥
 
--- the plan allows the answer's line; or, where the outcome is partial, it says some of the prices
+-- the plan allows the answer's line; or, if the outcome is partial, it says some of the prices
 abbrev pub AllowedFor : PlanValue → Outcome → Answer → Type 0
 AllowedFor plan (outcome.Partial states) a = PartText plan (answer_text a)
 AllowedFor plan _ a = AllowedText plan (answer_text a)
@@ -124,7 +124,7 @@ ListsPrices (outcome.All values) = Unit {0}
 ListsPrices (outcome.Partial states) = Unit {0}
 ListsPrices _ = ⊥
 
--- why there is no answer: `Lost` where none can rest on ends that are the offers', and `Memory` only where
+-- why there is no answer: `Lost` where none can rest on ends that are the offers', and `Memory` only if
 -- one does and lists prices
 abbrev pub IsNoAnswer : (Answer → Type 0) → Outcome → NoAnswer → Type 0
 IsNoAnswer Rests o none.Lost = (a : Answer) → Rests a → ⊥
@@ -137,7 +137,7 @@ IsLost Rests none.Lost = Rests → ⊥
 IsLost Rests none.Cancelled = ⊥
 IsLost Rests none.Memory = ⊥
 
--- the same of one that does: where memory is refused, the ends are the offers'
+-- the same of one that does: if memory is refused, the ends are the offers'
 abbrev pub IsLostOrMemory : Type 0 → NoAnswer → Type 0
 IsLostOrMemory Rests none.Lost = Rests → ⊥
 IsLostOrMemory Rests none.Cancelled = ⊥

@@ -10,7 +10,7 @@ is_feed b = b == 10
 abbrev pub HasNoFeed : List ℕ → Type 0
 HasNoFeed bytes = All (λ b. is_feed b ≡ false) bytes
 
--- the first line feed of the bytes stands between this line and the rest
+-- the first line feed of the bytes is between this line and the rest
 pub record CutsLine (bytes line rest : List ℕ) : Type 0 where
   pub whole : bytes ≡ line ++ 10 ∷ rest
   pub unended : HasNoFeed line

@@ -11,7 +11,7 @@ use Rattle.quote_plan.specs.declared.lines.PlanLine.{PlanLine}
 use Rattle.quote_plan.specs.declared.lines.PlanLine.TheVariants as line
 use Rattle.quote_plan.specs.declared.lines.TheConstants.{OFFER_LIMIT}
 
--- what stands after the last line feed: no line where it is empty, and else a cut one, a bad word
+-- what is after the last line feed: no line if it is empty, and else a cut one, a bad word
 abbrev pub cut_said : List ℕ → List PlanLine
 cut_said [] = []
 cut_said (b ∷ bs) = line.BadWord ∷ []
@@ -50,7 +50,7 @@ is_none (x ∷ xs) = false
 unfoldable pub is_named : Name → List Named → Bool
 is_named name offers = list_any (λ named. same_name name named.0) offers
 
--- whether a line may stand after others with these modes and offers: the mode is said first and once;
+-- whether a line may be after others with these modes and offers: the mode is said first and once;
 -- an offer comes after it, with a name that no offer before has, and with less than `OFFER_LIMIT` offers
 -- before
 abbrev pub may_follow : List Mode → List Named → PlanLine → Bool

@@ -60,7 +60,7 @@ unfoldable pub why_of_offer : List (List ℕ) → Option PlanWhy
 why_of_offer [] = Some why.NoForm
 why_of_offer (word ∷ end) = if is_some (name_said word) then why_of_end end else Some why.BadName
 
--- what is wrong with the fields of a bad line after the mode was said: nothing, where they are an offer in a
+-- what is wrong with the fields of a bad line after the mode was said: nothing, if they are an offer in a
 -- good form
 unfoldable pub why_of_fields : List (List ℕ) → Option PlanWhy
 why_of_fields [] = Some why.NoForm
@@ -83,7 +83,7 @@ why_after (mode ∷ modes) offers words = unwrap_or (why_of_fields words) (why_o
 unfoldable pub why_of : List Mode → List Named → List ℕ → PlanWhy
 why_of modes offers text = unwrap_or (why_of_bytes text) (why_after modes offers (fields text))
 
--- why a plan may not end with what stands after its last line feed
+-- why a plan may not end with what is after its last line feed
 abbrev pub why_of_last : List ℕ → PlanWhy
 why_of_last [] = why.NoMode
 why_of_last (b ∷ bs) = why.NoLineFeed

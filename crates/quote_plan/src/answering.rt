@@ -69,7 +69,7 @@ fn answer_by_ends(
     }
 }
 
-/// In mode `best`, where all tasks have ended.
+/// In mode `best`, if all tasks have ended.
 fn best_answer(plan: &Plan, tasks: &[TaskState]) -> Result<Answer, NoAnswer>
     ensures { MatchResult result (λ a. AreDue plan.now.offers tasks.now × AllowedBest plan.now.offers a) (λ e. IsLost (AreDue plan.now.offers tasks.now) e) }
 {
@@ -82,7 +82,7 @@ fn best_answer(plan: &Plan, tasks: &[TaskState]) -> Result<Answer, NoAnswer>
     }
 }
 
-/// In mode `all`, where all tasks succeeded.
+/// In mode `all`, if all tasks succeeded.
 fn all_answer(alloc: Global, plan: &Plan, values: &[TaskValue]) -> Result<Answer, NoAnswer>
     ensures { MatchResult result (λ a. AreDueValues plan.now.offers values.now × (a ≡ made.All (quotes_in plan.now.offers))) (λ e. IsLostOrMemory (AreDueValues plan.now.offers values.now) e) }
 {
@@ -108,7 +108,7 @@ fn partial_answer(alloc: Global, plan: &Plan, states: &[TaskState]) -> Result<An
     }
 }
 
-/// In mode `first`, where no task succeeded and this one was the first to fail.
+/// In mode `first`, if no task succeeded and this one was the first to fail.
 fn none_succeeded(
     plan: &Plan,
     tasks: &[TaskState],
@@ -123,7 +123,7 @@ fn none_succeeded(
     found(failed_answer(plan, tasks, task, fault))
 }
 
-/// In mode `first`, where no task ended.
+/// In mode `first`, if no task ended.
 fn no_offers(plan: &Plan) -> Result<Answer, NoAnswer>
     ensures { MatchResult result (λ a. (plan.now.offers ≡ []) × (a ≡ made.Empty)) (λ e. IsLost (plan.now.offers ≡ []) e) }
 {
@@ -141,7 +141,7 @@ fn found(answer: Option<Answer>) -> Result<Answer, NoAnswer>
     answer.ok_or(NoAnswer::Lost)
 }
 
-/// That the task's offer fails, where it is to fail so.
+/// That the task's offer fails, if it is to fail so.
 fn failed_answer(plan: &Plan, tasks: &[TaskState], task: TaskId, fault: &Fault) -> Option<Answer>
     ensures { result ≡ failed_answer (offer_of plan.now.offers tasks.now task) fault.now }
 {

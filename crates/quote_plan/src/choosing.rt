@@ -70,7 +70,7 @@ pub(crate) fn quotes_so_far(
     Ok(Quotes::new(quotes))
 }
 
-/// The same of an offer whose task has this state, where the task has ended.
+/// The same of an offer whose task has this state, if the task has ended.
 fn quote_there(plan: &Plan, index: usize, state: &State) -> Option<Quote>
     ensures { result ≡ option_and_then (quote_there state.now) (slice_get plan.now.offers index) }
 {
@@ -80,7 +80,7 @@ fn quote_there(plan: &Plan, index: usize, state: &State) -> Option<Quote>
     quote_at(plan, index)
 }
 
-/// The name and the price of the offer at this place, where it has one.
+/// The name and the price of the offer at this place, if it has one.
 fn quote_at(plan: &Plan, index: usize) -> Option<Quote>
     ensures { result ≡ option_and_then quote_in (slice_get plan.now.offers index) }
 {

@@ -15,7 +15,7 @@ pub(crate) fn first_line(bytes: &[u8]) -> Option<(&[u8], &[u8])>
     Some((bytes.split_at(end).0, bytes.split_at(end + 1).1))
 }
 
-/// Where the first line feed stands.
+/// Where the first line feed is.
 fn first_feed(bytes: &[u8]) -> Option<usize>
     ensures { result ≡ position is_feed bytes.now }
 {

@@ -15,7 +15,7 @@ pub(crate) fn offer_of(plan: &Plan, tasks: &[TaskState], task: TaskId) -> Option
     plan.named_at(place_of(tasks, task)?)
 }
 
-/// Where the task of the number stands.
+/// Where the task of the number is.
 fn place_of(tasks: &[TaskState], task: TaskId) -> Option<usize>
     ensures { result ≡ position (λ (t : TaskState). t.task == task) tasks.now }
 {

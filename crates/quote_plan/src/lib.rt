@@ -15,7 +15,7 @@
 //! A PRICE is a number in decimal with no needless zero in front, at most `PRICE_LIMIT`. A FAULT is a
 //! name other than those of the faults that the runtime itself makes.
 //!
-//! Where the text is no plan, `read_plan` names its first bad line, and says why it is one; so does a `PlanReader`
+//! If the text is no plan, `read_plan` names its first bad line, and says why it is one; so does a `PlanReader`
 //! of a text that comes piece by piece, as soon as that line has ended.
 #![tactic(auto)]
 

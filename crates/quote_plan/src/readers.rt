@@ -45,7 +45,7 @@ impl PlanReader {
     /// The plan goes on by the bytes.
     ///
     /// # Errors
-    /// `Word` where a line has ended that is the first bad one, whatever comes after these bytes; `Memory` where
+    /// `Word` if a line has ended that is the first bad one, whatever comes after these bytes; `Memory` if
     /// memory was refused, or more lines came than can be counted.
     pub fn take(&mut self, piece: &[u8]) -> Result<(), PlanFault>
         ensures taken { (bytes : List ℕ) → HasTaken self.old bytes → OnOk result (HasTaken self.new (bytes ++ piece.now)) }
@@ -85,7 +85,7 @@ impl PlanReader {
     /// The plan, at its end.
     ///
     /// # Errors
-    /// `Word` where a line is begun, or no line said a mode.
+    /// `Word` if a line is begun, or no line said a mode.
     pub fn finish(self) -> Result<Plan, PlanFault>
         ensures { (bytes : List ℕ) → HasTaken self bytes → MatchResult result (SayPlan (lines_of bytes)) (NamesLine bytes) }
     {
@@ -106,7 +106,7 @@ impl PlanReader {
     }
 }
 
-/// Passes the line of this number and text, where it may come next.
+/// Passes the line of this number and text, if it may come next.
 fn pass(reading: &mut Reading, number: &mut usize, text: &[u8]) -> Result<(), PlanFault>
     ensures passed { (front : List ℕ) → Passed front number.old reading.old → HasNoFeed text.now → OnOk result (Passed (front ++ text.now ++ 10 ∷ []) number.new reading.new) }
     ensures bad { (front : List ℕ) → Passed front number.old reading.old → HasNoFeed text.now → (more : List ℕ) → IfErr result (NamesLine (front ++ text.now ++ 10 ∷ more)) }

@@ -20,7 +20,7 @@ use thiserror::Error;
 /// Why a plan was not read.
 #[derive(Clone, Copy, Debug, PartialEq, Eq, Error)]
 pub enum PlanFault {
-    /// This line is the first bad one, counted from 1, for this cause; where no line says a mode and none
+    /// This line is the first bad one, counted from 1, for this cause; if no line says a mode and none
     /// is bad, it is the line after the last.
     #[error("plan line {line}: {why}")]
     Word { line: usize, why: PlanWhy },
@@ -170,7 +170,7 @@ impl Reading {
         }
     }
 
-    /// The plan that was read; `None` where no line said a mode.
+    /// The plan that was read; `None` if no line said a mode.
     pub(crate) fn plan(self) -> Option<Plan>
         ensures { MatchOption result (self.modes ≡ []) (λ plan. (self.modes ≡ plan.mode ∷ []) × (self.offers ≡ plan.offers)) }
     {

@@ -10,7 +10,7 @@ use scope_rules::Fault;
 use script_words::{LINE_LIMIT, just_one, just_two, name, next_field};
 use std::fmt;
 
-/// Why a line may not stand where it stands in a plan. The causes after `ModeWanted` come only where a mode
+/// Why a line may not stand where it stands in a plan. The causes after `ModeWanted` come only if a mode
 /// was said before.
 #[derive(Clone, Copy, Debug, PartialEq, Eq)]
 pub enum PlanWhy {
@@ -28,7 +28,7 @@ pub enum PlanWhy {
     ModeWanted,
     /// Its first field is `mode`.
     ModeSaidBefore,
-    /// It is an offer in a good form, and `OFFER_LIMIT` offers stand above.
+    /// It is an offer in a good form, and `OFFER_LIMIT` offers are above.
     TooManyOffers,
     /// It is an offer in a good form, and one of less than `OFFER_LIMIT` above has its name.
     NamedBefore,
@@ -85,7 +85,7 @@ impl fmt::Display for PlanWhy {
     }
 }
 
-/// What is wrong with the line's bytes, whatever they say; `None` where nothing is.
+/// What is wrong with the line's bytes, whatever they say; `None` if nothing is.
 #[tactic(auto, unfolding(crate::specs::PlanWhys::why_of_bytes))]
 pub(crate) fn why_of_bytes(line: &[u8]) -> Option<PlanWhy>
     ensures { result ≡ why_of_bytes line.now }
@@ -102,7 +102,7 @@ pub(crate) fn why_of_bytes(line: &[u8]) -> Option<PlanWhy>
     None
 }
 
-/// What is wrong with the fields of a bad line after the mode was said; `None` where they are an offer in a
+/// What is wrong with the fields of a bad line after the mode was said; `None` if they are an offer in a
 /// good form.
 #[tactic(auto, unfolding(crate::specs::PlanWhys::why_of_fields))]
 pub(crate) fn why_of_fields(text: &[u8]) -> Option<PlanWhy>
@@ -120,7 +120,7 @@ pub(crate) fn why_of_fields(text: &[u8]) -> Option<PlanWhy>
     Some(PlanWhy::NoForm)
 }
 
-/// What is wrong with what comes after `offer`; `None` where it is in a good form.
+/// What is wrong with what comes after `offer`; `None` if it is in a good form.
 #[tactic(auto, unfolding(crate::specs::PlanWhys::why_of_offer))]
 fn why_of_offer(args: &[u8]) -> Option<PlanWhy>
     ensures why { result ≡ why_of_offer (fields args.now) }

@@ -219,7 +219,7 @@ same_tickets h s old new moved it = record {
   ended = All-permutation (λ (t : TicketValue). has_ended t ≡ true) old new moved it.ended;
 }
 
--- where one is missing, they are not those of the close
+-- if one is missing, they are not those of the close
 pub missing_one : (h : History) (s n placed : ℕ) (old now new : List TicketValue) → IsGathering h s old now placed (Some n) → IsPermutation now new → IsMissing h n placed now new → AreTicketsOf h s old → ⊥
 missing_one h s n placed old now new so_far moved missing it =
     let k = missing.task in
@@ -237,7 +237,7 @@ missing_one h s n placed old now new so_far moved missing it =
         let none = missing.absent i t from at in
         absurd (both_ways (is_ended_ticket_of missing.task t) none (rw (is, ended) refl))
 
--- where all were found and none is left, they are
+-- if all were found and none is left, they are
 pub all_found : (h : History) (s placed : ℕ) (old now : List TicketValue) → IsGathering h s old now placed None → placed ≡ length now → AreTicketsOf h s old
 all_found h s placed old now so_far full =
     let whole : take placed now ≡ now = ap (λ n. take n now) full ∙ take-length now in
@@ -246,7 +246,7 @@ all_found h s placed old now so_far full =
       ended = subst AllEnded whole so_far.ended;
     })
 
--- and where one is left, they aren't
+-- and if one is left, they aren't
 pub one_left : (h : History) (s placed : ℕ) (old now : List TicketValue) → IsGathering h s old now placed None → placed ≢ length now → AreTicketsOf h s old → ⊥
 one_left h s placed old now so_far other it =
     let within = so_far.within in

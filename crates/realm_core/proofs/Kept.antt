@@ -155,7 +155,7 @@ begun_asked old new s q it begun =
     } in
     subst (λ (h : History). IsBegun h old.actor s) (sym (ap history_of it.is ∙ history-push it.there x)) here
 
--- where it was begun before, and isn't over, it is so too
+-- if it was begun before, and isn't over, it is so too
 pub begun_already : (old new : OwnerValue) (s : ℕ) → FoundSo old new (BeginClose old.actor s) → closed (history_seen new) s ≡ false → IsBegun (history_seen new) old.actor s
 unfolding check_of
 begun_already old new s it unclosed =

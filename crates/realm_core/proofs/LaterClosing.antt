@@ -116,7 +116,7 @@ later_step L h e legal ok so s t o x is it same less begun unclosed still =
           ]
     ]
 
--- in a legal history: where a scope is closing and not closed, each scope that its owner opened later and
+-- in a legal history: if a scope is closing and not closed, each scope that its owner opened later and
 -- has not closed is closing
 pub later_closing : (L : Limits) (h : History) (s t : ℕ) (o x : Opening) → Legal L h → opening h s ≡ Some o → opening h t ≡ Some x → o.actor ≡ x.actor → s < t → closing h s ≡ true → closed h s ≡ false → closed h t ≡ false → closing h t ≡ true
 later_closing L h s t o x legal is it same less begun unclosed still = along L LaterClose later_start (λ g e lawful ok was. later_step L g e lawful ok was) h legal s t o x is it same less begun unclosed still

@@ -36,7 +36,7 @@ use Rattle.realm_core.specs.Runs.{runs_task, LogsShowRuns}
 
 -- ---- what one event adds
 
--- the entry, where it is of task k's run
+-- the entry, if it is of task k's run
 abbrev kept_entry : ℕ → Option LogEntry → List LogEntry
 kept_entry k None = []
 kept_entry k (Some x) = cond (runs_task k x) (x ∷ []) []
@@ -88,7 +88,7 @@ nothing_kept : (k : ℕ) (b t : Bool) (o : Option LogEntry) → kept_entry k o �
 nothing_kept k true t o none = none ∙ sym (cond_nil t)
 nothing_kept k false t o none = sym (cond_nil t)
 
--- what the event adds of the run is its start or its finish, where the task is one of the scope
+-- what the event adds of the run is its start or its finish, if the task is one of the scope
 entry_kept : (h : History) (e : Event) (s k : ℕ) → kept_entry k (entry_of h s e) ≡ cond (is_task_of h s k) (added k e) []
 entry_kept h e s k = by e
   where

@@ -74,7 +74,7 @@ the_base b = record { base = b; events = [] }
 abbrev pub Passing : ℕ → RealmStep → Type 0
 Passing a x = (L : Limits) (h : History) → step_check L a x h ≡ Ok tt → Passes L h x
 
--- the step by which an event is recorded passes where the event is accepted, leaves what the event leaves,
+-- the step by which an event is recorded passes if the event is accepted, leaves what the event leaves,
 -- and is refused what that is
 pub step_passes : (L : Limits) (h : History) (a : ℕ) (e : Event) → Accepts L h e → Passes L h (step_by a e)
 step_passes L h a (Cancel scope) ok = ok
@@ -125,7 +125,7 @@ pub recorded_fits : (fits : LabelValue → EndValue → Type 0) (h : History) (a
 recorded_fits fits h a (Finish task end) so = absurd cc
 recorded_fits fits h a _ so = tt
 
--- where a command recorded its event, the event is accepted
+-- if a command recorded its event, the event is accepted
 pub accepted_by : (L : Limits) (h : History) (e : Event) (result : Result Told Refusal) → Performs L h e result → records result ≡ true → Accepts L h e
 accepted_by L h e (Ok t) said so = record { passed = said.0; recorded = told_new h e t said.1 so }
 accepted_by L h e (Err r) said so = absurd cc

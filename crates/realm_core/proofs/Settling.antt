@@ -10,7 +10,7 @@ use Rattle.scope_rules.proofs.Innermosts.{HasUnclosed}
 use Rattle.realm_core.specs.Waiting.{FoundUnsettled}
 use Rattle.realm_core.proofs.Walks.{inner_is, inner_none, inner_later}
 
--- what comes before the next one is settled, or all where there is no next one
+-- what comes before the next one is settled, or all if there is no next one
 abbrev IsMet : History → ℕ → ℕ → Option ℕ → Type 0
 IsMet h a s (Some n) = HasUnclosed h a n × (s ≤ n) × ((t : ℕ) → HasUnclosed h a t → s ≤ t → t < n → settled h t ≡ true)
 IsMet h a s None = (t : ℕ) → HasUnclosed h a t → s ≤ t → settled h t ≡ true

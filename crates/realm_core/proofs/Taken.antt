@@ -61,7 +61,7 @@ only_structure L h k end r runs refusing =
     let it = running_forked h k (rw runs refl) in
     structure_alone (is_some (innermost h k)) r (rw (task_passes h k it.forked it.is, runs) at refusing)
 
--- where its check passes, a command that takes no memory is accepted
+-- if its check passes, a command that takes no memory is accepted
 pub accepted_ok : {A : Type 0} (L : Limits) (h : History) (e : Event) (value : A) (result : Result A Refusal) → check_of L h e ≡ Ok tt → Answers (check_of L h e) value result → result ≡ Ok value
 accepted_ok L h e value result passed said = rw passed at said
 

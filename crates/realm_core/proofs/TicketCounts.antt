@@ -27,7 +27,7 @@ count_suc p (y ∷ ys) (suc n) x at = omega (arith, count_by-cons p y (take (suc
 pub count_one_more : {A : Type 0} (p : A → Bool) (xs : List A) (n : ℕ) (x : A) → slice_get xs n ≡ Some x → count_by p (take (n + 1) xs) ≡ count_by p (take n xs) + cond (p x) 1 0
 count_one_more p xs n x at = ap (λ m. count_by p (take m xs)) (add-one n) ∙ count_suc p xs n x at
 
--- where none comes later, the first are all
+-- if none comes later, the first are all
 pub count_first : {A : Type 0} (p : A → Bool) (xs : List A) (n : ℕ) → ((i : ℕ) (x : A) → n ≤ i → slice_get xs i ≡ Some x → p x ≡ false) → count_by p xs ≡ count_by p (take n xs)
 count_first p [] zero none = refl
 count_first p [] (suc n) none = refl
@@ -131,7 +131,7 @@ in_range a (suc n) (suc i) k under is = ap (λ b. (a == k) || b) (in_range (a + 
     or_yes true = refl
     or_yes false = refl
 
--- a task is among those of the scope where it was forked there
+-- a task is among those of the scope if it was forked there
 pub among_tasks : (h : History) (s k : ℕ) → is_among (tasks_of h s) k ≡ is_task_of h s k
 unfolding tasks_of is_task_of
 among_tasks h s k =

@@ -1,4 +1,4 @@
--- How the words for what calls did are put together, where one call follows another.
+-- How the words for what calls did are put together, if one call follows another.
 use Rattle.std.specs.Prelude.{◌≡◌, ℕ, ◌<◌, true, false, Some, List}
 use Rattle.scope_rules.specs.declared.types.records.Opening.{Opening}
 use Rattle.scope_rules.specs.History.{History, opening}
@@ -25,7 +25,7 @@ LooksGoOn = (who : Holder) (L : Limits) (xs ys zs : List RealmStep) → Agrees w
 abbrev pub AddsGoOn : Type 0
 AddsGoOn = (who : Holder) (L : Limits) (xs ys zs : List RealmStep) (x : RealmStep) → Agrees who xs ys → Adds who L ys x zs → Adds who L xs x zs
 
--- where a scope is closing and not closed, each scope that its owner opened later and has not closed is
+-- if a scope is closing and not closed, each scope that its owner opened later and has not closed is
 -- closing
 abbrev pub LaterScopesClose : Type 0
 LaterScopesClose = (L : Limits) (h : History) (s t : ℕ) (o x : Opening) → Legal L h → opening h s ≡ Some o → opening h t ≡ Some x → o.actor ≡ x.actor → s < t → closing h s ≡ true → closed h s ≡ false → closed h t ≡ false → closing h t ≡ true

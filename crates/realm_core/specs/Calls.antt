@@ -35,7 +35,7 @@ TicketSeesMore old new = new ≡ record old { seen = new.seen }
 abbrev pub HasLooked : OwnerValue → OwnerValue → Type 0
 HasLooked old new = Looks (TokenOf old.actor) old.limits old.seen new.seen
 
--- it added exactly the step, where it was accepted
+-- it added exactly the step, if it was accepted
 abbrev pub Added : OwnerValue → OwnerValue → RealmStep → Type 0
 Added old new x = Adds (TokenOf old.actor) old.limits old.seen x new.seen
 
@@ -127,7 +127,7 @@ RecordsOrMemory old new e result = SeesMore old new × DidRecordOrMemory old new
 abbrev pub Performed : OwnerValue → OwnerValue → Event → Result Told Refusal → Type 0
 Performed old new e result = SeesMore old new × DidPerform old new e result
 
--- what was answered, where there is no more to say than that it was done
+-- what was answered, if there is no more to say than that it was done
 abbrev pub done : Result Told Refusal → Result (Unit {0}) Refusal
 done (Ok answer) = Ok tt
 done (Err refusal) = Err refusal

@@ -18,7 +18,7 @@ pub record CanEnd (h : History) (a s : ℕ) : Type 0 where
   pub innermost : innermost h a ≡ Some s
   pub settled : settled h s ≡ true
 
--- the actor's close of scope s can come to its end: it has begun, and of each scope that the actor opened
+-- the actor's close of scope s can end: it has begun, and of each scope that the actor opened
 -- from s on and has not closed no task waits or runs
 pub record CanClose (h : History) (a s : ℕ) : Type 0 where
   pub opened : Opening

@@ -55,18 +55,18 @@ abbrev pub IsFoundFrom : List TicketValue → ℕ → ℕ → Option ℕ → Typ
 IsFoundFrom tickets place k (Some at) = (place ≤ at) × ((t : TicketValue) × (slice_get tickets at ≡ Some t) × (is_ended_ticket_of k t ≡ true))
 IsFoundFrom tickets place k None = IsAbsentFrom tickets place k
 
--- the ticket of task k stands at the place, and has ended; or there is none from there on
+-- the ticket of task k is at the place, and has ended; or there is none from there on
 abbrev pub IsBrought : List TicketValue → ℕ → ℕ → Bool → Type 0
 IsBrought tickets place k true = (t : TicketValue) × (slice_get tickets place ≡ Some t) × (is_ended_ticket_of k t ≡ true)
 IsBrought tickets place k false = IsAbsentFrom tickets place k
 
--- the ticket of task k stands at the place, if the task got a thread, and then the next place follows; or
+-- the ticket of task k is at the place, if the task got a thread, and then the next place follows; or
 -- there is none
 abbrev pub MayPlaceOne : History → ℕ → ℕ → List TicketValue → Option ℕ → Type 0
 MayPlaceOne h place k tickets (Some next) = ((got_thread h k ≡ false) × (next ≡ place)) ⊎ ((got_thread h k ≡ true) × (next ≡ place + 1) × IsBrought tickets place k true)
 MayPlaceOne h place k tickets None = (got_thread h k ≡ true) × IsBrought tickets place k false
 
--- after the first tickets, up to the next place, stand those of the tasks of scope s that got a thread
+-- after the first tickets, up to the next place, are those of the tasks of scope s that got a thread
 pub record ArePlaced (h : History) (s first next : ℕ) (old new : List TicketValue) : Type 0 where
   pub above : first ≤ next
   pub within : next ≤ length new

@@ -30,12 +30,12 @@ pub record IsMarkOf (h : History) (s : ℕ) (because : Cause) (number : ℕ) : T
   pub caused : cause h s ≡ Some because
   pub placed : cancelled_at h s ≡ Some number
 
--- what a view of scope s answers after h: it is refused for an unknown scope, and where memory is
+-- what a view of scope s answers after h: it is refused for an unknown scope, and if memory is
 abbrev pub ViewAnswers : History → ℕ → Result View Refusal → Type 0
 ViewAnswers h s (Ok view) = IsViewOf h s view
 ViewAnswers h s (Err refusal) = (scope_check h s ≡ Err refusal) ⊎ ((scope_check h s ≡ Ok tt) × (refusal ≡ Memory))
 
--- what a view with a mark answers: it is refused also where the mark says something else than h
+-- what a view with a mark answers: it is refused also if the mark says something else than h
 abbrev pub MarkedViewAnswers : History → ℕ → Cause → ℕ → Result View Refusal → Type 0
 MarkedViewAnswers h s because number (Ok view) = IsViewOf h s view × IsMarkOf h s because number
 MarkedViewAnswers h s because number (Err refusal) = (scope_check h s ≡ Err refusal) ⊎ (((scope_check h s ≡ Ok tt) × (IsMarkOf h s because number) × (refusal ≡ Memory)) ⊎ ((scope_check h s ≡ Ok tt) × (IsMarkOf h s because number → ⊥) × (refusal ≡ Unavailable)))

@@ -23,7 +23,7 @@ pub record HoldsUp (h : History) (a s t : ℕ) : Type 0 where
 abbrev pub AreSettled : History → ℕ → Opening → Type 0
 AreSettled h s o = (t : ℕ) (x : Opening) → opening h t ≡ Some x → x.actor ≡ o.actor → s ≤ t → closed h t ≡ false → settled h t ≡ true
 
--- of a scope that is not closed: a scope that holds up its close, or none where no task of those that the
+-- of a scope that is not closed: a scope that holds up its close, or none if no task of those that the
 -- close covers waits or runs
 abbrev pub FoundUnsettled : History → ℕ → Option ℕ → Type 0
 FoundUnsettled h s (Some t) = (o : Opening) → opening h s ≡ Some o → closed h s ≡ false → HoldsUp h o.actor s t

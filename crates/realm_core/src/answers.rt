@@ -6,7 +6,7 @@ ghost use Rattle.realm_core.specs.Calls.{done, noted};
 use scope_checks::Told;
 use scope_rules::{Cancelling, Refusal};
 
-/// That it was done, where there is no more to say.
+/// That it was done, if there is no more to say.
 pub fn told_done(performed: Result<Told, Refusal>) -> Result<(), Refusal>
     ensures { result ≡ done performed }
 {

@@ -14,10 +14,10 @@ use share_ledger::{OwnerShare, RealmStep};
 /// What the end of a close is made of. The hold that ends one records the ends of several scopes, the
 /// innermost first, each by one call.
 impl<C: Catalog, N: RealmName> RealmCore<C, N> {
-    /// Closes the actor's scope. It takes no memory. Refused where the actor is no running task or main,
+    /// Closes the actor's scope. It takes no memory. Refused if the actor is no running task or main,
     /// for a scope that is unknown (`NoScope`, `Retired`), another's (`NotOwner`), not closing
     /// (`WrongStage`) or closed (`Closed`), while the actor has a later scope that is not closed
-    /// (`Structure`), and while a task of the scope waits or runs (`NotReady`). Where none of this holds it
+    /// (`Structure`), and while a task of the scope waits or runs (`NotReady`). If none of this holds it
     /// is never refused.
     pub fn end_close(&mut self, share: &mut OwnerShare, scope: ScopeId) -> Result<Verdict, Refusal>
         requires named { share.old.table ≡ N.table }

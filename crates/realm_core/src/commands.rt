@@ -17,11 +17,11 @@ use share_ledger::{OwnerShare, RealmStep};
 /// The commands with a token. Each leaves in the token all that has happened; `core` says so, and `steps`
 /// the very steps that the call has added to the realm's list: its own, or none.
 impl<C: Catalog, N: RealmName> RealmCore<C, N> {
-    /// Performs the command of the event with the token of its actor, or with any actor's where the event
-    /// is a cancel, a move or a tick. Where it is accepted, what the token has seen then ends with exactly
+    /// Performs the command of the event with the token of its actor, or with any actor's if the event
+    /// is a cancel, a move or a tick. If it is accepted, what the token has seen then ends with exactly
     /// its step, and the answer is the rules' on the steps before; else nothing is added, and the refusal,
     /// or that all is so already, is the rules' on what the token has seen by then. `Memory` is answered
-    /// only where the command costs load and would be accepted there.
+    /// only if the command costs load and would be accepted there.
     pub fn perform(&mut self, share: &mut OwnerShare, event: &Event) -> Result<Told, Refusal>
         requires named { share.old.table ≡ N.table }
         requires event { is_recorded_by share.old.actor event.now ≡ true }
@@ -49,7 +49,7 @@ impl<C: Catalog, N: RealmName> RealmCore<C, N> {
     }
 
     /// Takes the events out and leaves a base, once main's outermost scope is closed; what is left goes
-    /// on, with numbers after the base's. It answers that base. Refused where the token's actor is no
+    /// on, with numbers after the base's. It answers that base. Refused if the token's actor is no
     /// running task or main, is not main (`NotOwner`), and while main has a scope that is not closed
     /// (`Structure`).
     pub fn retire(&mut self, share: &mut OwnerShare) -> Result<Base, Refusal>

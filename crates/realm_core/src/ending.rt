@@ -43,7 +43,7 @@ pub fn end_innermost<C: Catalog, N: RealmName>(
     }
 }
 
-/// Closes the scope and all that its owner opened later and has not closed, the latest first, where the
+/// Closes the scope and all that its owner opened later and has not closed, the latest first, if the
 /// close can end: it has begun, and no task of these waits or runs. The token then sees exactly these
 /// steps more. It takes no memory and is never refused.
 pub fn end_all<C: Catalog, N: RealmName>(

@@ -21,7 +21,7 @@ pub enum Forked {
 
 impl<C: Catalog, N: RealmName> RealmCore<C, N> {
     /// Forks the next task in the actor's scope (JEP 505, `fork`), and gives its ticket, unless the scope
-    /// is cancelled. Refused where the actor is no running task or main, for a scope that is unknown
+    /// is cancelled. Refused if the actor is no running task or main, for a scope that is unknown
     /// (`NoScope`, `Retired`), another's (`NotOwner`), closing or closed (`Closed`) or joined
     /// (`AlreadyJoined`), while the actor's bindings are not those at the scope's opening (`Structure`;
     /// JEP 506), and where a limit is met (`TooMany`).

@@ -19,7 +19,7 @@ use share_ledger::{OwnerShare, RealmStep, Ticket};
 use std::alloc::Global;
 
 /// The first hold of a close: begins the close of the actor's scope, if need be (JEP 505, `close` cancels
-/// first). Refused where the actor is no running task or main, and for a scope that is unknown (`NoScope`,
+/// first). Refused if the actor is no running task or main, and for a scope that is unknown (`NoScope`,
 /// `Retired`), another's (`NotOwner`) or closed (`Closed`): so never for a scope that the token shows as
 /// its actor's and not closed. It takes no memory.
 pub fn begin<C: Catalog, N: RealmName>(
@@ -67,9 +67,9 @@ pub fn end_if_settled<C: Catalog, N: RealmName>(
 }
 
 /// The same with a report, for which the tickets are handed in of all tasks that got a thread, of the
-/// scopes that are closed. Where they are not just these, and each ended, it is refused (`NotReady`); and
-/// where memory is refused for the report (`Memory`). Then it records nothing, and the tickets are there
-/// still, in any order; where the close is ended they are gone.
+/// scopes that are closed. If they are not just these, and each ended, it is refused (`NotReady`); and
+/// if memory is refused for the report (`Memory`). Then it records nothing, and the tickets are there
+/// still, in any order; if the close is ended they are gone.
 pub fn report_if_settled<C: Catalog, N: RealmName>(
     core: &mut RealmCore<C, N>,
     alloc: Global,
@@ -91,7 +91,7 @@ pub fn report_if_settled<C: Catalog, N: RealmName>(
     }
 }
 
-/// Ends a close that can end, where the tickets are those of it.
+/// Ends a close that can end, if the tickets are those of it.
 fn end_with_tickets<C: Catalog, N: RealmName>(
     core: &mut RealmCore<C, N>,
     alloc: Global,

@@ -22,7 +22,7 @@ pub struct Joined {
 
 impl<C: Catalog, N: RealmName> RealmCore<C, N> {
     /// Joins the actor's scope (JEP 505, `join`). All that it gives is made before the join is recorded,
-    /// so want of memory leaves the scope unjoined. Refused where the actor is no running task or main,
+    /// so want of memory leaves the scope unjoined. Refused if the actor is no running task or main,
     /// for a scope that is unknown (`NoScope`, `Retired`), another's (`NotOwner`), closing or closed
     /// (`Closed`) or joined (`AlreadyJoined`), and while it is neither cancelled nor all its tasks have
     /// ended (`NotReady`).

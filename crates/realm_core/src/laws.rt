@@ -1,4 +1,4 @@
-//! How what calls did is put together, where one follows another, as by a call that waits. Each function
+//! How what calls did is put together, if one follows another, as by a call that waits. Each function
 //! does nothing: its contract is the law.
 
 ghost use Rattle.realm_core.specs.CallLaws.{HoldersAgree, AgreementsGoOn, LooksGoOn, AddsGoOn, LaterScopesClose};
@@ -24,13 +24,13 @@ pub fn adds_go_on()
     ensures { AddsGoOn }
 {}
 
-/// Where a scope is closing and not closed, each scope that its owner opened later and has not closed is
+/// If a scope is closing and not closed, each scope that its owner opened later and has not closed is
 /// closing.
 pub fn later_scopes_close()
     ensures { LaterScopesClose }
 {}
 
-/// A close that can come to its end goes on with the actor's innermost scope: nothing refuses the end of
+/// A close that can end goes on with the actor's innermost scope: nothing refuses the end of
 /// that, and then the close can still come to its end.
 pub fn closes_go_on()
     ensures { ClosesGoOn }

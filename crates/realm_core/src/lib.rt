@@ -1,7 +1,7 @@
 //! What lies under a realm's lock, as data: the realm, which is the replay of its list of steps, and the
 //! keeper of that list. Each call is one hold of the lock: it checks, records at most one event (a close
 //! its ends), and leaves in the caller's token or ticket what that has seen then. Questions are asked of the
-//! realm that it lends, once a token has looked. The close of a scope is here too: when it can come to its end,
+//! realm that it lends, once a token has looked. The close of a scope is here too: when it can end,
 //! what its report shows, and the ends of the scopes that it closes, one after the other in one hold. The lock
 //! itself, and the waiting, are of the crate above.
 #![tactic(auto)]

@@ -27,7 +27,7 @@ pub struct CloseReport {
 }
 
 /// Closes the scope and all that its owner opened later and has not closed, where the close can end, and
-/// the token has seen the whole list. All that is shown is made first: where memory is refused for it
+/// the token has seen the whole list. All that is shown is made first: if memory is refused for it
 /// (`Memory`), nothing is done, and there is no other refusal.
 pub fn close_with_report<C: Catalog, N: RealmName>(
     core: &mut RealmCore<C, N>,

@@ -15,7 +15,7 @@ use share_ledger::{OwnerShare, RealmStep, Ticket};
 /// The calls with a ticket. The task of a ticket that is given and not started waits, whatever others did
 /// meanwhile, and that of one that is started and not finished runs. None takes memory.
 impl<C: Catalog, N: RealmName> RealmCore<C, N> {
-    /// Records that no thread was had for the ticket's task.
+    /// Records that no thread was available for the ticket's task.
     pub fn reject(&mut self, ticket: &mut Ticket)
         requires named { ticket.old.table ≡ N.table }
         requires waiting { IsWaiting ticket.old }
@@ -46,7 +46,7 @@ impl<C: Catalog, N: RealmName> RealmCore<C, N> {
     }
 
     /// Records the end of the ticket's task, which runs, and takes the task's token, with which nothing else
-    /// is added. Refused only while the task has a scope that is not closed (`Structure`), so never where the
+    /// is added. Refused only while the task has a scope that is not closed (`Structure`), so never if the
     /// token shows that it has none; then the token is handed back, and the task runs on.
     pub fn finish(
         &mut self,

@@ -14,9 +14,9 @@ use share_ledger::Ticket;
 
 /// Whether the tickets are those of a close of the scope, which is not closed: one of each task that got
 /// a thread, of the scope and of those that its owner opened later and has not closed, and no other; and
-/// each has ended. It brings them into the order of scopes and tasks, and takes no memory. Where they
-/// come in that order, it takes time by how many there are; else, for each that stands later, by how many
-/// stand before it.
+/// each has ended. It brings them into the order of scopes and tasks, and takes no memory. If they
+/// come in that order, it takes time by how many there are; else, for each that is later, by how many
+/// are before it.
 pub fn are_tickets_of(realm: &KeptRealm, scope: ScopeId, tickets: &mut Vec<Ticket>) -> bool
     requires opened { IsSome (opening realm.now.history scope) }
     requires unclosed { closed realm.now.history scope ≡ false }
@@ -38,7 +38,7 @@ pub fn are_tickets_of(realm: &KeptRealm, scope: ScopeId, tickets: &mut Vec<Ticke
 }
 
 /// Brings the tickets of the scope's tasks that got a thread to the place and those after it, in fork
-/// order, and says which place follows; or none, where one of them isn't there, or hasn't ended.
+/// order, and says which place follows; or none, if one of them isn't there, or hasn't ended.
 fn place_all(
     realm: &KeptRealm,
     scope: ScopeId,
@@ -62,7 +62,7 @@ fn place_all(
 }
 
 /// Brings the task's ticket to the place, if the task got a thread, and says which place follows; or
-/// none, where it isn't there or later, or hasn't ended.
+/// none, if it isn't there or later, or hasn't ended.
 fn place_one(
     realm: &KeptRealm,
     tickets: &mut Vec<Ticket>,

@@ -7,7 +7,7 @@ use scope_checks::{Readings, questions};
 use scope_log::ScopeLog;
 use scope_rules::{Cause, Counts, Refusal, ScopeId};
 
-/// What a view shows of a scope, at the moment of the view.
+/// What a view shows of a scope, as it is then.
 #[derive(Drop)]
 pub struct View {
     /// The scope's own events, with the mark of its cancellation among them.
@@ -16,11 +16,11 @@ pub struct View {
     pub cause: Option<Cause>,
     /// How many of its tasks are at each stage.
     pub counts: Counts,
-    /// The moment, in milliseconds.
+    /// The realm's time, in milliseconds.
     pub moment: u64,
 }
 
-/// What there is to see of the scope. Refused for an unknown scope (`NoScope`, `Retired`), and where memory
+/// What there is to see of the scope. Refused for an unknown scope (`NoScope`, `Retired`), and if memory
 /// is refused (`Memory`).
 pub fn view_of(realm: &KeptRealm, scope: ScopeId) -> Result<View, Refusal>
     ensures { ViewAnswers realm.now.history scope result }

@@ -6,7 +6,7 @@ use scope_checks::Readings;
 use scope_rules::ScopeId;
 
 /// A scope of which a task waits or runs, of those that the close of the scope covers: the scope itself
-/// and what its owner opened later and has not closed. Where there is none, the close can end. It takes
+/// and what its owner opened later and has not closed. If there is none, the close can end. It takes
 /// no memory, and time by how many those scopes are.
 pub fn unsettled(realm: &KeptRealm, scope: ScopeId) -> Option<ScopeId>
     ensures { FoundUnsettled realm.now.history scope result }

@@ -163,7 +163,7 @@ behind_reported L a s old new None marks it are = subst (λ (k : CoreValue). Are
 behind_reported L a s old new (Some (Err refusal)) marks it are = subst (λ (k : CoreValue). AreBehind (history_of k.steps) marks) (sym it) (behind_now (history_of old.steps) marks are)
 behind_reported L a s old new (Some (Ok report)) marks it are = behind_ended L a s (numbers report.nested.items) old new marks it are
 
--- where no event is, there is no scope, and none is cancelled
+-- if no event is, there is no scope, and none is cancelled
 marks_of_none : (b : Origin) (marks : MarksValue) → marks.setters ≡ [] → marks.marked ≡ 0 → AreMarks (record { base = b; events = [] }) marks
 marks_of_none b marks none zeroed = record {
   setters = record { each = ap length none; own = λ i x at. absurd (let past = ap (λ l. slice_get l i) none in cc (past, at)) };

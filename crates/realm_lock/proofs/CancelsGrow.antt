@@ -54,7 +54,7 @@ marked h s m is = by (cut h s) refl
         let says = marked_by h s it.opened c it.is found in
         record { opened = it.opened; is = it.is; by = c; found = found; says = cc (says, is) }
 
--- a scope has a mark where it is cancelled, with the place at which it became so
+-- a scope has a mark if it is cancelled, with the place at which it became so
 pub mark_there : (h : History) (s : ℕ) → is_cancelled h s ≡ true → (m : Cancellation) × (mark_of h s ≡ Some m)
 unfolding is_cancelled
 mark_there h s is = by (cut h s) refl

@@ -151,7 +151,7 @@ partly_on h order setters later n s i x y so_far next is at cell used count here
       ]
     ]
 
--- where there is no more, the setters are those of h
+-- if there is no more, the setters are those of h
 pub partly_ended : (h : History) (order : List ℕ) (setters : List SetterValue) (n : ℕ) → ArePartly h order setters n → slice_get order n ≡ None → AreSetters h setters × (length order ≡ n)
 partly_ended h order setters n so_far none = (record { each = so_far.each; own = λ i x at. (record { of = (so_far.own i x at).0; used = by i x at (mark_of h (h.base.scopes + 1 + i)) refl }) }, omega (arith, so_far.within, end))
   where

@@ -1,4 +1,4 @@
--- What an open is refused for where there is no room.
+-- What an open is refused for if there is no room.
 use Rattle.std.proofs.Common.{◌≡◌, refl, sym, ap, ◌∙◌, inl, inr, Ok, Err}
 use Rattle.scope_rules.specs.declared.types.events.Event.TheVariants.{Open}
 use Rattle.scope_rules.specs.declared.types.events.Options.{Options}

@@ -1,4 +1,4 @@
--- What a later hold of a close did, told from where the close began.
+-- What a later hold of a close did, distinguished from where the close began.
 use Rattle.std.proofs.Common.{◌≡◌, ℕ, List, Option, Some, Result, Ok, Err, subst}
 use Rattle.std.specs.Prelude.{IfOk}
 use Rattle.scope_rules.specs.declared.types.refusals.Refusal.{Refusal}

@@ -75,7 +75,7 @@ unfolding checks then_check
 last_check true is = refl
 last_check false is = absurd cc
 
--- where a join is not ready, a task of the scope waits or runs
+-- if a join is not ready, a task of the scope waits or runs
 pub unready : (L : Limits) (h : History) (a s : ℕ) → check_of L h (Join a s) ≡ Err NotReady → settled h s ≡ false
 unfolding check_of scope_check ready
 unready L h a s is =
@@ -108,7 +108,7 @@ module _ (core after final : CoreValue) (old new : OwnerValue) (s : ℕ) (same :
         | inr none ↦ let both : Memory ≡ NotReady = sym none.memory ∙ named in absurd cc
       ]
 
-  -- the same where the outcome is told without the lists
+  -- the same if the outcome is told without the lists
   pub join_bare_busy : (result : Result BareOutcome Refusal) → Stepped core after new (Happened (Join old.actor s)) (is_ok result) → JoinsBare old new s result → result ≡ Err NotReady → settled (history_of final.steps) s ≡ false
   join_bare_busy (Ok outcome) stepped did is = absurd cc
   join_bare_busy (Err r) stepped did is = let named : r ≡ NotReady = cc in busy_by r named stepped did.1
@@ -133,7 +133,7 @@ busy_at core there realm s t same lent held finds =
     let here : FoundUnsettled (history_of core.steps) s (Some t) = subst (λ (k : CoreValue). FoundUnsettled (history_of k.steps) s (Some t)) same (subst (λ (r : Realm). FoundUnsettled r.history s (Some t)) lent finds) in
     (here held.opens.opened held.opens.is held.opens.unclosed).busy
 
--- where nothing is found, nothing holds it up
+-- if nothing is found, nothing holds it up
 pub none_busy : (core there : CoreValue) (realm : Realm) (s : ℕ) → there ≡ core → realm ≡ record { limits = there.limits; history = history_of there.steps } → IsHeldUp (history_of core.steps) s → FoundUnsettled realm.history s None → ⊥
 none_busy core there realm s same lent held finds =
     let here : FoundUnsettled (history_of core.steps) s None = subst (λ (k : CoreValue). FoundUnsettled (history_of k.steps) s None) same (subst (λ (r : Realm). FoundUnsettled r.history s None) lent finds) in

@@ -75,7 +75,7 @@ pub begun_turned : (old mid new : OwnerValue) (s now : ℕ) → SeesMore old mid
 begun_turned old mid new s now same it (inl look) = of_first old mid (history_seen new) s same (begun_looked mid.limits mid.actor s mid.seen new.seen look.1 (of_mid old mid (history_seen mid) s same it))
 begun_turned old mid new s now same it (inr tick) = of_first old mid (history_seen new) s same (begun_asked mid new s (ask.Tick now) tick.adds (of_mid old mid (history_seen mid) s same it))
 
--- and where the tick is refused
+-- and if the tick is refused
 pub begun_refused : (old mid new : OwnerValue) (s now : ℕ) (r : Refusal) → SeesMore old mid → IsBegun (history_seen mid) old.actor s → TickRefused mid new now r → IsBegun (history_seen new) old.actor s
 begun_refused old mid new s now r same it tick =
     let looks : HasLooked mid new = elim tick.refused [ inl by ↦ by.looks | inr none ↦ none.looks ] in
@@ -85,7 +85,7 @@ begun_refused old mid new s now r same it tick =
 pub begun_ticked : (old mid new : OwnerValue) (s now : ℕ) → Looked old mid → IsBegun (history_seen mid) old.actor s → Ticks mid new now → IsBegun (history_seen new) new.actor s
 begun_ticked old mid new s now look it tick = subst (λ (a : ℕ). IsBegun (history_seen new) a s) (sym (ap (λ (t : OwnerValue). t.actor) (tick.same ∙ ap (λ (t : OwnerValue). record t { seen = new.seen }) look.0))) (begun_turned old mid new s now look.0 it (inr tick))
 
--- what is so where there is none
+-- what is so if there is none
 pub none_of : {A : Type 0} (o : Option A) (P : Type 0) (Q : A → Type 0) → o ≡ None → MatchOption o P Q → P
 none_of None P Q is it = it
 none_of (Some a) P Q is it = absurd cc

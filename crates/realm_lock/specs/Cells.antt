@@ -1,4 +1,4 @@
--- What is answered where the cell of a scope is asked for.
+-- What is answered if the cell of a scope is asked for.
 use Rattle.std.specs.Prelude.{◌≡◌, ℕ, ◌⊎◌, None, Result, Ok, Err}
 use Rattle.scope_rules.specs.declared.types.refusals.Refusal.{Refusal}
 use Rattle.scope_rules.specs.declared.types.refusals.Refusal.TheVariants.{Memory}
@@ -6,7 +6,7 @@ use Rattle.scope_rules.specs.History.{History}
 use Rattle.scope_rules.specs.Checks.{scope_check}
 use Rattle.cancel_marks.specs.Seats.{CellValue, Seen}
 
--- the cell is that of scope s after h: it is refused for an unknown scope, and where a share of it is
+-- the cell is that of scope s after h: it is refused for an unknown scope, and if a share of it is
 abbrev pub GivesCell : History → ℕ → Result CellValue Refusal → Type 0
 GivesCell h s (Ok cell) = (scope_check h s ≡ Ok tt) × (cell.scope ≡ s)
 GivesCell h s (Err refusal) = (scope_check h s ≡ Err refusal) ⊎ ((scope_check h s ≡ Ok tt) × (refusal ≡ Memory))

@@ -1,4 +1,4 @@
--- What the end of a task answers, where ticket and token are handed in and handed back.
+-- What the end of a task answers, if ticket and token are handed in and handed back.
 use Rattle.std.specs.Prelude.{Result, Ok, Err}
 use Rattle.scope_rules.specs.declared.types.refusals.Refusal.{Refusal}
 use Rattle.scope_rules.specs.Ends.{EndValue}

@@ -18,7 +18,7 @@ pub record MarksValue : Type 0 where
 abbrev pub mark_of : History → ℕ → Option Cancellation
 mark_of h s = option_and_then (λ at. option_map (λ c. record { cause = c; number = at }) (cause h s)) (cancelled_at h s)
 
--- the setter is that of scope s, and was used just where the scope is cancelled after h: for its cause, with its
+-- the setter is that of scope s, and was used just if the scope is cancelled after h: for its cause, with its
 -- place
 pub record IsSetterOf (h : History) (s : ℕ) (setter : SetterValue) : Type 0 where
   pub of : setter.cell.scope ≡ s
@@ -43,7 +43,7 @@ pub record CancelsGrow (h k : History) : Type 0 where
   pub kept : (s : ℕ) (m : Cancellation) → mark_of h s ≡ Some m → (mark_of k s ≡ Some m) × (m.number < length h.events)
   pub fresh : (s : ℕ) (m : Cancellation) → mark_of h s ≡ None → mark_of k s ≡ Some m → length h.events ≤ m.number
 
--- the marks were those of an earlier history, and beside them stand the setters of the scopes that were opened
+-- the marks were those of an earlier history, and beside them are the setters of the scopes that were opened
 -- since, which were not used
 pub record AreBehind (k : History) (marks : MarksValue) : Type 0 where
   pub then : History

@@ -9,12 +9,12 @@ abbrev pub scope_alone : {A B : Type 0} → Result (ℕ × A) (Refusal × B) →
 scope_alone (Ok opened) = Ok opened.0
 scope_alone (Err back) = Err back.0
 
--- the same where cell and seat are answered too
+-- the same if cell and seat are answered too
 abbrev pub scope_marked : {A B D : Type 0} → Result (ℕ × A × D) (Refusal × B) → Result ℕ Refusal
 scope_marked (Ok opened) = Ok opened.0
 scope_marked (Err back) = Err back.0
 
--- what is refused where a check was passed or not, and there is no room
+-- what is refused if a check was passed or not, and there is no room
 abbrev pub refusal_of : Checked → Refusal
 refusal_of (Ok passed) = Memory
 refusal_of (Err refusal) = refusal

@@ -18,8 +18,8 @@ use std::sync::{MutexGuard, Wait};
 impl<C: Catalog, N: RealmName> Realm<C, N> {
     /// Closes the actor's scope, and all that the actor opened later and has not closed, the latest first
     /// (JEP 505, `close`), and says how the scope was closed. It begins the close if need be, and waits until
-    /// no task of these waits or runs; the ends stand in one hold, that of the beginning where it need not
-    /// wait. It takes no memory. Refused where the actor is no running task or main, and for a scope that is unknown
+    /// no task of these waits or runs; the ends are in one hold, that of the beginning if it need not
+    /// wait. It takes no memory. Refused if the actor is no running task or main, and for a scope that is unknown
     /// (`NoScope`, `Retired`), another's (`NotOwner`) or closed (`Closed`): so never for a scope that the
     /// token shows as its actor's and not closed. That it returns is not promised.
     pub fn close_bare<R: Wait>(
@@ -43,8 +43,8 @@ impl<C: Catalog, N: RealmName> Realm<C, N> {
     /// The same with a report. The tickets are handed in of each task that got a thread, of the scopes
     /// that are closed, and no other; each has ended. The report shows each of these scopes' logs, with
     /// one start and one finish of each such task, and its ticket's end; all of it is made before the
-    /// first end, in the same hold. Refused as `close_bare` is; and once it has begun only where the
-    /// tickets are not these (`NotReady`), and where memory is refused for the report (`Memory`): then the
+    /// first end, in the same hold. Refused as `close_bare` is; and once it has begun only if the
+    /// tickets are not these (`NotReady`), and if memory is refused for the report (`Memory`): then the
     /// scope is closing and not closed. Each refusal hands the tickets back, in any order.
     pub fn close<R: Wait>(
         &self,
@@ -97,7 +97,7 @@ impl<C: Catalog, N: RealmName> Realm<C, N> {
         self.end_held(rt, locked, token, scope)
     }
 
-    /// The same, where the lock is held.
+    /// The same, if the lock is held.
     fn end_held<'a, R: Wait>(
         &'a self,
         rt: &R,
@@ -124,7 +124,7 @@ impl<C: Catalog, N: RealmName> Realm<C, N> {
         unreachable!()
     }
 
-    /// Waits until the close that has begun can end, and ends it with a report, where the tickets are
+    /// Waits until the close that has begun can end, and ends it with a report, if the tickets are
     /// those of it.
     pub fn end_reporting<R: Wait>(
         &self,

@@ -12,14 +12,14 @@ use scope_rules::{
 use share_ledger::{Ask, OwnerShare, RealmStep};
 use std::sync::Wait;
 
-/// The commands with a token, each one hold of the lock. Where one is accepted, what the token has seen
+/// The commands with a token, each one hold of the lock. If one is accepted, what the token has seen
 /// then ends with exactly its step, and the reply is the rules' on the steps before; else nothing is
 /// added, and the refusal, or that all is so already, is the rules' on what the token has seen by then.
 /// A cancel, a move and a tick are steps of the token that asked for them: no other call adds one.
-/// `Memory` is answered only where the command would be accepted there.
+/// `Memory` is answered only if the command would be accepted there.
 impl<C: Catalog, N: RealmName> Realm<C, N> {
     /// Forks the next task in the actor's scope (JEP 505, `fork`), and gives its ticket, unless the scope
-    /// is cancelled. Refused where the actor is no running task or main, for a scope that is unknown
+    /// is cancelled. Refused if the actor is no running task or main, for a scope that is unknown
     /// (`NoScope`, `Retired`), another's (`NotOwner`), closing or closed (`Closed`) or joined
     /// (`AlreadyJoined`), while the actor's bindings are not those at the scope's opening (`Structure`;
     /// JEP 506), and where a limit is met (`TooMany`).
@@ -39,7 +39,7 @@ impl<C: Catalog, N: RealmName> Realm<C, N> {
         locked.fork(token, scope, label)
     }
 
-    /// Binds the key above the actor's other bindings (JEP 506, `where`). Refused where the actor is no
+    /// Binds the key above the actor's other bindings (JEP 506, `where`). Refused if the actor is no
     /// running task or main, and where the limit of load is met (`TooMany`).
     pub fn bind<R: Wait>(
         &self,
@@ -58,7 +58,7 @@ impl<C: Catalog, N: RealmName> Realm<C, N> {
         told_done(locked.perform(token, &Event::Bind { actor, binding }))
     }
 
-    /// Takes away the actor's last own binding. Refused where the actor is no running task or main, has
+    /// Takes away the actor's last own binding. Refused if the actor is no running task or main, has
     /// no own binding (`NotBound`), or has a scope open or closing that was opened while the binding
     /// stood (`Structure`), and where the limit of load is met (`TooMany`).
     pub fn unbind<R: Wait>(&self, rt: &R, token: &mut OwnerShare) -> Result<(), Refusal>
@@ -73,7 +73,7 @@ impl<C: Catalog, N: RealmName> Realm<C, N> {
 
     /// Begins to close the actor's scope, and with it each scope that the actor opened later and has not
     /// closed (JEP 505, `close` cancels first). A scope that is closing or closed stays as it is.
-    /// Refused where the actor is no running task or main, and for a scope that is unknown (`NoScope`,
+    /// Refused if the actor is no running task or main, and for a scope that is unknown (`NoScope`,
     /// `Retired`) or another's (`NotOwner`). It takes no memory.
     pub fn begin_close<R: Wait>(
         &self,
@@ -108,7 +108,7 @@ impl<C: Catalog, N: RealmName> Realm<C, N> {
 
     /// Sets the deadline of the scope anew, in milliseconds, or takes it away, with any actor's token
     /// (Trio: a cancel scope's deadline may be moved). Refused for a scope that is unknown (`NoScope`,
-    /// `Retired`), closing or closed (`Closed`) or joined (`AlreadyJoined`), and where the limit of load
+    /// `Retired`), closing or closed (`Closed`) or joined (`AlreadyJoined`), and if the limit of load
     /// is met (`TooMany`).
     pub fn move_deadline<R: Wait>(
         &self,
@@ -128,7 +128,7 @@ impl<C: Catalog, N: RealmName> Realm<C, N> {
         told_done(told)
     }
 
-    /// Sets the moment, in milliseconds, with any actor's token. Refused for a moment before the present
+    /// Sets the realm's time, in milliseconds, with any actor's token. Refused for a moment before the present
     /// one (`ClockBack`), and where the limit of load is met (`TooMany`).
     pub fn tick<R: Wait>(&self, rt: &R, token: &mut OwnerShare, now: u64) -> Result<(), Refusal>
         requires named { token.old.table ≡ N.table }
@@ -140,7 +140,7 @@ impl<C: Catalog, N: RealmName> Realm<C, N> {
     }
 
     /// Takes the events out and leaves a base, once main's outermost scope is closed; what is left goes
-    /// on, with numbers after the base's. It answers that base. Refused where the token's actor is no
+    /// on, with numbers after the base's. It answers that base. Refused if the token's actor is no
     /// running task or main, is not main (`NotOwner`), and while main has a scope that is not closed
     /// (`Structure`).
     pub fn retire<R: Wait>(&self, rt: &R, token: &mut OwnerShare) -> Result<Base, Refusal>

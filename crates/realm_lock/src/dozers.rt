@@ -14,7 +14,7 @@ pub(crate) enum Bed {
 }
 
 impl Bed {
-    /// The same for one holder more. None where std's count of holders is full.
+    /// The same for one holder more. None if std's count of holders is full.
     pub(crate) fn share(&self) -> Option<Bed> {
         match self {
             Bed::Cell(cell) => Some(Bed::Cell(cell.share().ok()?)),
@@ -31,7 +31,7 @@ pub(crate) struct Noted {
 
 /// The calls that sleep now and wait by a clock. One of them watches: it sleeps until the realm's next
 /// deadline. The others sleep until they are woken, or a deadline in effect for themselves. So a deadline
-/// wakes two calls at most, and not all. Where nobody watches, one of them has been woken, and will watch or
+/// wakes two calls at most, and not all. If nobody watches, one of them has been woken, and will watch or
 /// wake another.
 #[derive(Drop)]
 pub(crate) struct Dozers {
@@ -48,7 +48,7 @@ impl Dozers {
         }
     }
 
-    /// Notes that a call goes to sleep in the bed; it watches, if nobody does. None where the note is refused
+    /// Notes that a call goes to sleep in the bed; it watches, if nobody does. None if the note is refused
     /// memory.
     pub(crate) fn enter(&mut self, bed: Bed) -> Option<Noted>
         ensures watches { IfSome result (λ noted. self.old.watcher ≡ None → self.new.watcher ≡ Some noted.place) }

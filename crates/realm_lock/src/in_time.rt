@@ -20,7 +20,7 @@ use scope_rules::{Catalog, Event, Refusal, ScopeId};
 use share_ledger::{OwnerShare, RealmStep};
 
 /// The holds of waits by a clock, which has read `now`: each looks whether the wait is over, and if not, ticks
-/// where a deadline has come by then, and looks again.
+/// if a deadline has come by then, and looks again.
 impl<C: Catalog, N: RealmName> MarkedCore<C, N> {
     /// Whether a deadline has come.
     fn is_due(&self, now: u64) -> bool
@@ -47,7 +47,7 @@ impl<C: Catalog, N: RealmName> MarkedCore<C, N> {
         told_done(result)
     }
 
-    /// Passes the time: ticks where a deadline has come, and answers whether it did; else it looks.
+    /// Passes the time: ticks if a deadline has come, and answers whether it did; else it looks.
     pub(crate) fn pass_due(&mut self, token: &mut OwnerShare, now: u64) -> Result<bool, Refusal>
         requires named { token.old.table ≡ N.table }
         ensures passes { MatchResult result (PassesDue token.old token.new now) (TickRefused token.old token.new now) }

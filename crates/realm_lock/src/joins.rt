@@ -13,7 +13,7 @@ impl<C: Catalog, N: RealmName> Realm<C, N> {
     /// Joins the actor's scope (JEP 505, `join`): waits until the scope is cancelled or all its tasks
     /// have ended, and gives its outcome and its log, with the join at the end. Nothing is recorded
     /// while it waits. All that it gives is made before the join is recorded, so want of memory leaves
-    /// the scope unjoined. Refused where the actor is no running task or main, for a scope that is
+    /// the scope unjoined. Refused if the actor is no running task or main, for a scope that is
     /// unknown (`NoScope`, `Retired`), another's (`NotOwner`), closing or closed (`Closed`) or joined
     /// (`AlreadyJoined`). That it returns is not promised.
     pub fn join<R: Wait>(

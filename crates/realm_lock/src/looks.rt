@@ -37,7 +37,7 @@ impl<C: Catalog, N: RealmName> Realm<C, N> {
         look.look(locked.core().realm())
     }
 
-    /// What the look reads off the realm as it stands, without a token: any thread that has a share of the
+    /// What the look reads off the realm as it is, without a token: any thread that has a share of the
     /// realm may ask, while all tokens are in use. So what is answered is known to be of a history that such a
     /// realm may come to; that it is the present one, tests show.
     pub fn look_from_outside<R: Wait, L: Look>(&self, rt: &R, look: L) -> L::Answer

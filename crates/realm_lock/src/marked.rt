@@ -141,7 +141,7 @@ impl<C: Catalog, N: RealmName> MarkedCore<C, N> {
         result
     }
 
-    /// Joins a scope, where it may be joined already.
+    /// Joins a scope, if it may be joined already.
     #[tactic(auto, using(crate::proofs::Behind::behind_stepped))]
     pub(crate) fn join(&mut self, token: &mut OwnerShare, scope: ScopeId) -> Result<Joined, Refusal>
         requires named { token.old.table ≡ N.table }
@@ -157,7 +157,7 @@ impl<C: Catalog, N: RealmName> MarkedCore<C, N> {
         result
     }
 
-    /// The same, where the outcome is told without the lists.
+    /// The same, if the outcome is told without the lists.
     #[tactic(auto, using(crate::proofs::Behind::behind_stepped))]
     pub(crate) fn join_bare(
         &mut self,
@@ -209,7 +209,7 @@ impl<C: Catalog, N: RealmName> MarkedCore<C, N> {
         result
     }
 
-    /// Records that no thread was had for the ticket's task.
+    /// Records that no thread was available for the ticket's task.
     #[tactic(auto, using(crate::proofs::Behind::behind_added))]
     pub(crate) fn reject(&mut self, ticket: &mut Ticket)
         requires named { ticket.old.table ≡ N.table }
@@ -322,7 +322,7 @@ impl<C: Catalog, N: RealmName> MarkedCore<C, N> {
         }
     }
 
-    /// Notes that a call goes to sleep in the bed that waits by a clock. None where no note is had.
+    /// Notes that a call goes to sleep in the bed that waits by a clock. None if no note is obtained.
     pub(crate) fn note_dozer(&mut self, bed: &Bed) -> Option<Noted>
         ensures { self.new ≡ self.old }
     {
@@ -477,7 +477,7 @@ impl<C: Catalog, N: RealmName> MarkedCore<C, N> {
         }
     }
 
-    /// What an open is refused for where there is no room for it: what the rules refuse it for, or else
+    /// What an open is refused for if there is no room for it: what the rules refuse it for, or else
     /// want of memory.
     fn refusal_without_room(&mut self, token: &mut OwnerShare) -> Refusal
         requires named { token.old.table ≡ N.table }
@@ -503,7 +503,7 @@ impl<C: Catalog, N: RealmName> MarkedCore<C, N> {
     }
 }
 
-/// The refusal, or want of memory where there is none.
+/// The refusal, or want of memory if there is none.
 fn refusal_or_memory(answer: Result<(), Refusal>) -> Refusal
     ensures { result ≡ refusal_of answer }
 {

@@ -11,7 +11,7 @@ use std::sync::Wait;
 impl<C: Catalog, N: RealmName> Realm<C, N> {
     /// Waits until the cell of a scope of this realm is set, and gives the mark: the same that a seat was
     /// given before. It sleeps at the cell, and looks under the lock under which the cell is set, so no
-    /// cancel comes between its look and its sleep. That it returns is not promised: where the scope
+    /// cancel comes between its look and its sleep. That it returns is not promised: if the scope
     /// is never cancelled it doesn't.
     pub fn wait_marked<R: Wait>(&self, rt: &R, cell: &MarkCell, seat: &mut Seat) -> Mark
         requires { seat.old.cell ≡ cell.now }

@@ -18,8 +18,8 @@ use std::sync::Wait;
 /// Scopes and their cells. The room for a scope's cell is made before the scope is opened; the cell is
 /// set in the hold of the event by which the scope becomes cancelled.
 impl<C: Catalog, N: RealmName> Realm<C, N> {
-    /// Opens a scope for the token's actor, inside what lies around it (JEP 505, `open`). Refused where
-    /// the actor is no running task or main, where its innermost scope is closing (`Closed`), past level
+    /// Opens a scope for the token's actor, inside what lies around it (JEP 505, `open`). Refused if
+    /// the actor is no running task or main, if its innermost scope is closing (`Closed`), past level
     /// 16 (`TooDeep`), and where a limit is met (`TooMany`); the joiner is then handed back.
     pub fn open<R: Wait>(
         &self,
@@ -62,7 +62,7 @@ impl<C: Catalog, N: RealmName> Realm<C, N> {
         }
     }
 
-    /// The same without a seat. Who waits by a clock is woken where there is a deadline, which may be the
+    /// The same without a seat. Who waits by a clock is woken if there is a deadline, which may be the
     /// next to come.
     fn open_with_cell<R: Wait>(
         &self,
@@ -84,7 +84,7 @@ impl<C: Catalog, N: RealmName> Realm<C, N> {
     }
 
     /// The cell of the scope and a seat at it, which was shown nothing yet, with any actor's token.
-    /// Refused for an unknown scope (`NoScope`, `Retired`), and where std's count of holders of the cell
+    /// Refused for an unknown scope (`NoScope`, `Retired`), and if std's count of holders of the cell
     /// is full (`Memory`).
     pub fn cell<R: Wait>(
         &self,

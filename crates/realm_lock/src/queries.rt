@@ -18,8 +18,8 @@ use std::sync::Wait;
 /// The queries with a token, each one hold of the lock. Each adds nothing, and answers its definition of
 /// what the token has seen then; in that each end fits its task's label. None takes memory.
 impl<C: Catalog, N: RealmName> Realm<C, N> {
-    /// What the token's actor sees the key bound to (JEP 506, `ScopedValue.get`). Refused where the actor
-    /// is no running task or main, and where nothing is bound to the key (`NotBound`).
+    /// What the token's actor sees the key bound to (JEP 506, `ScopedValue.get`). Refused if the actor
+    /// is no running task or main, and if nothing is bound to the key (`NotBound`).
     pub fn get<R: Wait>(&self, rt: &R, token: &mut OwnerShare, key: &Name) -> Result<Value, Refusal>
         requires named { token.old.table ≡ N.table }
         ensures answer { Reads token.old token.new (λ h. result ≡ binding_reply h token.new.actor key.now) }
@@ -32,7 +32,7 @@ impl<C: Catalog, N: RealmName> Realm<C, N> {
     }
 
     /// The value of the task, read by the owner of its scope after the join (JEP 505, `Subtask.get`).
-    /// Refused where the actor is no running task or main, for a task that is unknown (`NoTask`,
+    /// Refused if the actor is no running task or main, for a task that is unknown (`NoTask`,
     /// `Retired`) or of another's scope (`NotOwner`), before the join (`NotJoined`), and for one that
     /// can't be read (`Unavailable`) or failed (`NotSuccess`).
     pub fn result<R: Wait>(

@@ -13,7 +13,7 @@ use std::sync::{Arc, Condvar, Mutex};
 
 /// The lock of a realm, and what those sleep on who wait for a moment alone. It is generic in what lies
 /// under the lock, so that the check shows of any that may go to another thread that this may too; a realm's
-/// own is named where it has methods.
+/// own is named if it has methods.
 #[derive(Drop)]
 pub(crate) struct Room<K: Drop> {
     pub(crate) locked: Mutex<K>,
@@ -30,7 +30,7 @@ pub struct Realm<C: Catalog, N: RealmName> {
 }
 
 impl<C: Catalog, N: RealmName> Realm<C, N> {
-    /// A realm that begins, and main's token, which has seen nothing yet, and so no scope. Refused where
+    /// A realm that begins, and main's token, which has seen nothing yet, and so no scope. Refused if
     /// memory is (`Memory`).
     pub fn new(
         alloc: Global,
@@ -52,7 +52,7 @@ impl<C: Catalog, N: RealmName> Realm<C, N> {
         }
     }
 
-    /// A share for one holder more, as for another thread. Nothing is copied; it is refused only where
+    /// A share for one holder more, as for another thread. Nothing is copied; it is refused only if
     /// std's count of holders is full (`Memory`).
     pub fn share(&self) -> Result<Realm<C, N>, Refusal>
         ensures { MatchResult result (λ _. Unit {0}) (λ refusal. refusal ≡ Memory) }

@@ -41,7 +41,7 @@ impl Setters {
         }
     }
 
-    /// Room for what is kept of one scope more, if it is had.
+    /// Room for what is kept of one scope more, if it is obtained.
     pub(crate) fn make_room(&mut self, alloc: Global) -> Option<CellRoom>
         ensures kept { self.new ≡ record self.old { room = self.new.room } }
         ensures room { OnSome result (length self.new.setters < self.new.room) }

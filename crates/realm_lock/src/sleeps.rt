@@ -43,7 +43,7 @@ impl<C: Catalog, N: RealmName> Realm<C, N> {
     }
 
     /// Sleeps at the cell of the scope, of which a task waits or runs, until it is woken or a deadline has
-    /// come; the clock has read `now`, and none has come by then. Where the cell isn't had, since std's count
+    /// come; the clock has read `now`, and none has come by then. If the cell isn't had, since std's count
     /// of holders is full, it doesn't sleep.
     pub(crate) fn doze_at<'a, R: Wait + SystemTime>(
         &'a self,

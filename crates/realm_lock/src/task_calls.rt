@@ -17,7 +17,7 @@ use std::sync::Wait;
 /// The calls with a ticket, each one hold of the lock. None takes memory, and none can find its task at
 /// another stage than the ticket says. In what the ticket has seen then, each end fits its task's label.
 impl<C: Catalog, N: RealmName> Realm<C, N> {
-    /// Records that no thread was had for the ticket's task.
+    /// Records that no thread was available for the ticket's task.
     pub fn reject<R: Wait>(&self, rt: &R, mut ticket: Ticket) -> Ticket
         requires named { ticket.table ≡ N.table }
         requires waiting { IsWaiting ticket }
@@ -59,7 +59,7 @@ impl<C: Catalog, N: RealmName> Realm<C, N> {
     }
 
     /// Records the end of the ticket's task, which runs, and takes the task's token. Refused only while
-    /// the task has a scope that is not closed (`Structure`), so never where the token shows that it has none;
+    /// the task has a scope that is not closed (`Structure`), so never if the token shows that it has none;
     /// then ticket and token are handed back, and the task runs on.
     pub fn finish<R: Wait>(
         &self,

@@ -21,9 +21,9 @@ use std::sync::Wait;
 /// The waits by a clock (Trio, whose run loop wakes at the next deadline): each does what the wait of the
 /// same name does, and passes the realm's time meanwhile, so that deadlines pass while all wait. It sleeps
 /// until it is woken or a deadline in effect for it has come; one of those who wait so wakes at each deadline,
-/// whoever's it is, and when its wait ends another does. Who wakes ticks to what its clock reads, if a deadline
+/// whoever owns it, and when its wait ends another does. Who wakes ticks to what its clock reads, if a deadline
 /// has come: so there is at most one tick for each deadline, however many wait. A tick that is refused, as
-/// where the load is used up (`TooMany`), is the wait's answer, and what it waited for hasn't been done. The
+/// if the load is used up (`TooMany`), is the wait's answer, and what it waited for hasn't been done. The
 /// clock is read without the lock. That a wait wakes in time is not promised.
 impl<C: Catalog, N: RealmName> Realm<C, N> {
     /// Joins the actor's scope as `join` does.
@@ -60,7 +60,7 @@ impl<C: Catalog, N: RealmName> Realm<C, N> {
 
     /// Begins to close the actor's scope, if need be, as `begin_close` does, and waits until the close can
     /// end: until no task waits or runs of the scope, and of what its owner opened later. Then `close` and
-    /// `close_bare` need not wait. Refused as a close is before it begins, and where a tick is.
+    /// `close_bare` need not wait. Refused as a close is before it begins, and if a tick is.
     pub fn await_close_by<R: Wait + SystemTime, K: Clock>(
         &self,
         rt: &R,
@@ -117,7 +117,7 @@ impl<C: Catalog, N: RealmName> Realm<C, N> {
     }
 
     /// Waits until the cell of a scope of this realm is set, as `wait_marked` does, and gives the mark; or
-    /// until the moment `until`, in milliseconds, and gives none (Trio, `sleep_until`). Where both have
+    /// until the time `until`, in milliseconds, and gives none (Trio, `sleep_until`). If both have
     /// come it gives the mark; a deadline that has come by `until` is passed first.
     pub fn wait_marked_by<R: Wait + SystemTime, K: Clock>(
         &self,
@@ -163,7 +163,7 @@ impl<C: Catalog, N: RealmName> Realm<C, N> {
         unreachable!()
     }
 
-    /// Sleeps until the moment, in milliseconds (Trio, `sleep_until`). A deadline that has come by then is
+    /// Sleeps until this time of the realm, in milliseconds (Trio, `sleep_until`). A deadline that has come by then is
     /// passed first.
     pub fn sleep_by<R: Wait + SystemTime, K: Clock>(
         &self,

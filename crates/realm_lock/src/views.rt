@@ -12,7 +12,7 @@ use std::sync::Wait;
 
 impl<C: Catalog, N: RealmName> Realm<C, N> {
     /// What there is to see of the scope, with any actor's token. It holds all that the token had seen
-    /// before. Refused for an unknown scope (`NoScope`, `Retired`), and where memory is refused
+    /// before. Refused for an unknown scope (`NoScope`, `Retired`), and if memory is refused
     /// (`Memory`).
     pub fn view<R: Wait>(
         &self,
@@ -29,8 +29,8 @@ impl<C: Catalog, N: RealmName> Realm<C, N> {
         view_of(locked.core().realm(), scope)
     }
 
-    /// The same, where the scope is cancelled as the mark says: for its cause, by the event at its place
-    /// since the last retirement. The two are compared under the lock. Refused also where they differ
+    /// The same, if the scope is cancelled as the mark says: for its cause, by the event at its place
+    /// since the last retirement. The two are compared under the lock. Refused also if they differ
     /// (`Unavailable`), which no mark of the scope's own cell is met with.
     pub fn view_with<R: Wait>(
         &self,
@@ -49,7 +49,7 @@ impl<C: Catalog, N: RealmName> Realm<C, N> {
     }
 
     /// All events since the last retirement, in order, with any actor's token: the history that the token
-    /// has seen then, read in one hold. Refused where memory is (`Memory`).
+    /// has seen then, read in one hold. Refused if memory is (`Memory`).
     pub fn history<R: Wait>(&self, rt: &R, token: &mut OwnerShare) -> Result<Vec<Event>, Refusal>
         requires named { token.old.table ≡ N.table }
         ensures { Reads token.old token.new (λ h. MatchResult result (λ events. events.items ≡ h.events) (λ refusal. refusal ≡ Refusal.Memory) × Fitting C.fitting h) }

@@ -1,4 +1,4 @@
-//! The sequential realm: a book of scopes and tasks that is told each command and answers each
+//! The sequential realm: a book of scopes and tasks that applies each command and answers each
 //! question. It is the replay of its legal history, in which every end fits its task's label.
 #![tactic(auto)]
 

@@ -41,7 +41,7 @@ passed_owner h a s o passed is =
     let owner = owner_passed h a s passed in
     ap (λ (x : Opening). x.actor) (some_same o owner.opened (sym is ∙ owner.is)) ∙ owner.by
 
--- in a scope that is the actor's and not closing, the bindings are those of the opening where the stack is
+-- in a scope that is the actor's and not closing, the bindings are those of the opening if the stack is
 -- as high as then
 pub passed_bound : (L : Limits) (h : History) (a s : ℕ) (o : Opening) → Legal L h → Passes (owner_check h a s) → Passes (refuse_closing h s) → opening h s ≡ Some o
     → bound_as_opened h a s ≡ (length (stack h a) == length (stack_then h o))

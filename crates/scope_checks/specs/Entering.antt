@@ -18,11 +18,11 @@ Enters old e value result new = Answers (check_of old.limits old.history e) valu
 abbrev pub EntersOrMemory : {A : Type 0} → Realm → Event → A → Result A Refusal → Realm → Type 0
 EntersOrMemory old e value result new = AnswersOrMemory (check_of old.limits old.history e) value result × (new ≡ after old e result)
 
--- it is told whether all was so already, and adds its event where it was not
+-- it is told whether all was so already, and adds its event if it was not
 abbrev pub Notes : Realm → Event → Result Cancelling Refusal → Realm → Type 0
 Notes old e result new = Answers (check_of old.limits old.history e) (recording old.history e) result × (new ≡ after_recording old e result)
 
--- the same, where it adds its event by memory; what was so already takes none
+-- the same, if it adds its event by memory; what was so already takes none
 abbrev pub NotesOrMemory : Realm → Event → Result Cancelling Refusal → Realm → Type 0
 NotesOrMemory old e result new =
     AnswersOrMemory (check_of old.limits old.history e) (recording old.history e) result

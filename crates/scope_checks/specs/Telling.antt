@@ -29,12 +29,12 @@ told_of h (BeginClose actor scope) = noted (is_already h (BeginClose actor scope
 told_of h (EndClose actor scope) = told.Closed (verdict h scope)
 told_of h _ = told.Done
 
--- the event is recorded, where it is accepted, and costs load: it may be refused memory
+-- the event is recorded, if it is accepted, and costs load: it may be refused memory
 abbrev pub wants_memory : History → Event → Bool
 wants_memory h e = not (weight e == 0) && not (is_already h e)
 
--- what a command answered: where it was accepted, every check passed, and it answers the value; it is refused
--- what the check refuses, or memory where it wants that and every check passed
+-- what a command answered: if it was accepted, every check passed, and it answers the value; it is refused
+-- what the check refuses, or memory if it wants that and every check passed
 abbrev pub Answered : {A : Type 0} → Checked → A → Bool → Result A Refusal → Type 0
 Answered check value wants (Ok answer) = (check ≡ Ok tt) × (answer ≡ value)
 Answered check value wants (Err r) = (check ≡ Err r) ⊎ ((check ≡ Ok tt) × (r ≡ Memory) × (wants ≡ true))

@@ -11,7 +11,7 @@ use scope_rules::types::capacity::Limits;
 use scope_rules::types::refusals::Refusal;
 use scope_rules::types::values::{Actor, MAIN, ScopeId, TaskId};
 
-/// Refused where the test holds.
+/// Refused if the test holds.
 pub fn refuse_if(test: bool, refusal: Refusal) -> Result<(), Refusal>
     ensures { result ≡ refuse_if test refusal }
 {
@@ -70,28 +70,28 @@ pub fn owns<R: Readings>(readings: &R, actor: Actor, scope: ScopeId) -> bool
     }
 }
 
-/// Refused where the actor did not open the scope.
+/// Refused if the actor did not open the scope.
 pub fn owner_check<R: Readings>(readings: &R, actor: Actor, scope: ScopeId) -> Result<(), Refusal>
     ensures { result ≡ owner_check (R.history readings.now) actor scope }
 {
     refuse_if(!owns(readings, actor, scope), Refusal::NotOwner)
 }
 
-/// Refused where the scope is closing or closed.
+/// Refused if the scope is closing or closed.
 pub fn refuse_closing<R: Readings>(readings: &R, scope: ScopeId) -> Result<(), Refusal>
     ensures { result ≡ refuse_closing (R.history readings.now) scope }
 {
     refuse_if(readings.closing(scope), Refusal::Closed)
 }
 
-/// Refused where the scope is joined.
+/// Refused if the scope is joined.
 pub fn refuse_joined<R: Readings>(readings: &R, scope: ScopeId) -> Result<(), Refusal>
     ensures { result ≡ refuse_joined (R.history readings.now) scope }
 {
     refuse_if(readings.joined(scope), Refusal::AlreadyJoined)
 }
 
-/// Refused where so much load more would pass the limit.
+/// Refused if so much load more would pass the limit.
 pub fn refuse_full<R: Readings>(readings: &R, limits: &Limits, units: u64) -> Result<(), Refusal>
     ensures { result ≡ refuse_full limits.now (R.history readings.now) units }
 {

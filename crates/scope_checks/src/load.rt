@@ -1,4 +1,4 @@
-//! Where one more scope, one more task or so much load more would pass a limit.
+//! Whether one more scope, one more task or so much load more would pass a limit.
 
 ghost use Rattle.std.specs.Prelude.{◌≡◌};
 ghost use Rattle.scope_rules.specs.Load.{over_load, over_scopes, over_tasks};

@@ -42,7 +42,7 @@ pub fn state<R: Readings>(readings: &R, task: TaskId) -> Result<State, Refusal>
 }
 
 /// The value of the task, read by the owner of its scope after the join (JEP 505, `Subtask.get`).
-/// Refused where the actor is no running task or main, for a task that is unknown (`NoTask`,
+/// Refused if the actor is no running task or main, for a task that is unknown (`NoTask`,
 /// `Retired`) or of another's scope (`NotOwner`), before the join (`NotJoined`), and for one that
 /// can't be read (`Unavailable`) or failed (`NotSuccess`).
 #[tactic(auto, unfolding(scope_rules::specs::Replies::result_reply))]
@@ -177,7 +177,7 @@ pub fn counts<R: Readings>(readings: &R, scope: ScopeId) -> Result<Counts, Refus
 }
 
 /// What the join of the scope answered (JEP 505, the joiners' `result`). Refused for an unknown scope
-/// (`NoScope`, `Retired`), before the join (`NotJoined`), and where memory is refused (`Memory`).
+/// (`NoScope`, `Retired`), before the join (`NotJoined`), and if memory is refused (`Memory`).
 pub fn outcome<R: Readings>(readings: &R, alloc: Global, scope: ScopeId) -> Result<Outcome, Refusal>
     ensures { AnswersValue (outcome_check (R.history readings.now) scope) (outcome (R.history readings.now) scope) result }
 {
@@ -257,8 +257,8 @@ fn scope_stage<R: Readings>(readings: &R, scope: ScopeId) -> ScopeStage
 
 // ---- of actors
 
-/// What the actor sees the key bound to (JEP 506, `ScopedValue.get`). Refused where the actor is no
-/// running task or main, and where nothing is bound to the key (`NotBound`).
+/// What the actor sees the key bound to (JEP 506, `ScopedValue.get`). Refused if the actor is no
+/// running task or main, and if nothing is bound to the key (`NotBound`).
 #[tactic(auto, unfolding(scope_rules::specs::Replies::binding_reply))]
 pub fn binding<R: Readings>(readings: &R, actor: Actor, key: &Name) -> Result<Value, Refusal>
     ensures { result ≡ binding_reply (R.history readings.now) actor key.now }
@@ -277,7 +277,7 @@ fn cause_of(cut: Option<Cut>) -> Option<Cause>
     }
 }
 
-/// The place of the cut, or that of the opening where it is later.
+/// The place of the cut, or that of the opening if it is later.
 fn place_since(opened: usize, cut: Option<Cut>) -> Option<usize>
     ensures { result ≡ option_map (λ c. max opened c.place) cut }
 {

@@ -109,7 +109,7 @@ pub trait Readings {
         requires stands { Passes (refuse_closing (history self.now) scope) }
         ensures { result ≡ bound_as_opened (history self.now) actor scope };
 
-    /// Whether a scope that the actor has not closed was opened while its last pair stood.
+    /// Whether a scope that the actor has not closed was opened while its last pair was there.
     fn holds_last(&self, actor: Actor) -> bool
         requires { Passes (actor_check (history self.now) actor) }
         ensures { result ≡ holds_last (history self.now) actor };

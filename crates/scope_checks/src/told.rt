@@ -1,4 +1,4 @@
-//! What is told where a command is performed: one answer for every command.
+//! What is answered if a command is performed: one answer for every command.
 
 ghost use Rattle.std.specs.Prelude.{◌≡◌};
 ghost use Rattle.scope_checks.specs.Telling.{noting, records};

@@ -245,7 +245,7 @@ module _ (L : Limits) (h : History) (s : ℕ) (legal : Legal L h) (n : ℕ) (wit
       ∙ task_next so_far (filter_map (entry_at h s) (drop (n + 1) (places_of h s))) (tasks (before h place) + 1) actor label
   fork_task _ is fork = absurd cc
 
-  -- the next place's event says its entry, where a fork's task is the next of the scope's
+  -- the next place's event says its entry, if a fork's task is the next of the scope's
   pub next_said : (e : Event) → slice_get h.events place ≡ Some e → said_with (get_or (filter (is_task_of h s) (task_numbers h)) (length (tasks_in so_far)) 0) e ≡ entry_at h s place
   next_said e at =
       let it = there in

@@ -170,7 +170,7 @@ begins before b t is scopes =
 
 -- ---- what the calls do
 
--- the scope's last place, where it was read
+-- the scope's last place, if it was read
 last_read : (t : TrailTable) (s at x : ℕ) → at ≡ place_of t.before s → at < length t.lasts → x ≡ get_or t.lasts at x → x ≡ last_in t s
 last_read t s at x place within read = read ∙ (get_or_default_zero t.lasts at x within ∙ ap (λ i. get_or t.lasts i 0) place)
 

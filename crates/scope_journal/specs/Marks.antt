@@ -1,4 +1,4 @@
--- Where the mark of a cancellation stands among what the events at a scope's places say.
+-- Where the mark of a cancellation is among what the events at a scope's places say.
 use Rattle.std.specs.Prelude.{ℕ, Bool, nat_le, Option, Some, None, option_map, List, count_by}
 use Rattle.std.specs.Option.{option_and_then}
 use Rattle.std.specs.List.{insert}

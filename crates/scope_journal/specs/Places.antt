@@ -31,7 +31,7 @@ scope_of_event h _ = None
 abbrev pub is_of_at : History → ℕ → ℕ → Bool
 is_of_at h s i = option_map_or (is_of (before h i) s) (slice_get h.events i) false
 
--- the place, where the test holds
+-- the place, if the test holds
 abbrev pub if_one : Bool → ℕ → List ℕ
 if_one b i = if b then i ∷ [] else []
 

@@ -20,7 +20,7 @@ EventsAreOfOneScope = (h : History) (s : ℕ) (e : Event) → is_of h s e ≡ tr
 abbrev pub EntriesAreAtPlaces : Type 0
 EntriesAreAtPlaces = (h : History) (s : ℕ) → filter_map (entry_at h s) (places_of h s) ≡ entries_from h s 0 (length h.events)
 
--- an accepted event finds room, where there is room for the load with it
+-- an accepted event finds room, if there is room for the load with it
 abbrev pub EventsFindRoom : Type 0
 EventsFindRoom = (L : Limits) (h : History) (e : Event) (t : TrailTable) → Legal L h → Accepts L h e → HasLoadRoom (followed h e) t.room → AreTrailsOf h t → HasEventRoom t
 

@@ -8,7 +8,7 @@ use Rattle.scope_rows.specs.Steps.{altered}
 pub record TrailTable : Type 0 where
   -- how many scopes were numbered before
   pub before : ℕ
-  -- beside each event the place of the event of the same scope before it, or its own where there is none
+  -- beside each event the place of the event of the same scope before it, or its own if there is none
   pub links : List ℕ
   -- the place of the last event of each scope, in order of the scopes' numbers
   pub lasts : List ℕ
@@ -37,7 +37,7 @@ if_back i link = if nat_lt link i then Some link else None
 abbrev pub back : List ℕ → ℕ → Option ℕ
 back links i = option_and_then (if_back i) (slice_get links i)
 
--- the trail up to a place, or of none, the earliest first, where it has at most so many places: the
+-- the trail up to a place, or of none, the earliest first, if it has at most so many places: the
 -- trail up to the place before it, and then the place
 abbrev pub trail_of : ℕ → List ℕ → Option ℕ → List ℕ
 trail_of zero links place = []

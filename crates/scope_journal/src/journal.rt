@@ -47,8 +47,8 @@ impl Journal {
         }
     }
 
-    /// The journal of a realm that begins with the base, as a retirement leaves it. Refused where the
-    /// base has more pairs than the limit of load (`TooMany`), and where memory is refused (`Memory`).
+    /// The journal of a realm that begins with the base, as a retirement leaves it. Refused if the
+    /// base has more pairs than the limit of load (`TooMany`), and if memory is refused (`Memory`).
     pub fn with_base(alloc: Global, limits: Limits, base: Base) -> Result<Journal, Refusal>
         ensures { AnswersOrMemory (base_check limits base) (starting limits base) (realm_given result) }
     {
@@ -110,7 +110,7 @@ impl Journal {
     ///
     /// # Errors
     ///
-    /// Where memory is refused. Then nothing has changed.
+    /// If memory is refused. Then nothing has changed.
     pub fn reserve(&mut self, units: u64) -> Result<(), AllocError>
         requires { units ≤ 4 }
         ensures ok { OnOk result (units ≤ self.new.spare) }
@@ -125,7 +125,7 @@ impl Journal {
     ///
     /// # Errors
     ///
-    /// `Memory` where memory is refused. Then nothing has changed.
+    /// `Memory` if memory is refused. Then nothing has changed.
     pub fn append(&mut self, event: &Event) -> Result<(), Refusal>
         requires { Accepts self.old.realm.limits self.old.realm.history event.now }
         ensures answer { MatchResult result (λ _. self.new.realm ≡ with_event self.old.realm event.now) (λ refusal. (refusal ≡ Refusal.Memory) × (self.new ≡ self.old)) }

@@ -14,7 +14,7 @@ pub fn entries_are_at_places()
     ensures { EntriesAreAtPlaces }
 {}
 
-/// An accepted event finds room, where there is room for the load with it; and for one that costs
+/// An accepted event finds room, if there is room for the load with it; and for one that costs
 /// nothing there always is.
 pub fn events_find_room()
     ensures paid { EventsFindRoom }

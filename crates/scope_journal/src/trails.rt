@@ -18,7 +18,7 @@ use std::marker::Model;
 use std::mem;
 
 /// The places of each scope's events in a realm's history, the first event's at 0. Beside each event
-/// stands the place of the event of the same scope before it, and for each scope the place of its last
+/// is the place of the event of the same scope before it, and for each scope the place of its last
 /// event.
 #[derive(Drop)]
 pub struct Trails {
@@ -39,7 +39,7 @@ impl Model for Trails {
 }
 
 impl Trails {
-    /// No events and no scopes, where so many scopes were numbered before. It takes no memory; that of
+    /// No events and no scopes, if so many scopes were numbered before. It takes no memory; that of
     /// later calls comes from `alloc`.
     pub fn new(alloc: Global, before: u32) -> Trails
         ensures trails { result ≡ no_trails before }
@@ -56,7 +56,7 @@ impl Trails {
     ///
     /// # Errors
     ///
-    /// Where `alloc` refuses the memory of the list.
+    /// If `alloc` refuses the memory of the list.
     pub fn places(&self, alloc: Global, scope: ScopeId) -> Result<Vec<u32>, AllocError>
         requires { HasTrail self.now scope }
         ensures list { IfOk result (λ places. places.items ≡ trail_in self.now scope) }
@@ -76,7 +76,7 @@ impl Trails {
     ///
     /// # Errors
     ///
-    /// Where memory is refused. Then nothing has changed.
+    /// If memory is refused. Then nothing has changed.
     pub fn reserve(&mut self, load: u64) -> Result<(), AllocError>
         ensures ok { OnOk result (load ≤ self.new.room) }
         ensures kept { self.new ≡ record self.old { room = self.new.room } }
@@ -91,7 +91,7 @@ impl Trails {
     ///
     /// # Errors
     ///
-    /// Where memory is refused. Then nothing has changed.
+    /// If memory is refused. Then nothing has changed.
     pub fn reserve_scope(&mut self) -> Result<(), AllocError>
         ensures ok { OnOk result (1 ≤ self.new.spare) }
         ensures kept { self.new ≡ record self.old { spare = self.new.spare } }
@@ -101,7 +101,7 @@ impl Trails {
         self.lasts.reserve(1)
     }
 
-    /// Adds the event at this place, which opens the next scope, where there is room for both. It takes
+    /// Adds the event at this place, which opens the next scope, if there is room for both. It takes
     /// no memory.
     pub fn open(&mut self, place: u32)
         requires place { place ≡ length self.old.links }
@@ -148,7 +148,7 @@ impl Trails {
         if link < place { Some(link) } else { None }
     }
 
-    /// Where the place of the scope's last event stands.
+    /// Where the place of the scope's last event is.
     fn place(&self, scope: ScopeId) -> usize
         requires { HasTrail self.now scope }
         ensures place { result ≡ place_of self.now.before scope }

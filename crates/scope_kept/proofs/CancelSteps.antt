@@ -68,7 +68,7 @@ cancelled_next L h s old new legal was has is =
 
 -- ---- a tick
 
--- the deadline passes where it was still to come
+-- the deadline passes if it was still to come
 abbrev pub passes : ℕ → ℕ → Option ℕ → Bool
 passes before now deadline = is_past now (to_come before deadline)
 
@@ -146,7 +146,7 @@ ticked_next L h now old new legal was stepped moment_is accounts =
 
 -- ---- a move
 
--- the row with the new deadline, and with its own cancel where that has passed
+-- the row with the new deadline, and with its own cancel if that has passed
 abbrev pub moved : ℕ → ℕ → Option ℕ → ℕ → Told → Told
 moved now place deadline n t = cond (is_past now deadline) (with_own (cut_at place n Deadline) (with_deadline deadline t)) (with_deadline deadline t)
 

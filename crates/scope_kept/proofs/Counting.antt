@@ -54,7 +54,7 @@ fires_counted old mid s d a b step at says x list is stands =
     let then = stands-push from.was a list d from.by.totals from.by.seen from.by.joiner (subst (λ w. StandsFor w list) (sym one) stands) in
     says (list ++ d ∷ []) then ∙ ap (λ p. fires p (list ++ d ∷ [])) (from.by.joiner.policy ∙ ap (λ (w : JoinerStanding). w.policy) one)
 
--- it is counted, and cancels the scope where that answer is yes
+-- it is counted, and cancels the scope if that answer is yes
 pub completed_so : (old mid new : CutTable) (s place : ℕ) (d : Completion) (a : JoinerStanding) (b answer : Bool) → HasCounted old mid s d → account_at mid s ≡ Some a → ((list : List Completion) → StandsFor a list → answer ≡ fires a.policy list) → answer ≡ b
     → new ≡ cond b (cancelled mid s Joiner place) mid → IsCompleted old new s d place
 completed_so old mid new s place d a b answer step at says same is = record {

@@ -66,7 +66,7 @@ same_row : (o : Option Told) (step : Told → Told) → ((t : Told) → step t �
 same_row None step still = refl
 same_row (Some t) step still = ap Some (sym (still t))
 
--- where no covered scope is past, nothing has changed
+-- if no covered scope is past, nothing has changed
 none_done : (h : History) (a s k u : ℕ) → HasUnclosed h a s → innermost h a ≡ Some u → (covers h s k && nat_lt u k) ≡ false
 none_done h a s k u it is = by (covers h s k) refl
   where

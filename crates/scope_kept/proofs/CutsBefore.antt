@@ -1,4 +1,4 @@
--- The cut of a scope before a place is its cut now, where that came before the place, and else none.
+-- The cut of a scope before a place is its cut now, if that came before the place, and else none.
 use Rattle.std.proofs.Common.{◌≡◌, ℕ, ◌<◌, ◌≤◌, cond, Option, Some, None, option_map, [], ◌∷◌, length, take, refl, ap, sym, ◌∙◌, arith, length-append}
 use Rattle.std.proofs.lemmas.Bool.{lt-ltb, le-ltb}
 use Rattle.std.proofs.lemmas.List.{length-take}

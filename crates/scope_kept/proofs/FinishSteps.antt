@@ -97,7 +97,7 @@ counted_accounts L h k end f old mid legal was is has counts i a there = by (eqb
         (other_completes h k (old.before + 1 + i) end f is (λ same. apart (omega (arith, same))))
         (was.accounts i a (sym (counts.others i apart) ∙ there))
 
--- the end of a task: its scope's account has the completion, and the scope its own cancel where the joiner fires
+-- the end of a task: its scope's account has the completion, and the scope its own cancel if the joiner fires
 pub finished_next : (L : Limits) (h : History) (k : ℕ) (end : EndValue) (f : Forking) (old mid new : CutTable) (fired : Bool) → Legal L h → AreCutsOf h old → forking h k ≡ Some f → HasRow old f.scope
     → HasCounted old mid f.scope (record { task = k; end = end })
     → ((o : Opening) → opening h f.scope ≡ Some o → fired ≡ fires o.policy (completions (followed h (Finish k end)) f.scope))

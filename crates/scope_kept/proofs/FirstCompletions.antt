@@ -1,4 +1,4 @@
--- The first completion that can be read is the first of all, where that one can be read: completions are
+-- The first completion that can be read is the first of all, if that one can be read: completions are
 -- readable up to the cancel, and unreadable after it.
 use Rattle.std.proofs.Common.{◌≡◌, ℕ, ◌&&◌, ◌||◌, Bool, true, false, cond, Option, Some, None, Ok, Err, [], refl, ap, sym, subst, ◌∙◌, inl}
 use Rattle.std.proofs.lemmas.Bool.{both_ways, eq-eqb, or_right}
@@ -29,17 +29,17 @@ use Rattle.scope_rules.proofs.StateSteps.{state_ended}
 use Rattle.scope_kept.proofs.Over.{cancelled_stays}
 use Rattle.scope_kept.proofs.Readings.{completes_it, forked_earlier, ended_state, unreadable, first_grows}
 
--- a completion of the scope: where it can't be read, the scope is cancelled
+-- a completion of the scope: if it can't be read, the scope is cancelled
 record Completed (h : History) (s : ℕ) (d : Completion) : Type 0 where
   task : IsTask h s d.task
   done : finished h d.task ≡ true
   cut : is_available (state h d.task) ≡ false → is_cancelled h s ≡ true
 
--- the completion, where its task can be read
+-- the completion, if its task can be read
 abbrev pub where_read : History → Completion → Option Completion
 where_read h d = cond (is_available (state h d.task)) (Some d) None
 
--- the first that passes the test is this, and it is the first to be read where it can be
+-- the first that passes the test is this, and it is the first to be read if it can be
 record IsFirst (test : Completion → Bool) (h : History) (s : ℕ) (o : Option Completion) : Type 0 where
   reads : first_read test h s ≡ option_and_then (where_read h) o
   found : (d : Completion) → o ≡ Some d → Completed h s d
@@ -78,7 +78,7 @@ module _ (L : Limits) (test : Completion → Bool) (s : ℕ) (h : History) (e : 
             cancelled_stays L h e s legal (ap (is_cancelled h) (sym was.of) ∙ cancelled);
       }
 
-  -- where there was a first, it stays
+  -- if there was a first, it stays
   first_old : (d : Completion) (b : Bool) → Completed h s d → is_available (state h d.task) ≡ b → option_or (cond b (Some d) None) (readable test (followed h e) s e) ≡ cond b (Some d) None
   first_old d true was is = refl
   first_old d false was is = unreadable L test h e s legal ok (inl (was.cut is))
@@ -124,7 +124,7 @@ start_first : (test : Completion → Bool) (s : ℕ) (b : Origin) → IsFirst te
 unfolding earliest completions
 start_first test s b = record { reads = refl; found = λ d found. absurd cc }
 
--- what can be read first is the first completion, where that can be read
+-- what can be read first is the first completion, if that can be read
 pub first_by_completions : (L : Limits) (test : Completion → Bool) (h : History) (s : ℕ) → Legal L h → first_read test h s ≡ option_and_then (where_read h) (find test (completions h s))
 first_by_completions L test h s legal =
     (along L (λ g. IsFirst test g s (find test (completions g s))) (start_first test s)

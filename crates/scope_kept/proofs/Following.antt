@@ -37,7 +37,7 @@ room_stays h e old new room before accounts none i a at listed =
     let same : forks_of (followed h e) (old.before + 1 + i) ≡ forks_of h (old.before + 1 + i) = count_same (forks_in (old.before + 1 + i)) h e (none (old.before + 1 + i)) in
     subst (λ b. forks_of (followed h e) (b + 1 + i) ≤ length a.seen + a.room) (sym before) (omega (arith, was, same))
 
--- an event that leaves cuts, environments, forks and own deadlines: what is kept follows it where its rows do
+-- an event that leaves cuts, environments, forks and own deadlines: what is kept follows it if its rows do
 pub rows_follow : (old new : KeptTable) (e : Event) → leaves_cuts e ≡ true → moves_envs e ≡ false → moves_forks e ≡ false → moves_deadlines e ≡ false → ((s : ℕ) → forks_in s e ≡ false) → new.cuts ≡ old.cuts → new.envs ≡ old.envs → new.forks ≡ old.forks → new.deadlines ≡ old.deadlines
     → ((L : Limits) (h : History) → Legal L h → Accepts L h e → AreRowsOf h old.rows → AreRowsOf (followed h e) new.rows) → HasFollowed old e new
 rows_follow old new e leaves still kept_forks kept_deadlines none cuts envs forks deadlines rows L h legal ok kept = record {
@@ -49,7 +49,7 @@ rows_follow old new e leaves still kept_forks kept_deadlines none cuts envs fork
   room = room_stays h e old.cuts new.cuts kept.room (ap (λ (t : CutTable). t.before) cuts) (ap (λ (t : CutTable). t.accounts) cuts) none;
 }
 
--- an event that moves cuts, and perhaps own deadlines: what is kept follows it where these do, with the same accounts
+-- an event that moves cuts, and perhaps own deadlines: what is kept follows it if these do, with the same accounts
 pub cuts_follow : (old new : KeptTable) (e : Event) (place : ℕ) → moves_envs e ≡ false → moves_forks e ≡ false → ((s : ℕ) → forks_in s e ≡ false) → new.rows ≡ old.rows → new.envs ≡ old.envs → new.forks ≡ old.forks → new.cuts.accounts ≡ old.cuts.accounts
     → ((h : History) → AreDeadlinesOf h old.deadlines → AreDeadlinesOf (followed h e) new.deadlines)
     → ((L : Limits) (h : History) → Legal L h → AreRowsOf h old.rows → AreRowsOf (followed h e) old.rows)
@@ -65,7 +65,7 @@ cuts_follow old new e place still kept_forks none rows envs forks accounts deadl
       room = room_stays h e old.cuts new.cuts kept.room (next.numbered ∙ sym kept.cuts.numbered) accounts none;
     }
 
--- an event that moves environments alone, and forks none: what is kept follows it where they do
+-- an event that moves environments alone, and forks none: what is kept follows it if they do
 pub envs_follow : (old new : KeptTable) (e : Event) → leaves_cuts e ≡ true → moves_forks e ≡ false → moves_deadlines e ≡ false → ((s : ℕ) → forks_in s e ≡ false) → new.rows ≡ old.rows → new.cuts ≡ old.cuts → new.forks ≡ old.forks → new.deadlines ≡ old.deadlines
     → ((L : Limits) (h : History) → Legal L h → AreRowsOf h old.rows → AreRowsOf (followed h e) old.rows)
     → ((h : History) → AreEnvsOf h old.envs → AreEnvsOf (followed h e) new.envs) → HasFollowed old e new

@@ -1,4 +1,4 @@
--- What is kept where room is made for a fork, and after it.
+-- What is kept if room is made for a fork, and after it.
 use Rattle.std.proofs.Common.{◌≡◌, ◌≢◌, ℕ, zero, suc, ◌+◌, ◌-◌, ◌≤◌, ◌<◌, ◌^◌, ◌==◌, Bool, true, false, cond, eqb, Some, None, length, slice_get, refl, ap, sym, subst, ◌∙◌, arith}
 use Rattle.std.proofs.lemmas.Bool.{eqb-true, eqb-false, eq-eqb, ne_eqb}
 use Rattle.scope_rules.specs.declared.types.capacity.Limits.{Limits}
@@ -111,7 +111,7 @@ cuts_roomier h old new s more step was = record {
       subst (λ b. IsAccountOf h (b + 1 + i) a) (sym step.before) (record { opened = it.opened; is = it.is; policy = from.policy ∙ it.policy; stands = stands_roomier from.account a _ from.has_closure from.totals from.seen it.stands });
 }
 
--- where the room was made for one task more of scope s, so it is when that is forked
+-- if the room was made for one task more of scope s, so it is when that is forked
 room_then : (h : History) (old new : CutTable) (s more : ℕ) → HasRow old s → HasReserved old new s more → HasRoomToFork h old s more → HasRoomForEnds h old
     → (i : ℕ) (a : JoinerStanding) → slice_get new.accounts i ≡ Some a → a.has_closure ≡ true → forks_of h (old.before + 1 + i) + cond {A = ℕ} (s == old.before + 1 + i) 1 0 ≤ length a.seen + a.room
 room_then h old new s more has step enough room i a at listed =

@@ -24,7 +24,7 @@ use Rattle.scope_kept.specs.ForksOf.{AreForksOf}
 pub opened_has_forks : (h : History) (t : ForkTable) (s : ℕ) → AreForksOf h t → IsOpened h s → HasForks t s
 opened_has_forks h t s are it = opened_numbered h t.before t.lists s are.numbered are.count it
 
--- a scope that has a row has a list, where both are of one history
+-- a scope that has a row has a list, if both are of one history
 pub has_forks : (h : History) (rows : RowTable) (t : ForkTable) (s : ℕ) → AreRowsOf h rows → AreForksOf h t → HasScope rows s → HasForks t s
 has_forks h rows t s those are has = (omega (arith, has.0, those.scopes_before, are.numbered), omega (arith, has.1, those.scopes_before, those.scope_count, are.numbered, are.count))
 

@@ -40,7 +40,7 @@ use Rattle.scope_kept.proofs.RowSteps.{row_stays}
 use Rattle.scope_kept.proofs.TableSteps.{account_stays}
 use Rattle.scope_kept.proofs.EventSteps.{moment_same}
 
--- the row of a scope that is opened: with its own cancel, where its deadline has passed
+-- the row of a scope that is opened: with its own cancel, if its deadline has passed
 abbrev pub opened_row : ℕ → ℕ → ℕ → Option ℕ → Options → Told
 opened_row now place n parent options = record { parent = parent; shield = options.shield; opened = place; own = cond (is_past now options.deadline) (Some (cut_at place n Deadline)) None; deadline = options.deadline }
 

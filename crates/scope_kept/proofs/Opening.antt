@@ -66,7 +66,7 @@ room_opened L h a policy options old new legal cuts room before more i x at list
           subst (λ s. forks_of (followed h (Open a policy options)) s ≤ length x.seen + x.room) (sym number) (omega (arith, none_forked L h legal, same))
     ]
 
--- what holds anyway holds where there is an error
+-- what holds anyway holds if there is an error
 pub on_err_anyway : {T E P : Type 0} (r : Result T E) → P → OnErr r P
 on_err_anyway (Ok x) so = tt
 on_err_anyway (Err e) so = so

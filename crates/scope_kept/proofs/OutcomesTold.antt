@@ -67,7 +67,7 @@ module _ (L : Limits) (h : History) (s i : ℕ) (t : RowTable) (a : JoinerStandi
       let it = task_there (before h i) s k so in
       sym (like.states k (record { forked = it.forked; is = forking_later h i k it.forked it.is; of = it.of })) ∙ sym (state_there h t k are)
 
-  -- the first completion that could be read at the join is the one that is kept, where it can be read now
+  -- the first completion that could be read at the join is the one that is kept, if it can be read now
   first_told : (test : Completion → Bool) (o : Option Completion) → o ≡ find test (completions h s) → first_read test (before h i) s ≡ option_and_then (readable_in t) o
   first_told test o first =
       sym (like.reads test)

@@ -1,4 +1,4 @@
--- Where a scope is cancelled or none of its tasks waits or runs, no end is read that could not be before.
+-- If a scope is cancelled or none of its tasks waits or runs, no end is read that could not be before.
 use Rattle.std.proofs.Common.{◌≡◌, ℕ, ◌==◌, Bool, true, false, cond, is_some, Option, Some, None, length, refl, ap, sym, subst, ◌∙◌, inl, inr, ◌⊎◌}
 use Rattle.std.proofs.lemmas.Bool.{both_ways, eqb-true, eq-eqb, or_cases}
 use Rattle.scope_rules.specs.declared.types.capacity.Limits.{Limits}
@@ -55,7 +55,7 @@ pub task_before : (h : History) (e : Event) (s k : ℕ) (f : Forking) → forks_
 task_before h e s k f none is of =
     elim (forking_split h e k f is) [ inl old ↦ old | inr new ↦ absurd (both_ways (forks_for s e) none (forked_for (length h.events) s e f new.1 of)) ]
 
--- a scope that is over stays so, where no task is forked in it
+-- a scope that is over stays so, if no task is forked in it
 pub over_stays : (L : Limits) (h : History) (e : Event) (s : ℕ) → Legal L h → forks_for s e ≡ false → IsOver h s → IsOver (followed h e) s
 over_stays L h e s legal none over =
     elim over [

@@ -28,7 +28,7 @@ past_by true now d = refl
 past_by false now None = refl
 past_by false now (Some d) = refl
 
--- a scope is overdue where the deadline that counts is at or before the moment
+-- a scope is overdue if the deadline that counts is at or before the moment
 pub overdue_counting : (h : History) (s : ℕ) → overdue h s ≡ is_past (moment h) (counting_deadline h s)
 unfolding overdue counting_deadline
 overdue_counting h s = past_by (joined h s) (moment h) (deadline h s)

@@ -1,4 +1,4 @@
--- What each accepted event keeps holds of a legal history where it held before a place.
+-- What each accepted event keeps holds of a legal history if it held before a place.
 use Rattle.std.proofs.Common.{◌≡◌, ℕ, zero, suc, ◌+◌, ◌-◌, ◌≤◌, length, ap, sym, subst, arith}
 use Rattle.scope_rules.specs.declared.types.capacity.Limits.{Limits}
 use Rattle.scope_rules.specs.declared.types.events.Event.{Event}

@@ -41,7 +41,7 @@ some_map : {A B : Type 0} (f : A → B) (o : Option A) (y : B) → option_map f 
 some_map f None y is = absurd cc
 some_map f (Some x) y is = (x, refl, cc)
 
--- the table is the history's with the event, where each row is, and each account
+-- the table is the history's with the event, if each row is, and each account
 pub table_next : (h : History) (e : Event) (old new : CutTable) (step : ℕ → Told → Told) → AreCutsOf h old → is_open e ≡ false → HasStepped old new step
     → new.moment ≡ moment (followed h e)
     → length new.accounts ≡ length old.accounts

@@ -15,7 +15,7 @@ use Rattle.scope_rules.proofs.Owing.{count_push}
 use Rattle.scope_rules.proofs.StageSteps.{next_forking}
 use Rattle.scope_rules.specs.Nests.{tasks_of}
 
--- one of the list, where the test holds
+-- one of the list, if the test holds
 abbrev pub if_one : Bool → ℕ → List ℕ
 if_one b k = cond b (k ∷ []) []
 

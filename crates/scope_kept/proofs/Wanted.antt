@@ -1,4 +1,4 @@
--- What the parts want before each event, where the event is accepted.
+-- What the parts want before each event, if the event is accepted.
 use Rattle.std.proofs.Common.{◌≡◌, ℕ, ◌+◌, ◌-◌, ◌≤◌, ◌<◌, ◌^◌, false, Option, Some, None, option_map, length, refl, sym, subst, arith}
 use Rattle.std.specs.Option.{IfSome}
 use Rattle.std.proofs.lemmas.Bool.{ltb-false}

@@ -10,7 +10,7 @@ use Rattle.scope_rules.specs.Answers.{Readable, is_available, values_by, listing
 use Rattle.scope_rows.specs.Table.{RowTable, scope_row, task_row}
 use Rattle.join_rules.specs.Totals.{Totals}
 
--- what the cut says before place i: nothing, where it came later
+-- what the cut says before place i: nothing, if it came later
 abbrev pub cause_before : Option Cut → ℕ → Option Cause
 cause_before None i = None
 cause_before (Some c) i = if nat_lt c.place i then Some c.cause else None
@@ -19,7 +19,7 @@ cause_before (Some c) i = if nat_lt c.place i then Some c.cause else None
 abbrev pub state_in : RowTable → ℕ → State
 state_in t k = option_map_or (λ r. r.state) (task_row t k) Unavailable
 
--- the completion, where its task's row can be read
+-- the completion, if its task's row can be read
 abbrev pub readable_in : RowTable → Completion → Option Completion
 readable_in t d = if is_available (state_in t d.task) then Some d else None
 

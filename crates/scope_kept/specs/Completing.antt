@@ -6,7 +6,7 @@ use Rattle.scope_rules.specs.Joining.{fires}
 use Rattle.join_rules.specs.JoinerStanding.{JoinerStanding, StandsFor}
 use Rattle.scope_kept.specs.CutTables.{CutTable, HasCounted, account_at, cancelled}
 
--- the account of scope s has the completion, and where its joiner fires at it, the scope its own cancel
+-- the account of scope s has the completion, and if its joiner fires at it, the scope its own cancel
 pub record IsCompleted (old new : CutTable) (s : ℕ) (d : Completion) (place : ℕ) : Type 0 where
   pub counted_one : CutTable
   pub fired : Bool

@@ -18,7 +18,7 @@ use Rattle.cancel_tree.specs.Order.{IsInOrder}
 use Rattle.join_rules.specs.JoinerStanding.{JoinerStanding, StandsFor}
 use Rattle.scope_kept.specs.CutTables.{CutTable}
 
--- the row is that of scope s, where the rows are numbered after b: the scope around it, the one whose
+-- the row is that of scope s, if the rows are numbered after b: the scope around it, the one whose
 -- cancels reach it, the place of its opening, its own cancel, and its deadline while that counts
 pub record IsToldOf (h : History) (b s : ℕ) (t : Told) : Type 0 where
   pub opened : Opening

@@ -32,7 +32,7 @@ forks_in s _ = false
 abbrev pub forks_of : History → ℕ → ℕ
 forks_of h s = count_by (forks_in s) h.events
 
--- where a closure is shown the completions of a scope, its list has room for one of each task
+-- if a closure is shown the completions of a scope, its list has room for one of each task
 abbrev pub HasRoomForEnds : History → CutTable → Type 0
 HasRoomForEnds h t = (i : ℕ) (a : JoinerStanding) → slice_get t.accounts i ≡ Some a → a.has_closure ≡ true → forks_of h (t.before + 1 + i) ≤ length a.seen + a.room
 

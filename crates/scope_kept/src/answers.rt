@@ -62,7 +62,7 @@ fn push_value(values: &mut Vec<TaskValue>, value: Option<TaskValue>)
     }
 }
 
-/// The completion, where its task's row can be read.
+/// The completion, if its task's row can be read.
 fn readable(rows: &Rows, done: Option<Completion>) -> Option<Completion>
     ensures { result ≡ option_and_then (readable_in rows.now) done }
 {

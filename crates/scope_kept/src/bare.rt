@@ -36,7 +36,7 @@ pub enum BareOutcome {
     Cancelled(ScopeId),
 }
 
-/// What the join of the scope answers, which has this joiner and whose deadline means this, where the
+/// What the join of the scope answers, which has this joiner and whose deadline means this, if the
 /// scope was cancelled by this cause.
 pub(crate) fn bare_answer_of<R: TaskReadings>(
     readings: &R,

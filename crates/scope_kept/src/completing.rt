@@ -11,8 +11,8 @@ use crate::Cuts;
 use join_rules::StoredTest;
 use scope_rules::{CauseKind, Completion, ScopeId};
 
-/// Counts the completion of the scope, for which there is room, and cancels the scope where its joiner
-/// fires at it. The caller's closure is asked where it is given, and its rule is the joiner's.
+/// Counts the completion of the scope, for which there is room, and cancels the scope if its joiner
+/// fires at it. The caller's closure is asked if it is given, and its rule is the joiner's.
 pub(crate) fn complete(
     cuts: &mut Cuts,
     scope: ScopeId,

@@ -50,7 +50,7 @@ impl Model for Cuts {
 
 /// What is asked. Each answer is that of the history which the table is kept of.
 impl Cuts {
-    /// The moment, in milliseconds.
+    /// The realm's time, in milliseconds.
     pub fn moment(&self) -> u64
         ensures { (h : History) → AreCutsOf h self.now → result ≡ moment h }
     {
@@ -98,7 +98,7 @@ impl Cuts {
     }
 
     /// The cancelled scopes in order of their cancellation, those that one event cancelled by their
-    /// numbers, from the n-th on, from 0: none where no more than n are cancelled. It takes no memory,
+    /// numbers, from the n-th on, from 0: none if no more than n are cancelled. It takes no memory,
     /// and time by the scopes that were cancelled since it was last called, with those of the last event
     /// before them.
     pub fn cancelled_since(&mut self, n: usize) -> CancelledScopes<'_>
@@ -146,7 +146,7 @@ impl Cuts {
         }
     }
 
-    /// Gives the scope its own cancel, which stays where it has one. Takes no memory.
+    /// Gives the scope its own cancel, which stays if it has one. Takes no memory.
     pub fn cancel(&mut self, scope: ScopeId, kind: CauseKind, place: usize)
         requires row { HasRow self.old scope }
         requires latest { IsLatest self.old.told place }
@@ -165,8 +165,8 @@ impl Cuts {
         self.drop_deadline(scope);
     }
 
-    /// The deadline of the scope was moved, in milliseconds, or taken away. Where the new one has passed,
-    /// it is the scope's own cancel. Refused where memory is, and then nothing has changed.
+    /// The deadline of the scope was moved, in milliseconds, or taken away. If the new one has passed,
+    /// it is the scope's own cancel. Refused if memory is, and then nothing has changed.
     #[tactic(auto, using(crate::proofs::Moves::moved_away, crate::proofs::Moves::moved_on, crate::proofs::Moves::moved_past))]
     pub fn move_deadline(
         &mut self,
@@ -225,7 +225,7 @@ impl Cuts {
         self.tree.set_deadline(row, deadline);
     }
 
-    /// The moment was set, in milliseconds. The deadlines that it passes are own cancels of their scopes.
+    /// The realm's time was set, in milliseconds. The deadlines that it passes are own cancels of their scopes.
     /// Takes no memory.
     pub fn tick(&mut self, now: u64, place: usize)
         requires forward { self.old.moment ≤ now }
@@ -241,7 +241,7 @@ impl Cuts {
 
     /// A scope is opened inside `parent`, or outside all others; `listed` says whether a closure of the
     /// caller's is shown its completions. A deadline that has passed is its own cancel at once. Refused
-    /// where memory is, and then nothing has changed.
+    /// if memory is, and then nothing has changed.
     pub fn open(
         &mut self,
         parent: Option<ScopeId>,
@@ -332,7 +332,7 @@ impl Cuts {
         }
     }
 
-    /// Makes room for so many more completions of the scope. Refused where memory is, and then nothing
+    /// Makes room for so many more completions of the scope. Refused if memory is, and then nothing
     /// has changed.
     pub fn reserve(&mut self, scope: ScopeId, more: usize) -> Result<(), AllocError>
         requires { HasRow self.old scope }

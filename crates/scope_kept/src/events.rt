@@ -1,5 +1,5 @@
 //! What the accepted events make of what is kept. `place` is the number of events before the one that
-//! is told. Where a call may be refused, it is for memory alone, and then nothing has changed.
+//! is told. If a call may be refused, it is for memory alone, and then nothing has changed.
 
 ghost use Rattle.std.specs.Prelude.{◌≡◌, ◌<◌, ◌^◌, ℕ, Some, option_map, OnOk, OnErr};
 ghost use Rattle.scope_rows.specs.Table.{HasTask, scope_of};
@@ -81,7 +81,7 @@ impl Kept {
         Ok(())
     }
 
-    /// The moment was set, in milliseconds.
+    /// The realm's time was set, in milliseconds.
     pub(crate) fn tick(&mut self, now: u64, place: usize)
         requires { IsReadyAt self.old (Event.Tick now) place }
         ensures { HasFollowedAt self.old (Event.Tick now) place self.new }
@@ -156,7 +156,7 @@ impl Kept {
         }
     }
 
-    /// No thread was had for the task.
+    /// No thread was available for the task.
     pub(crate) fn reject(&mut self, task: TaskId)
         requires { IsReadyFor self.old (Event.Reject task) }
         ensures { HasFollowed self.old (Event.Reject task) self.new }
@@ -175,8 +175,8 @@ impl Kept {
 
 /// The ends of tasks.
 impl Kept {
-    /// The task ended. Its scope's account has the completion, and where the joiner fires at it, the
-    /// scope is cancelled. `test` is the caller's closure, if the joiner has one: it is asked where the
+    /// The task ended. Its scope's account has the completion, and if the joiner fires at it, the
+    /// scope is cancelled. `test` is the caller's closure, if the joiner has one: it is asked if the
     /// scope was not cancelled.
     pub(crate) fn finish(&mut self, task: TaskId, end: End, test: Option<&StoredTest>, place: usize)
         requires { IsReadyAt self.old (Event.Finish task end) place }

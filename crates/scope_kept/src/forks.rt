@@ -79,7 +79,7 @@ impl Model for Forks {
 }
 
 impl Forks {
-    /// No scopes, where so many were numbered before. It takes no memory; that of later calls comes
+    /// No scopes, if so many were numbered before. It takes no memory; that of later calls comes
     /// from `alloc`.
     pub fn new(alloc: Global, before: u32) -> Forks
         ensures lists { result ≡ no_lists before }

@@ -35,7 +35,7 @@ struct AnswerParts<'a> {
 }
 
 /// What the join of the scope answered (JEP 505, `join` and the joiners' `result`), in time by how many
-/// tasks the scope has. It is refused where memory is; that of the lists that it answers comes from
+/// tasks the scope has. It is refused if memory is; that of the lists that it answers comes from
 /// `alloc`.
 pub fn outcome(
     alloc: Global,
@@ -87,7 +87,7 @@ fn parts_of<'a>(rows: &'a Rows, cuts: &'a Cuts, forks: &'a Forks, scope: ScopeId
     }
 }
 
-/// What the cut says before the place: nothing, where it came later.
+/// What the cut says before the place: nothing, if it came later.
 fn cause_before(cut: Option<Cut>, place: usize) -> Option<Cause>
     ensures { result ≡ cause_before cut place }
 {

@@ -56,7 +56,7 @@ impl Kept {
         }
     }
 
-    /// What is kept of a realm that begins with the base. Refused where memory is.
+    /// What is kept of a realm that begins with the base. Refused if memory is.
     pub fn with_base(alloc: Global, base: &Base) -> Result<Kept, AllocError>
         ensures { IfOk result (IsKeptOf (record { base = base.now; events = [] })) }
     {
@@ -122,7 +122,7 @@ impl Kept {
     }
 
     /// The cancelled scopes in order of their cancellation, those that one event cancelled by their
-    /// numbers, from the n-th on, from 0: none where no more than n are cancelled. It takes no memory,
+    /// numbers, from the n-th on, from 0: none if no more than n are cancelled. It takes no memory,
     /// and time by the scopes that were cancelled since it was last called, with those of the last event
     /// before them.
     pub fn cancelled_since(&mut self, n: usize) -> CancelledScopes<'_>

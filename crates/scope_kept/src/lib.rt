@@ -1,4 +1,4 @@
-//! What a book keeps of its history, without a list of events: it is told each accepted event, and lends
+//! What a book keeps of its history, without a list of events: it applies each accepted event, and lends
 //! the parts of which questions are asked. Its own parts are what cancels the scopes (the tree of cancel scopes,
 //! the deadlines that are still to come, an account of each scope's joiner), the tasks of each scope, and what a
 //! join answered.

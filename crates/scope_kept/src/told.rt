@@ -13,13 +13,13 @@ use join_rules::StoredTest;
 use scope_rules::Event;
 use std::alloc::AllocError;
 
-/// Tells what is kept the event, which was accepted, after `place` others. Where it opens a scope,
+/// Tells what is kept the event, which was accepted, after `place` others. If it opens a scope,
 /// `listed` says whether a closure of the caller's is shown its completions; where it ends a task,
 /// `test` is the closure that may be asked.
 ///
 /// # Errors
 ///
-/// Where memory is refused, but never for an event that costs no load. Then what is kept is still that
+/// If memory is refused, but never for an event that costs no load. Then what is kept is still that
 /// of the history without the event.
 pub fn follow(
     kept: &mut Kept,

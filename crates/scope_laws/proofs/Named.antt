@@ -1,4 +1,4 @@
--- Of events that name no number that was let go, neither do the openings and the forkings.
+-- Of events that name no number that was discarded, neither do the openings and the forkings.
 use Rattle.std.proofs.Common.{◌≡◌, ℕ, zero, suc, Option, Some, None, option_map, List, [], ◌∷◌, take, slice_get, refl, ap, arith}
 use Rattle.std.specs.Option.{option_and_then, option_map_or}
 use Rattle.scope_rules.specs.declared.types.events.Event.{Event}

@@ -36,7 +36,7 @@ module _ (r : Retirable) (es : List Event) where
       ∙ (any_numbers p q (r.past.base.scopes + 1) (opened_count r.past) (opened_count (retired r es)) (λ s less. none s (omega (arith, less))) (λ s more. same s (greater (scopes r.past) s (omega (arith, more))))
       ∙ ap (λ a. list_any q (range_with_len a (opened_count (retired r es)))) (next_after r.past.base.scopes (opened_count r.past)))
 
--- what is made of those of a range that pass a test, where two ways to make it are one from a number on
+-- what is made of those of a range that pass a test, if two ways to make it are one from a number on
 mapped_by : {A : Type 0} (f g : ℕ → Option A) (a n : ℕ) (b : Bool) (ks : List ℕ) → f a ≡ g a → filter_map f ks ≡ filter_map g ks → filter_map f (cond b (a ∷ ks) ks) ≡ filter_map g (cond b (a ∷ ks) ks)
 mapped_by f g a n false ks here rest = rest
 mapped_by f g a n true ks here rest = rw here (ap (cons_option (g a)) rest)

@@ -63,7 +63,7 @@ either_false : (b c : Bool) → (b || c) ≡ false → (b ≡ false) × (c ≡ f
 either_false false c is = (refl, is)
 either_false true c is = absurd cc
 
--- where a test holds of none, it holds of no element
+-- if a test holds of none, it holds of no element
 pub none_where : {A : Type 0} (p : A → Bool) (xs : List A) (i : ℕ) (x : A) → list_any p xs ≡ false → slice_get xs i ≡ Some x → p x ≡ false
 none_where p [] i x none at = absurd cc
 none_where p (y ∷ xs) zero x none at = let same : y ≡ x = cc in rw same at (either_false (p y) (list_any p xs) none).0
@@ -126,7 +126,7 @@ option_map_same : {A : Type 0} (o : Option A) → option_map (λ x. x) o ≡ o
 option_map_same None = refl
 option_map_same (Some x) = refl
 
--- the same, where what is found stays as it is
+-- the same, if what is found stays as it is
 pub earliest_second_same : {A : Type 0} (f h : ℕ → Option A) (m n : ℕ) → ((i : ℕ) → i < m → f i ≡ None) → ((i : ℕ) → i < n → f (m + i) ≡ h i) → earliest f (m + n) ≡ earliest h n
 earliest_second_same f h m n none second = earliest_second f h (λ x. x) m n none (λ i within. second i within ∙ sym (option_map_same (h i))) ∙ option_map_same (earliest h n)
 

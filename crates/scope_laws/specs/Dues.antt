@@ -34,6 +34,6 @@ LegalWithoutDues = (L : Limits) (h : History) → Legal L h → Legal L (without
 abbrev pub ExpectsNone : History → Type 0
 ExpectsNone h = (i actor scope : ℕ) (label : Label) → slice_get h.events i ≡ Some (Fork actor scope label) → label.due ≡ None
 
--- where none does, the history is as it was
+-- if none does, the history is as it was
 abbrev pub NothingIsTaken : Type 0
 NothingIsTaken = (h : History) → ExpectsNone h → without_dues h ≡ h

@@ -10,11 +10,11 @@ use Rattle.scope_rules.specs.Scopes.{innermost}
 use Rattle.scope_rules.specs.Bindings.{stack}
 use Rattle.scope_rules.specs.Legal.{Legal}
 
--- the number was let go: it is one of the first so many
+-- the number was discarded: it is one of the first so many
 abbrev pub is_let_go : ℕ → ℕ → Bool
 is_let_go count n = nat_lt 0 n && nat_le n count
 
--- the event names a scope or a task that was let go
+-- the event names a scope or a task that was discarded
 abbrev pub names_let_go : Origin → Event → Bool
 names_let_go b (Open actor policy options) = is_let_go b.tasks actor
 names_let_go b (Fork actor scope label) = is_let_go b.tasks actor || is_let_go b.scopes scope
@@ -49,6 +49,6 @@ unretired r es = record { base = r.past.base; events = r.past.events ++ es }
 abbrev pub retired : Retirable → List Event → History
 retired r es = record { base = left r; events = es }
 
--- none of the events names a number that was let go
+-- none of the events names a number that was discarded
 abbrev pub NamesNone : Retirable → List Event → Type 0
 NamesNone r es = (i : ℕ) (e : Event) → slice_get es i ≡ Some e → names_let_go (left r) e ≡ false

@@ -1,4 +1,4 @@
--- What a retirement leaves as it was: every answer to what names no number that was let go.
+-- What a retirement leaves as it was: every answer to what names no number that was discarded.
 use Rattle.std.specs.Prelude.{◌≡◌, ℕ, ◌⊎◌, false, Err, List}
 use Rattle.scope_rules.specs.declared.types.capacity.Limits.{Limits}
 use Rattle.scope_rules.specs.declared.types.events.Event.{Event}
@@ -53,7 +53,7 @@ pub record TaskAlike (h g : History) (k : ℕ) : Type 0 where
   pub outermost : outermost h k ≡ outermost g k
   pub bindings : bindings h k ≡ bindings g k
 
--- all is answered alike that names no number which the second history let go
+-- all is answered alike that names no number which the second history dropped
 pub record AnswersAlike (L : Limits) (h g : History) : Type 0 where
   pub scopes : scopes h ≡ scopes g
   pub tasks : tasks h ≡ tasks g

@@ -5,7 +5,7 @@ ghost use Rattle.scope_laws.specs.Dues.{LabelsDecideNothing, LegalWithoutDues, N
 
 /// What end a label expects decides nothing: each event is accepted, refused or so already whether the labels
 /// of the history and of the event expect ends or none. A legal history stays legal when its labels
-/// expect none, and where they expected none it is as it was.
+/// expect none, and if they expected none it is as it was.
 pub fn labels_decide_nothing()
     ensures decided { LabelsDecideNothing }
     ensures legal { LegalWithoutDues }

@@ -3,8 +3,8 @@
 
 ghost use Rattle.scope_laws.specs.RetiringLaws.{RetiringLeavesTheBase, RetiringChangesNoAnswer, RetiringAgain};
 
-/// Where main has no scope that isn't closed, whatever follows is answered on the base that a
-/// retirement leaves as on the whole history, where no number is named that was let go. A check that
+/// If main has no scope that isn't closed, whatever follows is answered on the base that a
+/// retirement leaves as on the whole history, if no number is named that was dropped. A check that
 /// refused too many may pass: the base takes less of the limits. And a further retirement leaves what
 /// one retirement of the whole leaves.
 pub fn retired()

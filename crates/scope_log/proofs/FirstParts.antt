@@ -1,4 +1,4 @@
--- The parts of a list before and after its first element that passes a test, where lists are put
+-- The parts of a list before and after its first element that passes a test, if lists are put
 -- together.
 use Rattle.std.proofs.Common.{◌≡◌, ℕ, suc, ◌+◌, ◌||◌, Bool, true, false, not, cond, Option, Some, None, List, [], ◌∷◌, ◌++◌, take, drop, length, nat_lt, refl, ap, sym, ◌∙◌, arith}
 use Rattle.std.proofs.lemmas.Bool.{ltb-false, lt-ltb}
@@ -27,7 +27,7 @@ module _ {X : Type 0} (p : X → Bool) where
   before_by false true x xs ys zs = refl
   before_by false false x xs ys zs = refl
 
-  -- what stands before the first is in the first list, where that has one
+  -- what stands before the first is in the first list, if that has one
   pub before_first-append : (xs ys : List X) → before_first p (xs ++ ys) ≡ cond (list_any p xs) (before_first p xs) (xs ++ before_first p ys)
   before_first-append [] ys = refl
   before_first-append (x ∷ xs) ys =
@@ -50,7 +50,7 @@ module _ {X : Type 0} (p : X → Bool) where
       ∙ (after_by (p x) (list_any p xs) xs ys (after_first p xs) (after_first p ys)
       ∙ ap (λ zs. cond (p x || list_any p xs) (zs ++ ys) (after_first p ys)) (sym (after_first-cons x xs))))
 
-  -- where none passes, all stand before the first
+  -- if none passes, all stand before the first
   pub before_first_none : (xs : List X) → list_any p xs ≡ false → before_first p xs ≡ xs
   before_first_none [] none = refl
   before_first_none (x ∷ xs) none = before_first-cons x xs ∙ by (p x) none (before_first_none xs)
@@ -115,7 +115,7 @@ first_of_two f None (Some y) = sym (or_none (f y))
 first_of_two f (Some x) None = refl
 first_of_two f (Some x) (Some y) = ap (option_or (f x)) (sym (or_none (f y)))
 
--- where none passes, the first would stand behind the last
+-- if none passes, the first would stand behind the last
 pub none_at : {A : Type 0} (p : A → Bool) (xs : List A) → position p xs ≡ None → length xs ≡ position_or_len p xs
 none_at p xs none = by (nat_lt (position_or_len p xs) (length xs)) refl none
   where
@@ -134,7 +134,7 @@ any_within p (x ∷ xs) = by (p x) (any_within p xs)
     by true so = sym (lt-ltb 0 (suc (length xs)) (omega arith))
     by false so = so ∙ moved (position_or_len p xs) (length xs)
 
--- where none is found, none passes
+-- if none is found, none passes
 pub none_found : {A : Type 0} (p : A → Bool) (xs : List A) → position p xs ≡ None → list_any p xs ≡ false
 none_found p xs none = any_within p xs ∙ by (nat_lt (position_or_len p xs) (length xs)) none
   where
@@ -142,7 +142,7 @@ none_found p xs none = any_within p xs ∙ by (nat_lt (position_or_len p xs) (le
     by true so = absurd cc
     by false so = refl
 
--- where one is found, it passes, and what stands before it is what stands before the first
+-- if one is found, it passes, and what stands before it is what stands before the first
 pub first_found : {A : Type 0} (p : A → Bool) (xs : List A) (i : ℕ) → position p xs ≡ Some i → (list_any p xs ≡ true) × (take i xs ≡ before_first p xs)
 first_found p xs i found = by (nat_lt (position_or_len p xs) (length xs)) refl found
   where

@@ -35,7 +35,7 @@ map_or_cond : {A : Type 0} (p : A → Bool) (b : Bool) (o : Option A) → option
 map_or_cond p true o = refl
 map_or_cond p false o = refl
 
--- it does where the event is of the scope, and what is said of it passes
+-- it does if the event is of the scope, and what is said of it passes
 pub tells_by : (p : LogEntry → Bool) (h : History) (s : ℕ) (e : Event) → tells p h s e ≡ (is_of h s e && option_map_or p (said h e) false)
 tells_by p h s e = map_or_cond p (is_of h s e) (said h e)
 
@@ -81,7 +81,7 @@ unmarked_start : (s : ℕ) (b : Origin) → list_any is_mark (entries (record { 
 unfolding entries is_cancelled opening earliest
 unmarked_start s b = let g : History = record { base = b; events = [] } in sym (ap is_some (uncut g s (cut g s) refl refl))
 
--- the entries have a mark where the scope is cancelled
+-- the entries have a mark if the scope is cancelled
 pub marked : (L : Limits) (h : History) (s : ℕ) → Legal L h → list_any is_mark (entries h s) ≡ is_cancelled h s
 marked L h s legal = along L (λ g. list_any is_mark (entries g s) ≡ is_cancelled g s) (unmarked_start s) (λ g e lawful ok so. marked_step L g e s lawful so) h legal
 
@@ -91,7 +91,7 @@ and_then_cond : {A B : Type 0} (f : A → Option B) (b : Bool) (o : Option A) �
 and_then_cond f true o = refl
 and_then_cond f false o = refl
 
--- what the entry of an event gives, where the event is of the scope
+-- what the entry of an event gives, if the event is of the scope
 pub gives_by : {B : Type 0} (f : LogEntry → Option B) (h : History) (s : ℕ) (e : Event) → option_and_then f (entry_of h s e) ≡ cond (is_of h s e) (option_and_then f (said h e)) None
 gives_by f h s e = and_then_cond f (is_of h s e) (said h e)
 

@@ -132,7 +132,7 @@ none_joined : (s : ℕ) (b : Origin) → list_any is_join (entries (record { bas
 unfolding entries joined
 none_joined s b = refl
 
--- the entries have a join where the scope is joined
+-- the entries have a join if the scope is joined
 pub joined_told : (L : Limits) (h : History) (s : ℕ) → Legal L h → list_any is_join (entries h s) ≡ joined h s
 joined_told L h s legal = along L (λ g. list_any is_join (entries g s) ≡ joined g s) (none_joined s) (λ g e lawful ok so. joins_grow L s g e lawful ∙ (ap (λ b. b || joins s e) so ∙ sym (joined_grows g e s))) h legal
 

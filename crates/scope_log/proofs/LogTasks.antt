@@ -80,7 +80,7 @@ task_grows h e s k = by (forking h k) refl
     by None is = of_event e is
     by (Some f) is = is_task_stays h e s k f is ∙ (or_false (is_task_of h s k) ∙ ap (λ b. is_task_of h s k || b) (sym (not_next h s k f e is)))
 
--- the entries fork a task where it is one of the scope
+-- the entries fork a task if it is one of the scope
 pub forked_told : (L : Limits) (h : History) (s k : ℕ) → Legal L h → list_any (forks_task k) (entries h s) ≡ is_task_of h s k
 unfolding entries is_task_of forking earliest
 forked_told L h s k legal = along L (λ g. list_any (forks_task k) (entries g s) ≡ is_task_of g s k) start (λ g e lawful ok so. step g e lawful so) h legal
@@ -160,17 +160,17 @@ start_told h s k e = tells_by (starts_task k) h s e ∙ (task_said h s k e).1
 finish_told : (h : History) (s k : ℕ) (e : Event) → tells (finishes_task k) h s e ≡ (finishes k e && is_task_of h s k)
 finish_told h s k e = tells_by (finishes_task k) h s e ∙ (task_said h s k e).2
 
--- the entries reject a task where it is one of the scope and was rejected
+-- the entries reject a task if it is one of the scope and was rejected
 pub rejected_told : (L : Limits) (h : History) (s k : ℕ) → Legal L h → list_any (rejects_task k) (entries h s) ≡ (rejected h k && is_task_of h s k)
 unfolding rejected
 rejected_told = shown_told rejects rejected rejects_task (λ k c. refl) rejected_grows (λ b k. refl) rejected_forked (λ L h e k it ok. waiting_forked h k (rejecter_passed L h e k it ok)) reject_told
 
--- they start it where it was started
+-- they start it if it was started
 pub started_told : (L : Limits) (h : History) (s k : ℕ) → Legal L h → list_any (starts_task k) (entries h s) ≡ (started h k && is_task_of h s k)
 unfolding started
 started_told = shown_told starts started starts_task (λ k c. refl) started_grows (λ b k. refl) started_forked (λ L h e k it ok. waiting_forked h k (starter_passed L h e k it ok)) start_told
 
--- and end it where it has finished
+-- and end it if it has finished
 pub finished_told : (L : Limits) (h : History) (s k : ℕ) → Legal L h → list_any (finishes_task k) (entries h s) ≡ (finished h k && is_task_of h s k)
 unfolding finished
 finished_told = shown_told finishes finished finishes_task (λ k c. refl) finished_grows (λ b k. refl) finished_forked (λ L h e k it ok. running_forked h k (finisher_passed L h e k it ok).runs) finish_told
@@ -192,7 +192,7 @@ after_grows p L h e s legal =
     ∙ (list_any-append p (after_mark (entries h s)) (cond (is_cancelled h s) (cons_option (entry_of h s e) []) [])
     ∙ ap (λ b. list_any p (after_mark (entries h s)) || b) (any_after p h s e (is_cancelled h s)))
 
--- where a scope isn't cancelled, nothing stands after its mark
+-- if a scope isn't cancelled, nothing stands after its mark
 none_after : (p : LogEntry → Bool) (L : Limits) (h : History) (s : ℕ) → Legal L h → is_cancelled h s ≡ false → list_any p (after_mark (entries h s)) ≡ false
 unfolding after_mark
 none_after p L h s legal live = ap (list_any p) (after_first_none is_mark (entries h s) (marked L h s legal ∙ live))
@@ -242,7 +242,7 @@ late_start : (s : ℕ) (b : Origin) → LateForks s (record { base = b; events =
 unfolding LateForks forking earliest
 late_start s b k f is of = absurd cc
 
--- the fork of a task stands after the mark where its scope was cancelled before it
+-- the fork of a task stands after the mark if its scope was cancelled before it
 pub late_told : (L : Limits) (h : History) (s k : ℕ) (f : Forking) → Legal L h → forking h k ≡ Some f → f.scope ≡ s → list_any (forks_task k) (after_mark (entries h s)) ≡ cancelled_before h s f.place
 unfolding LateForks
 late_told L h s k f legal is of = along L (LateForks s) (late_start s) (λ g e lawful ok so. late_step L s g e lawful ok so) h legal k f is of

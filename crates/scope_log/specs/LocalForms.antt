@@ -1,4 +1,4 @@
--- What can be told from the entries of a log alone: each answer of a scope, by its own events and the
+-- What can be distinguished from the entries of a log alone: each answer of a scope, by its own events and the
 -- mark of its cancellation.
 use Rattle.std.specs.Prelude.{ℕ, ◌==◌, ◌||◌, Bool, true, false, not, Option, Some, None, List, [], ◌∷◌, ◌++◌, count_by, if◌then◌else◌}
 use Rattle.std.specs.Option.{option_and_then, option_map_or}
@@ -29,15 +29,15 @@ abbrev pub cause_said : LogEntry → Option Cause
 cause_said (entry.Cancelled cause) = Some cause
 cause_said _ = None
 
--- the scope is cancelled by the cause that its mark says; where there is none, it isn't
+-- the scope is cancelled by the cause that its mark says; if there is none, it isn't
 unfoldable pub cause_in : List LogEntry → Option Cause
 cause_in es = option_and_then cause_said (find is_mark es)
 
--- the entries before the mark: all, where there is none
+-- the entries before the mark: all, if there is none
 unfoldable pub before_mark : List LogEntry → List LogEntry
 before_mark es = before_first is_mark es
 
--- the entries after the mark: none, where there is none
+-- the entries after the mark: none, if there is none
 unfoldable pub after_mark : List LogEntry → List LogEntry
 after_mark es = after_first is_mark es
 
@@ -67,7 +67,7 @@ abbrev pub finishes_task : ℕ → LogEntry → Bool
 finishes_task k (entry.Finish task end) = task == k
 finishes_task k _ = false
 
--- a task gets no thread where its fork stands after the mark, or it was rejected
+-- a task gets no thread where its fork is after the mark, or it was rejected
 unfoldable pub is_never_in : List LogEntry → ℕ → Bool
 is_never_in es k = list_any (forks_task k) (after_mark es) || list_any (rejects_task k) es
 
@@ -117,7 +117,7 @@ is_unsettled_in es k = not (is_settled (stage_in es k))
 unfoldable pub settled_in : List LogEntry → Bool
 settled_in es = not (list_any (is_unsettled_in es) (tasks_in es))
 
--- the scope may be joined where it is cancelled or settled
+-- the scope may be joined if it is cancelled or settled
 unfoldable pub ready_in : List LogEntry → Bool
 ready_in es = list_any is_mark es || settled_in es
 

@@ -21,7 +21,7 @@ pub record LogValue : Type 0 where
   pub expiry : Expiry
   pub entries : List LogEntry
 
--- the event, the next after h, names scope s or a task of it: an open where it gives that number. A
+-- the event, the next after h, names scope s or a task of it: an open if it gives that number. A
 -- bind, an unbind and a tick name no scope, and who acts does not matter.
 abbrev pub is_of : History → ℕ → Event → Bool
 is_of h s (Open actor policy options) = scopes h + 1 == s
@@ -70,7 +70,7 @@ mark_of cause = option_map (λ c. entry.Cancelled c) cause
 abbrev pub mark_at : History → ℕ → ℕ → Option LogEntry
 mark_at h s i = option_and_then (λ at. if at == i then mark_of (cause h s) else None) (cancelled_at h s)
 
--- what stands in the log for place i: the entry of its event, and after it the mark
+-- what is in the log for place i: the entry of its event, and after it the mark
 abbrev pub entries_at : History → ℕ → ℕ → List LogEntry
 entries_at h s i = cons_option (entry_at h s i) (cons_option (mark_at h s i) [])
 

@@ -39,7 +39,7 @@ OfEachLog P = (L : Limits) (h : History) (s : ℕ) (l : LogValue) → Legal L h 
 abbrev pub entries_from : History → ℕ → ℕ → ℕ → List LogEntry
 entries_from h s a n = filter_map (entry_at h s) (range_with_len a n)
 
--- where the mark stands in the entries of scope s
+-- where the mark is in the entries of scope s
 pub record IsMarked (h : History) (s : ℕ) (es : List LogEntry) : Type 0 where
   -- of a scope that was cancelled: after the entries up to the event by which it became so, and before
   -- all later ones
@@ -47,7 +47,7 @@ pub record IsMarked (h : History) (s : ℕ) (es : List LogEntry) : Type 0 where
   -- one that wasn't has none
   pub live : cancelled_at h s ≡ None → es ≡ entries_from h s 0 (length h.events)
 
--- the mark of each log stands where its scope became cancelled
+-- the mark of each log is where its scope became cancelled
 abbrev pub LogsAreMarked : Type 0
 LogsAreMarked = OfEachLog (λ h s l. IsMarked h s l.entries)
 

@@ -21,7 +21,7 @@ pub enum LogEntry {
         actor: Actor,
         label: Label,
     },
-    /// No thread was had for the task.
+    /// No thread was available for the task.
     Reject {
         task: TaskId,
     },

@@ -9,7 +9,7 @@ pub fn logs_grow_by_events()
     ensures { LogGrows }
 {}
 
-/// The mark of a log stands after the entries up to the event by which its scope became cancelled, and
+/// The mark of a log is after the entries up to the event by which its scope became cancelled, and
 /// before all later ones; the log of a scope that wasn't cancelled has none.
 pub fn marks_stand_at_cancels()
     ensures { LogsAreMarked }

@@ -109,7 +109,7 @@ impl ScopeLog {
         readings::is_ready(&self.items)
     }
 
-    /// The completions of the scope's tasks, in order, those after its cancel too. It is refused where
+    /// The completions of the scope's tasks, in order, those after its cancel too. It is refused if
     /// memory is.
     pub fn completions(&self, alloc: Global) -> Result<Vec<Completion>, AllocError>
         ensures { IfOk result (λ v. v.items ≡ completions_in self.now.entries) }
@@ -118,15 +118,15 @@ impl ScopeLog {
     }
 
     /// What the join of the scope answered, if it was joined (JEP 505, `join` and the joiners' `result`).
-    /// It is refused where memory is.
+    /// It is refused if memory is.
     pub fn outcome(&self, alloc: Global) -> Result<Option<Outcome>, AllocError>
         ensures { IfOk result (λ o. o ≡ outcome_in self.now) }
     {
         outcomes::outcome(alloc, &self.items, self.scope, self.policy, self.expiry)
     }
 
-    /// What a join of the scope by the actor would give next, where it wasn't joined: what the join would
-    /// answer, and the log with the join at its end. It is refused where memory is.
+    /// What a join of the scope by the actor would give next, if it wasn't joined: what the join would
+    /// answer, and the log with the join at its end. It is refused if memory is.
     pub fn into_preview(mut self, alloc: Global, actor: Actor) -> Result<Preview, AllocError>
         requires { length self.entries + 1 < 2 ^ 32 }
         ensures { IfOk result (λ p. p ≡ preview_in actor self) }

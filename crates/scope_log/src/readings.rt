@@ -28,7 +28,7 @@ fn mark(entries: &[LogEntry]) -> Option<&LogEntry>
     entries.iter().find(|entry| is_mark(entry))
 }
 
-/// The entries before the mark of the scope's cancellation: all, where there is none.
+/// The entries before the mark of the scope's cancellation: all, if there is none.
 #[tactic(auto, unfolding(crate::specs::LocalForms::before_mark))]
 pub(crate) fn before_mark(entries: &[LogEntry]) -> &[LogEntry]
     ensures { result.now ≡ before_mark entries.now }
@@ -37,7 +37,7 @@ pub(crate) fn before_mark(entries: &[LogEntry]) -> &[LogEntry]
     &entries[..place]
 }
 
-/// The entries after the mark: none, where there is none.
+/// The entries after the mark: none, if there is none.
 #[tactic(auto, unfolding(crate::specs::LocalForms::after_mark))]
 fn after_mark(entries: &[LogEntry]) -> &[LogEntry]
     ensures { result.now ≡ after_mark entries.now }
@@ -50,7 +50,7 @@ fn after_mark(entries: &[LogEntry]) -> &[LogEntry]
     }
 }
 
-/// How many entries stand before the mark: all, where there is none.
+/// How many entries are before the mark: all, if there is none.
 #[tactic(auto, using(crate::proofs::FirstParts::none_at))]
 fn mark_place(entries: &[LogEntry]) -> usize
     ensures place { result ≡ position_or_len is_mark entries.now }
@@ -62,7 +62,7 @@ fn mark_place(entries: &[LogEntry]) -> usize
     }
 }
 
-/// Where the mark stands, if there is one.
+/// Where the mark is, if there is one.
 fn position_of_mark(entries: &[LogEntry]) -> Option<usize>
     ensures { result ≡ position is_mark entries.now }
 {
@@ -85,7 +85,7 @@ pub(crate) fn stage(entries: &[LogEntry], task: TaskId) -> Stage
     }
 }
 
-/// Whether the task gets no thread: its fork stands after the mark, or it was rejected.
+/// Whether the task gets no thread: its fork is after the mark, or it was rejected.
 #[tactic(auto, unfolding(crate::specs::LocalForms::is_never_in))]
 fn is_never(entries: &[LogEntry], task: TaskId) -> bool
     ensures { result ≡ is_never_in entries.now task }
@@ -121,7 +121,7 @@ fn is_finished(entries: &[LogEntry], task: TaskId) -> bool
     entries.iter().any(|entry| finishes_task(task, entry))
 }
 
-/// What can be read of the task: its end, if that stands before the mark.
+/// What can be read of the task: its end, if that is before the mark.
 #[tactic(auto, unfolding(crate::specs::LocalForms::state_in))]
 pub(crate) fn state(entries: &[LogEntry], task: TaskId) -> State
     ensures { result ≡ state_in entries.now task }

@@ -146,7 +146,7 @@ impl fmt::Display for ShownEnd {
     }
 }
 
-/// What the deadline means for the join, where that is not the usual.
+/// What the deadline means for the join, if that is not the usual.
 fn expiry_text(expiry: Expiry) -> &'static str
     ensures { result.now ≡ expiry_text expiry }
 {

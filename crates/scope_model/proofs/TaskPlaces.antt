@@ -45,6 +45,6 @@ stands_there p a n m i so count within =
     let all : (n + 1) + (m - (n + 1)) ≡ m = omega arith in
     ap (λ k. slice_get (filter p (range_with_len a k)) i) (sym all) ∙ kept_on p a (n + 1) (m - (n + 1)) i (a + n) last
 
--- where no more pass than i there is none at place i
+-- if no more pass than i there is none at place i
 pub none_there : (p : ℕ → Bool) (a m i : ℕ) → length (filter p (range_with_len a m)) ≤ i → slice_get (filter p (range_with_len a m)) i ≡ None
 none_there p a m i few = slice_get_past (filter p (range_with_len a m)) i few

@@ -59,7 +59,7 @@ module _ (L : Limits) (h : History) (t : RowTable) (a s : ℕ) (legal : Legal L 
       let row = begin_close_passed L h a s ok in
       record { opened = row.owner.opened; is = row.owner.is; by = row.owner.by; unclosed = live_is_unclosed L h s legal row.live }
 
-  -- the close is out of order where another scope is innermost
+  -- the close is out of order if another scope is innermost
   covers_is : covers_another h s ≡ not (is_this (innermost_of t a) s)
   unfolding is_innermost
   covers_is =

@@ -1,4 +1,4 @@
--- What one event more makes of the counts of a scope, where it moves a task to another stage or forks one.
+-- What one event more makes of the counts of a scope, if it moves a task to another stage or forks one.
 use Rattle.std.proofs.Common.{◌≡◌, ◌≢◌, ℕ, ◌+◌, ◌-◌, ◌==◌, ◌&&◌, Bool, true, false, cond, Some, refl, ap, sym, ◌∙◌, arith}
 use Rattle.scope_rules.specs.declared.types.capacity.Limits.{Limits}
 use Rattle.scope_rules.specs.declared.types.answers.Counts.{Counts}
@@ -42,7 +42,7 @@ module _ (L : Limits) (h : History) (e : Event) (k : ℕ) (f : Forking) (old new
   pub moved_here : (s : ℕ) (x : Stage) → (f.scope == s) ≡ true → tally (followed h e) s x + cond {A = ℕ} (is_stage x old) 1 0 ≡ tally h s x + cond {A = ℕ} (is_stage x new) 1 0
   moved_here s x of = moved_by s x true of
 
--- where a task that waited may come, before its end
+-- if a task that waited may come, before its end
 abbrev pub is_taken : Stage → Bool
 is_taken Never = true
 is_taken Running = true

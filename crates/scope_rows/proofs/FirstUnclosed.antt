@@ -30,7 +30,7 @@ unclosed_found h a s it =
     ap (option_and_then (λ (o : Opening). cond ((o.actor == a) && not (closed h s)) (Some s) None)) it.is
     ∙ (ap (λ b. cond (b && not (closed h s)) (Some s) None) (eq-eqb it.opened.actor a it.by) ∙ ap (λ b. cond (not b) (Some s) None) it.unclosed)
 
--- where nothing is, nothing is found
+-- if nothing is, nothing is found
 all_none : {A : Type 0} (f : ℕ → Option A) (n : ℕ) → ((i : ℕ) → i < n → f i ≡ None) → earliest f n ≡ None
 unfolding earliest
 all_none f zero none = refl

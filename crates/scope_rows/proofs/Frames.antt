@@ -106,7 +106,7 @@ task_moved L h e k r n legal it unrejected unstarted unfinished inner =
     (state_stays L h e k it.forked legal it.is (no_end k (length h.events) e unfinished) ∙ it.state)
     inner
 
--- and its row, where the innermost scope stays
+-- and its row, if the innermost scope stays
 pub task_kept : (L : Limits) (h : History) (e : Event) (k : ℕ) (r : TaskRow) → Legal L h → IsTaskRow h k r → rejects k e ≡ false → starts k e ≡ false → finishes k e ≡ false → innermost (followed h e) k ≡ innermost h k
     → IsTaskRow (followed h e) k r
 task_kept L h e k r legal it unrejected unstarted unfinished same =

@@ -21,7 +21,7 @@ joining_grows h e s =
     (rw (earliest_same (joining_at (followed h e) s) (joining_at h s) (length h.events) (λ i within. ap (option_and_then (λ (x : Event). cond (joins s x) (Some i) None)) (get_push h.events e i within)))
     (ap (λ o. option_or (joining h s) (option_and_then (λ (x : Event). cond (joins s x) (Some (length h.events)) None) o)) (last_event h.events e)))
 
--- there is one of two where there is the one or the other
+-- there is one of two if there is the one or the other
 some_or : (o : Option ℕ) (b : Bool) (n : ℕ) → is_some (option_or o (cond b (Some n) None)) ≡ (is_some o || b)
 some_or None true n = refl
 some_or None false n = refl
@@ -39,7 +39,7 @@ joined_before h s (suc n) within =
     (joined_grows (before h n) here.0 s ∙ (ap (λ b. b || joins s here.0) was
     ∙ (sym (some_or (joining (before h n) s) (joins s here.0) (length (before h n).events)) ∙ ap is_some (sym (joining_grows (before h n) here.0 s)))))
 
--- a scope is joined where there is a place of its join
+-- a scope is joined if there is a place of its join
 pub joined_is_some : (h : History) (s : ℕ) → joined h s ≡ is_some (joining h s)
 joined_is_some h s = subst (λ (g : History). joined g s ≡ is_some (joining g s)) (before_all h (length h.events) (omega arith)) (joined_before h s (length h.events) (omega arith))
 

@@ -1,4 +1,4 @@
--- How rows go on where no scope is opened and no task forked.
+-- How rows go on if no scope is opened and no task forked.
 use Rattle.std.proofs.Common.{◌≡◌, ℕ, ◌+◌, Bool, false, cond, Option, Some, slice_get, count_by, refl, ap, sym, ◌∙◌, arith}
 use Rattle.scope_rules.specs.declared.types.capacity.Limits.{Limits}
 use Rattle.scope_rules.specs.declared.types.events.Event.{Event}

@@ -20,7 +20,7 @@ altered_at f [] i = refl
 altered_at f (x ∷ xs) zero = refl
 altered_at f (x ∷ xs) (suc i) = altered_at f xs i
 
--- what is below a scope stays where a row is marked
+-- what is below a scope stays if a row is marked
 below_by : (rows : List ScopeRow) (p i : ℕ) → option_and_then (λ (r : ScopeRow). r.below) (slice_get (altered closing_row rows p) i) ≡ option_and_then (λ (r : ScopeRow). r.below) (slice_get rows i)
 below_by rows p i =
     elim (cases_eq i p) [

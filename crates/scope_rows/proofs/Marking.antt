@@ -31,7 +31,7 @@ walk_start before s from rows linked within = record {
   left = record { steps = walk_length from; enough = omega arith; is = refl };
 }
 
--- nothing is left where no scope is next
+-- nothing is left if no scope is next
 pub marked_none : (n before s : ℕ) (rows : List ScopeRow) → marked_within n before s None rows ≡ rows
 marked_none zero before s rows = refl
 marked_none (suc n) before s rows = refl

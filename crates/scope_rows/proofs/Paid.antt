@@ -33,7 +33,7 @@ fork_load L h a s label ok =
     let fits = ltb-false _ _ (not_refused _ _ (checks_at _ 7 _ ok.passed refl)) in
     omega (arith, fits)
 
--- where a fork is accepted its place fits 32 bits
+-- if a fork is accepted its place fits 32 bits
 pub fork_place : (L : Limits) (h : History) (a s : ℕ) (label : Label) → Legal L h → Accepts L h (Fork a s label) → length h.events < 2 ^ 32
 fork_place L h a s label legal ok =
     let paid = along L IsPaid paid_base (λ g x lawful passed so. paid_more L g x lawful passed so) h legal in

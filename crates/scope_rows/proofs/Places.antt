@@ -44,13 +44,13 @@ pub record TaskRowAt (h : History) (t : RowTable) (k : ℕ) : Type 0 where
   pub says : IsTaskRow h k row
   pub has : HasTask t k
 
--- where each row is right, so is the row of a number
+-- if each row is right, so is the row of a number
 row_there : {R : Type 0} (says : ℕ → R → Type 0) (before : ℕ) (rows : List R) (n : ℕ) → IsNumbered before rows n → ((i : ℕ) (r : R) → slice_get rows i ≡ Some r → says (before + 1 + i) r) → (r : R) × (slice_get rows (place_of before n) ≡ Some r) × says n r
 row_there says before rows n has right =
     let it = there_is rows (place_of before n) (place_within before (length rows) n has.0 has.1) in
     (it.0, it.1, subst (λ m. says m it.0) (number_at before n has.0) (right (place_of before n) it.0 it.1))
 
--- and so is what is read there, whatever is read where there is none
+-- and so is what is read there, whatever is read if there is none
 pub entry_there : {R : Type 0} (says : ℕ → R → Type 0) (before : ℕ) (rows : List R) (n : ℕ) (other : R) → IsNumbered before rows n → ((i : ℕ) (r : R) → slice_get rows i ≡ Some r → says (before + 1 + i) r) → says n (slice_index_or rows (place_of before n) other)
 entry_there says before rows n other has right =
     let at = slice_get-get_or rows (place_of before n) other (place_within before (length rows) n has.0 has.1) in
@@ -64,7 +64,7 @@ scope_there h t s are has = let it = row_there (IsScopeRow h) t.scopes_before t.
 pub task_there : (h : History) (t : RowTable) (k : ℕ) → AreRowsOf h t → HasTask t k → TaskRowAt h t k
 task_there h t k are has = let it = row_there (IsTaskRow h) t.tasks_before t.tasks k has are.tasks in record { row = it.0; at = it.1; says = it.2; has = has }
 
--- where there is a row for each scope since the base, a scope that was opened has one
+-- if there is a row for each scope since the base, a scope that was opened has one
 pub opened_numbered : {R : Type 0} (h : History) (before : ℕ) (rows : List R) (s : ℕ) → before ≡ h.base.scopes → length rows ≡ opened_count h → IsOpened h s → IsNumbered before rows s
 opened_numbered h before rows s numbered count it =
     let number = opened_after h s it.opened it.is in

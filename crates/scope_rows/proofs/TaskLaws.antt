@@ -170,7 +170,7 @@ rows_rejected L h t u k written legal ok are = rows_taken L h t u k (Reject k) N
 pub rows_started : (L : Limits) (h : History) (t u : RowTable) (k : ℕ) → u ≡ started t k → Legal L h → Accepts L h (Start k) → AreRowsOf h t → AreRowsOf (followed h (Start k)) u
 rows_started L h t u k written legal ok are = rows_taken L h t u k (Start k) Running written legal are (start_passed L h k ok) (names_started k) refl refl (stage_started L h k legal ok)
 
--- and after an end, where it is known whether the task's scope is cancelled
+-- and after an end, if it is known whether the task's scope is cancelled
 pub rows_finished : (L : Limits) (h : History) (t : RowTable) (k : ℕ) (end : EndValue) (cancelled : Bool) → Legal L h → Accepts L h (Finish k end) → AreRowsOf h t → cancelled ≡ is_cancelled h (scope_of t k)
     → AreRowsOf (followed h (Finish k end)) (finished t k end cancelled)
 rows_finished L h t k end cancelled legal ok are cut =

@@ -12,7 +12,7 @@ use Rattle.scope_rules.proofs.Innermosts.{HasUnclosed, opened_after, innermost_u
 use Rattle.scope_rules.proofs.InnermostEnds.{opened_first, unclosed_around}
 use Rattle.scope_rules.proofs.OneEventMore.{opening_later}
 
--- o is the greatest unclosed scope of the actor below t, or none where there is none
+-- o is the greatest unclosed scope of the actor below t, or none if there is none
 pub record IsGreatestBelow (h : History) (a t : ℕ) (o : Option ℕ) : Type 0 where
   pub there : (p : ℕ) → o ≡ Some p → HasUnclosed h a p × (p < t)
   pub greatest : (u : ℕ) → HasUnclosed h a u → u < t → (p : ℕ) × (o ≡ Some p) × (u ≤ p)

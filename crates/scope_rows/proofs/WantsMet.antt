@@ -41,7 +41,7 @@ use Rattle.scope_rows.proofs.TaskLaws.{waiting_is, running_is}
 
 -- ---- numbers
 
--- where a history has small numbers, so have its rows
+-- if a history has small numbers, so have its rows
 pub scope_numbers_fit : (h : History) (t : RowTable) → AreRowsOf h t → HasSmallNumbers h → HasScopeNumbers t
 scope_numbers_fit h t are small = omega (arith, are.scopes_before, are.scope_count, small.scopes)
 

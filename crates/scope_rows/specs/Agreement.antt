@@ -24,7 +24,7 @@ pub record IsScopeRow (h : History) (s : ℕ) (r : ScopeRow) : Type 0 where
   pub violated : violated h s ≡ r.violated
   pub counts : counts h s ≡ r.counts
 
--- the row says what the history says of task k, and where its fork stands, which says the rest
+-- the row says what the history says of task k, and where its fork is, which says the rest
 pub record IsTaskRow (h : History) (k : ℕ) (r : TaskRow) : Type 0 where
   pub forked : Forking
   pub is : forking h k ≡ Some forked

@@ -88,7 +88,7 @@ is_this i s = option_map_or (λ n. n == s) i false
 abbrev pub violated_row : Bool → ScopeRow → ScopeRow
 violated_row out_of_order r = record r { violated = r.violated || out_of_order }
 
--- the scopes from the actor's innermost down to s are closing, and s is violated where it isn't that
+-- the scopes from the actor's innermost down to s are closing, and s is violated if it isn't that
 abbrev pub close_begun : RowTable → ℕ → ℕ → RowTable
 close_begun t a s =
     record t { scopes = altered (violated_row (not (is_this (innermost_of t a) s))) (marked t.scopes_before s (innermost_of t a) t.scopes) (place_of t.scopes_before s) }
@@ -116,7 +116,7 @@ count_taken _ c = record c { waiting = c.waiting - 1; never = c.never + 1 }
 abbrev pub count_finish : Counts → Counts
 count_finish c = record c { running = c.running - 1; finished = c.finished + 1 }
 
--- a task that was forked in scope s by the event at the place: it never runs where the scope is cancelled
+-- a task that was forked in scope s by the event at the place: it never runs if the scope is cancelled
 abbrev pub new_task_row : ℕ → ℕ → Bool → TaskRow
 new_task_row s place cancelled = record { scope = s; place = place; innermost = 0; stage = if cancelled then Never else Waiting; state = Unavailable }
 
@@ -142,7 +142,7 @@ rejected t k = taken t k Never
 abbrev pub started : RowTable → ℕ → RowTable
 started t k = taken t k Running
 
--- what can be read of a task that ends so: nothing, where its scope is cancelled
+-- what can be read of a task that ends so: nothing, if its scope is cancelled
 abbrev pub state_at_end : Bool → EndValue → State
 state_at_end cancelled end = if cancelled then Unavailable else state_by_end end
 

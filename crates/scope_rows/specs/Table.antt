@@ -17,7 +17,7 @@ pub record RowTable : Type 0 where
   pub scope_room : ℕ
   pub task_room : ℕ
 
--- the place of the row of number n, where `before` numbers were given before
+-- the place of the row of number n, if `before` numbers were given before
 abbrev pub place_of : ℕ → ℕ → ℕ
 place_of before n = (n - before) - 1
 
@@ -47,11 +47,11 @@ scope_row t s = row_of t.scopes_before t.scopes s
 abbrev pub task_row : RowTable → ℕ → Option TaskRow
 task_row t k = row_of t.tasks_before t.tasks k
 
--- the scope in which the task was forked, or 0 where there is no row of the task
+-- the scope in which the task was forked, or 0 if there is no row of the task
 abbrev pub scope_of : RowTable → ℕ → ℕ
 scope_of t k = option_map_or (λ r. r.scope) (task_row t k) 0
 
--- the scope of this number, which is 0 where there is none
+-- the scope of this number, which is 0 if there is none
 abbrev pub inner_of : ℕ → Option ℕ
 inner_of n = if n == 0 then None else Some n
 

@@ -38,7 +38,7 @@ impl Model for OwnDeadlines {
 }
 
 impl OwnDeadlines {
-    /// No scopes, where so many were numbered before. It takes no memory; that of later calls comes
+    /// No scopes, if so many were numbered before. It takes no memory; that of later calls comes
     /// from `alloc`.
     pub fn new(alloc: Global, before: u32) -> OwnDeadlines
         ensures table { result ≡ no_deadlines before }

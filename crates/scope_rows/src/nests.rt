@@ -23,7 +23,7 @@ pub fn outermost(rows: &Rows, actor: Actor) -> Option<ScopeId>
     next_unclosed(rows, actor, 0)
 }
 
-/// The scope inside the scope: the next that its owner opened and has not closed. None where no such
+/// The scope inside the scope: the next that its owner opened and has not closed. None if no such
 /// scope was opened since the base.
 pub fn inner(rows: &Rows, scope: ScopeId) -> Option<ScopeId>
     ensures { (L : Limits) (h : History) → Legal L h → AreRowsOf h rows.now → result ≡ inner h scope }

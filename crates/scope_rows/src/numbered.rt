@@ -1,9 +1,9 @@
-//! Where the row of a number stands.
+//! Where the row of a number is.
 
 ghost use Rattle.std.specs.Prelude.{◌≡◌, ◌<◌, option_map};
 ghost use Rattle.scope_rows.specs.Table.{place_of, row_of};
 
-/// The place of the number's row, where so many numbers were given before the first that has one.
+/// The place of the number's row, if so many numbers were given before the first that has one.
 pub(crate) fn place_of(before: u32, number: u32) -> usize
     requires { before < number }
     ensures { result ≡ place_of before number }

@@ -24,7 +24,7 @@ pub struct ScopeRow {
     pub counts: Counts,
 }
 
-/// What is kept of a task. What else its fork said stands in the history alone.
+/// What is kept of a task. What else its fork said is in the history alone.
 #[derive(Clone, Copy)]
 pub struct TaskRow {
     /// The scope that it was forked in.

@@ -42,7 +42,7 @@ impl Model for Rows {
 }
 
 impl Rows {
-    /// No rows, where no number was given before. It takes no memory; that of later calls comes from
+    /// No rows, if no number was given before. It takes no memory; that of later calls comes from
     /// `alloc`.
     pub fn new(alloc: Global) -> Rows
         ensures rows { result ≡ empty_table 0 0 }
@@ -51,7 +51,7 @@ impl Rows {
         Rows::with_base(alloc, 0, 0)
     }
 
-    /// No rows, where so many scopes and tasks were numbered before. It takes no memory; that of later
+    /// No rows, if so many scopes and tasks were numbered before. It takes no memory; that of later
     /// calls comes from `alloc`.
     pub fn with_base(alloc: Global, scopes_before: u32, tasks_before: u32) -> Rows
         ensures rows { result ≡ empty_table scopes_before tasks_before }
@@ -150,7 +150,7 @@ impl Rows {
     ///
     /// # Errors
     ///
-    /// Where memory is refused. Then nothing has changed.
+    /// If memory is refused. Then nothing has changed.
     pub fn reserve_scope(&mut self) -> Result<(), AllocError>
         ensures ok { OnOk result (1 ≤ self.new.scope_room) }
         ensures kept { self.new ≡ record self.old { scope_room = self.new.scope_room } }
@@ -163,7 +163,7 @@ impl Rows {
     ///
     /// # Errors
     ///
-    /// Where memory is refused. Then nothing has changed.
+    /// If memory is refused. Then nothing has changed.
     pub fn reserve_task(&mut self) -> Result<(), AllocError>
         ensures ok { OnOk result (1 ≤ self.new.task_room) }
         ensures kept { self.new ≡ record self.old { task_room = self.new.task_room } }
@@ -172,7 +172,7 @@ impl Rows {
         self.tasks.reserve(1)
     }
 
-    /// Leaves no rows, where so many scopes and tasks were numbered before. It keeps the memory, and
+    /// Leaves no rows, if so many scopes and tasks were numbered before. It keeps the memory, and
     /// takes none.
     pub fn restart(&mut self, scopes_before: u32, tasks_before: u32)
         ensures rows { self.new ≡ restarted self.old scopes_before tasks_before }
@@ -217,7 +217,7 @@ impl Rows {
     }
 }
 
-/// The scope of this number, which is 0 where there is none.
+/// The scope of this number, which is 0 if there is none.
 fn inner_of(number: u32) -> Option<ScopeId>
     ensures { result ≡ inner_of number }
 {

@@ -66,7 +66,7 @@ same_truth true c one other = sym (one refl)
 same_truth false true one other = other refl
 same_truth false false one other = refl
 
--- the bindings are those of the opening where the stack is as high as then
+-- the bindings are those of the opening if the stack is as high as then
 pub bound_by_height : (L : Limits) (h : History) (s : ℕ) (o : Opening) → Legal L h → opening h s ≡ Some o → closed h s ≡ false
     → bound_as_opened h o.actor s ≡ (length (stack h o.actor) == length (stack_then h o))
 bound_by_height L h s o legal is unclosed =
@@ -117,7 +117,7 @@ held_by L h a (Some s) legal is =
           test_finds h a s (record { opened = o; is = own.is; owner = own.by; unclosed = own.unclosed; height = rw own.by at (leb-true _ _ low) }),
     )
 
--- a scope holds the actor's last pair where its innermost one does
+-- a scope holds the actor's last pair if its innermost one does
 pub held_by_innermost : (L : Limits) (h : History) (a : ℕ) → Legal L h → holds_last h a ≡ is_held h a (innermost h a)
 held_by_innermost L h a legal =
     let both = held_by L h a (innermost h a) legal refl in

@@ -48,7 +48,7 @@ module _ (outer : ℕ → Option ℕ) (inward : IsInward outer) where
       ap (least_on deadline) (chain_law s)
       ∙ ap (sooner (deadline s)) (elim (outer s) as (λ o. least_on deadline (onward o (chain_by outer)) ≡ option_and_then (λ p. least_on deadline (chain_by outer p)) o) [ None ↦ refl | Some p ↦ refl ])
 
--- ---- what stays the same up to a number, where a scope and what is outside it stay the same
+-- ---- what stays the same up to a number, if a scope and what is outside it stay the same
 
 module _ (outer new : ℕ → Option ℕ) (inward : IsInward outer) (n : ℕ) (same : (t : ℕ) → t ≤ n → new t ≡ outer t) (inward_new : IsInward new) where
   pub cut_kept : (own own_new : ℕ → Option Cut) → ((t : ℕ) → t ≤ n → own_new t ≡ own t) → (t : ℕ) → 1 ≤ t → t ≤ n → cut_by new own_new t ≡ cut_by outer own t

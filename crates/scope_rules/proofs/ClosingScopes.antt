@@ -1,4 +1,4 @@
--- Where a scope is closed, so are those inside it, and without a scope of main no task waits or runs.
+-- If a scope is closed, so are those inside it, and without a scope of main no task waits or runs.
 use Rattle.std.proofs.Common.{◌≡◌, ℕ, zero, suc, ◌+◌, ◌<◌, ◌==◌, ◌||◌, Bool, true, false, Option, Some, None, option_map, [], length, refl, ap, sym, subst, ◌∙◌, arith, inl, inr, ◌⊎◌}
 use Rattle.std.proofs.lemmas.Bool.{false_from_ne_true, true_from_ne_false, both_ways, eq-eqb}
 use Rattle.std.specs.Option.{option_or}
@@ -175,11 +175,11 @@ settled_below L h (suc n) k legal none less =
     let owner = unsettled_owner L h k it.forked legal none it.is unclosed in
     both_ways (is_settled (stage h it.forked.actor)) (running_unsettled (stage h it.forked.actor) owner.1) (settled_below L h n it.forked.actor legal none (omega (arith, owner.0))))
 
--- where main has no unclosed scope, no task waits or runs
+-- if main has no unclosed scope, no task waits or runs
 pub nothing_runs : (L : Limits) (h : History) (k : ℕ) → Legal L h → innermost h 0 ≡ None → is_settled (stage h k) ≡ true
 nothing_runs L h k legal none = settled_below L h (k + 1) k legal none (omega arith)
 
--- where main has no unclosed scope, each scope is closed
+-- if main has no unclosed scope, each scope is closed
 pub nothing_open : (L : Limits) (h : History) (s : ℕ) (o : Opening) → Legal L h → innermost h 0 ≡ None → opening h s ≡ Some o → closed h s ≡ true
 nothing_open L h s o legal none is =
     true_from_ne_false (closed h s)

@@ -77,7 +77,7 @@ test_finds h a s it =
     let same : (h.base.scopes + 1) + number.0 ≡ s = omega (arith, number.2) in
     range_any (opened_above h a) (h.base.scopes + 1) (opened_count h) number.0 number.1 (ap (opened_above h a) same ∙ above_from h a s it)
 
--- where nothing holds the last pair, the stack is higher than at the opening of a scope that isn't closed
+-- if nothing holds the last pair, the stack is higher than at the opening of a scope that isn't closed
 pub not_held : (h : History) (a s : ℕ) (o : Opening) → holds_last h a ≡ false → opening h s ≡ Some o → o.actor ≡ a → closed h s ≡ false → length (stack (before h o.place) a) < length (stack h a)
 not_held h a s o free is owner unclosed =
     elim (cases_lt (length (stack (before h o.place) a)) (length (stack h a))) [

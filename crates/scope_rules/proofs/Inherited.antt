@@ -93,7 +93,7 @@ pub inherits : (L : Limits) (h : History) (n a : ℕ) → Legal L h → (a ≡ 0
 inherits L h n a legal who =
     elim who [ inl main ↦ inherits_main h n a main | inr task ↦ inherits_task L h n a task.forked legal task.is ]
 
--- so its bindings are the same where its own pairs are
+-- so its bindings are the same if its own pairs are
 pub same_bindings : (h : History) (n a : ℕ) → Inherits h n a → (stack h a ≡ stack (before h n) a) ↔ (bindings h a ≡ bindings (before h n) a)
 same_bindings h n a it = (
   λ same. it.now ∙ (ap (λ xs. it.inherited ++ xs) same ∙ sym it.then),

@@ -26,7 +26,7 @@ none_split : {A : Type 0} (o p : Option A) → option_or o p ≡ None → (o ≡
 none_split None p none = (refl, none)
 none_split (Some x) p none = absurd cc
 
--- where nothing is found from above, nothing is there
+-- if nothing is found from above, nothing is there
 latest_none : {A : Type 0} (f : ℕ → Option A) (n i : ℕ) → latest f n ≡ None → i < n → f i ≡ None
 unfolding latest
 latest_none f zero i none within = absurd (omega arith)
@@ -108,7 +108,7 @@ innermost_later h a s t o some is by more =
     let it = opened_after h t o is in
     closed_where_none h a t o (sym (ap (unclosed_number h a) it.2) ∙ found.above it.0 (omega (arith, there.0, it.2)) it.1) is by
 
--- an actor's innermost scope, where it has one
+-- an actor's innermost scope, if it has one
 pub record HasInnermost (h : History) (a t : ℕ) : Type 0 where
   pub scope : ℕ
   pub is : innermost h a ≡ Some scope

@@ -42,7 +42,7 @@ no_outcome h s o None none there = refl
 no_outcome h s None (Some i) none there = absurd cc
 no_outcome h s (Some o) (Some i) none there = absurd cc
 
--- where the checks of an outcome pass, there is one
+-- if the checks of an outcome pass, there is one
 pub outcome_there : (h : History) (s : ℕ) → outcome_check h s ≡ Ok tt → outcome h s ≡ None → ⊥
 unfolding outcome_check outcome joining joined scope_check
 outcome_there h s passed none =

@@ -132,7 +132,7 @@ not_both h a i last began = omega (arith, lower_before h a i last, began.stands 
 not_sooner : (h : History) (a i j : ℕ) → IsLastBound h a i → IsLastBound h a j → i < j → ⊥
 not_sooner h a i j last other sooner = omega (arith, lower_before h a j other, last.stands j sooner (omega (arith, bound_inside h a j other)))
 
--- the place is one, and there is none where the actor began with its pairs
+-- the place is one, and there is none if the actor began with its pairs
 pub last_bound_once : (h : History) (a i j : ℕ) → IsLastBound h a i → (BeganWithAll h a → ⊥) × (IsLastBound h a j → i ≡ j)
 last_bound_once h a i j last = (
   λ began. not_both h a i last began,
@@ -155,7 +155,7 @@ opened_after L h a i s legal last it =
           absurd (omega (arith, above, it.height, size))
     ]
 
--- a scope that was opened since then holds the last pair, where there were as many pairs at its opening
+-- a scope that was opened since then holds the last pair, if there were as many pairs at its opening
 since_holds : (h : History) (a n : ℕ) (since : HasOpenedSince h a n) → length (stack h a) ≤ length (stack (before h since.opened.place) a) → IsTrue (holds_last h a)
 since_holds h a n since height = test_finds h a since.scope (record { opened = since.opened; is = since.is; owner = since.owner; unclosed = since.unclosed; height = height })
 
@@ -168,7 +168,7 @@ held_by_later L h a i legal last = (
       since_holds h a (i + 1) since (last.stands since.opened.place (omega (arith, since.later)) (omega (arith, inside))),
 )
 
--- where the actor began with its last pair, each of its scopes came later
+-- if the actor began with its last pair, each of its scopes came later
 pub held_by_any : (h : History) (a : ℕ) → BeganWithAll h a → IsTrue (holds_last h a) ↔ HasOpenedSince h a 0
 held_by_any h a began = (
   λ told.

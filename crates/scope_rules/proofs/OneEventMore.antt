@@ -120,27 +120,27 @@ opening_split h e s o is = numbered_split (scopes h + 1) s (opening h s) (openin
 pub forking_split : (h : History) (e : Event) (k : ℕ) (f : Forking) → forking (followed h e) k ≡ Some f → (forking h k ≡ Some f) ⊎ ((k ≡ tasks h + 1) × (forking_of (length h.events) e ≡ Some f))
 forking_split h e k f is = numbered_split (tasks h + 1) k (forking h k) (forking_of (length h.events) e) f (sym (forking_grows h e k) ∙ is)
 
--- a scope is joined after one event more where it was so before, or the event joins it
+-- a scope is joined after one event more if it was so before, or the event joins it
 pub joined_grows : (h : History) (e : Event) (s : ℕ) → joined (followed h e) s ≡ (joined h s || joins s e)
 unfolding joined
 joined_grows h e s = list_any-push (joins s) h.events e
 
--- a scope is closed after one event more where it was so before, or the event closes it
+-- a scope is closed after one event more if it was so before, or the event closes it
 pub closed_grows : (h : History) (e : Event) (s : ℕ) → closed (followed h e) s ≡ (closed h s || ends s e)
 unfolding closed
 closed_grows h e s = list_any-push (ends s) h.events e
 
--- a task is rejected after one event more where it was so before, or the event rejects it
+-- a task is rejected after one event more if it was so before, or the event rejects it
 pub rejected_grows : (h : History) (e : Event) (k : ℕ) → rejected (followed h e) k ≡ (rejected h k || rejects k e)
 unfolding rejected
 rejected_grows h e k = list_any-push (rejects k) h.events e
 
--- a task is started after one event more where it was so before, or the event starts it
+-- a task is started after one event more if it was so before, or the event starts it
 pub started_grows : (h : History) (e : Event) (k : ℕ) → started (followed h e) k ≡ (started h k || starts k e)
 unfolding started
 started_grows h e k = list_any-push (starts k) h.events e
 
--- a task has finished after one event more where it had before, or the event finishes it
+-- a task has finished after one event more if it had before, or the event finishes it
 pub finished_grows : (h : History) (e : Event) (k : ℕ) → finished (followed h e) k ≡ (finished h k || finishes k e)
 unfolding finished
 finished_grows h e k = list_any-push (finishes k) h.events e
@@ -151,7 +151,7 @@ closing_earlier h e s i within = rw (before_push h e i (omega arith)) (rw (get_p
 closing_last : (h : History) (e : Event) (s : ℕ) → closing_at (followed h e) s (length h.events) ≡ begins_closing h s e
 closing_last h e s = rw (before_last h e) (rw (last_event h.events e) refl)
 
--- a scope is closing after one event more where it was so before, or the event begins its close
+-- a scope is closing after one event more if it was so before, or the event begins its close
 pub closing_grows : (h : History) (e : Event) (s : ℕ) → closing (followed h e) s ≡ (closing h s || begins_closing h s e)
 unfolding closing
 closing_grows h e s =
@@ -192,7 +192,7 @@ later_append P kept h [] so = subst (λ (es : List Event). P (record { base = h.
 later_append P kept h (e ∷ more) so =
     subst (λ (es : List Event). P (record { base = h.base; events = es })) (append_assoc h.events (e ∷ []) more) (later_append P kept (followed h e) more (kept h e so))
 
--- what each event more keeps holds of the whole history where it held before a place
+-- what each event more keeps holds of the whole history if it held before a place
 pub later : (P : History → Type 0) → ((g : History) (e : Event) → P g → P (followed g e)) → (h : History) (n : ℕ) → P (before h n) → P h
 later P kept h n so =
     subst (λ (es : List Event). P (record { base = h.base; events = es })) (take-append-drop n h.events) (later_append P kept (before h n) (drop n h.events) so)

@@ -58,7 +58,7 @@ numbers_by : (mark : Event → Option ℕ) (a k m : ℕ) (b : Bool) (es : List E
 numbers_by mark a k m true es is = rw is (missing_number mark a k es)
 numbers_by mark a k m false es is = let same : m ≡ k = is ∙ omega arith in rw same (omega arith)
 
--- one event more: a number more where it is of the kind that is numbered, and nothing more is missing otherwise
+-- one event more: a number more if it is of the kind that is numbered, and nothing more is missing otherwise
 numbered_missing : (mark : Event → Option ℕ) (kind : Event → Bool) (first : ℕ) (h : History) (e : Event)
     → missing mark (range_with_len first (count_by kind (followed h e).events)) (h.events ++ e ∷ []) ≤ missing mark (range_with_len first (count_by kind h.events)) h.events + cond (kind e) 1 0
 numbered_missing mark kind first h e =

@@ -52,14 +52,14 @@ last_of_at f xs i x at = ap (last_of f) (take_at xs i x at) ∙ last_of-push f (
 pub take_whole : {A : Type 0} (xs : List A) (i : ℕ) → length xs ≤ i → take i xs ≡ xs
 take_whole xs i all = take_all i xs all
 
--- the same, where the search so far is known
+-- the same, if the search so far is known
 pub last_of_more : {A B : Type 0} (f : A → Option B) (xs : List A) (i : ℕ) (x : A) (last : Option B) → slice_get xs i ≡ Some x → last ≡ last_of f (take i xs) → option_or (f x) last ≡ last_of f (take (i + 1) xs)
 last_of_more f xs i x last at so = ap (option_or (f x)) so ∙ sym (last_of_at f xs i x at)
 
 pub sum_by_more : {A : Type 0} (f : A → ℕ) (xs : List A) (i : ℕ) (x : A) → slice_get xs i ≡ Some x → sum_by f (take (i + 1) xs) ≡ sum_by f (take i xs) + f x
 sum_by_more f xs i x at = ap (sum_by f) (take_at xs i x at) ∙ (sum_by-append f (take i xs) (x ∷ []) ∙ omega arith)
 
--- an element stays where one is put behind it
+-- an element stays if one is put behind it
 pub get_push : {A : Type 0} (xs : List A) (x : A) (i : ℕ) → i < length xs → slice_get (xs ++ x ∷ []) i ≡ slice_get xs i
 get_push [] x i within = absurd (omega arith)
 get_push (y ∷ xs) x zero within = refl

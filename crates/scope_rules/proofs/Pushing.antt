@@ -80,14 +80,14 @@ load_fits L h (Join actor scope) within ok = omega (arith, within)
 load_fits L h (BeginClose actor scope) within ok = omega (arith, within)
 load_fits L h (EndClose actor scope) within ok = omega (arith, within)
 
--- where an open is accepted there is a number for its scope, and the limit of scopes is not met
+-- if an open is accepted there is a number for its scope, and the limit of scopes is not met
 pub open_number : (L : Limits) (h : History) (a : ℕ) (policy : Policy) (options : Options) → check_of L h (Open a policy options) ≡ Ok tt → (opened_count h < L.scopes) × (scopes h < GREATEST_NUMBER)
 unfolding check_of
 open_number L h a policy options ok =
     let under = not_refused _ _ (checks_at _ 3 _ ok refl) in
     (leb-false L.scopes (opened_count h) (or_left _ _ under), leb-false GREATEST_NUMBER (scopes h) (or_right _ _ under))
 
--- where a fork is accepted there is a number for its task, and the limit of tasks is not met
+-- if a fork is accepted there is a number for its task, and the limit of tasks is not met
 pub fork_number : (L : Limits) (h : History) (a s : ℕ) (label : Label) → check_of L h (Fork a s label) ≡ Ok tt → (forked_count h < L.tasks) × (tasks h < GREATEST_NUMBER)
 unfolding check_of
 fork_number L h a s label ok =

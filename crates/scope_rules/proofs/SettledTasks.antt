@@ -1,4 +1,4 @@
--- A scope is settled where each of its tasks is.
+-- A scope is settled if each of its tasks is.
 use Rattle.std.proofs.Common.{◌≡◌, ℕ, zero, suc, ◌+◌, ◌<◌, ◌==◌, ◌&&◌, Bool, true, false, not, Option, Some, None, List, [], ◌∷◌, refl, ap, sym, ◌∙◌, arith}
 use Rattle.std.proofs.lemmas.Bool.{eq-eqb, eqb-true, or_parts, or_from, not-true}
 use Rattle.std.specs.Option.{option_map_or}
@@ -9,7 +9,7 @@ use Rattle.scope_rules.specs.Completions.{is_task_of}
 use Rattle.scope_rules.specs.Tasks.{stage, is_settled, is_unsettled, settled}
 use Rattle.scope_rules.proofs.Forkings.{forked_after}
 
--- where the test holds of none of the numbers, it doesn't of each
+-- if the test holds of none of the numbers, it doesn't of each
 none_at : (p : ℕ → Bool) (a n i : ℕ) → list_any p (range_with_len a n) ≡ false → i < n → p (a + i) ≡ false
 none_at p a zero i none within = absurd (omega arith)
 none_at p a (suc n) zero none within = let same : a + 0 ≡ a = omega arith in ap p same ∙ (or_parts (p a) (list_any p (range_with_len (a + 1) n)) none).0
@@ -43,7 +43,7 @@ unsettled_by : (h : History) (s k : ℕ) (o : Option Forking) → forking h k �
 unsettled_by h s k None is all = refl
 unsettled_by h s k (Some f) is all = both_false (f.scope == s) (is_settled (stage h k)) (λ it. all f is (eqb-true f.scope s it))
 
--- a scope is settled where each of its tasks is
+-- a scope is settled if each of its tasks is
 pub settled_where_all : (h : History) (s : ℕ) → ((k : ℕ) (f : Forking) → forking h k ≡ Some f → f.scope ≡ s → is_settled (stage h k) ≡ true) → settled h s ≡ true
 unfolding settled is_task_of
 settled_where_all h s all = ap not (none_of (is_unsettled h s) (task_numbers h) (λ k. unsettled_by h s k (forking h k) refl (λ f is it. all k f is it)))

@@ -1,4 +1,4 @@
--- A tree that numbers its scopes from 1, where others were numbered before them: chains, cuts and
+-- A tree that numbers its scopes from 1, if others were numbered before them: chains, cuts and
 -- deadlines are the same but for the numbers.
 use Rattle.std.proofs.Common.{◌≡◌, ℕ, suc, zero, ◌+◌, ◌≤◌, Bool, true, false, cond, Option, Some, None, option_map, is_some, nat_le, List, [], ◌∷◌, map, refl, ap, sym, ◌∙◌, arith}
 use Rattle.scope_rules.specs.declared.types.answers.Effective.TheVariants.{Past}

@@ -132,7 +132,7 @@ by_cancel : (b : Bool) → staged b false false false ≡ cond b Never Waiting
 by_cancel true = refl
 by_cancel false = refl
 
--- a forked task waits, or never runs where its scope is cancelled
+-- a forked task waits, or never runs if its scope is cancelled
 pub stage_forked : (L : Limits) (h : History) (a s : ℕ) (label : _) → Legal L h → Accepts L h (Fork a s label) → stage (followed h (Fork a s label)) (tasks h + 1) ≡ cond (is_cancelled h s) Never Waiting
 stage_forked L h a s label legal ok =
     let e = Fork a s label in

@@ -13,12 +13,12 @@ any_step : (b : Bool) (m : ℕ) (rest : Bool) → rest ≡ nat_lt 0 m → (b || 
 any_step true m rest so = sym (lt-ltb 0 (1 + m) (omega arith))
 any_step false m rest so = let same : 0 + m ≡ m = omega arith in rw same so
 
--- the test holds of some, where more than none are counted
+-- the test holds of some, if more than none are counted
 pub any_counted : (p : ℕ → Bool) (ns : List ℕ) → list_any p ns ≡ nat_lt 0 (count_by p ns)
 any_counted p [] = refl
 any_counted p (n ∷ ns) = any_step (p n) (count_by p ns) (list_any p ns) (any_counted p ns) ∙ ap (nat_lt 0) (sym (count_by-cons p n ns))
 
--- what is counted by one test is counted by two, where just one of them holds
+-- what is counted by one test is counted by two, if just one of them holds
 counted_apart : (p q r : ℕ → Bool) (ns : List ℕ) → ((n : ℕ) → cond {A = ℕ} (p n) 1 0 ≡ cond {A = ℕ} (q n) 1 0 + cond {A = ℕ} (r n) 1 0) → count_by p ns ≡ count_by q ns + count_by r ns
 counted_apart p q r [] same = refl
 counted_apart p q r (n ∷ ns) same =
@@ -53,7 +53,7 @@ either_unit false c = refl
 either_unit true true = refl
 either_unit true false = refl
 
--- a scope has tasks where some are at a stage
+-- a scope has tasks if some are at a stage
 pub tasks_by_counts : (h : History) (s : ℕ) → has_tasks h s ≡ nat_lt 0 (((counts h s).never + (counts h s).finished) + ((counts h s).waiting + (counts h s).running))
 unfolding has_tasks counts
 tasks_by_counts h s =

@@ -24,7 +24,7 @@ violating_earlier h e s i within = rw (before_push h e i (omega arith)) (rw (get
 violating_last : (h : History) (e : Event) (s : ℕ) → violating_at (followed h e) s (length h.events) ≡ begins_for h s e
 violating_last h e s = rw (before_last h e) (rw (last_event h.events e) refl)
 
--- a close was out of order after one event more where it was before, or the event begins it so
+-- a close was out of order after one event more if it was before, or the event begins it so
 pub violated_grows : (h : History) (e : Event) (s : ℕ) → violated (followed h e) s ≡ (violated h s || begins_for h s e)
 unfolding violated some_below
 violated_grows h e s =
@@ -93,7 +93,7 @@ finds_innermost h s o is unclosed other =
     let place : (h.base.scopes + 1) + number.0 ≡ t = omega (arith, number.2) in
     range_any (covers_other h s) (h.base.scopes + 1) (opened_count h) number.0 number.1 (ap (covers_other h s) place ∙ covers_it h s t o own.opened is own.is own.by later own.unclosed)
 
--- the beginning of the close of an unclosed scope covers another where the scope isn't its owner's innermost
+-- the beginning of the close of an unclosed scope covers another if the scope isn't its owner's innermost
 pub covers_by_innermost : (h : History) (s : ℕ) (o : Opening) → opening h s ≡ Some o → closed h s ≡ false → covers_another h s ≡ not (is_innermost h o.actor s)
 covers_by_innermost h s o is unclosed = by (is_innermost h o.actor s) refl
   where

@@ -61,7 +61,7 @@ LastBoundOnce = (h : History) (a i j : ℕ) → IsLastBound h a i → (BeganWith
 abbrev pub HeldByLaterScopes : Type 0
 HeldByLaterScopes = (L : Limits) (h : History) (a i : ℕ) → Legal L h → IsLastBound h a i → IsTrue (holds_last h a) ↔ HasOpenedSince h a (i + 1)
 
--- where the actor began with its last pair, each of its scopes came later
+-- if the actor began with its last pair, each of its scopes came later
 abbrev pub HeldByAnyScope : Type 0
 HeldByAnyScope = (h : History) (a : ℕ) → BeganWithAll h a → IsTrue (holds_last h a) ↔ HasOpenedSince h a 0
 

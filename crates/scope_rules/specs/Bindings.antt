@@ -75,6 +75,6 @@ bound_as_opened h actor s = option_map_or (bound_as_at h actor) (opening h s) fa
 abbrev pub opened_above : History → ℕ → ℕ → Bool
 opened_above h actor s = option_map_or (λ o. (o.actor == actor) && not (closed h s) && nat_le (length (stack h actor)) (length (stack (before h o.place) actor))) (opening h s) false
 
--- a scope that the actor has not closed was opened while its last pair stood
+-- a scope that the actor has not closed was opened while its last pair was there
 unfoldable pub holds_last : History → ℕ → Bool
 holds_last h actor = list_any (opened_above h actor) (scope_numbers h)

@@ -38,7 +38,7 @@ direct_kind h s _ = None
 unfoldable pub joiner_fires : History → ℕ → Event → Bool
 joiner_fires h s e = completes h s e && option_map_or (λ o. fires o.policy (completions h s)) (opening h s) false
 
--- what gives scope s its own cancel at the event e, which stands in h at place i
+-- what gives scope s its own cancel at the event e, which is in h at place i
 abbrev pub kind_by : History → ℕ → ℕ → Event → Option CauseKind
 kind_by h s i e = option_or (direct_kind (before h i) s e)
     (if joiner_fires (before h (i + 1)) s e then Some Joiner else (if overdue (before h (i + 1)) s then Some Deadline else None))

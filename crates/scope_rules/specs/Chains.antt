@@ -40,7 +40,7 @@ earliest_on own (s ∷ ss) = nearer (own s) (earliest_on own ss)
 unfoldable pub cut_by : (ℕ → Option ℕ) → (ℕ → Option Cut) → ℕ → Option Cut
 cut_by outer own s = earliest_on own (chain_by outer s)
 
--- the lesser of two deadlines, where they are set
+-- the lesser of two deadlines, if they are set
 abbrev pub sooner : Option ℕ → Option ℕ → Option ℕ
 sooner None other = other
 sooner (Some d) None = Some d
@@ -59,6 +59,6 @@ at_moment (Some d) = At d
 abbrev pub effective_by : (ℕ → Option ℕ) → (ℕ → Option Cut) → (ℕ → Option ℕ) → ℕ → Effective
 effective_by outer own deadline s = if is_some (cut_by outer own s) then Past else at_moment (least_on deadline (chain_by outer s))
 
--- the cut, with so much added to its scope's number: as it is where others were numbered before
+-- the cut, with so much added to its scope's number: as it is if others were numbered before
 abbrev pub shifted : ℕ → Cut → Cut
 shifted b c = record { place = c.place; cause = record { scope = b + c.cause.scope; kind = c.cause.kind } }

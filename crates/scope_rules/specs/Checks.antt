@@ -12,7 +12,7 @@ use Rattle.scope_rules.specs.Tasks.{stage, is_running}
 abbrev pub Checked : Type 0
 Checked = Result (Unit {0}) Refusal
 
--- refused where the test holds
+-- refused if the test holds
 abbrev pub refuse_if : Bool → Refusal → Checked
 refuse_if b r = if b then Err r else Ok tt
 
@@ -26,7 +26,7 @@ unfoldable pub checks : List Checked → Checked
 checks [] = Ok tt
 checks (c ∷ cs) = then_check c (checks cs)
 
--- refused where so much load more would pass the limit
+-- refused if so much load more would pass the limit
 abbrev pub refuse_full : Limits → History → ℕ → Checked
 refuse_full L h units = refuse_if (over_load L h units) TooMany
 
@@ -46,15 +46,15 @@ actor_check h a = if a == 0 then Ok tt else checks (task_check h a ∷ refuse_if
 unfoldable pub owns : History → ℕ → ℕ → Bool
 owns h a s = option_map_or (λ o. o.actor == a) (opening h s) false
 
--- refused where the actor did not open the scope
+-- refused if the actor did not open the scope
 abbrev pub owner_check : History → ℕ → ℕ → Checked
 owner_check h a s = refuse_if (not (owns h a s)) NotOwner
 
--- refused where the scope is closing or closed
+-- refused if the scope is closing or closed
 abbrev pub refuse_closing : History → ℕ → Checked
 refuse_closing h s = refuse_if (closing h s) Closed
 
--- refused where the scope is joined
+-- refused if the scope is joined
 abbrev pub refuse_joined : History → ℕ → Checked
 refuse_joined h s = refuse_if (joined h s) AlreadyJoined
 

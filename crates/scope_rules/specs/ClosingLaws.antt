@@ -20,6 +20,6 @@ pub record IsWhole (h : History) (s : ℕ) : Type 0 where
 abbrev pub ClosedScopeIsWhole : Type 0
 ClosedScopeIsWhole = (L : Limits) (h : History) (s : ℕ) → Legal L h → closed h s ≡ true → IsWhole h s
 
--- where main has no scope that isn't closed, no task waits or runs
+-- if main has no scope that isn't closed, no task waits or runs
 abbrev pub NothingRunsWithoutAScopeOfMain : Type 0
 NothingRunsWithoutAScopeOfMain = (L : Limits) (h : History) (k : ℕ) → Legal L h → innermost h 0 ≡ None → is_settled (stage h k) ≡ true

@@ -15,7 +15,7 @@ has_failed d = is_err d.end
 abbrev pub has_succeeded : Completion → Bool
 has_succeeded d = is_ok d.end
 
--- what a completion adds to the sum: its number, where it succeeded with one
+-- what a completion adds to the sum: its number, if it succeeded with one
 abbrev pub summand_of_end : EndValue → ℤ
 summand_of_end (Ok (Num n)) = n
 summand_of_end (Ok (Text t)) = pos 0

@@ -14,7 +14,7 @@ use Rattle.scope_rules.specs.Scopes.{chain, outer}
 use Rattle.scope_rules.specs.Cancels.{own, own_at, own_cut, cut, cause}
 use Rattle.scope_rules.specs.Legal.{Legal}
 
--- an own cancel never moves once it stands
+-- an own cancel never moves once it is set
 abbrev pub OwnCancelStays : Type 0
 OwnCancelStays = (h : History) (e : Event) (s : ℕ) (w : OwnCancel) → own h s ≡ Some w → own (followed h e) s ≡ Some w
 
@@ -22,7 +22,7 @@ OwnCancelStays = (h : History) (e : Event) (s : ℕ) (w : OwnCancel) → own h s
 abbrev pub OwnCancelGrows : Type 0
 OwnCancelGrows = (h : History) (e : Event) (s : ℕ) → own (followed h e) s ≡ option_or (own h s) (own_at (followed h e) s (length h.events))
 
--- the cut is the earliest own cancel on the chain, the nearest on a tie; where there is none, no
+-- the cut is the earliest own cancel on the chain, the nearest on a tie; if there is none, no
 -- scope of the chain has an own cancel
 abbrev pub CutIsEarliest : Type 0
 CutIsEarliest = (h : History) (s : ℕ) → IsEarliest (own_cut h) (chain h s) (cut h s)

@@ -16,7 +16,7 @@ pub record Accepts (L : Limits) (h : History) (e : Event) : Type 0 where
 unfoldable pub Legal : Limits → History → Type 0
 Legal L h = (i : ℕ) (e : Event) → slice_get h.events i ≡ Some e → Accepts L (before h i) e
 
--- the realm is within its limits, the base counted where the limits count it
+-- the realm is within its limits, the base counted if the limits count it
 pub record IsWithin (L : Limits) (h : History) : Type 0 where
   pub opened : opened_count h ≤ L.scopes
   pub forked : forked_count h ≤ L.tasks

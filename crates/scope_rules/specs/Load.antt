@@ -1,4 +1,4 @@
--- What a realm takes: the load of its events, and where one more would pass a limit.
+-- What a realm takes: the load of its events, and whether one more would pass a limit.
 use Rattle.std.specs.Prelude.{ℕ, ◌+◌, ◌||◌, Bool, nat_le, nat_lt, length}
 use Rattle.std.specs.List.{sum_by}
 use Rattle.scope_rules.specs.declared.types.events.Event.{Event}

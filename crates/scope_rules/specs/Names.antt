@@ -7,6 +7,6 @@ use Rattle.scope_rules.specs.declared.types.names.Name.{Name}
 abbrev pub text_of : Name → List ℕ
 text_of name = take name.len name.bytes
 
--- names are told apart by their texts
+-- names are distinguished by their texts
 abbrev pub same_name : Name → Name → Bool
 same_name a b = pointwise nat_eq (text_of a) (text_of b)

@@ -1,4 +1,4 @@
--- What a join answers, decided by what stands before it.
+-- What a join answers, decided by what is before it.
 use Rattle.std.specs.Prelude.{ℕ, ◌&&◌, Bool, Option, Some, None, option_map, length, slice_get, if◌then◌else◌}
 use Rattle.std.specs.Option.{option_and_then}
 use Rattle.scope_rules.specs.declared.types.events.Event.{Event}

@@ -37,7 +37,7 @@ base_check L b = refuse_if (nat_lt L.load (length b.binds)) TooMany
 abbrev pub Answers : {A : Type 0} → Checked → A → Result A Refusal → Type 0
 Answers check value result = result ≡ answering check value
 
--- a command that takes memory may also be refused that, where every check passed
+-- a command that takes memory may also be refused that, if every check passed
 abbrev pub AnswersOrMemory : {A : Type 0} → Checked → A → Result A Refusal → Type 0
 AnswersOrMemory (Ok done) value result = (result ≡ Ok value) ⊎ (result ≡ Err Memory)
 AnswersOrMemory (Err r) value result = result ≡ Err r
@@ -55,7 +55,7 @@ abbrev pub recorded : Result Cancelling Refusal → Bool
 recorded (Ok Recorded) = true
 recorded _ = false
 
--- the same, where an accepted command may find that all is so already
+-- the same, if an accepted command may find that all is so already
 abbrev pub after_recording : Realm → Event → Result Cancelling Refusal → Realm
 after_recording realm e result = if recorded result then with_event realm e else realm
 
@@ -87,7 +87,7 @@ binding_reply h a key = checked_then (actor_check h a) (ok_or (bound_to key (bin
 unfoldable pub outcome_check : History → ℕ → Checked
 outcome_check h s = checks (scope_check h s ∷ refuse_if (not (joined h s)) NotJoined ∷ [])
 
--- the value that there is, or want of memory where the check passed
+-- the value that there is, or want of memory if the check passed
 abbrev pub AnswersValue : {A : Type 0} → Checked → Option A → Result A Refusal → Type 0
 AnswersValue (Ok done) value (Ok x) = value ≡ Some x
 AnswersValue (Ok done) value (Err r) = r ≡ Memory

@@ -13,7 +13,7 @@ abbrev pub joins : ℕ → Event → Bool
 joins s (Join actor scope) = scope == s
 joins s _ = false
 
--- a Join of scope s stands in h
+-- a Join of scope s is in h
 unfoldable pub joined : History → ℕ → Bool
 joined h s = list_any (joins s) h.events
 
@@ -21,7 +21,7 @@ abbrev pub ends : ℕ → Event → Bool
 ends s (EndClose actor scope) = scope == s
 ends s _ = false
 
--- scope s is closed: its EndClose stands in h
+-- scope s is closed: its EndClose is in h
 unfoldable pub closed : History → ℕ → Bool
 closed h s = list_any (ends s) h.events
 
@@ -83,6 +83,6 @@ begins_closing h s _ = false
 abbrev pub closing_at : History → ℕ → ℕ → Bool
 closing_at h s i = option_map_or (begins_closing (before h i) s) (slice_get h.events i) false
 
--- the beginning of a close that covers scope s stands in h: s is closing or closed
+-- the beginning of a close that covers scope s is in h: s is closing or closed
 unfoldable pub closing : History → ℕ → Bool
 closing h s = some_below (closing_at h s) (length h.events)

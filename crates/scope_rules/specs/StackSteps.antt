@@ -5,13 +5,13 @@ use Rattle.scope_rules.specs.declared.types.events.Binding.{Binding}
 use Rattle.scope_rules.specs.declared.types.events.Event.{Event}
 use Rattle.scope_rules.specs.declared.types.events.Event.TheVariants.{Bind, Unbind}
 
--- how many own pairs the actor has after the event, where it had n
+-- how many own pairs the actor has after the event, if it had n
 abbrev pub height_after : ℕ → ℕ → Event → ℕ
 height_after actor n (Bind by pair) = if by == actor then n + 1 else n
 height_after actor n (Unbind by) = if by == actor then n - 1 else n
 height_after actor n _ = n
 
--- the actor's own pair at place j after the event, where it had n pairs
+-- the actor's own pair at place j after the event, if it had n pairs
 abbrev pub pair_after : ℕ → ℕ → ℕ → Option Binding → Event → Option Binding
 pair_after actor j n pair (Bind by new) = if by == actor then (if n == j then Some new else pair) else pair
 pair_after actor j n pair (Unbind by) = if by == actor then (if nat_le (n - 1) j then None else pair) else pair

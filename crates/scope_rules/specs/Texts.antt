@@ -55,7 +55,7 @@ end_text state.Unavailable = codes "none"
 end_text (state.Success value) = codes "ok:" ++ value_text value
 end_text (state.Failed fault) = codes "fail:" ++ fault_text fault
 
--- the name, and the end that is expected, where there is one: `NAME` or `NAME=ok:V` or `NAME=fail:F`
+-- the name, and the end that is expected, if there is one: `NAME` or `NAME=ok:V` or `NAME=fail:F`
 abbrev pub due_text : Option EndValue → List ℕ
 due_text None = codes ""
 due_text (Some end) = codes "=" ++ end_text (state_by_end end)

@@ -5,7 +5,7 @@ use Rattle.scope_rules.specs.declared.types.values.Value.{Value}
 use Rattle.scope_rules.specs.declared.types.values.Value.TheVariants.{Num, Text}
 use Rattle.scope_rules.specs.Names.{same_name}
 
--- values are told apart by numbers and texts
+-- values are distinguished by numbers and texts
 abbrev pub same_value : Value → Value → Bool
 same_value (Num m) (Num n) = int_eq m n
 same_value (Text a) (Text b) = same_name a b

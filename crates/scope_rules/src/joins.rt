@@ -10,7 +10,7 @@ use crate::types::outcomes::{Outcome, TaskStates, TaskValue, TaskValues};
 use crate::types::values::{Completion, ScopeId, TaskId};
 use std::alloc::{AllocError, Global};
 
-/// What is read of the tasks of a scope at its join, however it is kept. The lists are refused where
+/// What is read of the tasks of a scope at its join, however it is kept. The lists are refused if
 /// memory is.
 pub trait TaskReadings {
     ghost use Rattle.scope_rules.specs.Answers.{Readable};
@@ -35,7 +35,7 @@ pub trait TaskReadings {
         ensures { IfOk result (λ v. v ≡ (readable self.now).listing) };
 }
 
-/// What the join of the scope answers, which has this joiner and whose deadline means this, where the
+/// What the join of the scope answers, which has this joiner and whose deadline means this, if the
 /// scope was cancelled by this cause.
 pub fn answer_of<R: TaskReadings>(
     readings: &R,

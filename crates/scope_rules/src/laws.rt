@@ -8,7 +8,7 @@ pub mod closing;
 pub mod levels;
 pub mod outcomes;
 
-/// An own cancel never moves once it stands. One event more gives an own cancel to a scope that had
+/// An own cancel never moves once it is set. One event more gives an own cancel to a scope that had
 /// none, or leaves it as it was.
 pub fn own_cancel_stays()
     ensures stays { OwnCancelStays }

@@ -39,7 +39,7 @@ impl fmt::Display for Fault {
     }
 }
 
-/// How a task ended: `ok:V`, `fail:F`, or `none` where nothing can be read of it. An end is shown by its
+/// How a task ended: `ok:V`, `fail:F`, or `none` if nothing can be read of it. An end is shown by its
 /// state, which `State::by_end` gives.
 impl fmt::Display for State {
     ghost output = { λ s. Some (end_text s) };
@@ -53,7 +53,7 @@ impl fmt::Display for State {
     }
 }
 
-/// The label's name, and behind it the end that is expected, where one is: `NAME`, `NAME=ok:V` or
+/// The label's name, and behind it the end that is expected, if one is: `NAME`, `NAME=ok:V` or
 /// `NAME=fail:F`.
 impl fmt::Display for Label {
     ghost output = { λ l. Some (label_text l) };

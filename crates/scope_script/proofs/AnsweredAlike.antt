@@ -1,4 +1,4 @@
--- A command that names no number that was let go is answered behind a retirement as without it.
+-- A command that names no number that was discarded is answered behind a retirement as without it.
 use Rattle.std.proofs.Common.{◌≡◌, ℕ, ◌+◌, false, cond, ok_or, List, [], ◌∷◌, ◌++◌, refl, ap, ◌∙◌, append_assoc, inl, inr}
 use Rattle.scope_rules.specs.declared.types.events.Event.{Event}
 use Rattle.scope_rules.specs.declared.types.events.Event.TheVariants as event

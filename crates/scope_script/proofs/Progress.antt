@@ -89,7 +89,7 @@ ends_tallied a b x y z mode L s realm tally run end written is counted = record 
   counted = counted ∙ (ap end_tally run.session ∙ script_tallies L run.script);
 }
 
--- it stops where a read fails
+-- it stops if a read fails
 pub stops_reading : (a b c x y : Option (List ℕ)) (mode : Mode) (L : Limits) (s : Session) → UnderWay a b x y mode L s → Keeps b c → RunsPartly a c x y mode L
 stops_reading a b c x y mode L s run same = record {
   script = run.script;

@@ -177,7 +177,7 @@ goes_past f actor ws cs step run = record {
   is_rest = ap (λ (g : Realm). realm_after_all g cs) step.is_rest ∙ run.is_rest;
 }
 
--- the runs go alike, where the one meets no limit and the other names no number that was let go
+-- the runs go alike, if the one meets no limit and the other names no number that was discarded
 abbrev MeetsNone : Realm → List Command → Type 0
 MeetsNone realm commands = list_any is_too_many (replies_in_turn realm commands) ≡ false
 

@@ -19,7 +19,7 @@ is_feed b = b == 10
 abbrev pub has_feed : List ℕ → Bool
 has_feed bytes = list_any is_feed bytes
 
--- the first line feed of the bytes stands between this line and the rest
+-- the first line feed of the bytes is between this line and the rest
 pub record CutsLine (bytes line rest : List ℕ) : Type 0 where
   pub whole : bytes ≡ line ++ 10 ∷ rest
   pub unended : has_feed line ≡ false

@@ -5,7 +5,7 @@ use Rattle.script_words.specs.declared.commands.Line.TheVariants.{BadWord}
 use Rattle.script_words.specs.declared.lines.TheConstants.{LINE_LIMIT}
 use Rattle.script_words.specs.Lines.{line_said}
 
--- a line as it is kept: its bytes, or none where they are more than a line may have
+-- a line as it is kept: its bytes, or none if they are more than a line may have
 abbrev pub KeptLine : Type 0
 KeptLine = Option (List ℕ)
 

@@ -48,7 +48,7 @@ told_of h (event.Join actor scope) = replied reply.Outcome (ok_or (outcome (foll
 told_of h (event.BeginClose actor scope) = reply.Closing
 told_of h (event.EndClose actor scope) = reply.Closed (verdict h scope)
 
--- the reply where nothing but success is answered
+-- the reply if nothing but success is answered
 abbrev pub always : {A : Type 0} → Reply → A → Reply
 always said x = said
 
@@ -97,7 +97,7 @@ abbrev pub is_join : Command → Bool
 is_join (Do (event.Join actor scope)) = true
 is_join _ = false
 
--- what a command leaves for which memory is refused: the realm as it was, but a join stands
+-- what a command leaves for which memory is refused: the realm as it was, but a join is recorded
 abbrev pub realm_stopped : Realm → Command → Realm
 realm_stopped realm command = if is_join command then realm_after realm command else realm
 

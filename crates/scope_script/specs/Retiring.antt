@@ -15,7 +15,7 @@ use Rattle.script_words.specs.ReplyText.{reply_text}
 use Rattle.scope_laws.specs.Folding.{is_let_go, names_let_go}
 use Rattle.scope_script.specs.Replying.{reply_to, realm_after}
 
--- the question names a scope or a task that was let go
+-- the question names a scope or a task that was discarded
 abbrev pub asks_let_go : Origin → Question → Bool
 asks_let_go b (question.State task) = is_let_go b.tasks task
 asks_let_go b (question.Stage task) = is_let_go b.tasks task
@@ -32,7 +32,7 @@ tells_let_go b (Do e) = names_let_go b e
 tells_let_go b (Retire actor) = false
 tells_let_go b (Ask asked) = asks_let_go b asked
 
--- one of the commands names a number that was let go by then
+-- one of the commands names a number that was discarded by then
 unfoldable pub tell_let_go : Realm → List Command → Bool
 tell_let_go realm [] = false
 tell_let_go realm (command ∷ commands) = tells_let_go realm.history.base command || tell_let_go (realm_after realm command) commands
@@ -67,7 +67,7 @@ abbrev pub fresh : Limits → Realm
 fresh L = starting L the_start
 
 -- without its retirements the list meets no limit, and no command behind an accepted retirement names a
--- number that was let go
+-- number that was discarded
 pub record RetiresFreely (L : Limits) (commands : List Command) : Type 0 where
   pub enough : list_any is_too_many (replies_in_turn (fresh L) (without_retirements commands)) ≡ false
   pub known : tell_let_go (fresh L) commands ≡ false

@@ -52,7 +52,7 @@ replies_of L bytes = replies_to (starting L the_start) (ended_lines [] bytes) ++
 unfoldable pub realm_of_script : Limits → List ℕ → Realm
 realm_of_script L bytes = realm_after_lines (starting L the_start) (ended_lines [] bytes)
 
--- nothing is written where nothing is asked for
+-- nothing is written if nothing is asked for
 abbrev pub shown : Mode → List ℕ → List ℕ
 shown Replies text = text
 shown Quiet text = []

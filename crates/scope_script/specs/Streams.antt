@@ -1,4 +1,4 @@
--- What comes of some bytes where memory or a stream may fail.
+-- What comes of some bytes if memory or a stream may fail.
 use Rattle.std.specs.Prelude.{◌≡◌, ℕ, Option, List, ◌++◌}
 use Rattle.std.specs.Io.KnownBytes.{Appends}
 

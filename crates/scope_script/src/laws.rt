@@ -2,8 +2,8 @@
 
 ghost use Rattle.scope_script.specs.Retiring.{RepliesStay, ReplyTextStays};
 
-/// A retirement changes no reply but its own. Where a list of commands without its retirements meets no
-/// limit, and no command behind an accepted retirement names a number that was let go, the replies and
+/// A retirement changes no reply but its own. If a list of commands without its retirements meets no
+/// limit, and no command behind an accepted retirement names a number that was discarded, the replies and
 /// their lines are the same with the retirements, their own replies aside.
 pub fn retired()
     ensures replies { RepliesStay }

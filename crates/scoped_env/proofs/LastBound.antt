@@ -62,7 +62,7 @@ last_of key xs (Some value) told = told
 pub last_from_bound_to : (key : Name) (xs : List Binding) → IfSome (bound_to key xs) (IsLastBound xs key)
 last_from_bound_to key xs = last_of key xs (bound_to key xs) (bound_to_told key xs)
 
--- a look-up gives nothing exactly where no pair has the key
+-- a look-up gives nothing exactly if no pair has the key
 pub none_from_bound_to : (key : Name) (xs : List Binding) → IsNone (bound_to key xs) ↔ HasNone xs key
 none_from_bound_to key xs = (
   none_of key xs (bound_to key xs) (bound_to_told key xs),

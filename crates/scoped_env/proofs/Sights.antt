@@ -32,7 +32,7 @@ sees_by L h (suc n) None legal is =
 pub sees_layers : (L : Limits) (h : History) (a : ℕ) → Legal L h → bindings h a ≡ all_pairs (layers_of h a)
 sees_layers L h a legal = sees_by L h a (forking h a) legal refl
 
--- where there was no fork nothing is inherited
+-- if there was no fork nothing is inherited
 none_inherited : (h : History) (o : Option Forking) → ((f : Forking) → o ≡ Some f → ⊥) → inherited_as h o ≡ []
 none_inherited h None never = refl
 none_inherited h (Some f) never = absurd (never f refl)

@@ -43,7 +43,7 @@ impl Model for Env {
 impl Env {
     ghost use Rattle.scoped_env.specs.Layers.{all_pairs, no_pairs, with_pair, without_last_pair, inheriting};
 
-    /// The environment in which nothing is bound. Its pairs will stand in memory of `alloc`.
+    /// The environment in which nothing is bound. Its pairs will lie in memory of `alloc`.
     pub fn new(alloc: Global) -> Env
         ensures { result ≡ no_pairs }
     {
@@ -94,7 +94,7 @@ impl Env {
         }
     }
 
-    /// Takes away the last pair of the own stack. It is refused `NotBound` exactly where that is
+    /// Takes away the last pair of the own stack. It is refused `NotBound` exactly if that is
     /// empty: an inherited pair stays. It takes no memory.
     pub fn unbind(&mut self) -> Result<(), Refusal>
         ensures ok { OnOk result (self.new ≡ without_last_pair self.old) }
@@ -108,7 +108,7 @@ impl Env {
         }
     }
 
-    /// The value of the last pair with the key, own or inherited, where there is one. It takes no
+    /// The value of the last pair with the key, own or inherited, if there is one. It takes no
     /// memory.
     pub fn get(&self, key: Name) -> Option<Value>
         ensures value { result ≡ bound_to key (all_pairs self.now) }
@@ -120,7 +120,7 @@ impl Env {
 
     /// The environment of a task that this one's actor forks now: all pairs of this one are its
     /// inherited pairs, and its own stack is empty. The pairs here stay as they are. Called again
-    /// before they change, it copies none of them. It is refused for memory, or where std's count
+    /// before they change, it copies none of them. It is refused for memory, or if std's count
     /// of holders is full.
     pub fn inherit(&mut self) -> Result<Env, AllocError>
         ensures ok { IfOk result (λ env. env ≡ inheriting self.old) }
@@ -141,7 +141,7 @@ impl Env {
     }
 
     /// How many own pairs there are. By this number a caller tells whether the bindings are those
-    /// of an earlier moment, where no pair of that moment was taken away since.
+    /// of an earlier moment, if no pair of that moment was taken away since.
     pub fn stack_len(&self) -> usize
         ensures { result ≡ length self.now.stack }
     {

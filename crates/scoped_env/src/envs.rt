@@ -62,7 +62,7 @@ impl Envs {
         })
     }
 
-    /// The value of the last pair with the key that the actor sees, own or inherited, where there is
+    /// The value of the last pair with the key that the actor sees, own or inherited, if there is
     /// one. It takes no memory.
     pub fn get(&self, actor: Actor, key: Name) -> Option<Value>
         requires { HasEnv self.now actor }
@@ -105,7 +105,7 @@ impl Envs {
         }
     }
 
-    /// Takes away the actor's last own pair, where it has one. It takes no memory.
+    /// Takes away the actor's last own pair, if it has one. It takes no memory.
     pub fn unbind(&mut self, actor: Actor)
         requires { HasEnv self.old actor }
         ensures kept { self.new ≡ with_layers self.old actor (without_last_pair (layers_in self.old actor)) }
@@ -120,7 +120,7 @@ impl Envs {
     }
 
     /// Adds the environment of the task that the actor forks now, which has the next number: it
-    /// inherits all pairs that the actor sees. It is refused for memory, or where std's count of
+    /// inherits all pairs that the actor sees. It is refused for memory, or if std's count of
     /// holders is full, and then changes nothing.
     pub fn fork(&mut self, actor: Actor) -> Result<(), AllocError>
         requires { HasEnv self.old actor }

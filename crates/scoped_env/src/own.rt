@@ -50,7 +50,7 @@ impl OwnPairs {
         Ok(())
     }
 
-    /// Takes away the last pair of the own stack. It is refused `NotBound` exactly where that is
+    /// Takes away the last pair of the own stack. It is refused `NotBound` exactly if that is
     /// empty: an inherited pair stays. It takes no memory.
     pub fn unbind(&mut self) -> Result<(), Refusal>
         ensures ok { OnOk result (self.new ≡ without_last_pair self.old) }
@@ -67,8 +67,8 @@ impl OwnPairs {
         }
     }
 
-    /// All pairs, in the list that the last call made where they are the same still. It is refused
-    /// for memory, or where std's count of holders is full.
+    /// All pairs, in the list that the last call made if they are the same still. It is refused
+    /// for memory, or if std's count of holders is full.
     pub fn share_all(&mut self) -> Result<SharedPairs, AllocError>
         ensures ok { IfOk result (λ all. all ≡ all_pairs self.old) }
         ensures unchanged { self.new ≡ self.old }

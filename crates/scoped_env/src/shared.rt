@@ -47,7 +47,7 @@ impl SharedPairs {
     }
 
     /// The same list for one holder more. Nothing is copied, and no memory is taken: it is refused
-    /// only where std's count of holders is full.
+    /// only if std's count of holders is full.
     pub fn share(&self) -> Result<SharedPairs, AllocError>
         ensures { IfOk result (λ shared. shared ≡ self.now) }
     {

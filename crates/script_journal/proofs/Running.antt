@@ -113,7 +113,7 @@ journal_is_a_script L h is legal fit =
     let same : fresh h.events ≡ h = ap (λ (b : Origin). record { base = b; events = h.events }) (sym is) in
     subst (λ (g : History). RunsTo L (script_text g) (without_dues g)) same (runs L h.events (subst (Legal L) (sym same) legal) fit)
 
--- the text that was made of a realm's journal, where one was made
+-- the text that was made of a realm's journal, if one was made
 pub text_runs : {T E : Type 0} (bytes : T → List ℕ) (realm : Realm) (base : Origin) (es : List Event) (made : Result T E) → Legal realm.limits realm.history → base ≡ realm.history.base → es ≡ realm.history.events → AllFit es
     → IfOk made (λ text. bytes text ≡ script_text (record { base = base; events = es }))
     → IfOk made (λ text. realm.history.base ≡ the_start → RunsTo realm.limits (bytes text) (without_dues realm.history))

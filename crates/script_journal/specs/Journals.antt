@@ -47,7 +47,7 @@ abbrev pub moment_lines : ℕ → ℕ
 moment_lines zero = 0
 moment_lines (suc n) = 1
 
--- the script of any history has a line for its moment, where that is not 0, one for each pair that main began with, and
+-- the script of any history has a line for its moment, if that is not 0, one for each pair that main began with, and
 -- one for each event, and each is ended
 abbrev pub NoLineIsLost : Type 0
 NoLineIsLost = (h : History) → (length (ended_lines [] (script_text h)) ≡ moment_lines h.base.moment + length h.base.binds + length h.events) × (begun_line [] (script_text h) ≡ [])

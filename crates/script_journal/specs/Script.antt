@@ -46,7 +46,7 @@ event_line base (event.Join actor scope) = in_scope (codes "join") base actor sc
 event_line base (event.BeginClose actor scope) = in_scope (codes "close") base actor scope
 event_line base (event.EndClose actor scope) = in_scope (codes "closed") base actor scope
 
--- what the history begins with: the moment, where it is not 0, and main's bindings, each ended by a line feed
+-- what the history begins with: the moment, if it is not 0, and main's bindings, each ended by a line feed
 abbrev pub moment_text : ℕ → List ℕ
 moment_text zero = []
 moment_text (suc n) = codes "tick " ++ decimal (suc n) ++ 10 ∷ []

@@ -10,7 +10,7 @@ fn small_fits(_number: u32)
     ensures { IsSmall _number }
 {}
 
-/// A moment, where there is one.
+/// A moment, if there is one.
 fn moment_fits(moment: Option<u64>)
     ensures { IsMoment moment }
 {

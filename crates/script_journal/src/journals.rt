@@ -10,7 +10,7 @@ use crate::script_of;
 use kept_realm::KeptRealm;
 use std::alloc::{AllocError, Global};
 
-/// The journal of the realm: what happened since its last retirement, as a script. Where the realm began fresh,
+/// The journal of the realm: what happened since its last retirement, as a script. If the realm began fresh,
 /// the script brings a fresh realm of the same limits to the same history, with labels that expect no end.
 ///
 /// # Errors

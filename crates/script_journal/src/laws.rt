@@ -12,7 +12,7 @@ pub fn journal_is_a_script()
     ensures tells { JournalTellsAll }
 {}
 
-/// The script of any history has a line for the moment that it began with, where that is not 0, one for each
+/// The script of any history has a line for the moment that it began with, if that is not 0, one for each
 /// of main's bindings then, and one for each event; and each line is ended.
 pub fn no_line_is_lost()
     ensures { NoLineIsLost }

@@ -46,7 +46,7 @@ impl fmt::Display for ShownEvents<'_> {
     }
 }
 
-/// The moment that a history begins with, where it is not that of a fresh realm.
+/// The moment that a history begins with, if it is not that of a fresh realm.
 #[derive(Clone, Copy)]
 struct ShownMoment(u64);
 

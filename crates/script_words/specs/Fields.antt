@@ -19,17 +19,17 @@ abbrev pub first_and_rest : List (List ℕ) → Option (List ℕ × List (List �
 first_and_rest [] = None
 first_and_rest (field ∷ others) = Some (field, others)
 
--- the field, where it is the only one
+-- the field, if it is the only one
 unfoldable pub just_one : List (List ℕ) → Option (List ℕ)
 just_one (first ∷ []) = Some first
 just_one _ = None
 
--- the fields, where they are two
+-- the fields, if they are two
 unfoldable pub just_two : List (List ℕ) → Option (List ℕ × List ℕ)
 just_two (first ∷ second ∷ []) = Some (first, second)
 just_two _ = None
 
--- the fields, where they are three
+-- the fields, if they are three
 unfoldable pub just_three : List (List ℕ) → Option (List ℕ × List ℕ × List ℕ)
 just_three (first ∷ second ∷ third ∷ []) = Some (first, second, third)
 just_three _ = None

@@ -9,7 +9,7 @@ use Rattle.scope_rules.specs.declared.types.joiners.Rule.TheVariants.{FailuresAt
 use Rattle.script_words.specs.Steps.{◌>>=◌}
 use Rattle.script_words.specs.Numbers.{small_said, integer_said}
 
--- what stands after the prefix, in a word that begins with it
+-- what is after the prefix, in a word that begins with it
 unfoldable pub after : List ℕ → List ℕ → Option (List ℕ)
 after prefix word = if bytes_eq (take (length prefix) word) prefix then Some (drop (length prefix) word) else None
 
@@ -21,7 +21,7 @@ failures_said word = option_map FailuresAtLeast (after (codes "until:fail:") wor
 abbrev pub successes_said : List ℕ → Option Rule
 successes_said word = option_map SuccessesAtLeast (after (codes "until:ok:") word >>= small_said)
 
--- `until:sum:n`, where n may be below 0
+-- `until:sum:n`, if n may be below 0
 abbrev pub sum_said : List ℕ → Option Rule
 sum_said word = option_map SumAtLeast (after (codes "until:sum:") word >>= integer_said)
 

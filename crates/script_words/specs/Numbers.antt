@@ -14,7 +14,7 @@ has_no_needless_zero (first ∷ second ∷ others) = if first == 48 then false e
 unfoldable pub is_numeral : List ℕ → Bool
 is_numeral word = has_no_needless_zero word && list_all is_ascii_digit word
 
--- the number that the word says, where it is at most the limit
+-- the number that the word says, if it is at most the limit
 unfoldable pub number_said : ℕ → List ℕ → Option ℕ
 number_said limit word =
     if is_numeral word && nat_le (digits_value 10 word) limit then Some (digits_value 10 word) else None

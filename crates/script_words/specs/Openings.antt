@@ -20,12 +20,12 @@ abbrev pub found_or : {A : Type 0} → A → List ℕ → List (List ℕ) → Op
 found_or without word others (Some found) = (found, others)
 found_or without word others None = (without, word ∷ others)
 
--- what the next word says, where it says anything, and the fields after it
+-- what the next word says, if it says anything, and the fields after it
 abbrev pub next_said : {A : Type 0} → A → (List ℕ → Option A) → List (List ℕ) → A × List (List ℕ)
 next_said without said [] = (without, [])
 next_said without said (word ∷ others) = found_or without word others (said word)
 
--- a joiner, where one comes next, and the fields after it
+-- a joiner, if one comes next, and the fields after it
 unfoldable pub policy_next : List (List ℕ) → Policy × List (List ℕ)
 policy_next words = next_said AwaitOk policy_said words
 
@@ -33,11 +33,11 @@ policy_next words = next_said AwaitOk policy_said words
 abbrev pub deadline_said : List ℕ → Option ℕ
 deadline_said word = after (codes "deadline=") word >>= moment_said
 
--- a deadline, where one comes next, and the fields after it
+-- a deadline, if one comes next, and the fields after it
 unfoldable pub deadline_next : List (List ℕ) → Option ℕ × List (List ℕ)
 deadline_next words = next_said None (λ word. option_map Some (deadline_said word)) words
 
--- that the flag stands there, where the word is that flag
+-- that the flag is there, if the word is that flag
 abbrev pub flag_said : List ℕ → List ℕ → Option Bool
 flag_said flag word = if bytes_eq word flag then Some true else None
 
@@ -45,7 +45,7 @@ flag_said flag word = if bytes_eq word flag then Some true else None
 unfoldable pub flag_next : List ℕ → List (List ℕ) → Bool × List (List ℕ)
 flag_next flag words = next_said false (flag_said flag) words
 
--- what it means that `move-on` stands there, or not
+-- what it means that `move-on` is there, or not
 abbrev pub expiry_of : Bool → Expiry
 expiry_of true = expiry.MoveOn
 expiry_of false = expiry.Fail

@@ -89,7 +89,7 @@ words_of (command.Ask (question.Get actor key)) = codes "get" ∷ decimal actor 
 abbrev pub IsSmall : ℕ → Type 0
 IsSmall n = n < 2 ^ 32
 
--- a moment, where there is one
+-- a moment, if there is one
 abbrev pub IsMoment : Option ℕ → Type 0
 IsMoment None = Unit {0}
 IsMoment (Some moment) = moment < 2 ^ 64

@@ -14,7 +14,7 @@ pub enum Line {
 /// given ones.
 #[derive(Clone, Copy)]
 pub enum Command {
-    /// What adds just this event to the history, where it is accepted.
+    /// What adds just this event to the history, if it is accepted.
     Do(Event),
     /// `retire A`
     Retire { actor: Actor },

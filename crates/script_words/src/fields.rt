@@ -2,7 +2,7 @@ ghost use Rattle.std.specs.Prelude.{◌≡◌, ◌≤◌, length, option_map, op
 ghost use Rattle.std.specs.List.{position_or_len};
 ghost use Rattle.script_words.specs.Fields.{is_space, fields, first_and_rest, just_one, just_two, just_three, without_spaces};
 
-/// The first field of the text, and the text after it; `None` where the text has no field.
+/// The first field of the text, and the text after it; `None` if the text has no field.
 #[tactic(auto, using(crate::proofs::FieldSteps::next_none, crate::proofs::FieldSteps::next_some))]
 pub fn next_field(text: &[u8]) -> Option<(&[u8], &[u8])>
     ensures { option_map (λ found. (found.0.now, fields found.1.now)) result ≡ first_and_rest (fields text.now) }
@@ -26,7 +26,7 @@ fn without_spaces(text: &[u8]) -> &[u8]
     rest
 }
 
-/// How many bytes stand before the first space.
+/// How many bytes are before the first space.
 #[tactic(auto, using(crate::proofs::FieldSteps::first_space))]
 fn field_len(text: &[u8]) -> usize
     ensures value { result ≡ position_or_len is_space text.now }
@@ -40,7 +40,7 @@ fn field_len(text: &[u8]) -> usize
     text.len()
 }
 
-/// The field of a text with just one; `None` where there are none or more.
+/// The field of a text with just one; `None` if there are none or more.
 #[tactic(auto, using(crate::proofs::FieldCounts::just_one_by_steps))]
 pub fn just_one(text: &[u8]) -> Option<&[u8]>
     ensures { option_copied result ≡ just_one (fields text.now) }
@@ -52,7 +52,7 @@ pub fn just_one(text: &[u8]) -> Option<&[u8]>
     }
 }
 
-/// The fields of a text with just two; `None` where there are less or more.
+/// The fields of a text with just two; `None` if there are less or more.
 #[tactic(auto, using(crate::proofs::FieldCounts::just_two_by_steps))]
 pub fn just_two(text: &[u8]) -> Option<(&[u8], &[u8])>
     ensures { option_map (λ found. (found.0.now, found.1.now)) result ≡ just_two (fields text.now) }
@@ -62,7 +62,7 @@ pub fn just_two(text: &[u8]) -> Option<(&[u8], &[u8])>
     Some((first, second))
 }
 
-/// The fields of a text with just three; `None` where there are less or more.
+/// The fields of a text with just three; `None` if there are less or more.
 #[tactic(auto, using(crate::proofs::FieldCounts::just_three_by_steps))]
 pub fn just_three(text: &[u8]) -> Option<(&[u8], &[u8], &[u8])>
     ensures { option_map (λ found. (found.0.now, found.1.now, found.2.now)) result ≡ just_three (fields text.now) }

@@ -48,7 +48,7 @@ fn successes(word: &[u8]) -> Option<Rule>
     Some(Rule::SuccessesAtLeast(count))
 }
 
-/// `until:sum:n`, where n may be below 0
+/// `until:sum:n`, if n may be below 0
 fn sum(word: &[u8]) -> Option<Rule>
     ensures { result ≡ sum_said word.now }
 {
@@ -56,7 +56,7 @@ fn sum(word: &[u8]) -> Option<Rule>
     Some(Rule::SumAtLeast(sum))
 }
 
-/// What stands after the prefix, in a word that begins with it.
+/// What is after the prefix, in a word that begins with it.
 #[tactic(auto, unfolding(crate::specs::Joiners::after))]
 pub fn after<'a>(prefix: &[u8], word: &'a [u8]) -> Option<&'a [u8]>
     ensures { option_copied result ≡ after prefix.now word.now }

@@ -15,7 +15,7 @@
 //! ```
 //!
 //! A, S and K are numbers of 32 bits, N is a moment in milliseconds of 64 bits, both in decimal with no
-//! needless zero in front. A VALUE is such a number of an `i64`, with `-` in front where it is below 0,
+//! needless zero in front. A VALUE is such a number of an `i64`, with `-` in front if it is below 0,
 //! or else a NAME. A JOINER is `all`, `any`, `await`, `await-ok`, `until:fail:n`, `until:ok:n` or
 //! `until:sum:n`; without one it is `await-ok`.
 #![tactic(auto)]

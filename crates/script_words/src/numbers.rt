@@ -19,7 +19,7 @@ pub fn moment(word: &[u8]) -> Option<u64>
     number(word, u64::MAX)
 }
 
-/// The number that the word says, of an `i64`; a `-` may stand in front.
+/// The number that the word says, of an `i64`; a `-` may be in front.
 #[tactic(auto, unfolding(crate::specs::Numbers::integer_said))]
 pub fn integer(word: &[u8]) -> Option<i64>
     ensures { result ≡ integer_said word.now }
@@ -46,7 +46,7 @@ fn negative(digits: &[u8]) -> Option<i64>
     Some(-1 - (magnitude - 1) as i64)
 }
 
-/// The number that the word says, where it is at most the limit.
+/// The number that the word says, if it is at most the limit.
 #[tactic(auto, unfolding(crate::specs::Numbers::number_said, crate::specs::Numbers::is_numeral))]
 fn number(word: &[u8], limit: u64) -> Option<u64>
     ensures value { result ≡ number_said limit word.now }
@@ -72,7 +72,7 @@ fn has_no_needless_zero(word: &[u8]) -> bool
     }
 }
 
-/// The number with these decimal digits; `None` where a byte is no digit, or where the number is greater
+/// The number with these decimal digits; `None` if a byte is no digit, or if the number is greater
 /// than `u64::MAX`.
 fn value_of_digits(digits: &[u8]) -> Option<u64>
     ensures none { IsNone result → list_all is_ascii_digit digits.now ≡ true → 2 ^ 64 ≤ digits_value 10 digits.now }

@@ -17,7 +17,7 @@ pub fn open(text: &[u8]) -> Option<Command>
     opened(small(actor)?, rest)
 }
 
-/// The command with what stands after the actor: a joiner, a deadline, `move-on` and `shield`, each
+/// The command with what is after the actor: a joiner, a deadline, `move-on` and `shield`, each
 /// or not, and no more.
 #[tactic(auto, unfolding(crate::specs::Openings::opened))]
 fn opened(actor: Actor, text: &[u8]) -> Option<Command>
@@ -42,7 +42,7 @@ fn opened(actor: Actor, text: &[u8]) -> Option<Command>
     }))
 }
 
-/// The joiner, where one comes next and else `await-ok`, and the text after it.
+/// The joiner, if one comes next and else `await-ok`, and the text after it.
 #[tactic(auto, using(crate::proofs::OpeningSteps::policy_at_end, crate::proofs::OpeningSteps::policy_found, crate::proofs::OpeningSteps::policy_left_out))]
 fn policy_next(text: &[u8]) -> (Policy, &[u8])
     ensures { (result.0, fields result.1.now) ≡ policy_next (fields text.now) }
@@ -56,7 +56,7 @@ fn policy_next(text: &[u8]) -> (Policy, &[u8])
     }
 }
 
-/// The deadline, where one comes next, and the text after it.
+/// The deadline, if one comes next, and the text after it.
 #[tactic(auto, using(crate::proofs::OpeningSteps::deadline_at_end, crate::proofs::OpeningSteps::deadline_found, crate::proofs::OpeningSteps::deadline_left_out))]
 fn deadline_next(text: &[u8]) -> (Option<u64>, &[u8])
     ensures { (result.0, fields result.1.now) ≡ deadline_next (fields text.now) }
@@ -92,7 +92,7 @@ fn flag_next<'a>(flag: &[u8], text: &'a [u8]) -> (bool, &'a [u8])
     }
 }
 
-/// What it means that `move-on` stands there, or not.
+/// What it means that `move-on` is there, or not.
 fn expiry_of(moves_on: bool) -> Expiry
     ensures { result ≡ expiry_of moves_on }
 {

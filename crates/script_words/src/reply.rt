@@ -17,7 +17,7 @@ pub enum Reply {
     /// It was cancelled, closing or closed already.
     Already,
     Moved,
-    /// The moment, in milliseconds.
+    /// The realm's time, in milliseconds.
     Moment(u64),
     Bound,
     Unbound,

@@ -57,7 +57,7 @@ impl fmt::Display for Reply {
 /// most 82; only the lists of tasks that a join gives may be longer.
 const SHORT_LINE: usize = 96;
 
-/// Appends the line of the reply, and its line feed. Where memory is refused, nothing is appended.
+/// Appends the line of the reply, and its line feed. If memory is refused, nothing is appended.
 pub fn append_line(text: &mut Vec<u8>, reply: &Reply) -> Result<(), AllocError>
     ensures ok { OnOk result (text.new.items ≡ text.old.items ++ reply_text reply.now ++ 10 ∷ []) }
     ensures err { OnErr result (text.new.items ≡ text.old.items) }

@@ -77,7 +77,7 @@ unfolding history_of IsLegal
 end_told L xs k lawful above =
     end_tied L k fresh xs (legal_empty L fresh.base) lawful above ∙ ap (λ (o : Option Ending). option_or (end_shown o) (end_in k xs)) (unfinished_start fresh.base k)
 
--- a forking stays where no retirement passes, and so does whether it came after a cancel
+-- a forking stays if no retirement passes, and so does whether it came after a cancel
 record Stays (h g : History) (k : ℕ) (f : Forking) : Type 0 where
   forked : forking g k ≡ Some f
   cancelled : cancelled_before g f.scope f.place ≡ cancelled_before h f.scope f.place

@@ -19,7 +19,7 @@ granted_number h n (x ∷ xs) g at =
       | inr other ↦ granted_number (advance h x) n xs g (rw other at at)
     ]
 
--- what holds where no step is left, at the fork of task k, and of a list where it holds of the rest, holds of
+-- what holds if no step is left, at the fork of task k, and of a list where it holds of the rest, holds of
 -- each list in which the n-th fork is that
 module _ (L : Limits) (k : ℕ) (P : History → ℕ → List RealmStep → Type 0) (none : (h : History) (n : ℕ) → tasks h < k → P h n [])
     (here : (h : History) (x : RealmStep) (xs : List RealmStep) (n : ℕ) → Legal L h → Passes L h x → LegalFrom L (advance h x) xs → is_event is_fork x ≡ true → tasks h + 1 ≡ k → granted h n (x ∷ xs) ≡ grant_of h x → P h n (x ∷ xs))

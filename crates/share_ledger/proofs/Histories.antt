@@ -96,7 +96,7 @@ nothing_there : {A : Type 0} (o : Option A) → is_some o ≡ false → o ≡ No
 nothing_there None is = refl
 nothing_there _ is = absurd cc
 
--- main retires where it has no scope that isn't closed
+-- main retires if it has no scope that isn't closed
 pub retired_without_scopes : (h : History) → retire_check h 0 ≡ Ok tt → innermost h 0 ≡ None
 unfolding retire_check
 retired_without_scopes h ok = nothing_there (innermost h 0) (not_refused _ _ (checks_at _ 2 _ ok refl))

@@ -85,7 +85,7 @@ look_tells views id L steps share hand r at =
     let held = mine.arriving.0 in
     (some_one share.limits L r.limits held.limited mine.limited, subst (λ (w : List RealmStep). Agrees share.holder share.seen w) (sym mine.all) held.agrees)
 
--- the other seats, where a share is handed in
+-- the other seats, if a share is handed in
 hand_in_others : (place : ℕ) (limits : Option Limits) (whole : List RealmStep) (seat : Holder → ℕ) (who : Holder) (id other i : ℕ) (v : LedgerView) → id ≡ place → seat who ≡ other → i ≢ id → i ≢ other → Fits place limits whole seat i v → Fits place limits whole (moved seat who place) i v
 hand_in_others place limits whole seat who id other i Opening here there away apart fits = absurd (away (fits.at ∙ sym here))
 hand_in_others place limits whole seat who id other i (Keeping K steps arrived hand) here there away apart fits = absurd (away (fits.at ∙ sym here))
@@ -118,7 +118,7 @@ hand_in_keeps views id other L steps hand share r at apart there =
     ])
     r.unnamed
 
--- the other seats, where a share is given out
+-- the other seats, if a share is given out
 give_out_others : (place : ℕ) (limits : Option Limits) (whole : List RealmStep) (seat : Holder → ℕ) (who : Holder) (id n i : ℕ) (v : LedgerView) → id ≡ place → seat who ≡ place → i ≢ id → Fits place limits whole seat i v → Fits place limits whole (moved seat who n) i v
 give_out_others place limits whole seat who id n i Opening here there away fits = absurd (away (fits.at ∙ sym here))
 give_out_others place limits whole seat who id n i (Keeping K steps arrived hand) here there away fits = absurd (away (fits.at ∙ sym here))
@@ -187,7 +187,7 @@ in_hand_or_new None hand who found = inl found
 in_hand_or_new (Some u) hand who found =
     elim (or_cases (same_holder who u) (list_any (same_holder who) hand) found) [ inl here ↦ inr (ap Some (sym (same_one who u here))) | inr later ↦ inl later ]
 
--- the other seats, where the keeper appends a step
+-- the other seats, if the keeper appends a step
 append_others : (place : ℕ) (limits : Option Limits) (steps : List RealmStep) (seat : Holder → ℕ) (hand : List Holder) (x : RealmStep) (id i : ℕ) (v : LedgerView) → id ≡ place → InHand place steps seat hand → MayAppend steps hand x → i ≢ id → Fits place limits steps seat i v → Fits place limits (steps ++ x ∷ []) (seats_after (newly_named steps x) seat place) i v
 append_others place limits steps seat hand x id i Opening here taken may away fits = absurd (away (fits.at ∙ sym here))
 append_others place limits steps seat hand x id i (Keeping K other arrived held) here taken may away fits = absurd (away (fits.at ∙ sym here))

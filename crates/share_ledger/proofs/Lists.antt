@@ -3,7 +3,7 @@ use Rattle.std.proofs.Common.{◌≡◌, Bool, true, false, List, [], ◌∷◌,
 use Rattle.std.proofs.lemmas.Bool.{or_parts, or_from, false_from_ne_true, both_ways}
 use Rattle.std.specs.List.{list_any}
 
--- where the wider test finds nothing, the narrower finds nothing
+-- if the wider test finds nothing, the narrower finds nothing
 pub none_narrower : {A : Type 0} (p q : A → Bool) (xs : List A) → ((x : A) → p x ≡ true → q x ≡ true) → list_any q xs ≡ false → list_any p xs ≡ false
 none_narrower p q [] wider none = refl
 none_narrower p q (x ∷ xs) wider none =

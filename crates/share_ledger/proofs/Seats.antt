@@ -1,4 +1,4 @@
--- Holders, where they sit, and the keeper's hand.
+-- Holders, if they sit, and the keeper's hand.
 use Rattle.std.proofs.Common.{◌≡◌, ℕ, zero, suc, ◌+◌, ◌==◌, ◌||◌, Bool, true, false, cond, nat_le, Some, List, [], ◌∷◌, ◌++◌, length, refl, sym, ap, ◌∙◌, arith, subst, ◌⊎◌, inl, inr}
 use Rattle.std.proofs.lemmas.Bool.{eq-eqb, eqb-true, or_cases, or_left, or_right, or_from, both_ways, false_from_ne_true, and_parts, and_from, leb-true, le-leb, cond-true, cond-false}
 use Rattle.std.proofs.lemmas.List.{append-nil, append_assoc}
@@ -32,7 +32,7 @@ same_one (TicketOf k) (TokenOf b) same = absurd cc
 pub not_same : (who u : Holder) → (who ≡ u → ⊥) → same_holder who u ≡ false
 not_same who u other = false_from_ne_true (same_holder who u) (λ same. other (same_one who u same))
 
--- the seats, where this holder has moved to seat n
+-- the seats, if this holder has moved to seat n
 abbrev pub moved : (Holder → ℕ) → Holder → ℕ → Holder → ℕ
 moved seat who n u = cond (same_holder u who) n (seat u)
 
@@ -68,12 +68,12 @@ hand_named place whole seat (u ∷ hand) who taken found =
       | inr later ↦ hand_named place whole seat hand who taken.3 later
     ]
 
--- the hand stays, where its holders are named still and sit at the place still
+-- the hand stays, if its holders are named still and sit at the place still
 pub hand_stays : (place : ℕ) (whole whole' : List RealmStep) (seat seat' : Holder → ℕ) (hand : List Holder) → ((u : Holder) → is_named u whole ≡ true → is_named u whole' ≡ true) → ((u : Holder) → seat u ≡ place → seat' u ≡ place) → InHand place whole seat hand → InHand place whole' seat' hand
 hand_stays place whole whole' seat seat' [] named sits taken = tt
 hand_stays place whole whole' seat seat' (u ∷ hand) named sits taken = (sits u taken.0, named u taken.1, taken.2, hand_stays place whole whole' seat seat' hand named sits taken.3)
 
--- the hand stays, where a holder that it lacks moves away
+-- the hand stays, if a holder that it lacks moves away
 pub hand_without : (place : ℕ) (whole : List RealmStep) (seat : Holder → ℕ) (who : Holder) (n : ℕ) (hand : List Holder) → Absent who hand → InHand place whole seat hand → InHand place whole (moved seat who n) hand
 hand_without place whole seat who n [] absent taken = tt
 hand_without place whole seat who n (u ∷ hand) absent taken = (moved_other seat who u n absent.0 ∙ taken.0, taken.1, taken.2, hand_without place whole seat who n hand absent.1 taken.3)

@@ -71,7 +71,7 @@ ticket_of k scope label given started end views xs share seen says =
     not_not true = refl
     not_not false = refl
 
--- what the keeper's list says, where the ticket agrees with it
+-- what the keeper's list says, if the ticket agrees with it
 pub says_known : (k scope : ℕ) (label : Label) (given started : Bool) (end : Option EndValue) (views : List LedgerView) (whole : List RealmStep) → IsTicket k scope label given started end views → Agrees (TicketOf k) (steps_of (view_of views)) whole → Says k (record { scope = scope; label = label }) (not given) started end whole
 says_known k scope label given started end views whole ticket agrees =
     let seen = steps_of (view_of views) in

@@ -107,7 +107,7 @@ unstarted_before L h k (Happened e) ok before_it =
 unstarted_before L h k (Asked actor q) ok before_it = asks_no_start k q
 unstarted_before L h k Retirement ok before_it = refl
 
--- a task that was given a thread after h waits, where it has no reject and no start
+-- a task that was given a thread after h waits, if it has no reject and no start
 abbrev WaitsFrom : ℕ → Grant → History → ℕ → List RealmStep → Type 0
 WaitsFrom k g h n xs = granted h n xs ≡ Some g → list_any (is_event (rejects k)) xs ≡ false → list_any (is_event (starts k)) xs ≡ false → is_waiting (stage (advanced h xs) k) ≡ true
 

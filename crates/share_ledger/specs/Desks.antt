@@ -62,6 +62,6 @@ abbrev pub others_in : List Holder → List Holder
 others_in [] = []
 others_in (who ∷ hand) = hand
 
--- whom the step newly names, where it names a holder
+-- whom the step newly names, if it names a holder
 abbrev pub named_by : List RealmStep → RealmStep → Holder
 named_by steps x = unwrap_or (newly_named steps x) (TokenOf 0)

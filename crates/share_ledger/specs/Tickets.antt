@@ -1,5 +1,5 @@
 -- What the list of steps says of a task. It is read by position in the whole list, so that nothing is
--- numbered anew where the realm is retired.
+-- numbered anew if the realm is retired.
 use Rattle.std.specs.Prelude.{ℕ, ◌-◌, ◌==◌, ◌&&◌, Bool, false, not, Option, Some, None, is_some, List, [], ◌∷◌, count_by, if◌then◌else◌}
 use Rattle.std.specs.Option.{option_or}
 use Rattle.std.specs.List.{list_any}
@@ -43,11 +43,11 @@ granted h n (x ∷ xs) = if is_event is_fork x then (if n == 1 then grant_of h x
 unfoldable pub grant_in : ℕ → List RealmStep → Option Grant
 grant_in k xs = granted fresh k xs
 
--- the reject of task k stands in the list
+-- the reject of task k is in the list
 unfoldable pub rejected_in : ℕ → List RealmStep → Bool
 rejected_in k xs = list_any (is_event (rejects k)) xs
 
--- the start of task k stands in the list
+-- the start of task k is in the list
 unfoldable pub started_in : ℕ → List RealmStep → Bool
 started_in k xs = list_any (is_event (starts k)) xs
 
@@ -64,6 +64,6 @@ end_in k (x ∷ xs) = option_or (end_of k x) (end_in k xs)
 abbrev pub given_in : ℕ → List RealmStep → Bool
 given_in k xs = is_some (grant_in k xs) && not (rejected_in k xs)
 
--- the end of task k stands in the list
+-- the end of task k is in the list
 abbrev pub finished_in : ℕ → List RealmStep → Bool
 finished_in k xs = is_some (end_in k xs)

@@ -2,7 +2,7 @@
 //! its retirements between them; `steps` and `laws` say what the list tells of the realm and of each task, which
 //! lists are legal, and whose own each step is. One keeper, which lies under the realm's lock, knows
 //! the whole list. Each token and each ticket holds a share: a beginning of the list that has all of the
-//! holder's own steps. The list stands nowhere at run time; it is what the contracts speak of.
+//! holder's own steps. The list is nowhere at run time; it is what the contracts speak of.
 #![tactic(auto)]
 
 mod desk;

@@ -69,7 +69,7 @@ impl Desk {
     }
 
     /// The step, which is of these two holders and names nobody, is appended. The first share has seen it;
-    /// the second is let go.
+    /// the second is dropped.
     pub(crate) fn step_together(
         &mut self,
         badge: &mut Badge<LedgerView>,

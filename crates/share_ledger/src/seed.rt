@@ -34,7 +34,7 @@ impl Seed {
     ///
     /// # Errors
     ///
-    /// Where memory is refused. No later call of the ledger takes any.
+    /// If memory is refused. No later call of the ledger takes any.
     pub fn new(alloc: Global) -> Result<Seed, AllocError>
         ensures { IfOk result (λ seed. seed.words ≡ 1) }
     {

@@ -20,6 +20,6 @@ stay_at f s place k m n xs ys d false is less last others earlier from within =
     let after : place < k = grind arith in
     rw (others other (omega (arith, less, within))) (earlier k after (omega (arith, less, within)))
 
--- where those behind it are of earlier scopes, those from its place on are
+-- if those behind it are of earlier scopes, those from its place on are
 pub earlier_stay : {X : Type 0} (f : X → ℕ) (s place m n : ℕ) (xs ys : List X) → m + 1 ≡ n → ((d : X) → place + 1 < n → slice_index_or ys place d ≡ slice_index_or xs (n - 1) d) → ((k : ℕ) (d : X) → k ≢ place → k + 1 < n → slice_index_or ys k d ≡ slice_index_or xs k d) → ((k : ℕ) (d : X) → place < k → k < n → f (slice_index_or xs k d) < s) → (k : ℕ) (d : X) → place ≤ k → k < m → f (slice_index_or ys k d) < s
 earlier_stay f s place m n xs ys less last others earlier k d from within = stay_at f s place k m n xs ys d (k == place) refl less (last d) (others k d) (λ j. earlier j d) from within

@@ -14,7 +14,7 @@ takes_last f s place xs ys o within found last is left = record {
   last = λ k d below. subst (λ (x : _). f x ≢ s) (sym (get_or-drop (suc place) xs k d)) (last (suc place + k) d (omega arith) (let e = length-drop (suc place) xs in omega arith));
 }
 
--- the same where what is taken out may be nothing, which it isn't
+-- the same if what is taken out may be nothing, which it isn't
 pub recalled : {O : Type 0} (f : O → ℕ) (s place : ℕ) (xs ys : List O) (r : Option O) (old new : Books O) → place < length xs → ((d : O) → f (slice_index_or xs place d) ≡ s) → ((k : ℕ) (d : O) → place < k → k < length xs → f (slice_index_or xs k d) ≢ s) → IfSome r (λ o. o ≡ slice_index_or xs place o) → OnSome r (ys ≡ remove xs place) → IsSome r → old.queue ≡ xs → new ≡ record old { queue = ys } → MatchOption r (All (λ o. f o ≢ s) old.queue × (new ≡ old)) (λ o. TakesLast f s o old.queue ys × (new ≡ record old { queue = ys }))
 recalled f s place xs ys None old new within found last is left some was became = cc
 recalled f s place xs ys (Some o) old new within found last is left some was became = (subst (λ (zs : List _). TakesLast f s o zs ys) (sym was) (takes_last f s place xs ys o within found last is left), became)

@@ -46,7 +46,7 @@ abbrev pub takers : {O : Type 0} → Books O → ℕ
 takers b = b.resting + (if b.called then 1 else 0)
 
 -- no more threads rest than may. Until the crew is closed there are never more orders than threads that will take one,
--- and where there is one, a thread is on the way; then nobody rests
+-- and if there is one, a thread is on the way; then nobody rests
 pub record IsStaffed {O : Type 0} (b : Books O) : Type 0 where
   pub kept : b.resting ≤ b.keep
   pub served : b.closed ≡ false → length b.queue ≤ takers b
@@ -76,11 +76,11 @@ abbrev pub asked : {O : Type 0} → Lack → Books O → Books O
 asked lack.Thread b = record b { wanted = min (b.wanted + 1) (2 ^ 64 - 1) }
 asked lack.Crew b = b
 
--- somebody is called who rested, exactly where there is an order and nobody is on the way
+-- somebody is called who rested, exactly if there is an order and nobody is on the way
 abbrev pub is_calling : Bool → ℕ → ℕ → Bool
 is_calling called orders resting = not called && nat_lt 0 orders && nat_lt 0 resting
 
--- a thread was made for a fork; where none was, none could be
+-- a thread was made for a fork; if none was, none could be
 abbrev pub Tells : {O : Type 0} → Answer O → Books O → Books O → Type 0
 Tells (answer.Made tray) old new = (0 < old.made) × (new ≡ record old { made = old.made - 1 })
 Tells answer.Unmade old new = (old.made ≡ 0) × (0 < old.unmade) × (new ≡ record old { unmade = old.unmade - 1 })
@@ -106,7 +106,7 @@ pub record Comes {O T : Type 0} (order : Option O) (called : Option T) (old new 
 abbrev pub MayRest : {O T : Type 0} → Option T → Books O → Type 0
 MayRest tray b = IsSome tray × (b.closed ≡ false) × (b.resting < b.keep)
 
--- a thread takes the oldest order; where there is none, it rests if it may and there is room, and else it is noted as ended
+-- a thread takes the oldest order; if there is none, it rests if it may and there is room, and else it is noted as ended
 abbrev pub Goes : {O T : Type 0} → Option T → ℕ → Next O → StaffValue O → Books O → Type 0
 Goes tray number (next.Run order) old new = (old.books.queue ≡ order ∷ new.queue) × (new ≡ record old.books { queue = new.queue })
 Goes tray number next.Rest old new = (old.books.queue ≡ []) × MayRest tray old.books × (new ≡ record old.books { resting = old.books.resting + 1 })
@@ -122,7 +122,7 @@ Wishes wish.Thread old new = (0 < old.wanted) × (new ≡ record old { wanted = 
 Wishes wish.Nothing old new = (old.wanted ≡ 0) × (old.closed ≡ false) × (new ≡ old)
 Wishes wish.End old new = (old.wanted ≡ 0) × (old.closed ≡ true) × (new ≡ old)
 
--- a fork will be told of the thread that was made, where there is room for it; else that none could be made
+-- a fork will be told of the thread that was made, if there is room for it; else that none could be made
 abbrev pub IsTold : {O T : Type 0} → Option T → StaffValue O → Books O → Type 0
 IsTold None old new = new ≡ record old.books { unmade = min (old.books.unmade + 1) (2 ^ 64 - 1) }
 IsTold (Some tray) old new = (new ≡ record old.books { made = old.books.made + 1 }) ⊎ ((old.room.made ≡ 0) × (new ≡ record old.books { unmade = min (old.books.unmade + 1) (2 ^ 64 - 1) }))

@@ -11,7 +11,7 @@ use std::alloc::Global;
 use std::snapshot::Snapshot;
 use std::sync::{Arc, Wait};
 
-/// The threads of a crew, as a spawner of its works. A work never waits for another to end: a thread that
+/// The threads of a pool, as an executor of its works. A work never waits for another to end: a thread that
 /// rests takes it, or one that is made for it.
 #[derive(Drop)]
 pub struct OsThreads<N: RealmName, W: Ready> {
@@ -57,7 +57,7 @@ impl<N: RealmName> CrewHandle<N> {
     }
 
     /// Waits until the work has ended, and gives its ticket. The tickets that come are compared, and
-    /// one of another task would be let go, which never happens.
+    /// one of another task would be dropped, which never happens.
     fn wait<R: Wait>(self, rt: &R) -> Ticket
         ensures { Returns N.table self.first.value result }
     {
@@ -94,8 +94,8 @@ impl<N: RealmName, W: Ready> Spawner<N> for OsThreads<N, W> {
 }
 
 impl<N: RealmName, W: Ready + Drop> Spawns<N, W> for OsThreads<N, W> {
-    /// A thread that rests, or one that is made now, runs the work. It is refused where the crew is
-    /// closed, and where memory or a thread is refused.
+    /// A thread that rests, or one that is made now, runs the work. It is refused if the crew is
+    /// closed, and if memory or a thread is refused.
     fn spawn<R: Wait>(
         &mut self,
         rt: &R,

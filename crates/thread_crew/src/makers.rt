@@ -11,7 +11,7 @@ use std::sync::{Arc, Wait};
 use std::thread;
 use std::thread::{JoinHandle, Threads};
 
-/// The runtime, where threads are started that use it too.
+/// The runtime, if threads are started that use it too.
 pub trait CrewRuntime: Threads + Wait + Copy + Send + Sync + 'static {}
 
 impl<R: Threads + Wait + Copy + Send + Sync + 'static> CrewRuntime for R {}
@@ -53,7 +53,7 @@ fn join_ended<O: Drop, R: Threads + Wait>(rt: &R, office: &Office<O>, joins: &mu
     }
 }
 
-/// Makes a thread, and gives its tray. Refused where memory or a thread is.
+/// Makes a thread, and gives its tray. Refused if memory or a thread is.
 fn make_thread<N, W, R>(
     rt: &R,
     alloc: Global,
@@ -90,7 +90,7 @@ where
 
 /// What a thread of a crew does: it sleeps at its tray until it is woken, finds an order there or in the
 /// queue, runs its work, and puts the ticket into the order's way back; and so on with the orders that are
-/// left. It takes the next, or comes to rest, before it puts the ticket there, so that who waits for the
+/// left. It takes the next, or goes idle, before it puts the ticket there, so that who waits for the
 /// ticket finds it at rest.
 fn serve<N, W, R>(
     rt: &R,

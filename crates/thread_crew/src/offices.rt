@@ -27,7 +27,7 @@ impl<O: Drop> Office<O> {
     }
 
     /// Gives the order to a thread of the crew: to one that rests, or to one that is made now. It is handed
-    /// back where the crew is closed, and where memory or a thread is refused.
+    /// back if the crew is closed, and if memory or a thread is refused.
     pub(crate) fn give<R: Wait>(&self, rt: &R, order: O) -> Result<(), O>
         ensures { IfErr result (λ back. back ≡ order) }
     {
@@ -51,7 +51,7 @@ impl<O: Drop> Office<O> {
         }
     }
 
-    /// Gives the order for which no thread could be made, to one that came to rest meanwhile.
+    /// Gives the order for which no thread could be made, to one that went idle meanwhile.
     fn give_once_more<R: Wait>(&self, rt: &R, order: O) -> Result<(), O>
         ensures { IfErr result (λ back. back ≡ order) }
     {
@@ -84,7 +84,7 @@ impl<O: Drop> Office<O> {
         order
     }
 
-    /// What a thread does next that has done its work: an order that is left, or it comes to rest at its
+    /// What a thread does next that has done its work: an order that is left, or it goes idle at its
     /// tray, or it is to end.
     pub(crate) fn next<R: Wait>(&self, rt: &R, tray: &SharedTray<O>, number: usize) -> Next<O> {
         self.staff.lock(rt).next(Arc::try_clone(tray).ok(), number)

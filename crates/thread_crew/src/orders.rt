@@ -32,7 +32,7 @@ impl<N: RealmName> Finished<N> {
 /// The tray by which a ticket comes back.
 pub(crate) type WayBack<N> = Arc<Tray<Finished<N>>, Global>;
 
-/// A ticket that its joiner waits for, and the way on which it goes back. It can't be let go: who has it puts
+/// A ticket that its joiner waits for, and the way on which it goes back. It can't be dropped: who has it puts
 /// it there.
 pub(crate) struct OwedTicket<N: RealmName> {
     finished: Finished<N>,

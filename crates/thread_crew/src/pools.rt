@@ -9,9 +9,9 @@ use std::sync::{Arc, Wait};
 use std::thread;
 use std::thread::{JoinHandle, Threads};
 
-/// A crew of threads that are used again, for works of type `W` in the realm that is named `N`. It
-/// grows to as many threads as there were works at once, and `keep` of them rest where there is no work.
-/// A crew can't be let go: its owner closes it, else the program is refused.
+/// A thread pool for works of type `W` in the realm that is named `N`. It
+/// grows to as many threads as there were works at once, and `keep` of them rest if there is no work.
+/// A crew can't be dropped: its owner closes it, else the program is refused.
 pub struct Crew<N: RealmName, W: Ready + Work<N, OsThreads<N, W>>> {
     alloc: Global,
     office: Arc<Office<Order<N, W>>, Global>,
@@ -19,8 +19,8 @@ pub struct Crew<N: RealmName, W: Ready + Work<N, OsThreads<N, W>>> {
 }
 
 impl<N: RealmName, W: Ready + Work<N, OsThreads<N, W>>> Crew<N, W> {
-    /// A crew with no thread yet but the one that makes the others. So many of its threads may rest;
-    /// where none may, each work has a thread of its own. Refused where memory or that thread is. No clause says
+    /// A thread pool with one thread, which makes the others. So many of its threads may rest;
+    /// if none may, each work has a thread of its own. Refused if memory or that thread is. No clause says
     /// more of a crew: its threads and works lie under its lock, where no contract sees them; tests count them.
     pub fn open<R: CrewRuntime>(
         rt: &R,
@@ -42,8 +42,8 @@ impl<N: RealmName, W: Ready + Work<N, OsThreads<N, W>>> Crew<N, W> {
         })
     }
 
-    /// The crew's threads, as a spawner. Refused only where std's count of holders is full. No clause says whose
-    /// threads they are: they are told apart by what lies under the crew's lock; tests count them.
+    /// The pool's threads, as an executor. Refused only if std's count of holders is full. No clause says whose
+    /// threads they are: they are distinguished by what lies under the crew's lock; tests count them.
     pub fn threads(&self) -> Result<OsThreads<N, W>, AllocError> {
         let office = Arc::try_clone(&self.office)?;
         Ok(OsThreads {
@@ -52,7 +52,7 @@ impl<N: RealmName, W: Ready + Work<N, OsThreads<N, W>>> Crew<N, W> {
         })
     }
 
-    /// Closes the crew: from now on each fork is refused. Waits until the works that run have ended, and
+    /// Closes the pool: from now on each fork is refused. Waits until the works that run have ended, and
     /// joins all threads. No clause says so, since it speaks of other calls and of threads; tests count them.
     pub fn close<R: Threads + Wait>(self, rt: &R)
     where

@@ -41,7 +41,7 @@ pub struct RefuseNth<S> {
 }
 
 impl<S> RefuseNth<S> {
-    /// One that refuses the `nth` work, counted from 1; none where that is 0.
+    /// One that refuses the `nth` work, counted from 1; none if that is 0.
     pub fn new(nth: u64, inner: S) -> RefuseNth<S>
         ensures { (result.left ≡ nth) × (result.inner ≡ inner) }
     {

@@ -27,11 +27,11 @@ pub trait Work<N: RealmName, S>: Ready {
         ensures { Returns N.table ticket result.0 };
 }
 
-/// Who has works run, in a realm that is named `N`, and waits for their ends.
+/// An executor: it has works run, in a realm that is named `N`, and waits for their ends.
 pub trait Spawner<N: RealmName> {
     ghost use Rattle.share_ledger.specs.Values.{TicketValue};
 
-    /// What is kept of a work until it is joined.
+    /// The handle of a work until it is joined.
     type Handle: Drop;
 
     /// The ticket that the work of this handle was given.
@@ -42,9 +42,9 @@ pub trait Spawner<N: RealmName> {
         ensures { Returns N.table (first_of handle) result };
 }
 
-/// A spawner of works of type `W`.
+/// An executor of works of type `W`.
 pub trait Spawns<N: RealmName, W: Ready>: Spawner<N> {
-    /// Has the work run with this ticket. Where it is refused, ticket and work are handed back, and
+    /// Has the work run with this ticket. If it is refused, ticket and work are handed back, and
     /// nothing has come of it.
     fn spawn<R: Wait>(
         &mut self,
@@ -56,10 +56,10 @@ pub trait Spawns<N: RealmName, W: Ready>: Spawner<N> {
         ensures { MatchResult result (λ handle. Self.first_of handle ≡ ticket) (λ refused. (refused.0 ≡ ticket) × (refused.1 ≡ work)) };
 }
 
-/// A spawner that gives back works which no thread has taken yet, so that who has forked them can run them
-/// where it would only wait for them.
+/// An executor that gives back works which no thread has taken yet, so that who has forked them can run them
+/// if it would only wait for them.
 pub trait Recalls<N: RealmName, W: Ready>: Spawns<N, W> + Drop {
-    /// A share of the spawner, by which a work that was given back forks its own. None where std's count of
+    /// A share of the executor, by which a work that was given back forks its own. None if std's count of
     /// holders is full. No clause says whose share it is: what the two have in common lies under a lock.
     fn share(&self) -> Option<Self>;
 

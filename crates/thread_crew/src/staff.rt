@@ -15,7 +15,7 @@ use std::sync::Arc;
 /// The tray of a thread, at which it sleeps, and in which it finds its first order.
 pub(crate) type SharedTray<O> = Arc<Tray<O>, Global>;
 
-/// A thread that was called from its rest, and sleeps on until it is woken. It can't be let go: who has it
+/// A thread that was called from its rest, and sleeps on until it is woken. It can't be dropped: who has it
 /// wakes it.
 pub(crate) struct Called<O> {
     tray: SharedTray<O>,
@@ -69,7 +69,7 @@ pub(crate) enum Wish {
 /// Who is in a crew, who is wanted, and which orders nobody has taken yet. It lies under the crew's lock.
 ///
 /// Until the crew is closed there are never more such orders than threads that rest or were called and have
-/// taken none. And where there is one, a thread is on the way: who was called takes an order and calls the
+/// taken none. And if there is one, a thread is on the way: who was called takes an order and calls the
 /// next for those that are left, before it runs its own. So no order waits for another to end.
 #[derive(Drop)]
 pub(crate) struct Staff<O> {
@@ -140,7 +140,7 @@ impl<O: Drop> Staff<O> {
         }
     }
 
-    /// The same, and where it is for want of a thread that the order is handed back, one is asked for.
+    /// The same, and if it is for want of a thread that the order is handed back, one is asked for.
     pub(crate) fn take_or_ask(&mut self, order: O) -> Result<Option<Called<O>>, (Lack, O)>
         ensures { MatchResult result (λ called. Takes order called self.old.books self.new.books) (λ back. (back.1 ≡ order) × Lacks back.0 self.old × (self.new.books ≡ asked back.0 self.old.books)) }
     {
@@ -163,7 +163,7 @@ impl<O: Drop> Staff<O> {
     }
 
     /// What a fork that asked is told; nothing as long as the maker gave no answer that is left. It takes
-    /// none of the threads that came to rest, so each answer is for one fork.
+    /// none of the threads that went idle, so each answer is for one fork.
     pub(crate) fn answer(&mut self) -> Option<Answer<O>>
         ensures { MatchOption result ((self.old.books.made ≡ 0) × (self.old.books.unmade ≡ 0) × (self.new.books ≡ self.old.books)) (λ answer. Tells answer self.old.books self.new.books) }
     {
@@ -248,7 +248,7 @@ impl<O: Drop> Staff<O> {
     }
 }
 
-/// Who is to be woken for the orders in the queue: nobody where there is none, or where a thread is on the way.
+/// Who is to be woken for the orders in the queue: nobody if there is none, or if a thread is on the way.
 fn call<O: Drop>(
     resting: &mut Vec<SharedTray<O>>,
     queue: &VecDeque<O>,

@@ -61,7 +61,7 @@ impl<N: RealmName, S: Spawner<N>> Team<N, S> {
         }
     }
 
-    /// Makes room for a thread more, and for its return. Refused where memory is.
+    /// Makes room for a thread more, and for its return. Refused if memory is.
     pub fn reserve(&mut self) -> Result<(), AllocError>
         ensures same { IsSameTeam self.old self.new }
         ensures room { OnOk result (HasRoom self.new) }
@@ -101,7 +101,7 @@ impl<N: RealmName, S: Spawner<N>> Team<N, S> {
         self.returned.retain(|ticket| ticket.held.scope() < scope);
     }
 
-    /// Takes the tickets of the scope, and of what was opened later. None where there is no room to list
+    /// Takes the tickets of the scope, and of what was opened later. None if there is no room to list
     /// them.
     pub fn take_from(&mut self, alloc: Global, scope: ScopeId) -> Option<Vec<Ticket>>
         ensures running { self.new.running ≡ self.old.running }
@@ -133,7 +133,7 @@ impl<N: RealmName, S: Spawner<N>> Team<N, S> {
     }
 }
 
-/// The place of the last thread of the scope, or of one that was opened later, where from `below` on there
+/// The place of the last thread of the scope, or of one that was opened later, if from `below` on there
 /// is none.
 fn last_from<N: RealmName, S: Spawner<N>>(
     running: &[Thread<N, S>],
@@ -154,7 +154,7 @@ fn last_from<N: RealmName, S: Spawner<N>>(
     None
 }
 
-/// The place of the last ticket of the scope, or of one that was opened later, where from `below` on there
+/// The place of the last ticket of the scope, or of one that was opened later, if from `below` on there
 /// is none.
 fn last_returned<N: RealmName>(
     returned: &[OfRealm<N, Ticket>],

@@ -10,7 +10,7 @@ use kept_realm::{FittingRealm, KeptRealm};
 use scope_rules::{Base, Catalog, Limits, Refusal, ScopeId};
 use std::alloc::Global;
 
-/// The book of a realm: it is told each command, and answers each question by the rules. It is the
+/// The book of a realm: it applies each command, and answers each question by the rules. It is the
 /// replay of its history, which is legal, within the limits, and fitting by the catalog `C`.
 ///
 /// The callers' closures lie beside the realm, one place for each scope since the base. No fact ties
@@ -42,8 +42,8 @@ impl<C: Catalog> BookState<C> {
         BookState { realm, tests }
     }
 
-    /// The book of a realm that begins with the base, as a retirement leaves it. Refused where the base
-    /// has more pairs than the limit of load (`TooMany`), and where memory is refused (`Memory`).
+    /// The book of a realm that begins with the base, as a retirement leaves it. Refused if the base
+    /// has more pairs than the limit of load (`TooMany`), and if memory is refused (`Memory`).
     pub fn with_base(alloc: Global, limits: Limits, base: Base) -> Result<BookState<C>, Refusal>
         ensures { AnswersOrMemory (base_check limits base) (starting limits base) (realm_given result) }
     {

@@ -20,8 +20,8 @@ use scope_rules::{
 /// adds exactly its event to the history and answers its reply; a refused one changes nothing. Those
 /// that make room for an event may be refused it, by `Memory`, once every check has passed.
 impl<C: Catalog> BookState<C> {
-    /// Opens a scope for the actor, inside what lies around it (JEP 505, `open`). Refused where the
-    /// actor is no running task or main, where its innermost scope is closing (`Closed`), past level
+    /// Opens a scope for the actor, inside what lies around it (JEP 505, `open`). Refused if the
+    /// actor is no running task or main, if its innermost scope is closing (`Closed`), past level
     /// 16 (`TooDeep`), and where a limit is met (`TooMany`).
     pub fn open(
         &mut self,
@@ -61,7 +61,7 @@ impl<C: Catalog> BookState<C> {
     }
 
     /// Forks the next task in the actor's scope (JEP 505, `fork`). In a cancelled scope the task gets no
-    /// thread. Refused where the actor is no running task or main, for a scope that is unknown
+    /// thread. Refused if the actor is no running task or main, for a scope that is unknown
     /// (`NoScope`, `Retired`), another's (`NotOwner`), closing or closed (`Closed`) or joined
     /// (`AlreadyJoined`), while the actor's bindings are not those at the scope's opening (`Structure`;
     /// JEP 506), and where a limit is met (`TooMany`).
@@ -79,7 +79,7 @@ impl<C: Catalog> BookState<C> {
         }
     }
 
-    /// Records that no thread was had for a task. Refused where the task does not wait (`WrongStage`),
+    /// Records that no thread was available for a task. Refused if the task does not wait (`WrongStage`),
     /// or is unknown (`NoTask`, `Retired`).
     pub fn reject(&mut self, task: TaskId) -> Result<(), Refusal>
         ensures { Enters (realm_of self.old) (Event.Reject task) tt result (realm_of self.new) }
@@ -88,7 +88,7 @@ impl<C: Catalog> BookState<C> {
         Ok(())
     }
 
-    /// Starts a task whose thread has come. Refused where the task does not wait (`WrongStage`), or is
+    /// Starts a task whose thread has come. Refused if the task does not wait (`WrongStage`), or is
     /// unknown (`NoTask`, `Retired`).
     pub fn start(&mut self, task: TaskId) -> Result<(), Refusal>
         ensures { Enters (realm_of self.old) (Event.Start task) tt result (realm_of self.new) }
@@ -97,7 +97,7 @@ impl<C: Catalog> BookState<C> {
         Ok(())
     }
 
-    /// Records the end of a running task. Refused where the task does not run (`WrongStage`), is
+    /// Records the end of a running task. Refused if the task does not run (`WrongStage`), is
     /// unknown (`NoTask`, `Retired`), or has a scope that is not closed (`Structure`).
     pub fn finish(&mut self, task: TaskId, end: End) -> Result<(), Refusal>
         requires { FitsTask C.fitting (history_of self.old) task end }
@@ -128,7 +128,7 @@ impl<C: Catalog> BookState<C> {
         Ok(())
     }
 
-    /// Sets the moment, in milliseconds. Refused for a moment before the present one (`ClockBack`), and
+    /// Sets the realm's time, in milliseconds. Refused for a moment before the present one (`ClockBack`), and
     /// where the limit of load is met (`TooMany`).
     pub fn tick(&mut self, now: u64) -> Result<(), Refusal>
         ensures { EntersOrMemory (realm_of self.old) (Event.Tick now) tt result (realm_of self.new) }
@@ -137,7 +137,7 @@ impl<C: Catalog> BookState<C> {
         Ok(())
     }
 
-    /// Binds the key above the actor's other bindings (JEP 506, `where`). Refused where the actor is no
+    /// Binds the key above the actor's other bindings (JEP 506, `where`). Refused if the actor is no
     /// running task or main, and where the limit of load is met (`TooMany`).
     pub fn bind(&mut self, actor: Actor, key: Name, value: Value) -> Result<(), Refusal>
         ensures { EntersOrMemory (realm_of self.old) (Event.Bind actor (record { key = key; value = value })) tt result (realm_of self.new) }
@@ -147,7 +147,7 @@ impl<C: Catalog> BookState<C> {
         Ok(())
     }
 
-    /// Takes away the actor's last own binding. Refused where the actor is no running task or main, has
+    /// Takes away the actor's last own binding. Refused if the actor is no running task or main, has
     /// no own binding (`NotBound`), or has a scope open or closing that was opened while the binding
     /// stood (`Structure`), and where the limit of load is met (`TooMany`).
     pub fn unbind(&mut self, actor: Actor) -> Result<(), Refusal>
@@ -157,7 +157,7 @@ impl<C: Catalog> BookState<C> {
         Ok(())
     }
 
-    /// Joins the actor's scope (JEP 505, `join`); what it answers is read by `outcome`. Refused where
+    /// Joins the actor's scope (JEP 505, `join`); what it answers is read by `outcome`. Refused if
     /// the actor is no running task or main, for a scope that is unknown (`NoScope`, `Retired`),
     /// another's (`NotOwner`), closing or closed (`Closed`) or joined (`AlreadyJoined`), and while it is
     /// neither cancelled nor all its tasks have ended (`NotReady`).
@@ -170,7 +170,7 @@ impl<C: Catalog> BookState<C> {
 
     /// Begins to close the actor's scope, and with it each scope that the actor opened later and has not
     /// closed (JEP 505, `close` cancels first). A scope that is closing or closed stays as it is.
-    /// Refused where the actor is no running task or main, and for a scope that is unknown (`NoScope`,
+    /// Refused if the actor is no running task or main, and for a scope that is unknown (`NoScope`,
     /// `Retired`) or another's (`NotOwner`).
     pub fn begin_close(&mut self, actor: Actor, scope: ScopeId) -> Result<Cancelling, Refusal>
         ensures { Notes (realm_of self.old) (Event.BeginClose actor scope) result (realm_of self.new) }
@@ -178,7 +178,7 @@ impl<C: Catalog> BookState<C> {
         Ok(self.perform(&Event::BeginClose { actor, scope })?.noting())
     }
 
-    /// Closes the actor's scope. Refused where the actor is no running task or main, for a scope that is
+    /// Closes the actor's scope. Refused if the actor is no running task or main, for a scope that is
     /// unknown (`NoScope`, `Retired`), another's (`NotOwner`), not closing (`WrongStage`) or closed
     /// (`Closed`), while the actor has a later scope that is not closed (`Structure`), and while a task
     /// of the scope waits or runs (`NotReady`). A closed scope is whole: none of its tasks waits or runs,
@@ -204,8 +204,8 @@ impl<C: Catalog> BookState<C> {
     }
 
     /// Takes the events out and leaves a base, once main's outermost scope is closed; what is left goes
-    /// on, with numbers after the base's. It is no event. Refused where the actor is no running task or
-    /// main, is not main (`NotOwner`), while main has a scope that is not closed (`Structure`), and where
+    /// on, with numbers after the base's. It is no event. Refused if the actor is no running task or
+    /// main, is not main (`NotOwner`), while main has a scope that is not closed (`Structure`), and if
     /// memory is refused (`Memory`).
     pub fn retire(&mut self, actor: Actor) -> Result<Base, Refusal>
         ensures { Retires (realm_of self.old) actor result (realm_of self.new) }

@@ -36,7 +36,7 @@ impl<C: Catalog> BookState<C> {
     }
 
     /// The value of the task, read by the owner of its scope after the join (JEP 505, `Subtask.get`).
-    /// Refused where the actor is no running task or main, for a task that is unknown (`NoTask`,
+    /// Refused if the actor is no running task or main, for a task that is unknown (`NoTask`,
     /// `Retired`) or of another's scope (`NotOwner`), before the join (`NotJoined`), and for one that
     /// can't be read (`Unavailable`) or failed (`NotSuccess`).
     pub fn result(&self, actor: Actor, task: TaskId) -> Result<Value, Refusal>
@@ -84,15 +84,15 @@ impl<C: Catalog> BookState<C> {
         questions::counts(self.realm(), scope)
     }
 
-    /// What the actor sees the key bound to (JEP 506, `ScopedValue.get`). Refused where the actor is no
-    /// running task or main, and where nothing is bound to the key (`NotBound`).
+    /// What the actor sees the key bound to (JEP 506, `ScopedValue.get`). Refused if the actor is no
+    /// running task or main, and if nothing is bound to the key (`NotBound`).
     pub fn binding(&self, actor: Actor, key: &Name) -> Result<Value, Refusal>
         ensures { result ≡ binding_reply (history_of self.now) actor key.now }
     {
         questions::binding(self.realm(), actor, key)
     }
 
-    /// The moment, in milliseconds.
+    /// The realm's time, in milliseconds.
     pub fn moment(&self) -> u64
         ensures { result ≡ moment (history_of self.now) }
     {
@@ -100,7 +100,7 @@ impl<C: Catalog> BookState<C> {
     }
 
     /// What the join of the scope answered. Refused for an unknown scope (`NoScope`, `Retired`), before
-    /// the join (`NotJoined`), and where memory is refused (`Memory`).
+    /// the join (`NotJoined`), and if memory is refused (`Memory`).
     pub fn outcome(&self, scope: ScopeId) -> Result<Outcome, Refusal>
         ensures { AnswersValue (outcome_check (history_of self.now) scope) (outcome (history_of self.now) scope) result }
     {
@@ -108,7 +108,7 @@ impl<C: Catalog> BookState<C> {
     }
 
     /// The log of the scope: its own events since the base, in order, with the mark of its cancellation
-    /// among them. Refused for an unknown scope (`NoScope`, `Retired`), and where memory is refused
+    /// among them. Refused for an unknown scope (`NoScope`, `Retired`), and if memory is refused
     /// (`Memory`). It costs what the log is long, not what the history is.
     pub fn project(&self, scope: ScopeId) -> Result<ScopeLog, Refusal>
         ensures { AnswersValue (scope_check (history_of self.now) scope) (log (history_of self.now) scope) result }
@@ -117,7 +117,7 @@ impl<C: Catalog> BookState<C> {
     }
 
     /// What a join of the actor's scope would give next: what it would answer, and the scope's log with
-    /// it. Refused where the join would be, and where memory is refused (`Memory`).
+    /// it. Refused if the join would be, and if memory is refused (`Memory`).
     pub fn join_preview(&self, actor: Actor, scope: ScopeId) -> Result<Preview, Refusal>
         ensures { AnswersValue (check_of (limits_of self.now) (history_of self.now) (Event.Join actor scope)) (preview (history_of self.now) actor scope) result }
     {

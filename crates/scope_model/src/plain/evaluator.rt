@@ -40,8 +40,8 @@ impl Plain {
         }
     }
 
-    /// A realm that begins with the base, as a retirement leaves it. Refused where the base has more
-    /// pairs than the limit of load (`TooMany`), and where memory is refused (`Memory`).
+    /// A realm that begins with the base, as a retirement leaves it. Refused if the base has more
+    /// pairs than the limit of load (`TooMany`), and if memory is refused (`Memory`).
     pub fn with_base(alloc: Global, limits: Limits, base: Base) -> Result<Plain, Refusal>
         ensures { AnswersOrMemory (base_check limits base) (starting limits base) result }
     {

@@ -38,7 +38,7 @@ impl Plain {
     }
 
     /// The value of the task, read by the owner of its scope after the join (JEP 505, `Subtask.get`).
-    /// Refused where the actor is no running task or main, for a task that is unknown (`NoTask`,
+    /// Refused if the actor is no running task or main, for a task that is unknown (`NoTask`,
     /// `Retired`) or of another's scope (`NotOwner`), before the join (`NotJoined`), and for one that
     /// can't be read (`Unavailable`) or failed (`NotSuccess`).
     pub fn result(&self, actor: Actor, task: TaskId) -> Result<Value, Refusal>
@@ -86,15 +86,15 @@ impl Plain {
         questions::counts(&self.view(), scope)
     }
 
-    /// What the actor sees the key bound to (JEP 506, `ScopedValue.get`). Refused where the actor is no
-    /// running task or main, and where nothing is bound to the key (`NotBound`).
+    /// What the actor sees the key bound to (JEP 506, `ScopedValue.get`). Refused if the actor is no
+    /// running task or main, and if nothing is bound to the key (`NotBound`).
     pub fn binding(&self, actor: Actor, key: &Name) -> Result<Value, Refusal>
         ensures { result ≡ binding_reply self.now.history actor key.now }
     {
         questions::binding(&self.view(), actor, key)
     }
 
-    /// The moment, in milliseconds.
+    /// The realm's time, in milliseconds.
     pub fn moment(&self) -> u64
         ensures { result ≡ moment self.now.history }
     {
@@ -102,7 +102,7 @@ impl Plain {
     }
 
     /// What the join of the scope answered. Refused for an unknown scope (`NoScope`, `Retired`), before
-    /// the join (`NotJoined`), and where memory is refused (`Memory`).
+    /// the join (`NotJoined`), and if memory is refused (`Memory`).
     pub fn outcome(&self, scope: ScopeId) -> Result<Outcome, Refusal>
         ensures { AnswersValue (outcome_check self.now.history scope) (outcome self.now.history scope) result }
     {
@@ -110,7 +110,7 @@ impl Plain {
     }
 
     /// The log of the scope: its own events since the base, in order, with the mark of its cancellation
-    /// among them. Refused for an unknown scope (`NoScope`, `Retired`), and where memory is refused
+    /// among them. Refused for an unknown scope (`NoScope`, `Retired`), and if memory is refused
     /// (`Memory`).
     pub fn project(&self, scope: ScopeId) -> Result<ScopeLog, Refusal>
         ensures { AnswersValue (scope_check self.now.history scope) (log self.now.history scope) result }
@@ -120,7 +120,7 @@ impl Plain {
     }
 
     /// What a join of the actor's scope would give next: what it would answer, and the scope's log with
-    /// it. Refused where the join would be, and where memory is refused (`Memory`).
+    /// it. Refused if the join would be, and if memory is refused (`Memory`).
     pub fn join_preview(&self, actor: Actor, scope: ScopeId) -> Result<Preview, Refusal>
         ensures { AnswersValue (check_of self.now.limits self.now.history (Event.Join actor scope)) (preview self.now.history actor scope) result }
     {

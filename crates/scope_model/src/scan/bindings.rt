@@ -186,7 +186,7 @@ fn push_pair(pairs: &mut Vec<Binding>, pair: Option<Binding>) -> Result<(), Allo
     }
 }
 
-/// The actor's own pair at the place after the event, where it had so many pairs.
+/// The actor's own pair at the place after the event, if it had so many pairs.
 fn pair_after(
     actor: Actor,
     index: u64,

@@ -271,7 +271,7 @@ fn nearer(near: Option<Cut>, far: Option<Cut>) -> Option<Cut>
     }
 }
 
-/// The sooner of the two, where they are set.
+/// The sooner of the two, if they are set.
 fn sooner(one: Option<u64>, other: Option<u64>) -> Option<u64>
     ensures { result ≡ sooner one other }
 {

@@ -160,7 +160,7 @@ impl<'a> HistoryView<'a> {
     }
 }
 
-/// What the completion adds to the sum: its number, where it succeeded with one.
+/// What the completion adds to the sum: its number, if it succeeded with one.
 fn summand_of(done: Option<Completion>) -> i64
     ensures { result ≡ option_map_or (λ d. summand_of_end d.end) done (pos 0) }
 {

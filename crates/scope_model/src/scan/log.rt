@@ -11,7 +11,7 @@ use scope_rules::types::values::ScopeId;
 use std::alloc::{AllocError, Global};
 
 impl<'a> HistoryView<'a> {
-    /// Whether the event, next, names the scope or a task of it: an open where it gives that number.
+    /// Whether the event, next, names the scope or a task of it: an open if it gives that number.
     fn is_of(&self, scope: ScopeId, event: &Event) -> bool
         ensures { result ≡ is_of self.now scope event.now }
     {

@@ -18,7 +18,7 @@ use scope_rules::{Counts, End, ScopeId, Stage, State, TaskId};
 
 impl Rows {
     /// The row of the task that is forked in the scope by the event at the place, which has the next
-    /// number. Where its scope is cancelled it never runs. There is room for it.
+    /// number. If its scope is cancelled it never runs. There is room for it.
     pub fn fork(&mut self, scope: ScopeId, place: u32, cancelled: bool)
         requires room { 1 ≤ self.old.task_room }
         requires there { CanFork self.old scope }
@@ -61,7 +61,7 @@ impl Rows {
         row.counts = with_taken(row.counts, stage);
     }
 
-    /// The task, which runs, ends. Where its scope is cancelled, the end can't be read.
+    /// The task, which runs, ends. If its scope is cancelled, the end can't be read.
     pub fn finish(&mut self, task: TaskId, end: End, cancelled: bool)
         requires { CanFinish self.old task }
         ensures rows { self.new ≡ finished self.old task end cancelled }
@@ -94,7 +94,7 @@ fn new_row(scope: ScopeId, place: u32, cancelled: bool) -> TaskRow
     }
 }
 
-/// The counts with a task more, which never runs where its scope is cancelled.
+/// The counts with a task more, which never runs if its scope is cancelled.
 fn with_fork(counts: Counts, cancelled: bool) -> Counts
     requires { HasCountRoom counts }
     ensures { result ≡ count_fork cancelled counts }
@@ -112,7 +112,7 @@ fn with_fork(counts: Counts, cancelled: bool) -> Counts
     }
 }
 
-/// The counts where a task that waited is at the stage: it runs, or never does.
+/// The counts if a task that waited is at the stage: it runs, or never does.
 fn with_taken(counts: Counts, stage: Stage) -> Counts
     requires waits { 1 ≤ counts.waiting }
     requires room { HasCountRoom counts }
@@ -127,7 +127,7 @@ fn with_taken(counts: Counts, stage: Stage) -> Counts
     taken
 }
 
-/// The counts where a task that ran has finished.
+/// The counts if a task that ran has finished.
 fn with_finish(counts: Counts) -> Counts
     requires runs { 1 ≤ counts.running }
     requires room { HasCountRoom counts }
@@ -140,7 +140,7 @@ fn with_finish(counts: Counts) -> Counts
     }
 }
 
-/// What can be read of a task that ends so: nothing, where its scope is cancelled.
+/// What can be read of a task that ends so: nothing, if its scope is cancelled.
 fn state_at_end(end: End, cancelled: bool) -> State
     ensures { result ≡ state_at_end cancelled end }
 {

@@ -8,7 +8,7 @@ pub fn closed_scopes_are_whole()
     ensures { ClosedScopeIsWhole }
 {}
 
-/// Where main has no scope that isn't closed, no task waits or runs.
+/// If main has no scope that isn't closed, no task waits or runs.
 pub fn nothing_runs_without_a_scope_of_main()
     ensures { NothingRunsWithoutAScopeOfMain }
 {}

@@ -2,7 +2,7 @@
 
 ghost use Rattle.scope_rules.specs.OutcomeLaws.{OutcomeStays};
 
-/// An outcome never changes once it stands.
+/// An outcome never changes once it is set.
 pub fn outcome_stays()
     ensures { OutcomeStays }
 {}

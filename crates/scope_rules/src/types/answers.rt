@@ -7,7 +7,7 @@ use crate::types::values::{End, Fault, ScopeId, TaskId, Value};
 /// How far a task has come.
 #[derive(Clone, Copy, Debug, PartialEq, Eq)]
 pub enum Stage {
-    /// It gets no thread: its scope was cancelled before the fork, or no thread was had.
+    /// It gets no thread: its scope was cancelled before the fork, or no thread was available.
     Never,
     /// Its thread is still to come.
     Waiting,
@@ -128,7 +128,7 @@ pub enum Verdict {
 pub enum Effective {
     /// The scope is cancelled.
     Past,
-    /// This moment, in milliseconds.
+    /// This time of the realm, in milliseconds.
     At(u64),
     Never,
 }

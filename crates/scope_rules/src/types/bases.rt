@@ -50,7 +50,7 @@ impl Base {
         }
     }
 
-    /// The moment, in milliseconds.
+    /// The realm's time, in milliseconds.
     pub fn moment(&self) -> u64
         ensures { result ≡ self.now.moment }
     {

@@ -30,7 +30,7 @@ impl Catalog for AnyEnd {
     }
 }
 
-/// The catalog in which an end fits where it is the one that its label expects, or a fault that the
+/// The catalog in which an end fits if it is the one that its label expects, or a fault that the
 /// runtime makes.
 #[derive(Clone, Copy)]
 pub struct Due;

@@ -16,7 +16,7 @@ pub enum Expiry {
 /// What a scope is opened with, beside its joiner.
 #[derive(Clone, Copy, PartialEq, Eq)]
 pub struct Options {
-    /// The moment, in milliseconds, at which the scope is cancelled unless it is joined before.
+    /// The realm's time, in milliseconds, at which the scope is cancelled unless it is joined before.
     pub deadline: Option<u64>,
     /// Whether cancels of the scopes around this one stop short of it (Trio, `shield`).
     pub shield: bool,
@@ -25,7 +25,7 @@ pub struct Options {
 }
 
 impl Options {
-    /// Plain options: no deadline, no shield, and where a deadline is set later and passes, the scope's
+    /// Plain options: no deadline, no shield, and if a deadline is set later and passes, the scope's
     /// outcome is a timeout. They are those of a scope of JEP 505 that is opened with a joiner alone, and of
     /// a plain `CancelScope` of Trio.
     pub const PLAIN: Options = Options {
@@ -34,7 +34,7 @@ impl Options {
         expiry: Expiry::Fail,
     };
 
-    /// Plain options with a deadline, at this moment of the realm, in milliseconds: where it passes, the
+    /// Plain options with a deadline, at this time of the realm, in milliseconds: if it passes, the
     /// scope's outcome is a timeout (JEP 505, `withTimeout`; Trio, `fail_at`).
     pub const fn by(deadline: u64) -> Options
         ensures { result ≡ record { deadline = Some deadline; shield = false; expiry = Expiry.Fail } }
@@ -45,7 +45,7 @@ impl Options {
         }
     }
 
-    /// These options, but that the scope's outcome is what had come by then where its deadline passes
+    /// These options, but that the scope's outcome is what had arrived by then if its deadline passes
     /// (Trio, `move_on_at`).
     pub const fn moving_on(self) -> Options
         ensures { result ≡ record self { expiry = Expiry.MoveOn } }
@@ -90,7 +90,7 @@ pub enum Event {
         scope: ScopeId,
         label: Label,
     },
-    /// No thread was had for the task.
+    /// No thread was available for the task.
     Reject {
         task: TaskId,
     },
@@ -112,7 +112,7 @@ pub enum Event {
         scope: ScopeId,
         deadline: Option<u64>,
     },
-    /// The moment was set, in milliseconds.
+    /// The realm's time was set, in milliseconds.
     Tick {
         now: u64,
     },

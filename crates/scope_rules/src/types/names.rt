@@ -38,7 +38,7 @@ impl Name {
     }
 
     /// The name with this text, which is one: it is written in the source, say. A text that is none, the
-    /// prover refuses. Where it computes the text of a literal, the function says
+    /// prover refuses. If it computes the text of a literal, the function says
     /// `#[tactic(auto, unfolding(scope_rules::specs::NameText::is_name))]`.
     pub fn literal(text: &[u8]) -> Name
         requires { IsTrue (is_name text.now) }
@@ -96,14 +96,14 @@ fn begins_with_letter(text: &[u8]) -> bool
     }
 }
 
-/// Whether the text has only bytes that may stand in a name.
+/// Whether the text has only bytes that may be in a name.
 fn has_inner_alone(text: &[u8]) -> bool
     ensures { result ≡ list_all is_inner text.now }
 {
     text.iter().all(|byte| is_inner(*byte))
 }
 
-/// Whether the byte may stand in a name after its first.
+/// Whether the byte may be in a name after its first.
 fn is_inner(byte: u8) -> bool
     ensures { result ≡ is_inner byte }
 {

@@ -103,7 +103,7 @@ pub enum Outcome {
 impl Outcome {
     ghost use Rattle.scope_rules.specs.declared.types.outcomes.Outcome.TheVariants.{All, Cancelled, Failed};
 
-    /// The values of all tasks of the scope, in fork order, where all succeeded (JEP 505, the result of
+    /// The values of all tasks of the scope, in fork order, if all succeeded (JEP 505, the result of
     /// `allSuccessfulOrThrow`); none at any other outcome.
     pub fn values(&self) -> Option<&[TaskValue]>
         ensures { MatchOption result ((values : _) → self.now ≡ All values → ⊥) (λ values. self.now ≡ All values.now) }
@@ -114,7 +114,7 @@ impl Outcome {
         }
     }
 
-    /// The task that was the first to fail, with its fault, where the outcome is that one failed (JEP 505,
+    /// The task that was the first to fail, with its fault, if the outcome is that one failed (JEP 505,
     /// what `FailedException` is made of); none at any other outcome.
     pub fn first_failure(&self) -> Option<(TaskId, Fault)>
         ensures { (task : _) (fault : _) → (result ≡ Some (task, fault)) ↔ (self.now ≡ Failed task fault) }
@@ -125,7 +125,7 @@ impl Outcome {
         }
     }
 
-    /// The scope from which the cancel came, by a call on it or by what it lies in, where the outcome is
+    /// The scope from which the cancel came, by a call on it or by what it lies in, if the outcome is
     /// that the scope was cancelled; none at any other outcome.
     pub fn cancelled_from(&self) -> Option<ScopeId>
         ensures { (scope : _) → (result ≡ Some scope) ↔ (self.now ≡ Cancelled scope) }

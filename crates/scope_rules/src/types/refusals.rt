@@ -25,7 +25,7 @@ pub enum Refusal {
     NoTask,
     /// The task, or the scope, is not at the stage that the call wants.
     WrongStage,
-    /// The moment is before the present one.
+    /// The time is before the present one.
     ClockBack,
     /// A limit of scopes, tasks or load is met.
     TooMany,
@@ -39,7 +39,7 @@ pub enum Refusal {
     NotSuccess,
     /// The task succeeded, and its fault was asked for.
     NotFailed,
-    /// No thread was had for the task.
+    /// No thread was available for the task.
     Rejected,
     /// Memory was refused.
     Memory,

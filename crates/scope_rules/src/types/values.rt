@@ -43,7 +43,7 @@ pub struct Fault(pub Name);
 /// How a task ended: with a value, or with a fault.
 pub type End = Result<Value, Fault>;
 
-/// What a forked job is called, and the end that is expected of it, where the caller knows one.
+/// What a forked job is called, and the end that is expected of it, if the caller knows one.
 #[derive(Clone, Copy, PartialEq, Eq)]
 pub struct Label {
     pub name: Name,

@@ -19,7 +19,7 @@ pub(crate) fn told<T, F: FnOnce(T) -> Reply + Drop>(answer: Result<T, Refusal>, 
     }
 }
 
-/// The reply where nothing but success is answered.
+/// The reply if nothing but success is answered.
 pub(crate) fn done(answer: Result<(), Refusal>, said: Reply) -> Reply
     ensures { result ≡ replied (always said) answer }
 {
@@ -53,7 +53,7 @@ pub(crate) fn retired(answer: Result<Base, Refusal>) -> Reply
     }
 }
 
-/// The reply of an open; a joiner that is handed back is let go.
+/// The reply of an open; a joiner that is handed back is dropped.
 pub(crate) fn opened(answer: Result<ScopeId, (Refusal, Joiner)>) -> Reply
     ensures { result ≡ replied Reply.Scope (refusal_alone answer) }
 {

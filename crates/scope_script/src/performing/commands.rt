@@ -24,7 +24,7 @@ pub(crate) fn answer(book: &mut BookState<AnyEnd>, command: Command) -> Reply
     }
 }
 
-/// What the book answers to the event, which it adds to its history where it accepts it.
+/// What the book answers to the event, which it adds to its history if it accepts it.
 #[inline(always)]
 fn try_event(book: &mut BookState<AnyEnd>, event: Event) -> Reply
     requires { Legal (limits_of book.old) (history_of book.old) }
@@ -119,8 +119,8 @@ fn join(book: &mut BookState<AnyEnd>, actor: Actor, scope: ScopeId) -> Reply
 }
 
 /// Performs the command on the book, as any actor may ask: its reply is the model's, and an accepted
-/// command adds exactly its event. `Refused(Memory)` is never a reply: where memory is refused, this
-/// is an Err, and the book is as it was, but that a join stands whose outcome could not be told.
+/// command adds exactly its event. `Refused(Memory)` is never a reply: if memory is refused, this
+/// is an Err, and the book is as it was, but that a join is recorded whose outcome could not be answered.
 #[inline(always)]
 pub fn perform(book: &mut BookState<AnyEnd>, command: Command) -> Result<Reply, AllocError>
     ensures performs { IfOk result (λ said. Performs (realm_of book.old) command (realm_of book.new) said) }
@@ -134,7 +134,7 @@ pub fn perform(book: &mut BookState<AnyEnd>, command: Command) -> Result<Reply, 
     }
 }
 
-/// Performs the commands in turn on the book. Where it answers Ok, the book is the replay of their
+/// Performs the commands in turn on the book. If it answers Ok, the book is the replay of their
 /// run; at an Err, of the run of those before one for which memory was refused.
 #[tactic(auto, unfolding(crate::specs::Replying::realm_after_all))]
 pub fn perform_all(book: &mut BookState<AnyEnd>, commands: &[Command]) -> Result<(), AllocError>

@@ -53,12 +53,12 @@ pub struct Ran {
 }
 
 /// Runs a script on a fresh realm of these limits: performs the command of each line, and writes the
-/// line of each reply, or nothing in `Quiet`. Where it answers Ok, all bytes were read and exactly the
+/// line of each reply, or nothing in `Quiet`. If it answers Ok, all bytes were read and exactly the
 /// reply text of them was written, and the book is that of their run. After a fault, what was written
 /// is a beginning of the reply text of what was read.
 ///
-/// The replies to what was read are written before more is read. Where a stream failed in this call
-/// the fault says so, and `Memory` is answered only where none did. A reader of which 2^64 - 1 reads
+/// The replies to what was read are written before more is read. If a stream failed in this call
+/// the fault says so, and `Memory` is answered only if none did. A reader of which 2^64 - 1 reads
 /// were asked is given up.
 pub fn run<R: Read + Drop, W: Write + Drop>(
     alloc: Global,
@@ -180,7 +180,7 @@ fn read_pieces<R: Read + Drop, W: Write + Drop>(
 }
 
 /// Takes a piece of the script, and writes what it is answered. After a fault, a beginning of that was
-/// written: where memory was refused, what was answered before that.
+/// written: if memory was refused, what was answered before that.
 #[inline(always)]
 fn step<W: Write + Drop>(
     script: &mut Script,

@@ -38,7 +38,7 @@ impl Script {
         }
     }
 
-    /// The script goes on by the bytes; what they are answered goes to the end of `replies`. Where
+    /// The script goes on by the bytes; what they are answered goes to the end of `replies`. If
     /// memory is refused, a beginning of it went there.
     pub(crate) fn take(
         &mut self,
@@ -62,7 +62,7 @@ impl Script {
         Ok(())
     }
 
-    /// Answers a line. Where memory is refused, `replies` stays as it is.
+    /// Answers a line. If memory is refused, `replies` stays as it is.
     #[tactic(auto, unfolding(crate::specs::Sessions::line_reply, crate::specs::Sessions::realm_after_line, crate::specs::Tallies::tally_after_line))]
     fn answer(&mut self, mode: Mode, line: Line, replies: &mut Vec<u8>) -> Result<(), AllocError>
         ensures realm { OnOk result (realm_of self.new.book ≡ realm_after_line (realm_of self.old.book) line) }
@@ -111,7 +111,7 @@ impl Script {
     }
 }
 
-/// Appends the line of the reply, where replies are asked for.
+/// Appends the line of the reply, if replies are asked for.
 fn tell(mode: Mode, reply: &Reply, replies: &mut Vec<u8>) -> Result<(), AllocError>
     ensures ok { OnOk result (replies.new.items ≡ replies.old.items ++ shown mode (reply_text reply.now ++ 10 ∷ [])) }
     ensures err { OnErr result (replies.new.items ≡ replies.old.items) }

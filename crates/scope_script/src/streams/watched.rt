@@ -57,7 +57,7 @@ impl<T: Drop> Watched<T> {
 }
 
 impl<R: Read + Drop> Watched<R> {
-    /// Reads some bytes into the front of the piece, none only at the end of the stream. Refused where the
+    /// Reads some bytes into the front of the piece, none only at the end of the stream. Refused if the
     /// stream failed.
     pub fn read_piece(&mut self, piece: &mut [u8]) -> Result<usize, StreamFailed>
         requires some { 0 < length piece.old }

@@ -1,4 +1,4 @@
--- The tasks before the index ended as their offers say, where they have ended.
+-- The tasks before the index ended as their offers say, if they have ended.
 use Rattle.std.proofs.Common.{◌≡◌, ◌⊎◌, ℕ, ◌<◌, slice_get, Some}
 use Rattle.scope_rules.specs.declared.types.answers.State.TheVariants.{Unavailable}
 use Rattle.quote_plan.specs.Answering.{states_of, dues_of}

@@ -1,4 +1,4 @@
--- Where a join was found, one stands among the entries.
+-- If a join was found, one stands among the entries.
 use Rattle.std.proofs.Common.{sym, ◌∙◌}
 use Rattle.scope_log.specs.LocalForms.{is_join}
 use Rattle.scope_log.proofs.FirstParts.{first_found}

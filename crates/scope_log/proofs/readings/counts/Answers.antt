@@ -1,4 +1,4 @@
--- The entry counts where it forks a task.
+-- The entry counts if it forks a task.
 use Rattle.scope_log.proofs.CountSteps.{counts_step, total_step}
 use Rattle.scope_log.proofs.readings.counts.Goals as goal
 

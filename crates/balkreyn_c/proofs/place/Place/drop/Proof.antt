@@ -1,4 +1,4 @@
--- `drop` lets go of a place that owns nothing.
+-- `drop` drops a place that owns nothing.
 use mathlib.Core.Path.{◌≡◌, refl, sym, subst}
 use mathlib.Core.List.{List, [], ◌∷◌, ◌++◌}
 use seplogic.Ra.Ura.{Ura}

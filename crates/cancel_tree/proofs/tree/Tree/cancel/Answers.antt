@@ -1,4 +1,4 @@
--- The first own cancel is put into the scope's row, and its cut at what it reaches where no earlier one is there.
+-- The first own cancel is put into the scope's row, and its cut at what it reaches if no earlier one is there.
 use Rattle.std.proofs.Common.{arith, length, take, drop, ◌++◌, ap, sym, ◌∙◌, subst}
 use Rattle.scope_rules.specs.Chains.{IsInward}
 use Rattle.cancel_tree.specs.Rows.{IsAdded, IsLatest, changed, with_own, cut_at, outer_of, own_of}

@@ -1,4 +1,4 @@
--- The order gains the new pair before it loses the old one, and loses it again where the map refuses.
+-- The order gains the new pair before it loses the old one, and loses it again if the map refuses.
 use Rattle.std.proofs.Common.{◌≡◌, ℕ, Some, Bool, ap, sym, ◌∙◌}
 use Rattle.std.specs.BTreeSet as sorted
 use Rattle.std.specs.FinMap as map

@@ -1,4 +1,4 @@
--- The end was refused exactly where the token had shown an open scope.
+-- The end was refused exactly if the token had shown an open scope.
 use Rattle.std.proofs.Common.{◌≡◌, ap, sym, ◌∙◌}
 use Rattle.share_ledger.specs.Tickets.{end_in}
 use Rattle.share_ledger.specs.Values.{OwnerValue, TicketValue}
