@@ -22,6 +22,34 @@ pub(crate) struct OpenScope {
 /// that opened a scope; here they are tied to the context). It has the actor's token, of which contracts
 /// speak: each call says what the token has seen then. A context can't be dropped: main's is left by
 /// `leave`, and a task's is ended by its thread.
+///
+/// Two jobs in a scope by a deadline, as a test of `service_tests` has it:
+///
+/// ```rust
+/// fn sum_within<R: Wait + SystemTime + Copy, N: RealmName, S: Forks<AnyEnd, N, Ask<R>>>(
+///     rt: &R,
+///     ctx: &mut TaskCtx<AnyEnd, S, N>,
+///     clock: &mut SystemClock<R>,
+///     asks: (Ask<R>, Ask<R>),
+///     millis: u64,
+/// ) -> Result<Option<i64>, Refusal> {
+///     let options = fail_after(clock, millis);
+///     let (first, second) = asks;
+///     within_by(
+///         rt,
+///         ctx,
+///         Joiner::All,
+///         options,
+///         *clock,
+///         |ctx: &mut TaskCtx<AnyEnd, S, N>, scope: ScopeId| -> Result<Option<i64>, Refusal> {
+///             fork(rt, ctx, scope, first.shop, first)?;
+///             fork(rt, ctx, scope, second.shop, second)?;
+///             let joined = ctx.join_by(rt, scope, clock)?;
+///             Ok(sum_in(&joined.outcome))
+///         },
+///     )
+/// }
+/// ```
 pub struct TaskCtx<C: Catalog, S: Spawner<N>, N: RealmName> {
     pub(crate) alloc: Global,
     pub(crate) realm: HeldRealm<C, N>,

@@ -24,6 +24,25 @@ pub(crate) struct Room<K: Drop> {
 /// replay of its list of steps, which is legal, and each end in it fits its task's label by the catalog
 /// `C`. `N` is the realm's name. It keeps no closure of a caller's: an `until` joiner goes by its rule, with
 /// which its closure agrees. So works for other threads may hold a share of it.
+///
+/// A join with main's token, as a test of `lock_tests` has it:
+///
+/// ```rust
+/// fn is_done<N: RealmName, R: Wait>(
+///     rt: &R,
+///     realm: &Realm<AnyEnd, N>,
+///     main: &mut ActorToken,
+///     scope: ScopeId,
+/// ) -> bool
+///     requires { main.old.table ≡ N.table }
+///     ensures { main.new ≡ record main.old { seen = main.new.seen } }
+/// {
+///     match realm.join(rt, main, scope) {
+///         Ok(joined) => matches!(joined.outcome, Outcome::Done),
+///         Err(_) => false,
+///     }
+/// }
+/// ```
 #[derive(Drop)]
 pub struct Realm<C: Catalog, N: RealmName> {
     pub(crate) room: Arc<Room<MarkedCore<C, N>>, Global>,

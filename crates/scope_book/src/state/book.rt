@@ -15,6 +15,29 @@ use std::alloc::Global;
 ///
 /// The callers' closures lie beside the realm, one place for each scope since the base. No fact ties
 /// the two: a closure that is asked is of the scope's own rule, or the totals answer in its place.
+///
+/// A scope with one task, as a test of `book_tests` plays it:
+///
+/// ```rust
+/// fn one_task(
+///     book: &mut BookState<AnyEnd>,
+///     options: Options,
+///     label: Label,
+/// ) -> Result<(Outcome, Verdict), Fail> {
+///     let Ok(scope) = book.open(MAIN, Joiner::AwaitOk, options) else {
+///         return Err(Fail::from("a fresh realm opens a scope"));
+///     };
+///     book.fork(MAIN, scope, label)?; // it answers whether task 1 gets a thread
+///     book.start(1)?; // the thread has come
+///     book.tick(99)?; // the clock: the deadline is at 100
+///     book.finish(1, Ok(Value::Num(7)))?; // the thread has ended
+///     book.join_now(MAIN, scope)?;
+///     let outcome = book.outcome(scope)?; // Outcome::Done
+///     book.begin_close(MAIN, scope)?;
+///     let verdict = book.end_close(MAIN, scope)?; // Verdict::Plain
+///     Ok((outcome, verdict))
+/// }
+/// ```
 #[derive(Drop)]
 pub struct BookState<C: Catalog> {
     pub(crate) realm: FittingRealm<C>,
