@@ -4,3 +4,4 @@ pub mod PlayedLines
 pub mod Accepted
 pub mod Running
 pub mod Again
+pub mod Renumbered

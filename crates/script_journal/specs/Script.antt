@@ -1,6 +1,6 @@
 -- The script of a history: the commands that a fresh realm is told to come to it. Scopes and tasks are counted from the
 -- history's base on, as a fresh realm counts them; main stays 0.
-use Rattle.std.specs.Prelude.{ℕ, zero, suc, ◌-◌, List, [], ◌∷◌, ◌++◌, Option, None, Some, codes}
+use Rattle.std.specs.Prelude.{ℕ, zero, suc, ◌-◌, List, [], ◌∷◌, ◌++◌, codes}
 use Rattle.std.specs.List.{flat_map}
 use Rattle.std.specs.Fmt.{decimal}
 use Rattle.scope_rules.specs.declared.types.events.Binding.{Binding}

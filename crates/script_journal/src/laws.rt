@@ -1,5 +1,6 @@
 //! The laws of journals. Each function does nothing: its contract is the law.
 
+ghost use Rattle.script_journal.specs.Anew.{JournalBringsAnew, JournalCountsAnew};
 ghost use Rattle.script_journal.specs.Journals.{JournalIsAScript, JournalStays, JournalTellsAll, NoLineIsLost};
 
 /// A journal is a script. Of a legal history that began fresh, within limits, the script brings a fresh realm of
@@ -10,6 +11,14 @@ pub fn journal_is_a_script()
     ensures runs { JournalIsAScript }
     ensures again { JournalStays }
     ensures tells { JournalTellsAll }
+{}
+
+/// A journal counts from its base. The script of any history is that of the same history from a fresh realm on: the time
+/// and main's bindings first, then the events, with scopes and tasks counted behind those of the base. So it brings a
+/// fresh realm there, within limits that allow this: a base's time costs no load, but the tick to it does.
+pub fn journal_counts_from_its_base()
+    ensures counts { JournalCountsAnew }
+    ensures brings { JournalBringsAnew }
 {}
 
 /// The script of any history has a line for the moment that it began with, if that is not 0, one for each

@@ -1,0 +1,8 @@
+use Rattle.script_journal.proofs.Renumbered.{brings_anew, counts_anew}
+use Rattle.script_journal.proofs.laws.journal_counts_from_its_base.Goals as goal
+
+pub returns-clause-counts : goal.returns-clause-counts
+returns-clause-counts c = counts_anew
+
+pub returns-clause-brings : goal.returns-clause-brings
+returns-clause-brings c = brings_anew
