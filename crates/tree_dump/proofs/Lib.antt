@@ -6,3 +6,6 @@ mod Sent
 mod TextWalked
 mod RetiringText
 mod Shows
+mod Insides
+mod Listed
+mod Once

@@ -1,14 +1,14 @@
 -- The text of the tree behind a retirement is that without it.
-use Rattle.std.proofs.Common.{◌≡◌, ℕ, zero, suc, ◌+◌, Option, Some, None, List, [], ◌∷◌, ◌++◌, map, codes, refl, ap, ap₂, sym, ◌∙◌, subst, arith}
+use Rattle.std.proofs.Common.{◌≡◌, ℕ, zero, suc, ◌+◌, ◌-◌, Bool, true, false, cond, nat_lt, slice_get, option_map, Option, Some, None, List, [], ◌∷◌, ◌++◌, map, codes, refl, ap, ap₂, sym, ◌∙◌, subst, arith}
 use Rattle.std.specs.Fmt.{decimal}
 use Rattle.std.specs.List.{flat_map}
-use Rattle.std.specs.Option.{option_map_or}
+use Rattle.std.specs.Option.{option_and_then, option_map_or}
 use Rattle.scope_rules.specs.declared.types.capacity.TheConstants.{LEVEL_LIMIT}
 use Rattle.scope_rules.specs.declared.types.events.Event.{Event}
 use Rattle.scope_rules.specs.declared.types.infos.ScopeInfo.{ScopeInfo}
-use Rattle.scope_rules.specs.History.{tasks, forked_count}
+use Rattle.scope_rules.specs.History.{History, tasks, forked_count}
 use Rattle.scope_rules.specs.Completions.{is_task_of}
-use Rattle.scope_rules.specs.Nests.{outermost, inner, tasks_of, info}
+use Rattle.scope_rules.specs.Nests.{outermost, inner, tasks_of, info, label}
 use Rattle.scope_rules.specs.Replies.{Realm}
 use Rattle.scope_laws.specs.Folding.{Retirable, unretired, retired, NamesNone}
 use Rattle.scope_laws.proofs.Past.{IsScope, IsTask, greater}
@@ -17,8 +17,13 @@ use Rattle.scope_laws.proofs.Ranges.{filter_listed}
 use Rattle.scope_laws.proofs.Staged.{same_stage, same_state, same_tasks_of, same_counts}
 use Rattle.scope_laws.proofs.Shown.{same_outermost, same_inner, same_label, same_info, outermost_new, inner_new}
 use Rattle.scope_script.proofs.Retiring.{leaves_alike}
-use Rattle.tree_dump.specs.TextLines.{scope_text}
-use Rattle.tree_dump.specs.TextTree.{line, task_line, task_lines, tasks_lines, scope_lines, nested, open_text, tree_text}
+use Rattle.tree_dump.specs.Ages.{for_text, is_running, late_by, late_text, no_clock, reading_in, scope_age, since, task_age}
+use Rattle.tree_dump.specs.Ages as ages
+use Rattle.scope_rules.specs.declared.types.answers.Stage.{Stage}
+use Rattle.scope_rules.specs.declared.types.values.Label.{Label}
+use Rattle.scope_rules.specs.Tasks.{counts, stage, state}
+use Rattle.tree_dump.specs.TextLines.{scope_text, task_text}
+use Rattle.tree_dump.specs.TextTree.{line, task_line, task_lines, tasks_lines, scope_lines, nested, aged_scope, open_text, scope_line, tree_by, tree_text}
 use Rattle.tree_dump.specs.RetiringText.{TreeStays}
 use Rattle.tree_dump.proofs.Walked.{info_scope}
 
@@ -29,57 +34,96 @@ flat_same f g (k ∷ ks) e =
     let others : map f ks ≡ map g ks = cc in
     ap₂ (λ xs ys. xs ++ ys) first (flat_same f g ks others)
 
+-- ---- without a clock no age is shown
+
+abbrev picked : Bool → ℕ → Option ℕ
+picked b i = cond b (slice_get [] i) None
+
+no_reading : (before n : ℕ) → reading_in [] before n ≡ None
+no_reading before n = by (nat_lt before n)
+  where
+    by : (b : Bool) → picked b (n - before - 1) ≡ None
+    by true = refl
+    by false = refl
+
+no_age : (h : History) (k : ℕ) (st : Stage) → for_text (task_age no_clock h k st) ≡ []
+no_age h k st = by (is_running st) (reading_in [] h.base.tasks k) (no_reading h.base.tasks k)
+  where
+    empty : (b : Bool) → for_text (cond b None None) ≡ []
+    empty true = refl
+    empty false = refl
+
+    by : (b : Bool) (o : Option ℕ) → o ≡ None → for_text (cond b (option_map (since no_clock) o) None) ≡ []
+    by b o none = ap (λ p. for_text (cond b (option_map (since no_clock) p) None)) none ∙ empty b
+
+abbrev untimed_line : History → ℕ → ℕ → List ℕ
+untimed_line h depth k = option_map_or (λ (l : Label). line depth (task_text k l.name (stage h k) (state h k) ++ [])) (label h k) []
+
+untimed : (h : History) (depth k : ℕ) → task_line no_clock h depth k ≡ untimed_line h depth k
+unfolding task_line
+untimed h depth k = ap (λ t. option_map_or (λ (l : Label). line depth (task_text k l.name (stage h k) (state h k) ++ t)) (label h k) []) (no_age h k (stage h k))
+
+no_scope_age : (h : History) (s : ℕ) → scope_age no_clock h s ≡ None
+no_scope_age h s = ap (option_map (since no_clock)) (no_reading h.base.scopes s)
+
+untimed_scope : (h : History) (depth : ℕ) (i : ScopeInfo) → scope_line no_clock h depth i ≡ line depth (scope_text i (counts h i.scope) ++ [])
+unfolding aged_scope
+untimed_scope h depth i = ap (λ o. line depth (scope_text i (counts h i.scope) ++ (ages.open_text o ++ late_text (option_and_then (λ (age : ℕ). late_by no_clock i.joined i.deadline) o)))) (no_scope_age h i.scope)
+
 module _ (r : Retirable) (es : List Event) (none : NamesNone r es) where
   -- a scope that lies somewhere was not let go
   abbrev IsPlace : Option ℕ → Type 0
   IsPlace place = (s : ℕ) → place ≡ Some s → IsScope r s
 
-  line_alike : (depth k : ℕ) → IsTask r k → task_line (unretired r es) depth k ≡ task_line (retired r es) depth k
-  unfolding task_line
-  line_alike depth k new = rw (same_label r es k new) (rw (same_stage r es none k new) (rw (same_state r es none k new) refl))
+  same_untimed : (depth k : ℕ) → IsTask r k → untimed_line (unretired r es) depth k ≡ untimed_line (retired r es) depth k
+  same_untimed depth k new = rw (same_label r es k new) (rw (same_stage r es none k new) (rw (same_state r es none k new) refl))
 
-  module _ (n : ℕ) (inside : (depth : ℕ) (place : Option ℕ) → IsPlace place → nested (unretired r es) n depth place ≡ nested (retired r es) n depth place) where
-    lines_alike : (depth k : ℕ) → IsTask r k → task_lines (unretired r es) (nested (unretired r es) n) depth k ≡ task_lines (retired r es) (nested (retired r es) n) depth k
+  line_alike : (depth k : ℕ) → IsTask r k → task_line no_clock (unretired r es) depth k ≡ task_line no_clock (retired r es) depth k
+  unfolding task_line
+  line_alike depth k new = untimed (unretired r es) depth k ∙ (same_untimed depth k new ∙ sym (untimed (retired r es) depth k))
+
+  module _ (n : ℕ) (inside : (depth : ℕ) (place : Option ℕ) → IsPlace place → nested no_clock (unretired r es) n depth place ≡ nested no_clock (retired r es) n depth place) where
+    lines_alike : (depth k : ℕ) → IsTask r k → task_lines no_clock (unretired r es) (nested no_clock (unretired r es) n) depth k ≡ task_lines no_clock (retired r es) (nested no_clock (retired r es) n) depth k
     lines_alike depth k new =
         ap₂ (λ xs ys. xs ++ ys) (line_alike depth k new)
-        (ap (nested (unretired r es) n (depth + 1)) (same_outermost r es k) ∙ inside (depth + 1) (outermost (retired r es) k) (λ s found. outermost_new r es k s found))
+        (ap (nested no_clock (unretired r es) n (depth + 1)) (same_outermost r es k) ∙ inside (depth + 1) (outermost (retired r es) k) (λ s found. outermost_new r es k s found))
 
-    tasks_alike : (depth s : ℕ) → IsScope r s → tasks_lines (unretired r es) (nested (unretired r es) n) depth (tasks_of (unretired r es) s) ≡ tasks_lines (retired r es) (nested (retired r es) n) depth (tasks_of (retired r es) s)
+    tasks_alike : (depth s : ℕ) → IsScope r s → tasks_lines no_clock (unretired r es) (nested no_clock (unretired r es) n) depth (tasks_of (unretired r es) s) ≡ tasks_lines no_clock (retired r es) (nested no_clock (retired r es) n) depth (tasks_of (retired r es) s)
     unfolding tasks_lines tasks_of
     tasks_alike depth s new =
-        ap (λ ks. flat_map (task_lines (unretired r es) (nested (unretired r es) n) depth) ks) (same_tasks_of r es none s new)
-        ∙ flat_same (task_lines (unretired r es) (nested (unretired r es) n) depth) (task_lines (retired r es) (nested (retired r es) n) depth) (tasks_of (retired r es) s)
-        (filter_listed (is_task_of (retired r es) s) (task_lines (unretired r es) (nested (unretired r es) n) depth) (task_lines (retired r es) (nested (retired r es) n) depth) (tasks r.past + 1) (forked_count (retired r es))
+        ap (λ ks. flat_map (task_lines no_clock (unretired r es) (nested no_clock (unretired r es) n) depth) ks) (same_tasks_of r es none s new)
+        ∙ flat_same (task_lines no_clock (unretired r es) (nested no_clock (unretired r es) n) depth) (task_lines no_clock (retired r es) (nested no_clock (retired r es) n) depth) (tasks_of (retired r es) s)
+        (filter_listed (is_task_of (retired r es) s) (task_lines no_clock (unretired r es) (nested no_clock (unretired r es) n) depth) (task_lines no_clock (retired r es) (nested no_clock (retired r es) n) depth) (tasks r.past + 1) (forked_count (retired r es))
         (λ k more. lines_alike depth k (greater (tasks r.past) k (omega (arith, more)))))
 
-    scope_alike : (depth : ℕ) (i : ScopeInfo) → IsScope r i.scope → scope_lines (unretired r es) (nested (unretired r es) n) depth i ≡ scope_lines (retired r es) (nested (retired r es) n) depth i
+    scope_alike : (depth : ℕ) (i : ScopeInfo) → IsScope r i.scope → scope_lines no_clock (unretired r es) (nested no_clock (unretired r es) n) depth i ≡ scope_lines no_clock (retired r es) (nested no_clock (retired r es) n) depth i
     scope_alike depth i new =
-        ap₂ (λ xs ys. xs ++ ys) (ap (λ c. line depth (scope_text i c)) (same_counts r es none i.scope new))
+        ap₂ (λ xs ys. xs ++ ys) (untimed_scope (unretired r es) depth i ∙ (ap (λ c. line depth (scope_text i c ++ [])) (same_counts r es none i.scope new) ∙ sym (untimed_scope (retired r es) depth i)))
         (ap₂ (λ xs ys. xs ++ ys) (tasks_alike (depth + 1) i.scope new)
-        (ap (nested (unretired r es) n (depth + 1)) (same_inner r es i.scope new) ∙ inside (depth + 1) (inner (retired r es) i.scope) (λ t found. inner_new r es i.scope t found)))
+        (ap (nested no_clock (unretired r es) n (depth + 1)) (same_inner r es i.scope new) ∙ inside (depth + 1) (inner (retired r es) i.scope) (λ t found. inner_new r es i.scope t found)))
 
-    place_alike : (depth s : ℕ) → IsScope r s → option_map_or (scope_lines (unretired r es) (nested (unretired r es) n) depth) (info (unretired r es) s) [] ≡ option_map_or (scope_lines (retired r es) (nested (retired r es) n) depth) (info (retired r es) s) []
-    place_alike depth s new = ap (λ o. option_map_or (scope_lines (unretired r es) (nested (unretired r es) n) depth) o []) (same_info r es none s new) ∙ by (info (retired r es) s) refl
+    place_alike : (depth s : ℕ) → IsScope r s → option_map_or (scope_lines no_clock (unretired r es) (nested no_clock (unretired r es) n) depth) (info (unretired r es) s) [] ≡ option_map_or (scope_lines no_clock (retired r es) (nested no_clock (retired r es) n) depth) (info (retired r es) s) []
+    place_alike depth s new = ap (λ o. option_map_or (scope_lines no_clock (unretired r es) (nested no_clock (unretired r es) n) depth) o []) (same_info r es none s new) ∙ by (info (retired r es) s) refl
       where
-        by : (o : Option ScopeInfo) → info (retired r es) s ≡ o → option_map_or (scope_lines (unretired r es) (nested (unretired r es) n) depth) o [] ≡ option_map_or (scope_lines (retired r es) (nested (retired r es) n) depth) o []
+        by : (o : Option ScopeInfo) → info (retired r es) s ≡ o → option_map_or (scope_lines no_clock (unretired r es) (nested no_clock (unretired r es) n) depth) o [] ≡ option_map_or (scope_lines no_clock (retired r es) (nested no_clock (retired r es) n) depth) o []
         by None is = refl
         by (Some i) is = scope_alike depth i (subst (IsScope r) (sym (info_scope (retired r es) s i is)) new)
 
-  nested_alike : (n depth : ℕ) (place : Option ℕ) → IsPlace place → nested (unretired r es) n depth place ≡ nested (retired r es) n depth place
+  nested_alike : (n depth : ℕ) (place : Option ℕ) → IsPlace place → nested no_clock (unretired r es) n depth place ≡ nested no_clock (retired r es) n depth place
   unfolding nested
   nested_alike zero depth place new = refl
   nested_alike (suc n) depth None new = refl
   nested_alike (suc n) depth (Some s) new = place_alike n (λ deeper place there. nested_alike n deeper place there) depth s (new s refl)
 
-  open_alike : open_text (unretired r es) (outermost (unretired r es) 0) ≡ open_text (retired r es) (outermost (retired r es) 0)
-  open_alike = ap (open_text (unretired r es)) (same_outermost r es 0) ∙ by (outermost (retired r es) 0) (λ s found. outermost_new r es 0 s found)
+  open_alike : open_text no_clock (unretired r es) (outermost (unretired r es) 0) ≡ open_text no_clock (retired r es) (outermost (retired r es) 0)
+  open_alike = ap (open_text no_clock (unretired r es)) (same_outermost r es 0) ∙ by (outermost (retired r es) 0) (λ s found. outermost_new r es 0 s found)
     where
-      by : (o : Option ℕ) → IsPlace o → open_text (unretired r es) o ≡ open_text (retired r es) o
+      by : (o : Option ℕ) → IsPlace o → open_text no_clock (unretired r es) o ≡ open_text no_clock (retired r es) o
       by None new = refl
       by (Some s) new = nested_alike LEVEL_LIMIT 0 (Some s) new
 
   pub text_alike : tree_text (unretired r es) ≡ tree_text (retired r es)
-  unfolding tree_text
+  unfolding tree_by
   text_alike = ap₂ (λ m xs. codes "moment " ++ decimal m ++ codes "\n" ++ xs) (same_moment r es) open_alike
 
 pub tree_stays : TreeStays

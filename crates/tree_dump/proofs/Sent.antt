@@ -37,7 +37,7 @@ item_sent f ks i k old mid end at one more =
     let first = drop_more ks i k (slice_get_within ks i k at) ∙ ap (λ x. x ∷ drop (i + 1) ks) (get_or_from_slice_get ks i k k at) in
     subst (λ xs. SendsItems (items_of (map f xs)) old end) (sym first) (mid, one, more)
 
--- where none is left, the list ends
+-- if none is left, the list ends
 pub items_end : (f : ℕ → Data) (ks : List ℕ) (i : ℕ) (old end : Log) → length ks ≤ i → Logs old end seq_ends → SendsItems (items_of (map f (drop i ks))) old end
 items_end f ks i old end past last = subst (λ xs. SendsItems (items_of (map f xs)) old end) (sym (drop_all i ks past)) last
 

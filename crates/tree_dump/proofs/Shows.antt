@@ -1,14 +1,13 @@
 -- Each scope that is not closed lies inside an unclosed one, or is main's outermost: so the walk comes to it.
-use Rattle.std.proofs.Common.{◌≡◌, ℕ, zero, suc, ◌+◌, ◌<◌, ◌≤◌, ◌⊎◌, ◌==◌, Bool, true, false, cond, Option, Some, None, List, [], ◌∷◌, ◌++◌, length, slice_get, codes, option_map, inl, inr, refl, ap, sym, ◌∙◌, subst, arith}
+use Rattle.std.proofs.Common.{◌≡◌, ℕ, zero, suc, ◌+◌, ◌<◌, ◌≤◌, ◌⊎◌, ◌==◌, Bool, true, false, cond, Option, Some, None, List, [], ◌∷◌, ◌++◌, slice_get, codes, option_map, inl, inr, refl, ap, sym, ◌∙◌, arith}
 use Rattle.std.proofs.lemmas.Bool.{cases_lt}
 use Rattle.std.proofs.lemmas.List.{append_assoc, append-nil}
 use Rattle.std.proofs.lemmas.List.FromFn.{get_or-range_with_len, length-range_with_len}
 use Rattle.std.proofs.lemmas.Option.{slice_get-get_or}
 use Rattle.std.specs.Fmt.{decimal}
-use Rattle.std.specs.List.{filter, flat_map, range_with_len}
+use Rattle.std.specs.List.{filter, flat_map}
 use Rattle.std.specs.Option.{option_and_then, option_map_or, option_or}
 use Rattle.scope_rules.specs.declared.types.capacity.Limits.{Limits}
-use Rattle.scope_rules.specs.declared.types.capacity.TheConstants.{LEVEL_LIMIT}
 use Rattle.scope_rules.specs.declared.types.answers.Stage.TheVariants.{Never}
 use Rattle.scope_rules.specs.declared.types.infos.ScopeInfo.{ScopeInfo}
 use Rattle.scope_rules.specs.declared.types.records.Forking.{Forking}
@@ -29,8 +28,9 @@ use Rattle.scope_rules.proofs.Nesting.{IsOpened, legal_before, opened_before, su
 use Rattle.scope_rules.proofs.Parents.{parent_smaller}
 use Rattle.scope_rows.proofs.FirstUnclosed.{next_is, outermost_is}
 use Rattle.scope_rows.proofs.LevelLimit.{level_within}
-use Rattle.tree_dump.specs.Shows.{HasPart, ShowsScope, TreeShowsEach}
-use Rattle.tree_dump.specs.TextTree.{line, scope_line, task_line, task_lines, tasks_lines, scope_lines, nested, open_text, tree_text}
+use Rattle.tree_dump.specs.Ages.{Clock}
+use Rattle.tree_dump.specs.Shows.{HasPart, TreeShowsEach}
+use Rattle.tree_dump.specs.TextTree.{scope_line, task_line, task_lines, tasks_lines, scope_lines, nested, open_text, tree_by}
 use Rattle.tree_dump.proofs.Walked.{info_scope}
 
 -- ---- parts of texts
@@ -86,7 +86,7 @@ never b holds fails = absurd cc
 never_none : (x : ℕ) (o : Option ℕ) → o ≡ None → o ≡ Some x → ⊥
 never_none x o none some = absurd cc
 
-module _ (L : Limits) (h : History) (legal : Legal L h) where
+module _ (L : Limits) (c : Clock) (h : History) (legal : Legal L h) where
   -- an unclosed scope of the actor was unclosed when a later one was opened
   stood : (a u s : ℕ) (o : Opening) → HasUnclosed h a u → opening h s ≡ Some o → u < s → HasUnclosed (before h o.place) a u
   stood a u s o it is less = record {
@@ -129,123 +129,126 @@ module _ (L : Limits) (h : History) (legal : Legal L h) where
   -- ---- what is part of the text
 
   -- what the walk says of the scope, so many levels down and at this depth, is in the text
-  abbrev IsIn : ℕ → ℕ → ℕ → Type 0
-  IsIn n depth s = HasPart (tree_text h) (nested h (suc n) depth (Some s))
+  abbrev InText : ℕ → ℕ → ℕ → Type 0
+  InText n depth s = HasPart (tree_by c h) (nested c h (suc n) depth (Some s))
 
-  said : (n depth s : ℕ) (i : ScopeInfo) → info h s ≡ Some i → nested h (suc n) depth (Some s) ≡ scope_lines h (nested h n) depth i
+  said : (n depth s : ℕ) (i : ScopeInfo) → info h s ≡ Some i → nested c h (suc n) depth (Some s) ≡ scope_lines c h (nested c h n) depth i
   unfolding nested
-  said n depth s i is = ap (λ o. option_map_or (scope_lines h (nested h n) depth) o []) is
+  said n depth s i is = ap (λ o. option_map_or (scope_lines c h (nested c h n) depth) o []) is
 
   info_there : (s : ℕ) → IsOpened h s → (i : ScopeInfo) × (info h s ≡ Some i)
   unfolding info
   info_there s it = (info_of h s it.opened, ap (option_map (info_of h s)) it.is)
 
-  line_in : (n depth s : ℕ) (i : ScopeInfo) → info h s ≡ Some i → IsIn n depth s → HasPart (tree_text h) (scope_line h depth i)
-  line_in n depth s i is within = part_in (tree_text h) (nested h (suc n) depth (Some s)) (scope_line h depth i) within ([], tasks_lines h (nested h n) (depth + 1) (tasks_of h i.scope) ++ nested h n (depth + 1) (inner h i.scope), said n depth s i is)
+  line_in : (n depth s : ℕ) (i : ScopeInfo) → info h s ≡ Some i → InText n depth s → HasPart (tree_by c h) (scope_line c h depth i)
+  line_in n depth s i is within = part_in (tree_by c h) (nested c h (suc n) depth (Some s)) (scope_line c h depth i) within ([], tasks_lines c h (nested c h n) (depth + 1) (tasks_of h i.scope) ++ nested c h n (depth + 1) (inner h i.scope), said n depth s i is)
 
-  task_in : (n depth s : ℕ) (i : ScopeInfo) (index k : ℕ) → info h s ≡ Some i → slice_get (tasks_of h i.scope) index ≡ Some k → IsIn n depth s → HasPart (tree_text h) (task_lines h (nested h n) (depth + 1) k)
+  task_in : (n depth s : ℕ) (i : ScopeInfo) (index k : ℕ) → info h s ≡ Some i → slice_get (tasks_of h i.scope) index ≡ Some k → InText n depth s → HasPart (tree_by c h) (task_lines c h (nested c h n) (depth + 1) k)
   unfolding tasks_lines
   task_in n depth s i index k is at within =
-      let all = part_in (tree_text h) (nested h (suc n) depth (Some s)) (tasks_lines h (nested h n) (depth + 1) (tasks_of h i.scope)) within (scope_line h depth i, nested h n (depth + 1) (inner h i.scope), said n depth s i is) in
-      part_in (tree_text h) (tasks_lines h (nested h n) (depth + 1) (tasks_of h i.scope)) (task_lines h (nested h n) (depth + 1) k) all (part_flat (task_lines h (nested h n) (depth + 1)) (tasks_of h i.scope) index k at)
+      let all = part_in (tree_by c h) (nested c h (suc n) depth (Some s)) (tasks_lines c h (nested c h n) (depth + 1) (tasks_of h i.scope)) within (scope_line c h depth i, nested c h n (depth + 1) (inner h i.scope), said n depth s i is) in
+      part_in (tree_by c h) (tasks_lines c h (nested c h n) (depth + 1) (tasks_of h i.scope)) (task_lines c h (nested c h n) (depth + 1) k) all (part_flat (task_lines c h (nested c h n) (depth + 1)) (tasks_of h i.scope) index k at)
 
-  inner_in : (n depth s t : ℕ) (i : ScopeInfo) → info h s ≡ Some i → inner h s ≡ Some t → IsIn (suc n) depth s → IsIn n (depth + 1) t
+  inner_in : (n depth s t : ℕ) (i : ScopeInfo) → info h s ≡ Some i → inner h s ≡ Some t → InText (suc n) depth s → InText n (depth + 1) t
   inner_in n depth s t i is at within =
       let place : inner h i.scope ≡ Some t = ap (inner h) (info_scope h s i is) ∙ at in
-      let front = scope_line h depth i ++ tasks_lines h (nested h (suc n)) (depth + 1) (tasks_of h i.scope) in
-      part_in (tree_text h) (nested h (suc (suc n)) depth (Some s)) (nested h (suc n) (depth + 1) (Some t)) within
-      (front, [], said (suc n) depth s i is ∙ (ap (λ x. scope_line h depth i ++ (tasks_lines h (nested h (suc n)) (depth + 1) (tasks_of h i.scope) ++ nested h (suc n) (depth + 1) x)) place ∙ regroup (scope_line h depth i) (tasks_lines h (nested h (suc n)) (depth + 1) (tasks_of h i.scope)) (nested h (suc n) (depth + 1) (Some t))))
+      let front = scope_line c h depth i ++ tasks_lines c h (nested c h (suc n)) (depth + 1) (tasks_of h i.scope) in
+      part_in (tree_by c h) (nested c h (suc (suc n)) depth (Some s)) (nested c h (suc n) (depth + 1) (Some t)) within
+      (front, [], said (suc n) depth s i is ∙ (ap (λ x. scope_line c h depth i ++ (tasks_lines c h (nested c h (suc n)) (depth + 1) (tasks_of h i.scope) ++ nested c h (suc n) (depth + 1) x)) place ∙ regroup (scope_line c h depth i) (tasks_lines c h (nested c h (suc n)) (depth + 1) (tasks_of h i.scope)) (nested c h (suc n) (depth + 1) (Some t))))
     where
       regroup : (a b c : List ℕ) → a ++ (b ++ c) ≡ (a ++ b) ++ (c ++ [])
       regroup a b c = sym (append_assoc a b c) ∙ ap (λ x. (a ++ b) ++ x) (sym (append-nil c))
 
-  under_in : (n depth s t index k : ℕ) (i : ScopeInfo) → info h s ≡ Some i → slice_get (tasks_of h s) index ≡ Some k → outermost h k ≡ Some t → IsIn (suc n) depth s → IsIn n (depth + 1 + 1) t
+  under_in : (n depth s t index k : ℕ) (i : ScopeInfo) → info h s ≡ Some i → slice_get (tasks_of h s) index ≡ Some k → outermost h k ≡ Some t → InText (suc n) depth s → InText n (depth + 1 + 1) t
   under_in n depth s t index k i is at place within =
       let lines = task_in (suc n) depth s i index k is (ap (λ x. slice_get (tasks_of h x) index) (info_scope h s i is) ∙ at) within in
-      part_in (tree_text h) (task_lines h (nested h (suc n)) (depth + 1) k) (nested h (suc n) (depth + 1 + 1) (Some t)) lines
-      (task_line h (depth + 1) k, [], ap (λ x. task_line h (depth + 1) k ++ nested h (suc n) (depth + 1 + 1) x) place ∙ ap (λ x. task_line h (depth + 1) k ++ x) (sym (append-nil (nested h (suc n) (depth + 1 + 1) (Some t)))))
+      part_in (tree_by c h) (task_lines c h (nested c h (suc n)) (depth + 1) k) (nested c h (suc n) (depth + 1 + 1) (Some t)) lines
+      (task_line c h (depth + 1) k, [], ap (λ x. task_line c h (depth + 1) k ++ nested c h (suc n) (depth + 1 + 1) x) place ∙ ap (λ x. task_line c h (depth + 1) k ++ x) (sym (append-nil (nested c h (suc n) (depth + 1 + 1) (Some t)))))
 
-  root_in : (s : ℕ) → outermost h 0 ≡ Some s → IsIn 15 0 s
-  unfolding tree_text
+  root_in : (s : ℕ) → outermost h 0 ≡ Some s → InText 15 0 s
+  unfolding tree_by
   root_in s at =
-      (codes "moment " ++ decimal (moment h) ++ codes "\n", [], ap (λ o. codes "moment " ++ decimal (moment h) ++ codes "\n" ++ open_text h o) at ∙ regroup (codes "moment ") (decimal (moment h)) (codes "\n") (nested h 16 0 (Some s)))
+      (codes "moment " ++ decimal (moment h) ++ codes "\n", [], ap (λ o. codes "moment " ++ decimal (moment h) ++ codes "\n" ++ open_text c h o) at ∙ regroup (codes "moment ") (decimal (moment h)) (codes "\n") (nested c h 16 0 (Some s)))
     where
       regroup : (a b c d : List ℕ) → a ++ b ++ c ++ d ≡ (a ++ b ++ c) ++ (d ++ [])
       regroup a b c d = simp append_assoc (ap (λ x. a ++ (b ++ (c ++ x))) (sym (append-nil d)))
+      -- ---- the walk comes to each, whatever is said of it that goes on inwards from main's outermost scope
 
-  -- ---- the walk comes to each
+  module _ (IsIn : ℕ → ℕ → ℕ → Type 0)
+      (from_root : (s : ℕ) → outermost h 0 ≡ Some s → IsIn 15 0 s)
+      (to_inner : (n depth s t : ℕ) (i : ScopeInfo) → info h s ≡ Some i → inner h s ≡ Some t → IsIn (suc n) depth s → IsIn n (depth + 1) t)
+      (to_under : (n depth s t index k : ℕ) (i : ScopeInfo) → info h s ≡ Some i → slice_get (tasks_of h s) index ≡ Some k → outermost h k ≡ Some t → IsIn (suc n) depth s → IsIn n (depth + 1 + 1) t) where
+    -- what the walk has still to say of the scope at its level is in the text
+    abbrev IsReached : ℕ → Type 0
+    IsReached s = (n depth : ℕ) × (n + level h s ≡ 16) × IsIn n depth s
 
-  -- what the walk has still to say of the scope at its level is in the text
-  abbrev IsReached : ℕ → Type 0
-  IsReached s = (n depth : ℕ) × (n + level h s ≡ 16) × IsIn n depth s
+    unforked : (a i : ℕ) → forked_in (before h i) a ≡ None → is_running (stage (before h i) a) ≡ true → ⊥
+    unfolding stage
+    unforked a i none runs = by (forking (before h i) a) refl none
+      where
+        by : (f : Option Forking) → forking (before h i) a ≡ f → option_map (λ (g : Forking). g.scope) f ≡ None → ⊥
+        by None is none = let idle : is_running (stage (before h i) a) ≡ false = ap (λ o. is_running (option_map_or (stage_of (before h i) a) o Never)) is in absurd (never (is_running (stage (before h i) a)) runs idle)
+        by (Some f) is none = absurd cc
 
-  unforked : (a i : ℕ) → forked_in (before h i) a ≡ None → is_running (stage (before h i) a) ≡ true → ⊥
-  unfolding stage
-  unforked a i none runs = by (forking (before h i) a) refl none
-    where
-      by : (f : Option Forking) → forking (before h i) a ≡ f → option_map (λ (g : Forking). g.scope) f ≡ None → ⊥
-      by None is none = let idle : is_running (stage (before h i) a) ≡ false = ap (λ o. is_running (option_map_or (stage_of (before h i) a) o Never)) is in absurd (never (is_running (stage (before h i) a)) runs idle)
-      by (Some f) is none = absurd cc
+    either_none : (o p : Option ℕ) → option_or o p ≡ None → (o ≡ None) × (p ≡ None)
+    either_none None p none = (refl, none)
+    either_none (Some x) p none = absurd cc
 
-  either_none : (o p : Option ℕ) → option_or o p ≡ None → (o ≡ None) × (p ≡ None)
-  either_none None p none = (refl, none)
-  either_none (Some x) p none = absurd cc
+    -- without a parent it is main's outermost one
+    at_root : (s : ℕ) (o : Opening) → opening h s ≡ Some o → closed h s ≡ false → parent h s ≡ None → IsReached s
+    unfolding parent surrounding
+    at_root s o is live alone =
+        let nothing : option_or (innermost (before h o.place) o.actor) (forked_in (before h o.place) o.actor) ≡ None = ap (option_and_then (around h)) (sym is) ∙ alone in
+        let none = either_none (innermost (before h o.place) o.actor) (forked_in (before h o.place) o.actor) nothing in
+        let main : o.actor ≡ 0 = elim (opening_row L h s o legal is) [
+          | inl main ↦ main
+          | inr runs ↦ absurd (unforked o.actor o.place none.1 runs)
+        ] in
+        let level_one : level h s ≡ 1 = level_by_parent L h s legal ∙ ap (λ x. option_map_or (λ p. level h p + 1) x 1) alone in
+        (15, 0, omega (arith, level_one), from_root s (ap (outermost h) (sym main) ∙ first_is s o is live none.0))
 
-  -- without a parent it is main's outermost one
-  at_root : (s : ℕ) (o : Opening) → opening h s ≡ Some o → closed h s ≡ false → parent h s ≡ None → IsReached s
-  unfolding parent surrounding
-  at_root s o is live alone =
-      let nothing : option_or (innermost (before h o.place) o.actor) (forked_in (before h o.place) o.actor) ≡ None = ap (option_and_then (around h)) (sym is) ∙ alone in
-      let none = either_none (innermost (before h o.place) o.actor) (forked_in (before h o.place) o.actor) nothing in
-      let main : o.actor ≡ 0 = elim (opening_row L h s o legal is) [
-        | inl main ↦ main
-        | inr runs ↦ absurd (unforked o.actor o.place none.1 runs)
-      ] in
-      let level_one : level h s ≡ 1 = level_by_parent L h s legal ∙ ap (λ x. option_map_or (λ p. level h p + 1) x 1) alone in
-      (15, 0, omega (arith, level_one), root_in s (ap (outermost h) (sym main) ∙ first_is s o is live none.0))
+    forked_there : (a i p : ℕ) → forked_in (before h i) a ≡ Some p → (f : Forking) × (forking h a ≡ Some f) × (f.scope ≡ p)
+    forked_there a i p found = by (forking (before h i) a) refl found
+      where
+        by : (f : Option Forking) → forking (before h i) a ≡ f → option_map (λ (g : Forking). g.scope) f ≡ Some p → (f : Forking) × (forking h a ≡ Some f) × (f.scope ≡ p)
+        by None is found = absurd cc
+        by (Some f) is found = let same : f.scope ≡ p = cc in (f, forking_since h a i f is, same)
 
-  forked_there : (a i p : ℕ) → forked_in (before h i) a ≡ Some p → (f : Forking) × (forking h a ≡ Some f) × (f.scope ≡ p)
-  forked_there a i p found = by (forking (before h i) a) refl found
-    where
-      by : (f : Option Forking) → forking (before h i) a ≡ f → option_map (λ (g : Forking). g.scope) f ≡ Some p → (f : Forking) × (forking h a ≡ Some f) × (f.scope ≡ p)
-      by None is found = absurd cc
-      by (Some f) is found = let same : f.scope ≡ p = cc in (f, forking_since h a i f is, same)
+    -- inside its parent, which is not closed either
+    at_parent : (s p : ℕ) (o : Opening) → opening h s ≡ Some o → closed h s ≡ false → parent h s ≡ Some p → IsReached p → IsReached s
+    unfolding parent surrounding
+    at_parent s p o is live inside reached =
+        let it = parent_there s p inside (o, is) in
+        let i = info_there p it in
+        let deeper : level h s ≡ level h p + 1 = level_by_parent L h s legal ∙ ap (λ x. option_map_or (λ q. level h q + 1) x 1) inside in
+        let within = level_within L h s legal (record { opened = o; is = is }) in
+        by reached.0 reached.1 (omega (arith, reached.2, deeper, within)) (omega (arith, reached.2, deeper)) reached.3 i (innermost (before h o.place) o.actor) refl (around_is o is inside)
+      where
+        around_is : (o : Opening) → opening h s ≡ Some o → parent h s ≡ Some p → option_or (innermost (before h o.place) o.actor) (forked_in (before h o.place) o.actor) ≡ Some p
+        around_is o is inside = ap (option_and_then (around h)) (sym is) ∙ inside
 
-  -- inside its parent, which is not closed either
-  at_parent : (s p : ℕ) (o : Opening) → opening h s ≡ Some o → closed h s ≡ false → parent h s ≡ Some p → IsReached p → IsReached s
-  unfolding parent surrounding
-  at_parent s p o is live inside reached =
-      let it = parent_there s p inside (o, is) in
-      let i = info_there p it in
-      let deeper : level h s ≡ level h p + 1 = level_by_parent L h s legal ∙ ap (λ x. option_map_or (λ q. level h q + 1) x 1) inside in
-      let within = level_within L h s legal (record { opened = o; is = is }) in
-      by reached.0 reached.1 (omega (arith, reached.2, deeper, within)) (omega (arith, reached.2, deeper)) reached.3 i (innermost (before h o.place) o.actor) refl (around_is o is inside)
-    where
-      around_is : (o : Opening) → opening h s ≡ Some o → parent h s ≡ Some p → option_or (innermost (before h o.place) o.actor) (forked_in (before h o.place) o.actor) ≡ Some p
-      around_is o is inside = ap (option_and_then (around h)) (sym is) ∙ inside
+        by : (n depth : ℕ) → 0 < n → n + level h s ≡ 17 → IsIn n depth p → (i : (j : ScopeInfo) × (info h p ≡ Some j)) → (x : Option ℕ) → innermost (before h o.place) o.actor ≡ x → option_or x (forked_in (before h o.place) o.actor) ≡ Some p → IsReached s
+        by zero depth more same in_text i x at found = absurd (omega (arith, more))
+        by (suc n) depth more same in_text i (Some t) at found =
+            let parent_is : t ≡ p = cc in
+            (n, depth + 1, omega (arith, same), to_inner n depth p s i.0 i.1 (inner_is s p o is live (at ∙ ap Some parent_is) (parent_smaller L h s p legal inside).1) in_text)
+        by (suc n) depth more same in_text i None at found =
+            let f = forked_there o.actor o.place p found in
+            let listed = is_listed h o.actor p f.0 f.1 f.2 in
+            (n, depth + 1 + 1, omega (arith, same), to_under n depth p s listed.0 o.actor i.0 i.1 listed.1 (first_is s o is live at) in_text)
 
-      by : (n depth : ℕ) → 0 < n → n + level h s ≡ 17 → IsIn n depth p → (i : (j : ScopeInfo) × (info h p ≡ Some j)) → (x : Option ℕ) → innermost (before h o.place) o.actor ≡ x → option_or x (forked_in (before h o.place) o.actor) ≡ Some p → IsReached s
-      by zero depth more same in_text i x at found = absurd (omega (arith, more))
-      by (suc n) depth more same in_text i (Some t) at found =
-          let parent_is : t ≡ p = cc in
-          (n, depth + 1, omega (arith, same), inner_in n depth p s i.0 i.1 (inner_is s p o is live (at ∙ ap Some parent_is) (parent_smaller L h s p legal inside).1) in_text)
-      by (suc n) depth more same in_text i None at found =
-          let f = forked_there o.actor o.place p found in
-          let listed = is_listed h o.actor p f.0 f.1 f.2 in
-          (n, depth + 1 + 1, omega (arith, same), under_in n depth p s listed.0 o.actor i.0 i.1 listed.1 (first_is s o is live at) in_text)
+    pub reached : (m s : ℕ) (o : Opening) → s < m → opening h s ≡ Some o → closed h s ≡ false → IsReached s
+    reached zero s o less is live = absurd (omega (arith, less))
+    reached (suc m) s o less is live = by (parent h s) refl (reached m)
+      where
+        by : (x : Option ℕ) → parent h s ≡ x → ((t : ℕ) (q : Opening) → t < m → opening h t ≡ Some q → closed h t ≡ false → IsReached t) → IsReached s
+        by None alone before_it = at_root s o is live alone
+        by (Some p) inside before_it =
+            let it = parent_there s p inside (o, is) in
+            let smaller = parent_smaller L h s p legal inside in
+            at_parent s p o is live inside (before_it p it.opened (omega (arith, smaller.1, less)) it.is (not_then (closed h p) (closed h s) (inner_closed L h s p legal inside) live))
 
-  reached : (m s : ℕ) (o : Opening) → s < m → opening h s ≡ Some o → closed h s ≡ false → IsReached s
-  reached zero s o less is live = absurd (omega (arith, less))
-  reached (suc m) s o less is live = by (parent h s) refl (reached m)
-    where
-      by : (x : Option ℕ) → parent h s ≡ x → ((t : ℕ) (q : Opening) → t < m → opening h t ≡ Some q → closed h t ≡ false → IsReached t) → IsReached s
-      by None alone before_it = at_root s o is live alone
-      by (Some p) inside before_it =
-          let it = parent_there s p inside (o, is) in
-          let smaller = parent_smaller L h s p legal inside in
-          at_parent s p o is live inside (before_it p it.opened (omega (arith, smaller.1, less)) it.is (not_then (closed h p) (closed h s) (inner_closed L h s p legal inside) live))
-
-opened_info : (h : History) (s : ℕ) (i : ScopeInfo) → info h s ≡ Some i → (o : Opening) × (opening h s ≡ Some o)
+pub opened_info : (h : History) (s : ℕ) (i : ScopeInfo) → info h s ≡ Some i → (o : Opening) × (opening h s ≡ Some o)
 unfolding info
 opened_info h s i is = by (opening h s) refl is
   where
@@ -254,11 +257,11 @@ opened_info h s i is = by (opening h s) refl is
     by (Some o) at is = (o, at)
 
 pub shows_each : TreeShowsEach
-shows_each L h s i legal is live =
+shows_each L c h s i legal is live =
     let o = opened_info h s i is in
-    let at = reached L h legal (suc s) s o.0 (omega arith) o.1 live in (
+    let at = reached L c h legal (InText L c h legal) (root_in L c h legal) (inner_in L c h legal) (under_in L c h legal) (suc s) s o.0 (omega arith) o.1 live in (
       at.1,
-      line_in L h legal at.0 at.1 s i is at.3,
-      λ index k there. let lines = task_in L h legal at.0 at.1 s i index k is there at.3 in
-          part_in (tree_text h) (task_lines h (nested h at.0) (at.1 + 1) k) (task_line h (at.1 + 1) k) lines ([], nested h at.0 (at.1 + 1 + 1) (outermost h k), refl),
+      line_in L c h legal at.0 at.1 s i is at.3,
+      λ index k there. let lines = task_in L c h legal at.0 at.1 s i index k is there at.3 in
+          part_in (tree_by c h) (task_lines c h (nested c h at.0) (at.1 + 1) k) (task_line c h (at.1 + 1) k) lines ([], nested c h at.0 (at.1 + 1 + 1) (outermost h k), refl),
     )

@@ -10,19 +10,20 @@ use Rattle.scope_rules.specs.Completions.{is_task_of}
 use Rattle.scope_rules.specs.History.{History, forked_count, tasks, task_numbers}
 use Rattle.scope_rules.specs.Nests.{outermost, inner, tasks_of, info}
 use Rattle.scope_rules.proofs.Prefixes.{take_at, take_whole}
+use Rattle.tree_dump.specs.Ages.{Clock}
 use Rattle.tree_dump.specs.TextTree.{task_line, task_lines, tasks_lines, scope_line, scope_lines, nested}
 
 -- ---- where nothing stands
 
-pub no_levels : (h : History) (levels depth : ℕ) (place : Option ℕ) (text : List ℕ) → levels ≡ 0 → text ≡ text ++ nested h levels depth place
+pub no_levels : (c : Clock) (h : History) (levels depth : ℕ) (place : Option ℕ) (text : List ℕ) → levels ≡ 0 → text ≡ text ++ nested c h levels depth place
 unfolding nested
-no_levels h zero depth place text e = sym (append-nil text)
-no_levels h (suc n) depth place text e = absurd (omega (arith, e))
+no_levels c h zero depth place text e = sym (append-nil text)
+no_levels c h (suc n) depth place text e = absurd (omega (arith, e))
 
-pub no_scope : (h : History) (levels depth : ℕ) (place : Option ℕ) (text : List ℕ) → option_and_then (info h) place ≡ None → text ≡ text ++ nested h levels depth place
+pub no_scope : (c : Clock) (h : History) (levels depth : ℕ) (place : Option ℕ) (text : List ℕ) → option_and_then (info h) place ≡ None → text ≡ text ++ nested c h levels depth place
 unfolding nested
-no_scope h zero depth place text e = sym (append-nil text)
-no_scope h (suc n) depth place text e = sym (append-nil text) ∙ ap (λ o. text ++ option_map_or (scope_lines h (nested h n) depth) o []) (sym e)
+no_scope c h zero depth place text e = sym (append-nil text)
+no_scope c h (suc n) depth place text e = sym (append-nil text) ∙ ap (λ o. text ++ option_map_or (scope_lines c h (nested c h n) depth) o []) (sym e)
 
 pub none_if : {A : Type 0} (o : Option A) → ((x : A) → o ≡ Some x → ⊥) → o ≡ None
 none_if None no_some = refl
@@ -31,24 +32,24 @@ none_if (Some x) no_some = absurd (no_some x refl)
 -- ---- the tasks, one by one
 
 -- before them the scope's own line was written
-pub none_yet : (h : History) (inside : ℕ → Option ℕ → List ℕ) (depth : ℕ) (ks : List ℕ) (start line text : List ℕ) →
-    text ≡ start ++ line → text ≡ start ++ (line ++ tasks_lines h inside depth (take 0 ks))
+pub none_yet : (c : Clock) (h : History) (inside : ℕ → Option ℕ → List ℕ) (depth : ℕ) (ks : List ℕ) (start line text : List ℕ) →
+    text ≡ start ++ line → text ≡ start ++ (line ++ tasks_lines c h inside depth (take 0 ks))
 unfolding tasks_lines
-none_yet h inside depth ks start line text is = is ∙ ap (λ l. start ++ l) (sym (append-nil line))
+none_yet c h inside depth ks start line text is = is ∙ ap (λ l. start ++ l) (sym (append-nil line))
 
 -- one task more has its lines
-pub task_more : (h : History) (inside : ℕ → Option ℕ → List ℕ) (depth : ℕ) (ks : List ℕ) (i k : ℕ) (start line old new text : List ℕ) →
-    slice_get ks i ≡ Some k → old ≡ start ++ (line ++ tasks_lines h inside depth (take i ks)) →
-    new ≡ old ++ task_line h depth k → text ≡ new ++ inside (depth + 1) (outermost h k) →
-    text ≡ start ++ (line ++ tasks_lines h inside depth (take (i + 1) ks))
+pub task_more : (c : Clock) (h : History) (inside : ℕ → Option ℕ → List ℕ) (depth : ℕ) (ks : List ℕ) (i k : ℕ) (start line old new text : List ℕ) →
+    slice_get ks i ≡ Some k → old ≡ start ++ (line ++ tasks_lines c h inside depth (take i ks)) →
+    new ≡ old ++ task_line c h depth k → text ≡ new ++ inside (depth + 1) (outermost h k) →
+    text ≡ start ++ (line ++ tasks_lines c h inside depth (take (i + 1) ks))
 unfolding tasks_lines
-task_more h inside depth ks i k start line old new text at before lined within =
+task_more c h inside depth ks i k start line old new text at before lined within =
     within ∙ (ap (λ t. t ++ inside (depth + 1) (outermost h k)) lined
-    ∙ (append_assoc old (task_line h depth k) (inside (depth + 1) (outermost h k))
-    ∙ (ap (λ t. t ++ task_lines h inside depth k) (before ∙ sym (append_assoc start line (tasks_lines h inside depth (take i ks))))
-    ∙ (flat_map_more (task_lines h inside depth) (start ++ line) (take i ks) k
-    ∙ (ap (λ ts. start ++ line ++ tasks_lines h inside depth ts) (sym (take_at ks i k at))
-    ∙ append_assoc start line (tasks_lines h inside depth (take (i + 1) ks)))))))
+    ∙ (append_assoc old (task_line c h depth k) (inside (depth + 1) (outermost h k))
+    ∙ (ap (λ t. t ++ task_lines c h inside depth k) (before ∙ sym (append_assoc start line (tasks_lines c h inside depth (take i ks))))
+    ∙ (flat_map_more (task_lines c h inside depth) (start ++ line) (take i ks) k
+    ∙ (ap (λ ts. start ++ line ++ tasks_lines c h inside depth ts) (sym (take_at ks i k at))
+    ∙ append_assoc start line (tasks_lines c h inside depth (take (i + 1) ks)))))))
 
 -- ---- all of them
 
@@ -56,11 +57,11 @@ few_tasks : (h : History) (s : ℕ) → length (tasks_of h s) ≤ tasks h
 unfolding tasks_of
 few_tasks h s = omega (arith, length-filter (is_task_of h s) (task_numbers h), count_by-le-length (is_task_of h s) (task_numbers h), length-range_with_len (h.base.tasks + 1) (forked_count h))
 
--- where the index has come to their number
+-- if the index has come to their number
 pub all_below : (h : History) (s i n : ℕ) → n ≡ tasks h → n ≤ i → take i (tasks_of h s) ≡ tasks_of h s
 all_below h s i n is more = take_whole (tasks_of h s) i (omega (arith, is, more, few_tasks h s))
 
--- where none is at the index
+-- if none is at the index
 pub all_before : (ks : List ℕ) (i : ℕ) → slice_get ks i ≡ None → take i ks ≡ ks
 all_before ks i none = take_whole ks i past
   where
@@ -70,30 +71,30 @@ all_before ks i none = take_whole ks i past
     past : length ks ≤ i
     past = elim (slice_get_cases ks i).1 [ inl some ↦ none_of some.0 some.2 | inr end ↦ end.0 ]
 
-nested_here : (h : History) (levels depth : ℕ) (place : Option ℕ) (i : ScopeInfo) → 0 < levels → option_and_then (info h) place ≡ Some i → nested h levels depth place ≡ scope_lines h (nested h (levels - 1)) depth i
+nested_here : (c : Clock) (h : History) (levels depth : ℕ) (place : Option ℕ) (i : ScopeInfo) → 0 < levels → option_and_then (info h) place ≡ Some i → nested c h levels depth place ≡ scope_lines c h (nested c h (levels - 1)) depth i
 unfolding nested
-nested_here h levels depth place i more there = by (levels - 1) (omega (arith, more))
+nested_here c h levels depth place i more there = by (levels - 1) (omega (arith, more))
   where
-    by : (n : ℕ) → levels ≡ suc n → nested h levels depth place ≡ scope_lines h (nested h n) depth i
-    by n e = ap (λ m. nested h m depth place) e ∙ ap (λ o. option_map_or (scope_lines h (nested h n) depth) o []) there
+    by : (n : ℕ) → levels ≡ suc n → nested c h levels depth place ≡ scope_lines c h (nested c h n) depth i
+    by n e = ap (λ m. nested c h m depth place) e ∙ ap (λ o. option_map_or (scope_lines c h (nested c h n) depth) o []) there
 
 -- with what lies inside the scope, the whole is written
-pub scope_whole : (h : History) (levels depth : ℕ) (place : Option ℕ) (i : ScopeInfo) (ks : List ℕ) (start old text : List ℕ) →
+pub scope_whole : (c : Clock) (h : History) (levels depth : ℕ) (place : Option ℕ) (i : ScopeInfo) (ks : List ℕ) (start old text : List ℕ) →
     0 < levels → option_and_then (info h) place ≡ Some i → ks ≡ tasks_of h i.scope →
-    old ≡ start ++ (scope_line h depth i ++ tasks_lines h (nested h (levels - 1)) (depth + 1) ks) →
-    text ≡ old ++ nested h (levels - 1) (depth + 1) (inner h i.scope) →
-    text ≡ start ++ nested h levels depth place
-scope_whole h levels depth place i ks start old text more there all before within =
-    within ∙ (ap (λ t. t ++ rest) (before ∙ ap (λ ts. start ++ (line ++ tasks_lines h (nested h (levels - 1)) (depth + 1) ts)) all)
+    old ≡ start ++ (scope_line c h depth i ++ tasks_lines c h (nested c h (levels - 1)) (depth + 1) ks) →
+    text ≡ old ++ nested c h (levels - 1) (depth + 1) (inner h i.scope) →
+    text ≡ start ++ nested c h levels depth place
+scope_whole c h levels depth place i ks start old text more there all before within =
+    within ∙ (ap (λ t. t ++ rest) (before ∙ ap (λ ts. start ++ (line ++ tasks_lines c h (nested c h (levels - 1)) (depth + 1) ts)) all)
     ∙ (append_assoc start (line ++ lines) rest
     ∙ (ap (λ t. start ++ t) (append_assoc line lines rest)
-    ∙ ap (λ t. start ++ t) (sym (nested_here h levels depth place i more there)))))
+    ∙ ap (λ t. start ++ t) (sym (nested_here c h levels depth place i more there)))))
   where
     line : List ℕ
-    line = scope_line h depth i
+    line = scope_line c h depth i
 
     lines : List ℕ
-    lines = tasks_lines h (nested h (levels - 1)) (depth + 1) (tasks_of h i.scope)
+    lines = tasks_lines c h (nested c h (levels - 1)) (depth + 1) (tasks_of h i.scope)
 
     rest : List ℕ
-    rest = nested h (levels - 1) (depth + 1) (inner h i.scope)
+    rest = nested c h (levels - 1) (depth + 1) (inner h i.scope)

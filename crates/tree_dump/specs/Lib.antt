@@ -1,3 +1,4 @@
+pub mod Ages
 pub mod Objects
 pub mod Tree
 pub mod Words
@@ -7,3 +8,4 @@ pub mod TextTree
 pub mod Sent
 pub mod RetiringText
 pub mod Shows
+pub mod Once

@@ -6,7 +6,7 @@ use Rattle.scope_script.specs.Replying.{realm_after_all}
 use Rattle.scope_script.specs.Retiring.{without_retirements, fresh, RetiresFreely}
 use Rattle.tree_dump.specs.Tree.{dump_text}
 
--- where a list of commands without its retirements meets no limit, and no command behind an accepted
--- retirement names a number that was let go, what it leaves is dumped the same with the retirements
+-- if a list of commands without its retirements meets no limit, and no command behind an accepted
+-- retirement names a number that was dropped, what it leaves is dumped the same with the retirements
 abbrev pub DumpStays : Type 0
 DumpStays = (L : Limits) (commands : List Command) → RetiresFreely L commands → dump_text (realm_after_all (fresh L) (without_retirements commands)).history ≡ dump_text (realm_after_all (fresh L) commands).history

@@ -6,7 +6,7 @@ use Rattle.scope_script.specs.Replying.{realm_after_all}
 use Rattle.scope_script.specs.Retiring.{without_retirements, fresh, RetiresFreely}
 use Rattle.tree_dump.specs.TextTree.{tree_text}
 
--- where a list of commands without its retirements meets no limit, and no command behind an accepted
--- retirement names a number that was let go, the tree of what it leaves is the same with the retirements
+-- if a list of commands without its retirements meets no limit, and no command behind an accepted
+-- retirement names a number that was dropped, the tree of what it leaves is the same with the retirements
 abbrev pub TreeStays : Type 0
 TreeStays = (L : Limits) (commands : List Command) → RetiresFreely L commands → tree_text (realm_after_all (fresh L) (without_retirements commands)).history ≡ tree_text (realm_after_all (fresh L) commands).history

@@ -38,7 +38,7 @@ abbrev pub joined_text : Bool → List ℕ
 joined_text false = []
 joined_text true = codes ", joined"
 
--- the scope's own deadline, where it has one, and whether the join then moves on
+-- the scope's own deadline, if it has one, and whether the join then moves on
 abbrev pub deadline_text : Option ℕ → Expiry → List ℕ
 deadline_text None expiry = []
 deadline_text (Some moment) Fail = codes ", deadline " ++ decimal moment

@@ -2,6 +2,7 @@
 
 ghost use Rattle.tree_dump.specs.Retiring.{DumpStays};
 ghost use Rattle.tree_dump.specs.RetiringText.{TreeStays};
+ghost use Rattle.tree_dump.specs.Once.{TreeShowsEachOnce};
 ghost use Rattle.tree_dump.specs.Shows.{TreeShowsEach};
 
 /// A retirement changes nothing that a dump or a tree shows. If a list of commands without its retirements meets no
@@ -15,7 +16,12 @@ pub fn retired()
 
 /// The tree of a legal history has a line for each scope that is not closed, and one level deeper a line for each of its
 /// tasks.
-#[tactic(auto, using(crate::proofs::Shows::shows_each))]
 pub fn tree_shows_each()
     ensures { TreeShowsEach }
+{}
+
+/// The tree of a legal history is made of lines. Each scope that is not closed has exactly one, and so has each of its
+/// tasks. No closed scope has one, and no task of a closed scope.
+pub fn tree_shows_each_once()
+    ensures { TreeShowsEachOnce }
 {}

@@ -22,8 +22,8 @@
 //! ```text
 //! moment N
 //! scope S STAGE, of OWNER, joins JOINER[, joined][, deadline N[ to move on]][, shielded]
-//!     [, cancelled by CAUSE scope P], awaits N of M
-//!   task K NAME: PROGRESS
+//!     [, cancelled by CAUSE scope P], awaits N of M[, open for AGE][, late by AGE]
+//!   task K NAME: PROGRESS[ for AGE]
 //! ```
 //!
 //! Each is one line. STAGE is `open` or `closing`, OWNER `main` or `task K`, JOINER a joiner as a script has it.
@@ -32,11 +32,16 @@
 //! its tasks that wait or run. PROGRESS is `waiting` or `running`; or else `finished` or `never started`, and behind
 //! a comma what can be read of the task: `success`, `failed` or `unavailable`.
 //!
+//! AGE is in seconds with tenths, as `3.2 s`: the last reading of a clock less the reading as the scope was opened, or as
+//! the task started, if it runs. A scope that is not joined is late by the last reading less its deadline, if that is
+//! past. Only `tree_with` shows ages, if it is handed such readings.
+//!
 //! The first scope is main's outermost one. Under a scope stand its tasks, in fork order; under a task its own
 //! outermost scope; and behind a scope's tasks, as deep as they, the next scope that its owner opened and has not
 //! closed. Where main has no scope that is not closed, the second line is `nothing is open`.
 #![tactic(auto)]
 
+mod ages;
 mod book;
 pub mod laws;
 mod members;
@@ -46,6 +51,7 @@ pub mod told;
 pub mod walk;
 mod words;
 
+pub use ages::Ages;
 pub use book::dump;
-pub use text_walk::tree_of;
+pub use text_walk::{tree_of, tree_with};
 pub use walk::dump_of;

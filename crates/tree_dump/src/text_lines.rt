@@ -1,7 +1,9 @@
 //! The lines of a tree, without their indents.
 ghost use Rattle.std.specs.Prelude.{◌≡◌, ◌+◌, ◌<◌, ◌^◌, Some};
+ghost use Rattle.tree_dump.specs.TextTree.{aged_scope};
 ghost use Rattle.tree_dump.specs.TextLines.{awaits_text, cause_text, deadline_text, head_text, indent, joined_text, kind_text, owner_text, progress_text, scope_text, shield_text, stage_text, task_text};
 
+use crate::ages::ShownAged;
 use scope_log::ShownJoiner;
 use scope_rules::types::infos::{ScopeInfo, ScopeStage};
 use scope_rules::{Actor, Cause, CauseKind, Counts, Expiry, Name, Stage, State, TaskId};
@@ -37,7 +39,7 @@ impl fmt::Display for ShownOwner {
     }
 }
 
-/// The scope's own deadline, and what the join does then, where that is not the usual.
+/// The scope's own deadline, and what the join does then, if that is not the usual.
 #[derive(Clone, Copy)]
 struct ShownDeadline {
     deadline: Option<u64>,
@@ -110,9 +112,9 @@ impl fmt::Display for ShownHead {
 
 /// The line of a scope.
 #[derive(Clone, Copy)]
-pub(crate) struct ShownScope {
-    pub(crate) info: ScopeInfo,
-    pub(crate) counts: Counts,
+struct ShownScope {
+    info: ScopeInfo,
+    counts: Counts,
 }
 
 impl fmt::Display for ShownScope {
@@ -129,6 +131,32 @@ impl fmt::Display for ShownScope {
         let cause = ShownCause(self.info.cause);
         let counts = ShownCounts(self.counts);
         write!(f, "{head}{joined}{deadline}{shield}{cause}{counts}")
+    }
+}
+
+/// The line of a scope, with how long it is open and how late it is, in milliseconds, if that is known.
+#[derive(Clone, Copy)]
+pub(crate) struct AgedScope {
+    pub(crate) info: ScopeInfo,
+    pub(crate) counts: Counts,
+    pub(crate) age: Option<u32>,
+    pub(crate) late: Option<u64>,
+}
+
+impl fmt::Display for AgedScope {
+    ghost output = { λ s. Some (aged_scope s.info s.counts s.age s.late) };
+
+    #[tactic(auto, unfolding(crate::specs::TextTree::aged_scope))]
+    fn fmt<W: fmt::Write>(&self, f: &mut fmt::Formatter<W>) -> fmt::Result {
+        let scope = ShownScope {
+            info: self.info,
+            counts: self.counts,
+        };
+        let aged = ShownAged {
+            age: self.age,
+            late: self.late,
+        };
+        write!(f, "{scope}{aged}")
     }
 }
 

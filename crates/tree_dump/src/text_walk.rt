@@ -2,9 +2,11 @@
 ghost use Rattle.std.specs.Prelude.{◌≡◌, ◌≤◌, ◌+◌, ◌++◌, IfOk, OnOk, string_bytes};
 ghost use Rattle.scope_checks.specs.Passes.{Passes};
 ghost use Rattle.scope_rules.specs.Checks.{scope_check};
-ghost use Rattle.tree_dump.specs.TextTree.{nested, scope_line, task_line, tree_text};
+ghost use Rattle.tree_dump.specs.Ages.{clock_of};
+ghost use Rattle.tree_dump.specs.TextTree.{nested, scope_line, task_line, tree_by, tree_text};
 
-use crate::text_lines::{Indent, ShownScope, ShownTask};
+use crate::ages::{Ages, ShownFor, scope_age, scope_late, task_age};
+use crate::text_lines::{AgedScope, Indent, ShownTask};
 use crate::told::info_at;
 use scope_checks::Readings;
 use scope_rules::types::capacity::LEVEL_LIMIT;
@@ -16,50 +18,61 @@ use std::alloc::{AllocError, Global};
 /// Appends the line of the scope at this depth. It is refused for memory alone.
 fn append_scope_line<R: Readings>(
     readings: &R,
+    ages: &Ages<'_>,
     text: &mut String,
     depth: u32,
     info: ScopeInfo,
 ) -> Result<(), AllocError>
     requires { Passes (scope_check (R.history readings.now) info.scope) }
-    ensures { OnOk result (string_bytes text.new ≡ string_bytes text.old ++ scope_line (R.history readings.now) depth info) }
+    ensures { OnOk result (string_bytes text.new ≡ string_bytes text.old ++ scope_line (clock_of ages.now) (R.history readings.now) depth info) }
 {
     let counts = readings.counts(info.scope);
-    write!(text, "{}{}\n", Indent(depth), ShownScope { info, counts })
+    let shown = AgedScope {
+        info,
+        counts,
+        age: scope_age(readings, ages, info.scope),
+        late: scope_late(readings, ages, info),
+    };
+    write!(text, "{}{shown}\n", Indent(depth))
 }
 
 /// Appends the line of the task at this depth, if it was forked since the base. It is refused for memory alone.
 #[tactic(auto, using(scope_checks::proofs::Checked::task_passes), unfolding(crate::specs::TextTree::task_line, scope_rules::specs::Nests::label))]
 fn append_task_line<R: Readings>(
     readings: &R,
+    ages: &Ages<'_>,
     text: &mut String,
     depth: u32,
     task: TaskId,
 ) -> Result<(), AllocError>
-    ensures { OnOk result (string_bytes text.new ≡ string_bytes text.old ++ task_line (R.history readings.now) depth task) }
+    ensures { OnOk result (string_bytes text.new ≡ string_bytes text.old ++ task_line (clock_of ages.now) (R.history readings.now) depth task) }
 {
     let Some(forking) = readings.forking(task) else {
         return Ok(());
     };
+    let stage = readings.stage(task);
     let shown = ShownTask {
         task,
         name: forking.label.name,
-        stage: readings.stage(task),
+        stage,
         state: readings.state(task),
     };
-    write!(text, "{}{shown}\n", Indent(depth))
+    let running = ShownFor(task_age(readings, ages, task, stage));
+    write!(text, "{}{shown}{running}\n", Indent(depth))
 }
 
 /// Appends the lines of what stands where the scope may lie, at this depth: the scope with its tasks and what
 /// lies inside, down to so many levels. It is refused for memory alone, and may then have appended some of them.
 fn append_scope<R: Readings>(
     readings: &R,
+    ages: &Ages<'_>,
     text: &mut String,
     levels: u32,
     depth: u32,
     place: Option<ScopeId>,
 ) -> Result<(), AllocError>
     requires { depth + (levels + levels) ≤ 64 }
-    ensures { OnOk result (string_bytes text.new ≡ string_bytes text.old ++ nested (R.history readings.now) levels depth place) }
+    ensures { OnOk result (string_bytes text.new ≡ string_bytes text.old ++ nested (clock_of ages.now) (R.history readings.now) levels depth place) }
 {
     if levels == 0 {
         return Ok(());
@@ -67,15 +80,16 @@ fn append_scope<R: Readings>(
     let Some(info) = info_at(readings, place) else {
         return Ok(());
     };
-    append_scope_line(readings, text, depth, info)?;
+    append_scope_line(readings, ages, text, depth, info)?;
     let within = depth + 1;
     for index in 0..readings.tasks() as usize {
         let Some(task) = readings.task_at(info.scope, index) else {
             break;
         };
-        append_task_line(readings, text, within, task)?;
+        append_task_line(readings, ages, text, within, task)?;
         append_scope(
             readings,
+            ages,
             text,
             levels - 1,
             within + 1,
@@ -84,6 +98,7 @@ fn append_scope<R: Readings>(
     }
     append_scope(
         readings,
+        ages,
         text,
         levels - 1,
         within,
@@ -91,15 +106,33 @@ fn append_scope<R: Readings>(
     )
 }
 
-/// The tree of what was read, as text. It is refused for memory alone.
-#[tactic(auto, unfolding(crate::specs::TextTree::tree_text))]
+/// The tree of what was read, as text, without ages. It is refused for memory alone.
 pub fn tree_of<R: Readings>(alloc: Global, readings: &R) -> Result<String, AllocError>
     ensures { IfOk result (λ text. string_bytes text ≡ tree_text (R.history readings.now)) }
+{
+    let none = Ages {
+        last: 0,
+        started: &[],
+        opened: &[],
+    };
+    tree_with(alloc, readings, &none)
+}
+
+/// The tree of what was read, as text, with ages: how long each task runs, how long each scope is open, and how late
+/// that is by its deadline. An age is the last reading less the reading of that task's start, or of that scope's
+/// opening. It is refused for memory alone.
+#[tactic(auto, unfolding(crate::specs::TextTree::tree_by))]
+pub fn tree_with<R: Readings>(
+    alloc: Global,
+    readings: &R,
+    ages: &Ages<'_>,
+) -> Result<String, AllocError>
+    ensures { IfOk result (λ text. string_bytes text ≡ tree_by (clock_of ages.now) (R.history readings.now)) }
 {
     let mut text = format!(in alloc; "moment {}\n", readings.moment())?;
     match readings.outermost(MAIN) {
         None => text.push_str("nothing is open\n")?,
-        root => append_scope(readings, &mut text, LEVEL_LIMIT, 0, root)?,
+        root => append_scope(readings, ages, &mut text, LEVEL_LIMIT, 0, root)?,
     }
     Ok(text)
 }

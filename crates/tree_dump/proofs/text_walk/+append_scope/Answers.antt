@@ -3,35 +3,36 @@ use Rattle.std.proofs.Common.{◌≡◌, ℕ, List, ◌∙◌, ◌+◌, ◌-◌,
 use Rattle.std.proofs.lemmas.Result.{on_ok_weaker}
 use Rattle.scope_rules.specs.History.{History}
 use Rattle.scope_rules.specs.Nests.{tasks_of}
+use Rattle.tree_dump.specs.Ages.{clock_of}
 use Rattle.tree_dump.specs.TextTree.{nested, scope_line}
 use Rattle.tree_dump.proofs.TextWalked.{no_levels, no_scope, none_yet, task_more, all_below, none_if, all_before, scope_whole}
 use Rattle.tree_dump.proofs.text_walk.+append_scope.Goals as goal
 use Rattle.tree_dump.proofs.text_walk.+append_scope.Goals.{else-loop-index-test, then-loop-index-test+in_default-task_at}
 
 pub returns-then-levels-eq0 : goal.returns-then-levels-eq0
-returns-then-levels-eq0 g t c = no_levels (g.R.Readings.history c.args.readings.now) c.args.levels c.args.depth c.args.place (string_bytes c.args.text.now) (omega (arith, c.if-levels-eq0.true))
+returns-then-levels-eq0 g t c = no_levels (clock_of c.args.ages.now) (g.R.Readings.history c.args.readings.now) c.args.levels c.args.depth c.args.place (string_bytes c.args.text.now) (omega (arith, c.if-levels-eq0.true))
 
 pub returns-in_default : goal.returns-in_default
 returns-in_default g t c =
-    no_scope (g.R.Readings.history c.args.readings.now) c.args.levels c.args.depth c.args.place (string_bytes c.args.text.now) (sym c.info_at.ensures.info ∙ none_if c.info_at.result c.in_default.not-Some)
+    no_scope (clock_of c.args.ages.now) (g.R.Readings.history c.args.readings.now) c.args.levels c.args.depth c.args.place (string_bytes c.args.text.now) (sym c.info_at.ensures.info ∙ none_if c.info_at.result c.in_default.not-Some)
 
 pub loop-index-init : goal.loop-index-init
 loop-index-init g t c =
     let h = g.R.Readings.history c.args.readings.now in
-    none_yet h (nested h (c.args.levels - 1)) (c.args.depth + 1) (tasks_of h c.in-Some.info.scope) (string_bytes c.args.text.now) (scope_line h c.args.depth c.in-Some.info) (string_bytes c.append_scope_line.new.text) c.in_ok-append_scope_line.ensures
+    none_yet (clock_of c.args.ages.now) h (nested (clock_of c.args.ages.now) h (c.args.levels - 1)) (c.args.depth + 1) (tasks_of h c.in-Some.info.scope) (string_bytes c.args.text.now) (scope_line (clock_of c.args.ages.now) h c.args.depth c.in-Some.info) (string_bytes c.append_scope_line.new.text) c.in_ok-append_scope_line.ensures
 
 pub loop-index-preserved : goal.loop-index-preserved
 loop-index-preserved g t c =
     let h = g.R.Readings.history c.args.readings.now in
-    task_more h (nested h (c.args.levels - 1)) (c.args.depth + 1) (tasks_of h c.in-Some.info.scope) c.loop-index.index c.in-Some-task_at.task (string_bytes c.args.text.now) (scope_line h c.args.depth c.in-Some.info)
+    task_more (clock_of c.args.ages.now) h (nested (clock_of c.args.ages.now) h (c.args.levels - 1)) (c.args.depth + 1) (tasks_of h c.in-Some.info.scope) c.loop-index.index c.in-Some-task_at.task (string_bytes c.args.text.now) (scope_line (clock_of c.args.ages.now) h c.args.depth c.in-Some.info)
     (string_bytes c.loop-index.text) (string_bytes c.append_task_line.new.text) (string_bytes c.append_scope.new.text)
-    (sym c.task_at.ensures ∙ c.in-Some-task_at.is) c.loop-index.invariant c.in_ok-append_task_line.ensures (c.in_ok-append_scope.ensures ∙ ap (λ p. string_bytes c.append_task_line.new.text ++ nested h (c.args.levels - 1) (c.args.depth + 1 + 1) p) c.outermost.ensures)
+    (sym c.task_at.ensures ∙ c.in-Some-task_at.is) c.loop-index.invariant c.in_ok-append_task_line.ensures (c.in_ok-append_scope.ensures ∙ ap (λ p. string_bytes c.append_task_line.new.text ++ nested (clock_of c.args.ages.now) h (c.args.levels - 1) (c.args.depth + 1 + 1) p) c.outermost.ensures)
 
 pub returns : goal.returns
 returns g t c =
-    on_ok_weaker c.append_scope-2.result (λ within. scope_whole h c.args.levels c.args.depth c.args.place c.in-Some.info (take c.loop-index.index tasks) (string_bytes c.args.text.now) (string_bytes c.loop-index.text) (string_bytes c.append_scope-2.new.text)
+    on_ok_weaker c.append_scope-2.result (λ within. scope_whole (clock_of c.args.ages.now) h c.args.levels c.args.depth c.args.place c.in-Some.info (take c.loop-index.index tasks) (string_bytes c.args.text.now) (string_bytes c.loop-index.text) (string_bytes c.append_scope-2.new.text)
     (omega (arith, c.if-levels-eq0.false)) (sym c.info_at.ensures.info ∙ c.in-Some.is) all c.loop-index.invariant
-    (within ∙ ap (λ p. string_bytes c.loop-index.text ++ nested h (c.args.levels - 1) (c.args.depth + 1) p) c.inner.ensures)) c.append_scope-2.ensures
+    (within ∙ ap (λ p. string_bytes c.loop-index.text ++ nested (clock_of c.args.ages.now) h (c.args.levels - 1) (c.args.depth + 1) p) c.inner.ensures)) c.append_scope-2.ensures
   where
     h : History
     h = g.R.Readings.history c.args.readings.now

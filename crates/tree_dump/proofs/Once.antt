@@ -1,0 +1,411 @@
+-- The tree shows each scope that is not closed, and each of its tasks, exactly once.
+use Rattle.std.proofs.Common.{◌≡◌, ◌⊎◌, inl, inr, ℕ, zero, suc, ◌+◌, ◌<◌, ◌≤◌, ◌==◌, option_map, Bool, true, false, cond, Option, Some, None, List, [], ◌∷◌, ◌++◌, slice_get, count_by, sum_by, codes, refl, ap, sym, ◌∙◌, arith, subst, append_assoc}
+use Rattle.std.proofs.lemmas.Bool.{cases_eq, eq-eqb, ne_eqb}
+use Rattle.std.proofs.lemmas.List.{append-nil, length-take}
+use Rattle.std.proofs.lemmas.List.Concat.{flat_map-append}
+use Rattle.std.proofs.lemmas.List.Sums.{sum_by-append, sum_by-cons}
+use Rattle.std.specs.Fmt.{decimal}
+use Rattle.std.specs.List.{flat_map}
+use Rattle.std.specs.Option.{option_and_then, option_map_or}
+use Rattle.scope_rules.specs.declared.types.capacity.Limits.{Limits}
+use Rattle.scope_rules.specs.declared.types.infos.ScopeInfo.{ScopeInfo}
+use Rattle.scope_rules.specs.declared.types.records.Forking.{Forking}
+use Rattle.scope_rules.specs.declared.types.records.Opening.{Opening}
+use Rattle.scope_rules.specs.Completions.{is_task_of}
+use Rattle.scope_rules.specs.History.{History, before, forked_count, forking, moment, opening, task_numbers}
+use Rattle.scope_rules.specs.Legal.{Legal}
+use Rattle.scope_rules.specs.Nests.{info, info_of, inner, outermost, tasks_of}
+use Rattle.scope_rules.specs.Scopes.{closed, parent}
+use Rattle.scope_rules.proofs.Earlier.{forking_since, forking_within, opening_since, opening_within}
+use Rattle.scope_rules.proofs.Forkings.{IsTask, forked_after, forking_row, main_unforked, opening_row, task_there}
+use Rattle.scope_rules.proofs.Innermosts.{HasUnclosed}
+use Rattle.scope_rules.proofs.Nesting.{forked_opened}
+use Rattle.scope_rules.proofs.Parents.{parent_smaller}
+use Rattle.scope_rules.proofs.Stages.{running_forked}
+use Rattle.scope_rows.proofs.FirstUnclosed.{outermost_is}
+use Rattle.tree_dump.proofs.Shows.{opened_info, reached}
+use Rattle.tree_dump.specs.Ages.{Clock}
+use Rattle.tree_dump.specs.Once.{Line, OfScope, OfTask, TreeShowsEachOnce, is_of_scope, is_of_task, line_text}
+use Rattle.tree_dump.specs.TextTree.{nested, open_text, scope_line, scope_lines, task_line, task_lines, tasks_lines, tree_by}
+use Rattle.tree_dump.proofs.Insides.{OnChain, is_next, inner_parent, itself, only_one, outermost_parent, smaller, up}
+use Rattle.tree_dump.proofs.Listed.{count_listed, listed_holds, some_or_none, sum_both, sum_least, sum_most, sum_same, sum_some, unit}
+
+-- ---- the lines of the tree
+
+abbrev of_task : History → (ℕ → Option ℕ → List Line) → ℕ → ℕ → List Line
+of_task h inside depth k = OfTask depth k ∷ inside (depth + 1) (outermost h k)
+
+abbrev of_scope : History → (ℕ → Option ℕ → List Line) → ℕ → ScopeInfo → List Line
+of_scope h inside depth i = OfScope depth i ∷ (flat_map (of_task h inside (depth + 1)) (tasks_of h i.scope) ++ inside (depth + 1) (inner h i.scope))
+
+abbrev lines_at : History → ℕ → ℕ → Option ℕ → List Line
+lines_at h zero depth place = []
+lines_at h (suc n) depth place = option_map_or (of_scope h (lines_at h n) depth) (option_and_then (info h) place) []
+
+-- they are written as the tree is
+abbrev Writes : Clock → History → (ℕ → Option ℕ → List Line) → (ℕ → Option ℕ → List ℕ) → Type 0
+Writes c h inside text = (depth : ℕ) (place : Option ℕ) → flat_map (line_text c h) (inside depth place) ≡ text depth place
+
+tasks_written : (c : Clock) (h : History) (inside : ℕ → Option ℕ → List Line) (text : ℕ → Option ℕ → List ℕ) → Writes c h inside text → (depth : ℕ) (ks : List ℕ) → flat_map (line_text c h) (flat_map (of_task h inside depth) ks) ≡ flat_map (task_lines c h text depth) ks
+tasks_written c h inside text writes depth [] = refl
+tasks_written c h inside text writes depth (k ∷ ks) =
+    flat_map-append (line_text c h) (of_task h inside depth k) (flat_map (of_task h inside depth) ks)
+    ∙ (ap (λ l. (task_line c h depth k ++ l) ++ flat_map (line_text c h) (flat_map (of_task h inside depth) ks)) (writes (depth + 1) (outermost h k))
+    ∙ ap (λ l. task_lines c h text depth k ++ l) (tasks_written c h inside text writes depth ks))
+
+scope_written : (c : Clock) (h : History) (inside : ℕ → Option ℕ → List Line) (text : ℕ → Option ℕ → List ℕ) → Writes c h inside text → (depth : ℕ) (i : ScopeInfo) → flat_map (line_text c h) (of_scope h inside depth i) ≡ scope_lines c h text depth i
+unfolding tasks_lines
+scope_written c h inside text writes depth i =
+    ap (λ l. scope_line c h depth i ++ l)
+    (flat_map-append (line_text c h) (flat_map (of_task h inside (depth + 1)) (tasks_of h i.scope)) (inside (depth + 1) (inner h i.scope))
+    ∙ (ap (λ l. l ++ flat_map (line_text c h) (inside (depth + 1) (inner h i.scope))) (tasks_written c h inside text writes (depth + 1) (tasks_of h i.scope))
+    ∙ ap (λ l. flat_map (task_lines c h text (depth + 1)) (tasks_of h i.scope) ++ l) (writes (depth + 1) (inner h i.scope))))
+
+lines_written : (c : Clock) (h : History) (n : ℕ) → Writes c h (lines_at h n) (nested c h n)
+unfolding nested
+lines_written c h zero depth place = refl
+lines_written c h (suc n) depth place = by (option_and_then (info h) place) (lines_written c h n)
+  where
+    by : (o : Option ScopeInfo) → Writes c h (lines_at h n) (nested c h n) → flat_map (line_text c h) (option_map_or (of_scope h (lines_at h n) depth) o []) ≡ option_map_or (scope_lines c h (nested c h n) depth) o []
+    by None writes = refl
+    by (Some i) writes = scope_written c h (lines_at h n) (nested c h n) writes depth i
+
+-- all lines of the tree
+abbrev tree_lines : History → List Line
+tree_lines h = lines_at h 16 0 (outermost h 0)
+
+-- ---- how often a scope has a line
+
+abbrev times : ℕ → List Line → ℕ
+times t ls = count_by (is_of_scope t) ls
+
+tasks_count : (h : History) (inside : ℕ → Option ℕ → List Line) (t depth : ℕ) (ks : List ℕ) → times t (flat_map (of_task h inside depth) ks) ≡ sum_by (λ k. times t (inside (depth + 1) (outermost h k))) ks
+tasks_count h inside t depth [] = refl
+tasks_count h inside t depth (k ∷ ks) =
+    let rest = tasks_count h inside t depth ks in
+    let one = sum_by-cons (λ (l : Line). cond (is_of_scope t l) 1 0) (OfTask depth k) (inside (depth + 1) (outermost h k)) in
+    let both = sum_by-append (λ (l : Line). cond (is_of_scope t l) 1 0) (of_task h inside depth k) (flat_map (of_task h inside depth) ks) in
+    let sums = sum_by-cons (λ x. times t (inside (depth + 1) (outermost h x))) k ks in
+    omega (arith, rest, one, both, sums)
+
+scope_count : (h : History) (inside : ℕ → Option ℕ → List Line) (t depth : ℕ) (i : ScopeInfo) →
+    times t (of_scope h inside depth i) ≡ unit (i.scope == t) + (sum_by (λ k. times t (inside (depth + 1 + 1) (outermost h k))) (tasks_of h i.scope) + times t (inside (depth + 1) (inner h i.scope)))
+scope_count h inside t depth i =
+    let tasks = tasks_count h inside t (depth + 1) (tasks_of h i.scope) in
+    let one = sum_by-cons (λ (l : Line). cond (is_of_scope t l) 1 0) (OfScope depth i) (flat_map (of_task h inside (depth + 1)) (tasks_of h i.scope) ++ inside (depth + 1) (inner h i.scope)) in
+    let both = sum_by-append (λ (l : Line). cond (is_of_scope t l) 1 0) (flat_map (of_task h inside (depth + 1)) (tasks_of h i.scope)) (inside (depth + 1) (inner h i.scope)) in
+    omega (arith, tasks, one, both)
+
+-- ---- the lines of one scope
+
+info_is : (h : History) (s : ℕ) (o : Opening) → opening h s ≡ Some o → info h s ≡ Some (info_of h s o)
+unfolding info
+info_is h s o is = ap (option_map (info_of h s)) is
+
+no_info : (h : History) (s : ℕ) → opening h s ≡ None → info h s ≡ None
+unfolding info
+no_info h s is = ap (option_map (info_of h s)) is
+
+no_place : (h : History) (n depth t : ℕ) → times t (lines_at h n depth None) ≡ 0
+no_place h zero depth t = refl
+no_place h (suc n) depth t = refl
+
+split : (h : History) (n depth s t : ℕ) (o : Opening) → opening h s ≡ Some o →
+    times t (lines_at h (suc n) depth (Some s)) ≡ unit (s == t) + (sum_by (λ k. times t (lines_at h n (depth + 1 + 1) (outermost h k))) (tasks_of h s) + times t (lines_at h n (depth + 1) (inner h s)))
+split h n depth s t o is = ap (λ x. times t (option_map_or (of_scope h (lines_at h n) depth) x [])) (info_is h s o is) ∙ scope_count h (lines_at h n) t depth (info_of h s o)
+
+unit_is : (a b : ℕ) → 0 < unit (a == b) → a ≡ b
+unit_is a b some =
+    elim (cases_eq a b) [ inl same ↦ same | inr apart ↦ let none : unit (a == b) ≡ 0 = ap unit (ne_eqb a b apart) in absurd (omega (arith, some, none)) ]
+
+module _ (L : Limits) (h : History) (legal : Legal L h) where
+  -- what has a line lies below, and is not closed
+  record IsBelow (s t p : ℕ) : Type 0 where
+    chain : OnChain h t p
+    live : closed h t ≡ false
+    inside : parent h p ≡ Some s
+
+  abbrev Shows : ℕ → ℕ → Type 0
+  Shows n t = (depth p : ℕ) → closed h p ≡ false → 0 < times t (lines_at h n depth (Some p)) → OnChain h t p × (closed h t ≡ false)
+
+  task_below : (n depth s t k : ℕ) → Shows n t → is_task_of h s k ≡ true → 0 < times t (lines_at h n depth (outermost h k)) → (p : ℕ) × HasUnclosed h k p × IsBelow s t p
+  task_below n depth s t k shows listed some = by (outermost h k) refl some
+    where
+      task : IsTask h s k
+      task = task_there h s k listed
+
+      by : (o : Option ℕ) → outermost h k ≡ o → 0 < times t (lines_at h n depth o) → (p : ℕ) × HasUnclosed h k p × IsBelow s t p
+      by None at there = let none = no_place h n depth t in absurd (omega (arith, there, none))
+      by (Some p) at there =
+          let next = is_next h k 0 p (outermost_is h k ∙ at) in
+          let it = shows depth p next.unclosed.unclosed there in
+          (p, next.unclosed, record { chain = it.0; live = it.1; inside = outermost_parent L h legal k p task.forked task.is at ∙ ap Some task.of })
+
+  inner_below : (n depth s t : ℕ) (o : Opening) → Shows n t → opening h s ≡ Some o → closed h s ≡ false → 0 < times t (lines_at h n depth (inner h s)) → (p : ℕ) × HasUnclosed h o.actor p × IsBelow s t p
+  inner_below n depth s t o shows is live some = by (inner h s) refl some
+    where
+      by : (x : Option ℕ) → inner h s ≡ x → 0 < times t (lines_at h n depth x) → (p : ℕ) × HasUnclosed h o.actor p × IsBelow s t p
+      by None at there = let none = no_place h n depth t in absurd (omega (arith, there, none))
+      by (Some p) at there =
+          let parent_is = inner_parent L h legal s p o is live at in
+          let it = shows depth p parent_is.1.unclosed.unclosed there in
+          (p, parent_is.1.unclosed, record { chain = it.0; live = it.1; inside = parent_is.0 })
+
+  listed_task : (s j k : ℕ) → slice_get (tasks_of h s) j ≡ Some k → is_task_of h s k ≡ true
+  unfolding tasks_of
+  listed_task s j k at = listed_holds (is_task_of h s) (task_numbers h) j k at
+
+  shows_below : (n t : ℕ) → Shows n t
+  shows_below zero t depth s live some = absurd (omega (arith, some))
+  shows_below (suc n) t depth s live some = by (opening h s) refl (shows_below n t)
+    where
+      by : (x : Option Opening) → opening h s ≡ x → Shows n t → OnChain h t s × (closed h t ≡ false)
+      by None is shows =
+          let none : times t (lines_at h (suc n) depth (Some s)) ≡ 0 = ap (λ y. times t (option_map_or (of_scope h (lines_at h n) depth) y [])) (no_info h s is) in
+          absurd (omega (arith, some, none))
+      by (Some o) is shows =
+          let parts = split h n depth s t o is in
+          elim (some_or_none (unit (s == t))) [
+            | inl here ↦ let same = unit_is s t here in (subst (λ z. OnChain h z s) same itself, ap (closed h) (sym same) ∙ live)
+            | inr not_here ↦
+                elim (some_or_none (sum_by (λ k. times t (lines_at h n (depth + 1 + 1) (outermost h k))) (tasks_of h s))) [
+                  | inl tasks ↦
+                      let found = sum_some (λ k. times t (lines_at h n (depth + 1 + 1) (outermost h k))) (tasks_of h s) tasks in
+                      let it = task_below n (depth + 1 + 1) s t found.1 shows (listed_task s found.0 found.1 found.2) found.3 in
+                      (up it.2.chain it.2.inside, it.2.live)
+                  | inr no_tasks ↦
+                      let it = inner_below n (depth + 1) s t o shows is live (omega (arith, some, parts, not_here, no_tasks)) in
+                      (up it.2.chain it.2.inside, it.2.live)
+                ]
+          ]
+
+  -- ---- at most once
+
+  same_owner : (a b p q : ℕ) → HasUnclosed h a p → HasUnclosed h b q → p ≡ q → a ≡ b
+  same_owner a b p q one other same =
+      let opened : Some one.opened ≡ Some other.opened = sym one.is ∙ (ap (opening h) same ∙ other.is) in
+      let equal : one.opened ≡ other.opened = cc in
+      sym one.by ∙ (ap (λ (o : Opening). o.actor) equal ∙ other.by)
+
+  -- a task doesn't own the scope that it was forked in
+  not_owner : (s k : ℕ) (o : Opening) → opening h s ≡ Some o → is_task_of h s k ≡ true → o.actor ≡ k → ⊥
+  not_owner s k o is listed same =
+      let task = task_there h s k listed in
+      let owner = (forking_row L h k task.forked legal task.is).owner in
+      let there = opening_since h task.forked.scope task.forked.place owner.opened owner.is in
+      let opened : Some owner.opened ≡ Some o = sym there ∙ (ap (opening h) task.of ∙ is) in
+      let equal : owner.opened ≡ o = cc in
+      let sooner : owner.opened.place < task.forked.place = omega (arith, opening_within (before h task.forked.place) task.forked.scope owner.opened owner.is, length-take task.forked.place h.events) in
+      let places : owner.opened.place ≡ o.place = ap (λ (x : Opening). x.place) equal in
+      elim (opening_row L h s o legal is) [
+        | inl main ↦ main_unforked h k task.forked (sym same ∙ main) task.is
+        | inr runs ↦
+            let it = running_forked (before h o.place) o.actor runs in
+            let again : Some it.forked ≡ Some task.forked = sym (forking_since h o.actor o.place it.forked it.is) ∙ (ap (forking h) same ∙ task.is) in
+            let one : it.forked ≡ task.forked = cc in
+            let later : it.forked.place < o.place = omega (arith, forking_within (before h o.place) o.actor it.forked it.is, length-take o.place h.events) in
+            let equal_places : it.forked.place ≡ task.forked.place = ap (λ (x : Forking). x.place) one in
+            omega (arith, sooner, places, later, equal_places)
+      ]
+
+  not_itself : (s p : ℕ) → OnChain h s p → parent h p ≡ Some s → ⊥
+  not_itself s p chain is = let low = smaller L h legal s p chain in omega (arith, low, (parent_smaller L h p s legal is).1)
+
+  abbrev Most : ℕ → ℕ → Type 0
+  Most n t = (depth s : ℕ) → closed h s ≡ false → times t (lines_at h n depth (Some s)) ≤ 1
+
+  task_most : (n t depth k : ℕ) → Most n t → times t (lines_at h n depth (outermost h k)) ≤ 1
+  task_most n t depth k most = by (outermost h k) refl
+    where
+      by : (o : Option ℕ) → outermost h k ≡ o → times t (lines_at h n depth o) ≤ 1
+      by None at = let none = no_place h n depth t in omega (arith, none)
+      by (Some p) at = most depth p (is_next h k 0 p (outermost_is h k ∙ at)).unclosed.unclosed
+
+  inner_most : (n t depth s : ℕ) (o : Opening) → opening h s ≡ Some o → closed h s ≡ false → Most n t → times t (lines_at h n depth (inner h s)) ≤ 1
+  inner_most n t depth s o is live most = by (inner h s) refl
+    where
+      by : (x : Option ℕ) → inner h s ≡ x → times t (lines_at h n depth x) ≤ 1
+      by None at = let none = no_place h n depth t in omega (arith, none)
+      by (Some p) at = most depth p (inner_parent L h legal s p o is live at).1.unclosed.unclosed
+
+  tasks_most : (n t depth s : ℕ) → Most n t → sum_by (λ k. times t (lines_at h n depth (outermost h k))) (tasks_of h s) ≤ 1
+  unfolding tasks_of
+  tasks_most n t depth s most =
+      sum_most (is_task_of h s) (λ k. times t (lines_at h n depth (outermost h k))) (forked_count h) (h.base.tasks + 1) (λ k. task_most n t depth k most)
+      (λ k x listed other some also.
+      let one = task_below n depth s t k (shows_below n t) listed some in
+      let two = task_below n depth s t x (shows_below n t) other also in
+      same_owner k x one.0 two.0 one.1 two.1 (only_one L h legal t one.0 two.0 s one.2.chain two.2.chain one.2.inside two.2.inside))
+
+  most_once : (n t : ℕ) → Most n t
+  most_once zero t depth s live = omega arith
+  most_once (suc n) t depth s live = by (opening h s) refl (most_once n t)
+    where
+      by : (x : Option Opening) → opening h s ≡ x → Most n t → times t (lines_at h (suc n) depth (Some s)) ≤ 1
+      by None is most =
+          let none : times t (lines_at h (suc n) depth (Some s)) ≡ 0 = ap (λ y. times t (option_map_or (of_scope h (lines_at h n) depth) y [])) (no_info h s is) in
+          omega (arith, none)
+      by (Some o) is most =
+          let parts = split h n depth s t o is in
+          let a = tasks_most n t (depth + 1 + 1) s most in
+          let b = inner_most n t (depth + 1) s o is live most in
+          let f : ℕ → ℕ = λ k. times t (lines_at h n (depth + 1 + 1) (outermost h k)) in
+          elim (some_or_none (sum_by (λ k. times t (lines_at h n (depth + 1 + 1) (outermost h k))) (tasks_of h s))) [
+            | inl tasks ↦
+                let found = sum_some (λ k. times t (lines_at h n (depth + 1 + 1) (outermost h k))) (tasks_of h s) tasks in
+                let listed = listed_task s found.0 found.1 found.2 in
+                let one = task_below n (depth + 1 + 1) s t found.1 (shows_below n t) listed found.3 in
+                let no_inner = without (some_or_none (times t (lines_at h n (depth + 1) (inner h s)))) (λ also.
+                let two = inner_below n (depth + 1) s t o (shows_below n t) is live also in
+                not_owner s found.1 o is listed (sym (same_owner found.1 o.actor one.0 two.0 one.1 two.1 (only_one L h legal t one.0 two.0 s one.2.chain two.2.chain one.2.inside two.2.inside)))) in
+                let not_here = without (some_or_none (unit (s == t))) (λ here. not_itself s one.0 (subst (λ z. OnChain h z one.0) (sym (unit_is s t here)) one.2.chain) one.2.inside) in
+                omega (arith, parts, a, no_inner, not_here)
+            | inr no_tasks ↦
+                elim (some_or_none (times t (lines_at h n (depth + 1) (inner h s)))) [
+                  | inl inside ↦
+                      let two = inner_below n (depth + 1) s t o (shows_below n t) is live inside in
+                      let not_here = without (some_or_none (unit (s == t))) (λ here. not_itself s two.0 (subst (λ z. OnChain h z two.0) (sym (unit_is s t here)) two.2.chain) two.2.inside) in
+                      omega (arith, parts, b, no_tasks, not_here)
+                  | inr none ↦ let most_one = unit_most (s == t) in omega (arith, parts, no_tasks, none, most_one)
+                ]
+          ]
+        where
+          without : {n : ℕ} → (0 < n) ⊎ (n ≡ 0) → (0 < n → ⊥) → n ≡ 0
+          without (inl some) never_some = absurd (never_some some)
+          without (inr none) never_some = none
+
+          unit_most : (c : Bool) → unit c ≤ 1
+          unit_most true = omega arith
+          unit_most false = omega arith
+
+-- ---- at least once
+
+module _ (L : Limits) (c : Clock) (h : History) (legal : Legal L h) where
+  -- what the walk says of the scope, so many levels down, is among the lines
+  abbrev Counts : ℕ → ℕ → ℕ → Type 0
+  Counts n depth s = (z : ℕ) → times z (lines_at h (suc n) depth (Some s)) ≤ times z (tree_lines h)
+
+  from_root : (s : ℕ) → outermost h 0 ≡ Some s → Counts 15 0 s
+  from_root s at z = let same : times z (tree_lines h) ≡ times z (lines_at h 16 0 (Some s)) = ap (λ o. times z (lines_at h 16 0 o)) at in omega (arith, same)
+
+  to_inner : (n depth s t : ℕ) (i : ScopeInfo) → info h s ≡ Some i → inner h s ≡ Some t → Counts (suc n) depth s → Counts n (depth + 1) t
+  to_inner n depth s t i is at within z =
+      let o = opened_info h s i is in
+      let parts = split h (suc n) depth s z o.0 o.1 in
+      let all = within z in
+      let same : times z (lines_at h (suc n) (depth + 1) (inner h s)) ≡ times z (lines_at h (suc n) (depth + 1) (Some t)) = ap (λ x. times z (lines_at h (suc n) (depth + 1) x)) at in
+      omega (arith, parts, all, same)
+
+  to_under : (n depth s t index k : ℕ) (i : ScopeInfo) → info h s ≡ Some i → slice_get (tasks_of h s) index ≡ Some k → outermost h k ≡ Some t → Counts (suc n) depth s → Counts n (depth + 1 + 1) t
+  to_under n depth s t index k i is listed at within z =
+      let o = opened_info h s i is in
+      let parts = split h (suc n) depth s z o.0 o.1 in
+      let all = within z in
+      let one = sum_least (λ x. times z (lines_at h (suc n) (depth + 1 + 1) (outermost h x))) (tasks_of h s) index k listed in
+      let same : times z (lines_at h (suc n) (depth + 1 + 1) (outermost h k)) ≡ times z (lines_at h (suc n) (depth + 1 + 1) (Some t)) = ap (λ x. times z (lines_at h (suc n) (depth + 1 + 1) x)) at in
+      omega (arith, parts, all, one, same)
+
+  once : (s : ℕ) (o : Opening) → opening h s ≡ Some o → closed h s ≡ false → times s (tree_lines h) ≡ 1
+  once s o is live =
+      let it = reached L c h legal Counts from_root to_inner to_under (suc s) s o (omega arith) is live in
+      let all = it.3 s in
+      let parts = split h it.0 it.1 s s o is in
+      let here : unit (s == s) ≡ 1 = ap unit (eq-eqb s s refl) in
+      let most = at_root_most s in
+      omega (arith, all, parts, here, most)
+    where
+      at_root_most : (t : ℕ) → times t (tree_lines h) ≤ 1
+      at_root_most t = task_most L h legal 16 t 0 0 (most_once L h legal 16 t)
+
+  never : (s : ℕ) → closed h s ≡ true → times s (tree_lines h) ≡ 0
+  never s ended = by (some_or_none (times s (tree_lines h)))
+    where
+      root : (o : Option ℕ) → outermost h 0 ≡ o → 0 < times s (lines_at h 16 0 o) → ⊥
+      root None at some = let none = no_place h 16 0 s in omega (arith, none, some)
+      root (Some p) at some =
+          let it = shows_below L h legal 16 s 0 p (is_next h 0 0 p (outermost_is h 0 ∙ at)).unclosed.unclosed some in
+          let fails : true ≡ false = sym ended ∙ it.1 in absurd cc
+
+      by : (0 < times s (tree_lines h)) ⊎ (times s (tree_lines h) ≡ 0) → times s (tree_lines h) ≡ 0
+      by (inl some) = absurd (root (outermost h 0) refl some)
+      by (inr none) = none
+
+  scopes_once : (s : ℕ) (o : Opening) → opening h s ≡ Some o → times s (tree_lines h) ≡ cond (closed h s) 0 1
+  scopes_once s o is = by (closed h s) refl
+    where
+      by : (b : Bool) → closed h s ≡ b → times s (tree_lines h) ≡ cond b 0 1
+      by true ended = never s ended
+      by false live = once s o is live
+
+-- ---- tasks
+
+abbrev times_task : ℕ → List Line → ℕ
+times_task k ls = count_by (is_of_task k) ls
+
+tasks_counted : (h : History) (inside : ℕ → Option ℕ → List Line) (k depth : ℕ) (ks : List ℕ) → times_task k (flat_map (of_task h inside depth) ks) ≡ sum_by (λ x. unit (x == k) + times_task k (inside (depth + 1) (outermost h x))) ks
+tasks_counted h inside k depth [] = refl
+tasks_counted h inside k depth (x ∷ ks) =
+    let rest = tasks_counted h inside k depth ks in
+    let one = sum_by-cons (λ (l : Line). cond (is_of_task k l) 1 0) (OfTask depth x) (inside (depth + 1) (outermost h x)) in
+    let both = sum_by-append (λ (l : Line). cond (is_of_task k l) 1 0) (of_task h inside depth x) (flat_map (of_task h inside depth) ks) in
+    let sums = sum_by-cons (λ y. unit (y == k) + times_task k (inside (depth + 1) (outermost h y))) x ks in
+    omega (arith, rest, one, both, sums)
+
+listed_once : (h : History) (s k : ℕ) (f : Forking) → forking h k ≡ Some f → sum_by (λ x. unit (x == k)) (tasks_of h s) ≡ unit (s == f.scope)
+unfolding tasks_of is_task_of
+listed_once h s k f is =
+    let it = forked_after h k f is in
+    count_listed (is_task_of h s) k (forked_count h) (h.base.tasks + 1) (omega (arith, it.2)) (omega (arith, it.1, it.2))
+    ∙ (ap (λ (o : Option Forking). unit (option_map_or (λ (g : Forking). g.scope == s) o false)) is ∙ swap f.scope s)
+  where
+    swap : (a b : ℕ) → unit (a == b) ≡ unit (b == a)
+    swap a b = elim (cases_eq a b) [ inl same ↦ ap unit (eq-eqb a b same ∙ sym (eq-eqb b a (sym same))) | inr apart ↦ ap unit (ne_eqb a b apart ∙ sym (ne_eqb b a (λ same. apart (sym same)))) ]
+
+-- a task has as many lines as its scope
+as_its_scope : (h : History) (k : ℕ) (f : Forking) → forking h k ≡ Some f → (n depth : ℕ) (place : Option ℕ) → times_task k (lines_at h n depth place) ≡ times f.scope (lines_at h n depth place)
+as_its_scope h k f is zero depth place = refl
+as_its_scope h k f is (suc n) depth None = refl
+as_its_scope h k f is (suc n) depth (Some s) = by (opening h s) refl (as_its_scope h k f is n)
+  where
+    by : (x : Option Opening) → opening h s ≡ x → ((d : ℕ) (place : Option ℕ) → times_task k (lines_at h n d place) ≡ times f.scope (lines_at h n d place)) → times_task k (lines_at h (suc n) depth (Some s)) ≡ times f.scope (lines_at h (suc n) depth (Some s))
+    by None none same =
+        ap (λ y. times_task k (option_map_or (of_scope h (lines_at h n) depth) y [])) (no_info h s none)
+        ∙ sym (ap (λ y. times f.scope (option_map_or (of_scope h (lines_at h n) depth) y [])) (no_info h s none))
+    by (Some o) opened same =
+        let i = info_of h s o in
+        let here : times_task k (lines_at h (suc n) depth (Some s)) ≡ times_task k (of_scope h (lines_at h n) depth i) = ap (λ y. times_task k (option_map_or (of_scope h (lines_at h n) depth) y [])) (info_is h s o opened) in
+        let one = sum_by-cons (λ (l : Line). cond (is_of_task k l) 1 0) (OfScope depth i) (flat_map (of_task h (lines_at h n) (depth + 1)) (tasks_of h s) ++ lines_at h n (depth + 1) (inner h s)) in
+        let both = sum_by-append (λ (l : Line). cond (is_of_task k l) 1 0) (flat_map (of_task h (lines_at h n) (depth + 1)) (tasks_of h s)) (lines_at h n (depth + 1) (inner h s)) in
+        let tasks = tasks_counted h (lines_at h n) k (depth + 1) (tasks_of h s) in
+        let apart = sum_both (λ x. unit (x == k)) (λ x. times_task k (lines_at h n (depth + 1 + 1) (outermost h x))) (tasks_of h s) in
+        let listed = listed_once h s k f is in
+        let under = sum_same (λ x. times_task k (lines_at h n (depth + 1 + 1) (outermost h x))) (λ x. times f.scope (lines_at h n (depth + 1 + 1) (outermost h x))) (tasks_of h s) (λ x. same (depth + 1 + 1) (outermost h x)) in
+        let inside = same (depth + 1) (inner h s) in
+        let parts = split h n depth s f.scope o opened in
+        omega (arith, here, one, both, tasks, apart, listed, under, inside, parts)
+
+-- ---- the tree
+
+root_lines : (c : Clock) (h : History) (o : Option ℕ) → (first : List ℕ) × (open_text c h o ≡ first ++ flat_map (line_text c h) (lines_at h 16 0 o))
+root_lines c h None = (codes "nothing is open\n", sym (append-nil (codes "nothing is open\n")))
+root_lines c h (Some s) = ([], sym (lines_written c h 16 0 (Some s)))
+
+pub shows_once : TreeShowsEachOnce
+unfolding tree_by
+shows_once L c h legal =
+    let it = root_lines c h (outermost h 0) in (
+      tree_lines h,
+      record {
+        first = codes "moment " ++ decimal (moment h) ++ codes "\n" ++ it.0;
+        text = ap (λ l. codes "moment " ++ decimal (moment h) ++ codes "\n" ++ l) it.1 ∙ regroup (codes "moment ") (decimal (moment h)) (codes "\n") it.0 (flat_map (line_text c h) (tree_lines h));
+        scopes = λ s o is. scopes_once L c h legal s o is;
+        tasks = λ k f is.
+            as_its_scope h k f is 16 0 (outermost h 0) ∙ scope_of_task k f is;
+      },
+    )
+  where
+    regroup : (a b d e x : List ℕ) → a ++ b ++ d ++ (e ++ x) ≡ (a ++ b ++ d ++ e) ++ x
+    regroup a b d e x = simp append_assoc
+
+    scope_of_task : (k : ℕ) (f : Forking) → forking h k ≡ Some f → times f.scope (tree_lines h) ≡ cond (closed h f.scope) 0 1
+    scope_of_task k f is = let it = forked_opened L h k f legal is in scopes_once L c h legal f.scope it.opened it.is

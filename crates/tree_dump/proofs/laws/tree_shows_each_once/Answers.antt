@@ -1,0 +1,6 @@
+-- The tree shows each once.
+use Rattle.tree_dump.proofs.Once.{shows_once}
+use Rattle.tree_dump.proofs.laws.tree_shows_each_once.Goals as goal
+
+pub returns : goal.returns
+returns c = shows_once

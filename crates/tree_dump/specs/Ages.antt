@@ -1,0 +1,70 @@
+-- How long tasks run and scopes are open, by a clock.
+use Rattle.std.specs.Prelude.{ℕ, ◌-◌, ◌/◌, ◌%◌, ◌&&◌, nat_lt, not, Bool, true, false, Option, None, Some, option_map, List, [], ◌++◌, slice_get, codes, if◌then◌else◌}
+use Rattle.std.specs.Option.{option_and_then}
+use Rattle.std.specs.Fmt.{decimal}
+use Rattle.scope_rules.specs.declared.types.answers.Stage.{Stage}
+use Rattle.scope_rules.specs.declared.types.answers.Stage.TheVariants.{Running}
+use Rattle.scope_rules.specs.declared.types.infos.ScopeInfo.{ScopeInfo}
+use Rattle.scope_rules.specs.History.{History}
+use Rattle.tree_dump.specs.declared.ages.Ages.{Ages}
+
+-- the last reading of a clock, and the readings as tasks started and as scopes were opened, by number since the base
+pub record Clock : Type 0 where
+  pub now : ℕ
+  pub started : List ℕ
+  pub opened : List ℕ
+
+abbrev pub clock_of : Ages → Clock
+clock_of a = record { now = a.last; started = a.started.now; opened = a.opened.now }
+
+-- without readings
+abbrev pub no_clock : Clock
+no_clock = record { now = 0; started = []; opened = [] }
+
+-- the reading for the number, of those behind `before`
+abbrev pub reading_in : List ℕ → ℕ → ℕ → Option ℕ
+reading_in readings before number = if nat_lt before number then slice_get readings (number - before - 1) else None
+
+-- how long it is since a reading: it is never negative
+abbrev pub since : Clock → ℕ → ℕ
+since c reading = c.now - reading
+
+abbrev pub is_running : Stage → Bool
+is_running Running = true
+is_running _ = false
+
+-- how long task k runs, if it does and the reading as it started is known
+abbrev pub task_age : Clock → History → ℕ → Stage → Option ℕ
+task_age c h k stage = if is_running stage then option_map (since c) (reading_in c.started h.base.tasks k) else None
+
+-- how long scope s is open, if the reading as it was opened is known
+abbrev pub scope_age : Clock → History → ℕ → Option ℕ
+scope_age c h s = option_map (since c) (reading_in c.opened h.base.scopes s)
+
+-- how late it is by now, if the deadline is past, and the scope is not joined
+abbrev pub late_by : Clock → Bool → Option ℕ → Option ℕ
+late_by c joined deadline = option_and_then (λ d. if not joined && nat_lt d c.now then Some (c.now - d) else None) deadline
+
+-- the same, if the clock was read as the scope was opened
+abbrev pub scope_late : Clock → History → ScopeInfo → Option ℕ
+scope_late c h i = option_and_then (λ age. late_by c i.joined i.deadline) (scope_age c h i.scope)
+
+-- milliseconds as seconds, with tenths
+unfoldable pub duration_text : ℕ → List ℕ
+duration_text ms = decimal (ms / 1000) ++ codes "." ++ decimal (ms / 100 % 10) ++ codes " s"
+
+abbrev pub for_text : Option ℕ → List ℕ
+for_text None = []
+for_text (Some ms) = codes " for " ++ duration_text ms
+
+abbrev pub open_text : Option ℕ → List ℕ
+open_text None = []
+open_text (Some ms) = codes ", open for " ++ duration_text ms
+
+abbrev pub late_text : Option ℕ → List ℕ
+late_text None = []
+late_text (Some ms) = codes ", late by " ++ duration_text ms
+
+-- behind the line of a scope
+abbrev pub aged_text : Option ℕ → Option ℕ → List ℕ
+aged_text age late = open_text age ++ late_text late

@@ -1,0 +1,41 @@
+-- That the tree shows each scope and each task once.
+use Rattle.std.specs.Prelude.{◌≡◌, ℕ, ◌==◌, Bool, false, cond, Some, List, ◌++◌, count_by}
+use Rattle.std.specs.List.{flat_map}
+use Rattle.scope_rules.specs.declared.types.capacity.Limits.{Limits}
+use Rattle.scope_rules.specs.declared.types.infos.ScopeInfo.{ScopeInfo}
+use Rattle.scope_rules.specs.declared.types.records.Forking.{Forking}
+use Rattle.scope_rules.specs.declared.types.records.Opening.{Opening}
+use Rattle.scope_rules.specs.History.{History, forking, opening}
+use Rattle.scope_rules.specs.Legal.{Legal}
+use Rattle.scope_rules.specs.Scopes.{closed}
+use Rattle.tree_dump.specs.Ages.{Clock}
+use Rattle.tree_dump.specs.TextTree.{scope_line, task_line, tree_by}
+
+-- a line of a tree: of a scope or of a task, so deep
+pub data Line : Type 0 where
+  OfScope : ℕ → ScopeInfo → Line
+  OfTask : ℕ → ℕ → Line
+
+abbrev pub line_text : Clock → History → Line → List ℕ
+line_text c h (OfScope depth i) = scope_line c h depth i
+line_text c h (OfTask depth k) = task_line c h depth k
+
+abbrev pub is_of_scope : ℕ → Line → Bool
+is_of_scope s (OfScope depth i) = i.scope == s
+is_of_scope s (OfTask depth k) = false
+
+abbrev pub is_of_task : ℕ → Line → Bool
+is_of_task k (OfScope depth i) = false
+is_of_task k (OfTask depth x) = x == k
+
+-- the lines are what the tree is made of, behind its first line: of each scope that is not closed there is one, and of
+-- each other none; and of each task there is one, if its scope is not closed, and else none
+pub record IsTreeOf (c : Clock) (h : History) (lines : List Line) : Type 0 where
+  pub first : List ℕ
+  pub text : tree_by c h ≡ first ++ flat_map (line_text c h) lines
+  pub scopes : (s : ℕ) (o : Opening) → opening h s ≡ Some o → count_by (is_of_scope s) lines ≡ cond (closed h s) 0 1
+  pub tasks : (k : ℕ) (f : Forking) → forking h k ≡ Some f → count_by (is_of_task k) lines ≡ cond (closed h f.scope) 0 1
+
+-- in a legal history there are such lines
+abbrev pub TreeShowsEachOnce : Type 0
+TreeShowsEachOnce = (L : Limits) (c : Clock) (h : History) → Legal L h → (lines : List Line) × IsTreeOf c h lines

@@ -1,0 +1,165 @@
+//! How long tasks run and scopes are open, by a clock.
+ghost use Rattle.std.specs.Prelude.{◌≡◌, Some, option_map};
+ghost use Rattle.tree_dump.specs.Ages.{aged_text, clock_of, duration_text, for_text, late_by, late_text, open_text, reading_in, scope_age, scope_late, since, task_age};
+
+use scope_checks::Readings;
+use scope_rules::types::infos::ScopeInfo;
+use scope_rules::{ScopeId, Stage, TaskId};
+use std::fmt;
+
+/// Readings of a clock, in milliseconds since the realm began. Without any no age is shown.
+#[derive(Clone, Copy)]
+pub struct Ages<'a> {
+    /// The last reading.
+    pub last: u32,
+    /// By task since the last retirement, the reading as it started.
+    pub started: &'a [u32],
+    /// By scope since the last retirement, the reading as it was opened.
+    pub opened: &'a [u32],
+}
+
+/// The reading for the number, of those behind `before`.
+fn reading_in(readings: &[u32], before: u32, number: u32) -> Option<u32>
+    ensures { result ≡ reading_in readings.now before number }
+{
+    if before < number {
+        readings.get((number - before - 1) as usize).copied()
+    } else {
+        None
+    }
+}
+
+/// How long it is since a reading, if there is one.
+fn since(ages: &Ages<'_>, reading: Option<u32>) -> Option<u32>
+    ensures { result ≡ option_map (since (clock_of ages.now)) reading }
+{
+    match reading {
+        Some(reading) => Some(ages.last.saturating_sub(reading)),
+        None => None,
+    }
+}
+
+/// How long the task runs, in milliseconds, if it does and the reading as it started is known.
+pub(crate) fn task_age<R: Readings>(
+    readings: &R,
+    ages: &Ages<'_>,
+    task: TaskId,
+    stage: Stage,
+) -> Option<u32>
+    ensures { result ≡ task_age (clock_of ages.now) (R.history readings.now) task stage }
+{
+    match stage {
+        Stage::Running => since(
+            ages,
+            reading_in(ages.started, readings.retired_tasks(), task),
+        ),
+        _ => None,
+    }
+}
+
+/// How long the scope is open, in milliseconds, if the reading as it was opened is known.
+pub(crate) fn scope_age<R: Readings>(readings: &R, ages: &Ages<'_>, scope: ScopeId) -> Option<u32>
+    ensures { result ≡ scope_age (clock_of ages.now) (R.history readings.now) scope }
+{
+    since(
+        ages,
+        reading_in(ages.opened, readings.retired_scopes(), scope),
+    )
+}
+
+/// How late it is by now, if the deadline is past and the scope is not joined.
+fn late_by(ages: &Ages<'_>, joined: bool, deadline: Option<u64>) -> Option<u64>
+    ensures { result ≡ late_by (clock_of ages.now) joined deadline }
+{
+    let now = u64::from(ages.last);
+    match deadline {
+        Some(deadline) if !joined && deadline < now => Some(now - deadline),
+        _ => None,
+    }
+}
+
+/// How late the scope is, in milliseconds, if its deadline is past, it is not joined, and the reading as it was opened is
+/// known.
+pub(crate) fn scope_late<R: Readings>(readings: &R, ages: &Ages<'_>, info: ScopeInfo) -> Option<u64>
+    ensures { result ≡ scope_late (clock_of ages.now) (R.history readings.now) info }
+{
+    match scope_age(readings, ages, info.scope) {
+        Some(_) => late_by(ages, info.joined, info.deadline),
+        None => None,
+    }
+}
+
+/// Milliseconds as seconds, with tenths.
+#[derive(Clone, Copy)]
+struct ShownDuration(u64);
+
+impl fmt::Display for ShownDuration {
+    ghost output = { λ d. Some (duration_text d.0) };
+
+    #[tactic(auto, unfolding(crate::specs::Ages::duration_text))]
+    fn fmt<W: fmt::Write>(&self, f: &mut fmt::Formatter<W>) -> fmt::Result {
+        write!(f, "{}.{} s", self.0 / 1000, self.0 / 100 % 10)
+    }
+}
+
+/// How long a task runs.
+#[derive(Clone, Copy)]
+pub(crate) struct ShownFor(pub(crate) Option<u32>);
+
+impl fmt::Display for ShownFor {
+    ghost output = { λ s. Some (for_text s.0) };
+
+    fn fmt<W: fmt::Write>(&self, f: &mut fmt::Formatter<W>) -> fmt::Result {
+        match self.0 {
+            None => Ok(()),
+            Some(millis) => write!(f, " for {}", ShownDuration(u64::from(millis))),
+        }
+    }
+}
+
+/// How long a scope is open.
+#[derive(Clone, Copy)]
+struct ShownOpen(Option<u32>);
+
+impl fmt::Display for ShownOpen {
+    ghost output = { λ s. Some (open_text s.0) };
+
+    fn fmt<W: fmt::Write>(&self, f: &mut fmt::Formatter<W>) -> fmt::Result {
+        match self.0 {
+            None => Ok(()),
+            Some(millis) => write!(f, ", open for {}", ShownDuration(u64::from(millis))),
+        }
+    }
+}
+
+/// How late a scope is.
+#[derive(Clone, Copy)]
+struct ShownLate(Option<u64>);
+
+impl fmt::Display for ShownLate {
+    ghost output = { λ s. Some (late_text s.0) };
+
+    fn fmt<W: fmt::Write>(&self, f: &mut fmt::Formatter<W>) -> fmt::Result {
+        match self.0 {
+            None => Ok(()),
+            Some(millis) => write!(f, ", late by {}", ShownDuration(millis)),
+        }
+    }
+}
+
+/// How long a scope is open, and how late it is.
+#[derive(Clone, Copy)]
+pub(crate) struct ShownAged {
+    pub(crate) age: Option<u32>,
+    pub(crate) late: Option<u64>,
+}
+
+impl fmt::Display for ShownAged {
+    ghost output = { λ s. Some (aged_text s.age s.late) };
+
+    fn fmt<W: fmt::Write>(&self, f: &mut fmt::Formatter<W>) -> fmt::Result {
+        let open = ShownOpen(self.age);
+        let late = ShownLate(self.late);
+        write!(f, "{open}{late}")
+    }
+}
