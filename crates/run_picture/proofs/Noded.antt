@@ -1,7 +1,7 @@
 -- The keys of the nodes, one node after the other.
-use Rattle.std.proofs.Common.{◌≡◌, ℕ, ◌+◌, ◌<◌, ◌≤◌, ◌^◌, zero, suc, subst, min, List, [], ◌∷◌, ◌++◌, map, length, get_or, refl, sym, arith}
-use Rattle.std.proofs.lemmas.List.FromFn.{map-range_with_len_more, length-map-range_with_len}
-use Rattle.std.proofs.lemmas.List.{length-append}
+use Rattle.std.proofs.Common.{◌≡◌, ℕ, ◌+◌, ◌<◌, ◌≤◌, ◌^◌, zero, suc, subst, min, List, [], ◌∷◌, ◌++◌, map, length, get_or, refl, ap, sym, ◌∙◌, arith}
+use Rattle.std.proofs.lemmas.List.FromFn.{map-range_with_len_more, length-map-range_with_len, get_or-map-range_with_len}
+use Rattle.std.proofs.lemmas.List.{length-append, get_or_append_left, get_or-append-add}
 use Rattle.std.specs.List.{range_with_len}
 use Rattle.scope_rules.specs.History.{History, forked_count, opened_count}
 use Rattle.run_picture.specs.Forest.{AreKeys}
@@ -36,6 +36,31 @@ small_both n (x ∷ xs) ys first second (suc i) = small_both n xs ys (λ j. firs
 pub keys_long : (h : History) → length (keys h) ≡ node_count h
 unfolding task_keys scope_keys
 keys_long h = omega (arith, length-append (task_keys h (forked_count h)) (scope_keys h (opened_count h)), length-map-range_with_len (λ k. min (task_key h k) (node_count h)) (h.base.tasks + 1) (forked_count h), length-map-range_with_len (λ s. min (scope_key h s) (node_count h)) (h.base.scopes + 1) (opened_count h))
+
+pub keys_small : (h : History) (i : ℕ) → get_or (keys h) i 0 ≤ node_count h
+unfolding task_keys scope_keys
+keys_small h i = small_both (node_count h) (task_keys h (forked_count h)) (scope_keys h (opened_count h))
+    (small_map (task_key h) (node_count h) (range_with_len (h.base.tasks + 1) (forked_count h)))
+    (small_map (scope_key h) (node_count h) (range_with_len (h.base.scopes + 1) (opened_count h))) i
+
+-- the key of a task's node, and of a scope's
+pub task_key_at : (h : History) (n : ℕ) → n < forked_count h → get_or (keys h) n 0 ≡ min (task_key h (h.base.tasks + 1 + n)) (node_count h)
+unfolding task_keys
+task_key_at h n small =
+    let f : ℕ → ℕ = λ k. min (task_key h k) (node_count h) in
+    let long = length-map-range_with_len f (h.base.tasks + 1) (forked_count h) in
+    get_or_append_left (task_keys h (forked_count h)) (scope_keys h (opened_count h)) 0 n (omega (arith, small, long))
+    ∙ get_or-map-range_with_len f (h.base.tasks + 1) (forked_count h) n (h.base.tasks + 1 + n) 0 small (omega arith)
+
+pub scope_key_at : (h : History) (n : ℕ) → n < opened_count h → get_or (keys h) (forked_count h + n) 0 ≡ min (scope_key h (h.base.scopes + 1 + n)) (node_count h)
+unfolding task_keys scope_keys
+scope_key_at h n small =
+    let f : ℕ → ℕ = λ s. min (scope_key h s) (node_count h) in
+    let long = length-map-range_with_len (λ k. min (task_key h k) (node_count h)) (h.base.tasks + 1) (forked_count h) in
+    let at : length (task_keys h (forked_count h)) + n ≡ forked_count h + n = omega (arith, long) in
+    ap (λ i. get_or (keys h) i 0) (sym at)
+    ∙ get_or-append-add (task_keys h (forked_count h)) (scope_keys h (opened_count h)) n 0
+    ∙ get_or-map-range_with_len f (h.base.scopes + 1) (opened_count h) n (h.base.scopes + 1 + n) 0 small (omega arith)
 
 -- each key is a node's or none's
 pub keys_are : (h : History) (xs : List ℕ) → xs ≡ keys h → node_count h < 2 ^ 31 → AreKeys xs

@@ -1,7 +1,7 @@
 -- How the search for what was innermost goes on, and where it ends.
 use Rattle.std.proofs.Common.{◌≡◌, ℕ, ◌+◌, ◌<◌, ◌≤◌, ◌||◌, Bool, true, false, cond, nat_lt, is_some, unwrap_or, Option, Some, None, zero, suc, ◌-◌, List, [], ◌∷◌, length, get_or, take, slice_get, refl, ap, sym, ◌∙◌, arith, inl, inr, add-one, subst}
 use Rattle.std.proofs.lemmas.Bool.{cases_lt, cases_eq, lt-ltb, le-ltb}
-use Rattle.std.proofs.lemmas.List.{length-take}
+use Rattle.std.proofs.lemmas.List.{length-take, take_all}
 use Rattle.std.proofs.lemmas.Option.{slice_get_cases}
 use Rattle.std.specs.Option.{option_and_then, option_map_or, option_or}
 use Rattle.std.specs.List.{list_any}
@@ -36,13 +36,13 @@ opened_sooner h t s x o first second less =
           absurd (omega (arith, opening_number h t x first, opening_number h s o second, same, more))
     ]
 
--- where the candidate is not closed, it is the innermost
+-- if the candidate is not closed, it is the innermost
 pub searched_found : (h : History) (p a c : ℕ) → IsSearched h p a (Some c) → closed (before h p) c ≡ false → innermost (before h p) a ≡ Some c
 searched_found h p a c s unclosed =
     let it = s.opened c refl in
     innermost_is (before h p) a c (record { opened = it.opened; is = it.is; by = it.by; unclosed = unclosed }) s.later
 
--- where none is left, there is none
+-- if none is left, there is none
 pub searched_none : (h : History) (p a : ℕ) → IsSearched h p a None → innermost (before h p) a ≡ None
 searched_none h p a s = innermost_is_none (before h p) a (λ t o is by. s.later t o is by ((scope_given (before h p) t o is).0))
 
@@ -127,8 +127,8 @@ any_step p xs i x there sofar =
     ∙ some_or (earliest (found_at p xs) i) (found_at p xs i)
     ∙ ap (λ b. is_some (earliest (found_at p xs) i) || b) (ap (λ (o : Option Event). is_some (option_and_then (λ y. cond (p y) (Some i) None) o)) there ∙ some_cond (p x) i))
 
--- the test holds of an element before place i just where a place below i is found
-any_take : (p : Event → Bool) (xs : List Event) (i : ℕ) → i ≤ length xs → list_any p (take i xs) ≡ is_some (earliest (found_at p xs) i)
+-- the test holds of an element before place i just if a place below i is found
+pub any_take : (p : Event → Bool) (xs : List Event) (i : ℕ) → i ≤ length xs → list_any p (take i xs) ≡ is_some (earliest (found_at p xs) i)
 unfolding earliest
 any_take p xs zero within = refl
 any_take p xs (suc i) within =
@@ -138,7 +138,7 @@ any_take p xs (suc i) within =
       | inr w ↦ absurd (omega (arith, w.0))
     ]
 
--- a place is found below i just where the first of all is below i
+-- a place is found below i just if the first of all is below i
 lt_by : (p : Event → Bool) (xs : List Event) (i m : ℕ) (o : Option ℕ) → earliest (found_at p xs) m ≡ o → i ≤ m → is_some (earliest (found_at p xs) i) ≡ option_map_or (λ j. nat_lt j i) o false → is_some (earliest (found_at p xs) i) ≡ option_map_or (λ j. nat_lt j i) (option_or o (found_at p xs m)) false
 lt_by p xs i m (Some j) is within sofar = sofar
 lt_by p xs i m None is within sofar = sofar ∙ late (slice_get xs m)
@@ -174,11 +174,11 @@ ends_named : (s : ℕ) (e : Event) → ends s e ≡ is_named landmark.Closed s e
 ends_named s (event.EndClose actor scope) = refl
 ends_named s _ = refl
 
-any_alike : (p q : Event → Bool) (xs : List Event) → ((x : Event) → p x ≡ q x) → list_any p xs ≡ list_any q xs
+pub any_alike : (p q : Event → Bool) (xs : List Event) → ((x : Event) → p x ≡ q x) → list_any p xs ≡ list_any q xs
 any_alike p q [] alike = refl
 any_alike p q (x ∷ xs) alike = ap (λ b. b || list_any p xs) (alike x) ∙ ap (λ b. q x || b) (any_alike p q xs alike)
 
--- a scope is closed before a place just where the first place at which it is closed is below
+-- a scope is closed before a place just if the first place at which it is closed is below
 pub closed_at_place : (h : History) (s p : ℕ) → p ≤ length h.events → closed (before h p) s ≡ option_map_or (λ j. nat_lt j p) (first_place landmark.Closed h.events s) false
 unfolding closed first_place
 closed_at_place h s p within =
@@ -187,6 +187,14 @@ closed_at_place h s p within =
     ∙ any_take (is_named landmark.Closed s) h.events p within
     ∙ found_below (is_named landmark.Closed s) h.events p (length h.events - p)
     ∙ ap (λ n. option_map_or (λ j. nat_lt j p) (earliest (found_at (is_named landmark.Closed s) h.events) n) false) whole
+
+-- a scope is closed just if a place is found at which it is
+pub closed_anywhere : (h : History) (s : ℕ) → is_some (first_place landmark.Closed h.events s) ≡ closed h s
+unfolding closed first_place
+closed_anywhere h s =
+    sym (any_take (is_named landmark.Closed s) h.events (length h.events) (omega arith))
+    ∙ ap (list_any (is_named landmark.Closed s)) (take_all (length h.events) h.events (omega arith))
+    ∙ sym (any_alike (ends s) (is_named landmark.Closed s) h.events (ends_named s))
 
 -- the place that is kept for a scope is the first one
 pub kept_first : (h : History) (closes : Firsts) (s : ℕ) (o : Option ℕ) → HasFirsts closes landmark.Closed h.events h.base.scopes (opened_count h) → is_some (opening h s) ≡ true → ((k : ℕ) → s ≡ closes.before + 1 + k → k < length closes.places.items → o ≡ get_or closes.places.items k None) → o ≡ first_place landmark.Closed h.events s

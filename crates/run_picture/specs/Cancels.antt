@@ -1,5 +1,5 @@
 -- The cancels of a picture: which scope became cancelled where, and by whose own cancel.
-use Rattle.std.specs.Prelude.{ℕ, Bool, true, false, not, nat_lt, List, [], ◌++◌}
+use Rattle.std.specs.Prelude.{ℕ, Bool, true, false, not, nat_lt}
 use Rattle.std.specs.Option.{option_map_or}
 use Rattle.scope_checks.specs.Questions.{cancellation}
 use Rattle.scope_rules.specs.declared.types.answers.Cause.{Cause}
@@ -13,10 +13,9 @@ use Rattle.run_picture.specs.Sheet.{Sheet}
 use Rattle.run_picture.specs.declared.landmarks.Landmark.TheVariants as landmark
 use Rattle.run_picture.specs.declared.marks.Mark.TheVariants.{Cancelled}
 use Rattle.run_picture.specs.Landmarks.{first_place}
-use Rattle.run_picture.specs.Marks.{mark_text}
+use Rattle.run_picture.specs.Drawing.{Drawing, Blank, One, Both, AReach, mark}
 use Rattle.run_picture.specs.Sites.{mark_at, scope_row, x_in}
 use Rattle.run_picture.specs.Spots.{row_y}
-use Rattle.run_picture.specs.Strokes.{reach_text}
 
 -- a scope of this policy is cancelled by its joiner because tasks failed
 abbrev pub fails_by : Policy → Bool
@@ -45,9 +44,9 @@ abbrev pub source_y : History → Sheet → ℕ → ℕ → ℕ
 source_y h d s reached = option_map_or row_y (scope_row h d s) reached
 
 -- the line from the scope whose own cancel it was to scope s in its row, and its mark
-abbrev pub cancel_drawn : History → Sheet → ℕ → ℕ → ℕ → Cause → List ℕ
-cancel_drawn h d s row place cause = reach_text (record { x = x_in h d place; source = source_y h d cause.scope (row_y row); reached = row_y row }) ++ mark_text (mark_at h d place (row_y row) (Cancelled s cause (is_accident h place cause)))
+abbrev pub cancel_drawn : History → Sheet → ℕ → ℕ → ℕ → Cause → Drawing
+cancel_drawn h d s row place cause = Both (One (AReach (record { x = x_in h d place; source = source_y h d cause.scope (row_y row); reached = row_y row }))) (mark (mark_at h d place (row_y row) (Cancelled s cause (is_accident h place cause))))
 
 -- the cancel that reached scope s, if one did and it has a row
-unfoldable pub cancel_text : History → Sheet → ℕ → List ℕ
-cancel_text h d s = option_map_or (λ row. option_map_or (λ c. cancel_drawn h d s row c.0 c.1) (cancellation h s) []) (scope_row h d s) []
+unfoldable pub cancel_figures : History → Sheet → ℕ → Drawing
+cancel_figures h d s = option_map_or (λ row. option_map_or (λ c. cancel_drawn h d s row c.0 c.1) (cancellation h s) Blank) (scope_row h d s) Blank

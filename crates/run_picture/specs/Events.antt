@@ -1,5 +1,5 @@
 -- What an event draws in the row of the scope that it names.
-use Rattle.std.specs.Prelude.{ℕ, nat_le, List, [], Option, None, Some, length, slice_get}
+use Rattle.std.specs.Prelude.{ℕ, nat_le, Option, None, Some, length, slice_get}
 use Rattle.std.specs.Option.{option_and_then, option_map_or}
 use Rattle.scope_rules.specs.declared.types.events.Event.{Event}
 use Rattle.scope_rules.specs.declared.types.events.Event.TheVariants as event
@@ -8,10 +8,9 @@ use Rattle.run_picture.specs.Sheet.{Sheet}
 use Rattle.run_picture.specs.declared.marks.Mark.{Mark}
 use Rattle.run_picture.specs.declared.marks.Mark.TheVariants.{Joined, Closing, Closed, Moved}
 use Rattle.run_picture.specs.Chart.{drawn_rows}
-use Rattle.run_picture.specs.Marks.{mark_text}
+use Rattle.run_picture.specs.Drawing.{Drawing, Blank, One, ATick, mark}
 use Rattle.run_picture.specs.Sites.{mark_at, scope_row, x_in}
 use Rattle.run_picture.specs.Spots.{row_y}
-use Rattle.run_picture.specs.Strokes.{tick_text}
 
 -- the scope that the event leaves a mark at; a cancel draws by other rules, and a task's events are in its row
 abbrev pub event_scope : Event → Option ℕ
@@ -30,16 +29,16 @@ event_mark (event.EndClose actor scope) = Some (Closed scope)
 event_mark _ = None
 
 -- the mark in the row of scope s, if it has one
-abbrev pub marked_text : History → Sheet → ℕ → ℕ → Mark → List ℕ
-marked_text h d i s mark = option_map_or (λ row. mark_text (mark_at h d i (row_y row) mark)) (scope_row h d s) []
+abbrev pub marked : History → Sheet → ℕ → ℕ → Mark → Drawing
+marked h d i s m = option_map_or (λ row. mark (mark_at h d i (row_y row) m)) (scope_row h d s) Blank
 
-abbrev pub drawn : History → Sheet → ℕ → Event → List ℕ
-drawn h d i e = option_map_or (λ s. option_map_or (marked_text h d i s) (event_mark e) []) (event_scope e) []
+abbrev pub drawn : History → Sheet → ℕ → Event → Drawing
+drawn h d i e = option_map_or (λ s. option_map_or (marked h d i s) (event_mark e) Blank) (event_scope e) Blank
 
 -- what the event at place i draws
-unfoldable pub event_text : History → Sheet → ℕ → List ℕ
-event_text h d i = option_map_or (drawn h d i) (slice_get h.events i) []
+unfoldable pub event_figures : History → Sheet → ℕ → Drawing
+event_figures h d i = option_map_or (drawn h d i) (slice_get h.events i) Blank
 
 -- the line of the tick at place i, if it is one
-unfoldable pub moment_line : History → Sheet → ℕ → List ℕ
-moment_line h d i = option_map_or (λ moment. tick_text (record { x = x_in h d i; foot = row_y (length (drawn_rows h d)); moment = moment; told = nat_le (length h.events) 120 })) (option_and_then tick_of (slice_get h.events i)) []
+unfoldable pub moment_line : History → Sheet → ℕ → Drawing
+moment_line h d i = option_map_or (λ moment. One (ATick (record { x = x_in h d i; foot = row_y (length (drawn_rows h d)); moment = moment; told = nat_le (length h.events) 120 }))) (option_and_then tick_of (slice_get h.events i)) Blank

@@ -1,5 +1,5 @@
 -- What a row draws: a task, a scope, or a closed scope with all that lies in it.
-use Rattle.std.specs.Prelude.{ℕ, ◌+◌, ◌*◌, ◌==◌, ◌&&◌, min, nat_lt, Bool, true, false, Option, None, Some, List, [], ◌++◌, if◌then◌else◌}
+use Rattle.std.specs.Prelude.{ℕ, ◌+◌, ◌*◌, ◌==◌, ◌&&◌, min, nat_lt, Bool, true, false, Option, None, Some, if◌then◌else◌}
 use Rattle.std.specs.Option.{option_map_or, option_or}
 use Rattle.scope_checks.specs.Questions.{cancellation}
 use Rattle.scope_rules.specs.declared.types.answers.CauseKind.{CauseKind}
@@ -28,13 +28,11 @@ use Rattle.run_picture.specs.declared.strokes.Bar.{Bar}
 use Rattle.run_picture.specs.declared.strokes.Shade.{Shade}
 use Rattle.run_picture.specs.declared.strokes.Shade.TheVariants as shade
 use Rattle.run_picture.specs.Cancels.{is_accident}
-use Rattle.run_picture.specs.Captions.{label_text}
+use Rattle.run_picture.specs.Drawing.{Drawing, Blank, Both, bar, label, mark}
 use Rattle.run_picture.specs.Landmarks.{first_place}
-use Rattle.run_picture.specs.Marks.{mark_text}
 use Rattle.run_picture.specs.Rows.{node_of}
 use Rattle.run_picture.specs.Sites.{closed_place, end_x, mark_at, span_in, x_in}
 use Rattle.run_picture.specs.Spots.{row_y}
-use Rattle.run_picture.specs.Strokes.{bar_text}
 
 -- a bar from the one place to the other, if it ends, or else to the right edge
 abbrev pub bar_in : History → Sheet → ℕ → Subject → ℕ → Option ℕ → Shade → Fate → Bar
@@ -76,29 +74,29 @@ end_mark k (Some place) state = Ended k state
 end_mark k None state = Never k
 
 -- the bar of task k from its start on, if it got its thread
-abbrev pub running_text : History → Sheet → ℕ → ℕ → Forking → List ℕ
-running_text h d y k f = option_map_or (λ at. bar_text (bar_in h d y (fork_of k f) at (ended h k) (running_shade (ended h k) (state h k)) (running_fate (ended h k) (state h k)))) (started h k) []
+abbrev pub running_bar : History → Sheet → ℕ → ℕ → Forking → Drawing
+running_bar h d y k f = option_map_or (λ at. bar (bar_in h d y (fork_of k f) at (ended h k) (running_shade (ended h k) (state h k)) (running_fate (ended h k) (state h k)))) (started h k) Blank
 
 -- the mark at its end, if it ended
-abbrev pub ended_text : History → Sheet → ℕ → ℕ → List ℕ
-ended_text h d y k = option_map_or (λ at. mark_text (mark_at h d at y (end_mark k (started h k) (state h k)))) (ended h k) []
+abbrev pub end_figure : History → Sheet → ℕ → ℕ → Drawing
+end_figure h d y k = option_map_or (λ at. mark (mark_at h d at y (end_mark k (started h k) (state h k)))) (ended h k) Blank
 
 -- it waits for its thread until it starts, or ends; and what comes then
-abbrev pub life_text : History → Sheet → ℕ → ℕ → Forking → List ℕ
-life_text h d y k f = bar_text (bar_in h d y (fork_of k f) f.place (option_or (started h k) (ended h k)) shade.Waiting fate.Waits) ++ running_text h d y k f ++ ended_text h d y k
+abbrev pub life_drawn : History → Sheet → ℕ → ℕ → Forking → Drawing
+life_drawn h d y k f = Both (bar (bar_in h d y (fork_of k f) f.place (option_or (started h k) (ended h k)) shade.Waiting fate.Waits)) (Both (running_bar h d y k f) (end_figure h d y k))
 
 -- task k never starts if its scope was cancelled before the fork
-unfoldable pub fork_line : History → Sheet → ℕ → ℕ → Forking → List ℕ
-fork_line h d y k f = if cancelled_before h f.scope f.place then mark_text (mark_at h d f.place y (Never k)) else life_text h d y k f
+unfoldable pub fork_drawn : History → Sheet → ℕ → ℕ → Forking → Drawing
+fork_drawn h d y k f = if cancelled_before h f.scope f.place then mark (mark_at h d f.place y (Never k)) else life_drawn h d y k f
 
 -- the row of task k
-abbrev pub forked_text : History → Sheet → ℕ → ℕ → ℕ → Forking → List ℕ
-forked_text h d row depth k f = label_text (label_in depth (row_y row) (fork_of k f) fate.Open) ++ fork_line h d (row_y row) k f
+abbrev pub forked_lane : History → Sheet → ℕ → ℕ → ℕ → Forking → Drawing
+forked_lane h d row depth k f = Both (label (label_in depth (row_y row) (fork_of k f) fate.Open)) (fork_drawn h d (row_y row) k f)
 
-unfoldable pub task_lane : History → Sheet → ℕ → ℕ → ℕ → List ℕ
-task_lane h d row depth k = option_map_or (forked_text h d row depth k) (forking h k) []
+unfoldable pub task_lane : History → Sheet → ℕ → ℕ → ℕ → Drawing
+task_lane h d row depth k = option_map_or (forked_lane h d row depth k) (forking h k) Blank
 
--- a scope that was closed is told from one that is open still
+-- a scope that was closed is distinguished from one that is open still
 abbrev pub band_shade : Option ℕ → Shade
 band_shade (Some place) = shade.Shut
 band_shade None = shade.Open
@@ -123,37 +121,37 @@ abbrev pub accident_shade : Bool → Shade
 accident_shade true = shade.Cancelled
 accident_shade false = shade.Settled
 
-abbrev pub band_text : History → Sheet → ℕ → ℕ → Opening → Shade → Fate → List ℕ
-band_text h d y s o shade fate = bar_text (bar_in h d y (scope_of s o) o.place (closed_place h s) shade fate)
+abbrev pub band : History → Sheet → ℕ → ℕ → Opening → Shade → Fate → Drawing
+band h d y s o shade fate = bar (bar_in h d y (scope_of s o) o.place (closed_place h s) shade fate)
 
 -- the band of scope s from where it became cancelled on, if it did
-abbrev pub cancelled_text : History → Sheet → ℕ → ℕ → Opening → List ℕ
-cancelled_text h d y s o = option_map_or (λ c. bar_text (bar_in h d y (scope_of s o) c.0 (closed_place h s) (if is_accident h c.0 c.1 then shade.Cancelled else shade.Settled) (fate.Cancelled c.1))) (cancellation h s) []
+abbrev pub cancelled_bar : History → Sheet → ℕ → ℕ → Opening → Drawing
+cancelled_bar h d y s o = option_map_or (λ c. bar (bar_in h d y (scope_of s o) c.0 (closed_place h s) (if is_accident h c.0 c.1 then shade.Cancelled else shade.Settled) (fate.Cancelled c.1))) (cancellation h s) Blank
 
 -- and from where it is closing on: by its own close, or by another's that covers it
-abbrev pub closing_text : History → Sheet → ℕ → ℕ → Opening → List ℕ
-closing_text h d y s o = option_map_or (λ at. bar_text (bar_in h d y (scope_of s o) at (closed_place h s) shade.Closing fate.Closing)) (earlier (first_place landmark.Began h.events s) (covering_place h s)) []
+abbrev pub closing_bar : History → Sheet → ℕ → ℕ → Opening → Drawing
+closing_bar h d y s o = option_map_or (λ at. bar (bar_in h d y (scope_of s o) at (closed_place h s) shade.Closing fate.Closing)) (earlier (first_place landmark.Began h.events s) (covering_place h s)) Blank
 
 -- the row of scope s, which was opened so
-abbrev pub opened_text : History → Sheet → ℕ → ℕ → ℕ → Opening → List ℕ
-opened_text h d row depth s o = label_text (label_in depth (row_y row) (scope_of s o) fate.Open) ++ band_text h d (row_y row) s o (band_shade (closed_place h s)) fate.Open ++ cancelled_text h d (row_y row) s o ++ closing_text h d (row_y row) s o
+abbrev pub opened_lane : History → Sheet → ℕ → ℕ → ℕ → Opening → Drawing
+opened_lane h d row depth s o = Both (label (label_in depth (row_y row) (scope_of s o) fate.Open)) (Both (band h d (row_y row) s o (band_shade (closed_place h s)) fate.Open) (Both (cancelled_bar h d (row_y row) s o) (closing_bar h d (row_y row) s o)))
 
 -- the row of a closed scope with all that lies in it
-abbrev pub folded_lane : History → Sheet → ℕ → ℕ → ℕ → Opening → Folded → List ℕ
-folded_lane h d row depth s o f = label_text (label_in depth (row_y row) (scope_of s o) (fate.Folded f)) ++ band_text h d (row_y row) s o (folded_shade f) (fate.Folded f)
+abbrev pub folded_lane : History → Sheet → ℕ → ℕ → ℕ → Opening → Folded → Drawing
+folded_lane h d row depth s o f = Both (label (label_in depth (row_y row) (scope_of s o) (fate.Folded f))) (band h d (row_y row) s o (folded_shade f) (fate.Folded f))
 
-abbrev pub lane_by : History → Sheet → ℕ → ℕ → ℕ → Option Folded → Opening → List ℕ
+abbrev pub lane_by : History → Sheet → ℕ → ℕ → ℕ → Option Folded → Opening → Drawing
 lane_by h d row depth s (Some f) o = folded_lane h d row depth s o f
-lane_by h d row depth s None o = opened_text h d row depth s o
+lane_by h d row depth s None o = opened_lane h d row depth s o
 
-unfoldable pub scope_lane : History → Sheet → ℕ → ℕ → ℕ → Option Folded → List ℕ
-scope_lane h d row depth s folded = option_map_or (lane_by h d row depth s folded) (opening h s) []
+unfoldable pub scope_lane : History → Sheet → ℕ → ℕ → ℕ → Option Folded → Drawing
+scope_lane h d row depth s folded = option_map_or (lane_by h d row depth s folded) (opening h s) Blank
 
-abbrev pub node_text : History → Sheet → ℕ → Row → Option Node → List ℕ
-node_text h d index row (Some (node.Task k)) = task_lane h d index row.depth k
-node_text h d index row (Some (node.Scope s)) = scope_lane h d index row.depth s row.folded
-node_text h d index row None = []
+abbrev pub node_lane : History → Sheet → ℕ → Row → Option Node → Drawing
+node_lane h d index row (Some (node.Task k)) = task_lane h d index row.depth k
+node_lane h d index row (Some (node.Scope s)) = scope_lane h d index row.depth s row.folded
+node_lane h d index row None = Blank
 
 -- what the row with this index draws
-abbrev pub row_text : History → Sheet → ℕ → Row → List ℕ
-row_text h d index row = node_text h d index row (node_of h row.node)
+abbrev pub row_drawn : History → Sheet → ℕ → Row → Drawing
+row_drawn h d index row = node_lane h d index row (node_of h row.node)

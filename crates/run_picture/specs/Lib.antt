@@ -8,6 +8,8 @@ pub mod Strokes
 pub mod MarkText
 pub mod Marks
 pub mod Captions
+pub mod Parts
+pub mod Drawing
 pub mod Pieces
 pub mod Frame
 pub mod Landmarks
@@ -22,3 +24,6 @@ pub mod Sheet
 pub mod Laws
 pub mod Slices
 pub mod Trace
+pub mod Marked
+pub mod Stamps
+pub mod Traced

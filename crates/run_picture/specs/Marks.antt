@@ -47,7 +47,7 @@ note_text (mark.Held scope source) = scope_text scope ++ held_text source
 unfoldable pub at_text : Spot → List ℕ
 at_text spot = codes " x='" ++ decimal spot.x ++ codes "' y='" ++ decimal spot.y ++ codes "'"
 
--- what is read where the mark is pointed at: what happened at the event, or line, of this number
+-- what is read if the mark is pointed at: what happened at the event, or line, of this number
 unfoldable pub note_title : ShownMark → List ℕ
 note_title m = codes "<title>" ++ unit_word m.lined ++ decimal m.number ++ codes ": " ++ note_text m.mark ++ codes "</title>"
 

@@ -1,5 +1,5 @@
 -- The shields of a picture: which held off a cancel, and where.
-use Rattle.std.specs.Prelude.{ℕ, ◌+◌, ◌&&◌, Bool, not, nat_lt, List, [], Option, None, Some, if◌then◌else◌}
+use Rattle.std.specs.Prelude.{ℕ, ◌+◌, ◌&&◌, Bool, not, nat_lt, Option, None, Some, if◌then◌else◌}
 use Rattle.std.specs.Option.{option_and_then, option_map_or}
 use Rattle.scope_checks.specs.Questions.{cancellation}
 use Rattle.scope_rules.specs.declared.types.answers.Cause.{Cause}
@@ -9,7 +9,7 @@ use Rattle.scope_rules.specs.History.{History, before, opening}
 use Rattle.scope_rules.specs.Scopes.{around, closed}
 use Rattle.run_picture.specs.Sheet.{Sheet}
 use Rattle.run_picture.specs.declared.marks.Mark.TheVariants.{Held}
-use Rattle.run_picture.specs.Marks.{mark_text}
+use Rattle.run_picture.specs.Drawing.{Drawing, Blank, mark}
 use Rattle.run_picture.specs.Sites.{mark_at, scope_row}
 use Rattle.run_picture.specs.Spots.{row_y}
 
@@ -23,12 +23,12 @@ unfoldable pub held_off : History → ℕ → Opening → Option (ℕ × Cause)
 held_off h s o = option_and_then (λ c. if goes_on h s o c.0 then Some c else None) (option_and_then (cancellation h) (around h o))
 
 -- the mark of the shield, at that cancel's place in the row of scope s
-abbrev pub held_text : History → Sheet → ℕ → ℕ → ℕ → List ℕ
-held_text h d s place source = option_map_or (λ row. mark_text (mark_at h d place (row_y row) (Held s source))) (scope_row h d s) []
+abbrev pub held_mark : History → Sheet → ℕ → ℕ → ℕ → Drawing
+held_mark h d s place source = option_map_or (λ row. mark (mark_at h d place (row_y row) (Held s source))) (scope_row h d s) Blank
 
-abbrev pub opened_shield : History → Sheet → ℕ → Opening → List ℕ
-opened_shield h d s o = if o.options.shield then option_map_or (λ c. held_text h d s c.0 c.1.scope) (held_off h s o) [] else []
+abbrev pub opened_shield : History → Sheet → ℕ → Opening → Drawing
+opened_shield h d s o = if o.options.shield then option_map_or (λ c. held_mark h d s c.0 c.1.scope) (held_off h s o) Blank else Blank
 
 -- the shield of scope s, if it has one that held
-unfoldable pub shield_text : History → Sheet → ℕ → List ℕ
-shield_text h d s = option_map_or (opened_shield h d s) (opening h s) []
+unfoldable pub shield_figures : History → Sheet → ℕ → Drawing
+shield_figures h d s = option_map_or (opened_shield h d s) (opening h s) Blank

@@ -57,7 +57,7 @@ fn outwards<R: Readings>(
     owns[(scope - readings.retired_scopes() - 1) as usize]
 }
 
-/// The actor's innermost scope before the place, where so many scopes had been opened. All that it had opened behind
+/// The actor's innermost scope before the place, if so many scopes had been opened. All that it had opened behind
 /// the scope to begin with is closed there.
 fn innermost_before<R: Readings>(
     readings: &R,

@@ -2,7 +2,8 @@
 ghost use Rattle.std.specs.Prelude.{◌≡◌, ◌++◌, OnOk, Some, string_bytes};
 ghost use Rattle.scope_checks.specs.Questions.{cancellation};
 ghost use Rattle.scope_rules.specs.Cancels.{cancelled_before};
-ghost use Rattle.run_picture.specs.Cancels.{cancel_drawn, cancel_text, fails_by, is_accident, joined_by, source_y};
+ghost use Rattle.run_picture.specs.Cancels.{cancel_drawn, cancel_figures, fails_by, is_accident, joined_by, source_y};
+ghost use Rattle.run_picture.specs.Drawing.{shown};
 ghost use Rattle.run_picture.specs.Chart.{IsChartOf};
 ghost use Rattle.run_picture.specs.Sheet.{sheet_of};
 
@@ -99,7 +100,7 @@ fn append_reached<R: Readings>(
     cause: Cause,
 ) -> Result<(), AllocError>
     requires { IsChartOf chart.now chart.now.drawn (R.history readings.now) }
-    ensures { OnOk result (string_bytes text.new ≡ string_bytes text.old ++ cancel_drawn (R.history readings.now) (sheet_of chart.now.drawn) scope row place cause) }
+    ensures { OnOk result (string_bytes text.new ≡ string_bytes text.old ++ shown (cancel_drawn (R.history readings.now) (sheet_of chart.now.drawn) scope row place cause)) }
 {
     let y = row_y(row);
     let line = Reach {
@@ -118,7 +119,7 @@ fn append_reached<R: Readings>(
 }
 
 /// Appends the cancel that reached the scope, if one did and the scope has a row. It is refused for memory alone.
-#[tactic(auto, unfolding(crate::specs::Cancels::cancel_text))]
+#[tactic(auto, unfolding(crate::specs::Cancels::cancel_figures))]
 pub(crate) fn append_cancel<R: Readings>(
     readings: &R,
     chart: &Chart<'_>,
@@ -126,7 +127,7 @@ pub(crate) fn append_cancel<R: Readings>(
     scope: ScopeId,
 ) -> Result<(), AllocError>
     requires { IsChartOf chart.now chart.now.drawn (R.history readings.now) }
-    ensures { OnOk result (string_bytes text.new ≡ string_bytes text.old ++ cancel_text (R.history readings.now) (sheet_of chart.now.drawn) scope) }
+    ensures { OnOk result (string_bytes text.new ≡ string_bytes text.old ++ shown (cancel_figures (R.history readings.now) (sheet_of chart.now.drawn) scope)) }
 {
     let Some(row) = scope_row(readings, chart, scope) else {
         return Ok(());

@@ -181,7 +181,7 @@ impl fmt::Display for Span {
     }
 }
 
-/// What is read where a bar is pointed at.
+/// What is read if a bar is pointed at.
 #[derive(Clone, Copy)]
 pub struct Title {
     pub subject: Subject,

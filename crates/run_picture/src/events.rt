@@ -1,9 +1,10 @@
 //! What an event draws in the row of the scope that it names.
 ghost use Rattle.std.specs.Prelude.{◌≡◌, ◌++◌, OnOk, Some, string_bytes};
 ghost use Rattle.scope_rules.specs.History.{tick_of};
+ghost use Rattle.run_picture.specs.Drawing.{shown};
 ghost use Rattle.run_picture.specs.Chart.{IsChartOf};
 ghost use Rattle.run_picture.specs.Sheet.{sheet_of};
-ghost use Rattle.run_picture.specs.Events.{drawn, event_mark, event_scope, event_text, marked_text, moment_line};
+ghost use Rattle.run_picture.specs.Events.{drawn, event_mark, event_scope, event_figures, marked, moment_line};
 
 use crate::chart::Chart;
 use crate::marks::Mark;
@@ -50,7 +51,7 @@ fn append_marked<R: Readings>(
     mark: Mark,
 ) -> Result<(), AllocError>
     requires { IsChartOf chart.now chart.now.drawn (R.history readings.now) }
-    ensures { OnOk result (string_bytes text.new ≡ string_bytes text.old ++ marked_text (R.history readings.now) (sheet_of chart.now.drawn) place scope mark) }
+    ensures { OnOk result (string_bytes text.new ≡ string_bytes text.old ++ shown (marked (R.history readings.now) (sheet_of chart.now.drawn) place scope mark)) }
 {
     let Some(row) = scope_row(readings, chart, scope) else {
         return Ok(());
@@ -60,7 +61,7 @@ fn append_marked<R: Readings>(
 }
 
 /// Appends what the event at the place draws, if one stands there. It is refused for memory alone.
-#[tactic(auto, unfolding(crate::specs::Events::event_text))]
+#[tactic(auto, unfolding(crate::specs::Events::event_figures))]
 pub(crate) fn append_event<R: Readings>(
     readings: &R,
     chart: &Chart<'_>,
@@ -68,7 +69,7 @@ pub(crate) fn append_event<R: Readings>(
     place: u32,
 ) -> Result<(), AllocError>
     requires { IsChartOf chart.now chart.now.drawn (R.history readings.now) }
-    ensures { OnOk result (string_bytes text.new ≡ string_bytes text.old ++ event_text (R.history readings.now) (sheet_of chart.now.drawn) place) }
+    ensures { OnOk result (string_bytes text.new ≡ string_bytes text.old ++ shown (event_figures (R.history readings.now) (sheet_of chart.now.drawn) place)) }
 {
     let Some(event) = chart.drawn.events.get(place as usize) else {
         return Ok(());
@@ -101,7 +102,7 @@ pub(crate) fn append_moment<R: Readings>(
     place: u32,
 ) -> Result<(), AllocError>
     requires { IsChartOf chart.now chart.now.drawn (R.history readings.now) }
-    ensures { OnOk result (string_bytes text.new ≡ string_bytes text.old ++ moment_line (R.history readings.now) (sheet_of chart.now.drawn) place) }
+    ensures { OnOk result (string_bytes text.new ≡ string_bytes text.old ++ shown (moment_line (R.history readings.now) (sheet_of chart.now.drawn) place)) }
 {
     let Some(event) = chart.drawn.events.get(place as usize) else {
         return Ok(());

@@ -2,9 +2,10 @@
 ghost use Rattle.std.specs.Prelude.{◌≡◌, ◌<◌, ◌-◌, ◌++◌, OnOk, Some, is_some, string_bytes, true};
 ghost use Rattle.scope_rules.specs.History.{forking, opening};
 ghost use Rattle.scope_rules.specs.Tasks.{state};
+ghost use Rattle.run_picture.specs.Drawing.{shown};
 ghost use Rattle.run_picture.specs.Chart.{IsChartOf};
 ghost use Rattle.run_picture.specs.Sheet.{sheet_of};
-ghost use Rattle.run_picture.specs.Lanes.{band_shade, band_text, bar_in, cancelled_text, closing_text, covering_place, earlier, end_mark, end_shade, ended_text, folded_lane, folded_shade, fork_line, fork_of, forked_text, label_in, life_text, opened_text, row_text, running_fate, running_shade, running_text, scope_lane, scope_of, task_lane};
+ghost use Rattle.run_picture.specs.Lanes.{band_shade, band, bar_in, cancelled_bar, closing_bar, covering_place, earlier, end_mark, end_shade, end_figure, folded_lane, folded_shade, fork_drawn, fork_of, forked_lane, label_in, life_drawn, opened_lane, row_drawn, running_fate, running_shade, running_bar, scope_lane, scope_of, task_lane};
 
 use crate::cancels::{is_accident, is_cancelled_before};
 use crate::captions::{Fate, Label, ShownFork, ShownScope, Subject, Title};
@@ -132,7 +133,7 @@ fn append_running<R: Readings>(
 ) -> Result<(), AllocError>
     requires chart { IsChartOf chart.now chart.now.drawn (R.history readings.now) }
     requires forked { forking (R.history readings.now) task ≡ Some forked }
-    ensures { OnOk result (string_bytes text.new ≡ string_bytes text.old ++ running_text (R.history readings.now) (sheet_of chart.now.drawn) y task forked) }
+    ensures { OnOk result (string_bytes text.new ≡ string_bytes text.old ++ shown (running_bar (R.history readings.now) (sheet_of chart.now.drawn) y task forked)) }
 {
     let Some(started) = start_of(readings, chart, task) else {
         return Ok(());
@@ -162,7 +163,7 @@ fn append_end<R: Readings>(
 ) -> Result<(), AllocError>
     requires chart { IsChartOf chart.now chart.now.drawn (R.history readings.now) }
     requires forked { is_some (forking (R.history readings.now) task) ≡ true }
-    ensures { OnOk result (string_bytes text.new ≡ string_bytes text.old ++ ended_text (R.history readings.now) (sheet_of chart.now.drawn) y task) }
+    ensures { OnOk result (string_bytes text.new ≡ string_bytes text.old ++ shown (end_figure (R.history readings.now) (sheet_of chart.now.drawn) y task)) }
 {
     let Some(ended) = end_of(readings, chart, task) else {
         return Ok(());
@@ -184,7 +185,7 @@ fn append_life<R: Readings>(
 ) -> Result<(), AllocError>
     requires chart { IsChartOf chart.now chart.now.drawn (R.history readings.now) }
     requires forked { forking (R.history readings.now) task ≡ Some forked }
-    ensures { OnOk result (string_bytes text.new ≡ string_bytes text.old ++ life_text (R.history readings.now) (sheet_of chart.now.drawn) y task forked) }
+    ensures { OnOk result (string_bytes text.new ≡ string_bytes text.old ++ shown (life_drawn (R.history readings.now) (sheet_of chart.now.drawn) y task forked)) }
 {
     let until = start_of(readings, chart, task).or(end_of(readings, chart, task));
     let waiting = bar_of(
@@ -204,7 +205,7 @@ fn append_life<R: Readings>(
 
 /// Appends that the task never starts, as its scope was cancelled before, or else what comes of it. It is refused for
 /// memory alone.
-#[tactic(auto, unfolding(crate::specs::Lanes::fork_line))]
+#[tactic(auto, unfolding(crate::specs::Lanes::fork_drawn))]
 fn append_fork_line<R: Readings>(
     readings: &R,
     chart: &Chart<'_>,
@@ -215,7 +216,7 @@ fn append_fork_line<R: Readings>(
 ) -> Result<(), AllocError>
     requires chart { IsChartOf chart.now chart.now.drawn (R.history readings.now) }
     requires forked { forking (R.history readings.now) task ≡ Some forked }
-    ensures { OnOk result (string_bytes text.new ≡ string_bytes text.old ++ fork_line (R.history readings.now) (sheet_of chart.now.drawn) y task forked) }
+    ensures { OnOk result (string_bytes text.new ≡ string_bytes text.old ++ shown (fork_drawn (R.history readings.now) (sheet_of chart.now.drawn) y task forked)) }
 {
     if is_cancelled_before(readings, forked.scope, forked.place) {
         let mark = Mark::Never { task };
@@ -238,7 +239,7 @@ fn append_forked<R: Readings>(
 ) -> Result<(), AllocError>
     requires chart { IsChartOf chart.now chart.now.drawn (R.history readings.now) }
     requires forked { forking (R.history readings.now) task ≡ Some forked }
-    ensures { OnOk result (string_bytes text.new ≡ string_bytes text.old ++ forked_text (R.history readings.now) (sheet_of chart.now.drawn) row depth task forked) }
+    ensures { OnOk result (string_bytes text.new ≡ string_bytes text.old ++ shown (forked_lane (R.history readings.now) (sheet_of chart.now.drawn) row depth task forked)) }
 {
     let y = row_y(row);
     let label = label_of(depth, y, fork_of(task, forked), Fate::Open);
@@ -257,7 +258,7 @@ fn append_task<R: Readings>(
     task: TaskId,
 ) -> Result<(), AllocError>
     requires { IsChartOf chart.now chart.now.drawn (R.history readings.now) }
-    ensures { OnOk result (string_bytes text.new ≡ string_bytes text.old ++ task_lane (R.history readings.now) (sheet_of chart.now.drawn) row depth task) }
+    ensures { OnOk result (string_bytes text.new ≡ string_bytes text.old ++ shown (task_lane (R.history readings.now) (sheet_of chart.now.drawn) row depth task)) }
 {
     match readings.forking(task) {
         Some(forking) => append_forked(readings, chart, text, row, depth, task, forking),
@@ -332,7 +333,7 @@ fn append_cancelled<R: Readings>(
 ) -> Result<(), AllocError>
     requires chart { IsChartOf chart.now chart.now.drawn (R.history readings.now) }
     requires opened { opening (R.history readings.now) scope ≡ Some opened }
-    ensures { OnOk result (string_bytes text.new ≡ string_bytes text.old ++ cancelled_text (R.history readings.now) (sheet_of chart.now.drawn) y scope opened) }
+    ensures { OnOk result (string_bytes text.new ≡ string_bytes text.old ++ shown (cancelled_bar (R.history readings.now) (sheet_of chart.now.drawn) y scope opened)) }
 {
     let Some((place, cause)) = cancellation(readings, scope) else {
         return Ok(());
@@ -367,7 +368,7 @@ fn append_closing<R: Readings>(
 ) -> Result<(), AllocError>
     requires chart { IsChartOf chart.now chart.now.drawn (R.history readings.now) }
     requires opened { opening (R.history readings.now) scope ≡ Some opened }
-    ensures { OnOk result (string_bytes text.new ≡ string_bytes text.old ++ closing_text (R.history readings.now) (sheet_of chart.now.drawn) y scope opened) }
+    ensures { OnOk result (string_bytes text.new ≡ string_bytes text.old ++ shown (closing_bar (R.history readings.now) (sheet_of chart.now.drawn) y scope opened)) }
 {
     let began = begin_of(readings, chart, scope);
     let Some(place) = earlier(began, covering_place(readings, scope)) else {
@@ -400,7 +401,7 @@ fn append_band<R: Readings>(
 ) -> Result<(), AllocError>
     requires chart { IsChartOf chart.now chart.now.drawn (R.history readings.now) }
     requires opened { opening (R.history readings.now) scope ≡ Some opened }
-    ensures { OnOk result (string_bytes text.new ≡ string_bytes text.old ++ band_text (R.history readings.now) (sheet_of chart.now.drawn) y scope opened shade fate) }
+    ensures { OnOk result (string_bytes text.new ≡ string_bytes text.old ++ shown (band (R.history readings.now) (sheet_of chart.now.drawn) y scope opened shade fate)) }
 {
     let closed = close_of(readings, chart, scope);
     let bar = bar_of(
@@ -428,7 +429,7 @@ fn append_opened<R: Readings>(
 ) -> Result<(), AllocError>
     requires chart { IsChartOf chart.now chart.now.drawn (R.history readings.now) }
     requires opened { opening (R.history readings.now) scope ≡ Some opened }
-    ensures { OnOk result (string_bytes text.new ≡ string_bytes text.old ++ opened_text (R.history readings.now) (sheet_of chart.now.drawn) row depth scope opened) }
+    ensures { OnOk result (string_bytes text.new ≡ string_bytes text.old ++ shown (opened_lane (R.history readings.now) (sheet_of chart.now.drawn) row depth scope opened)) }
 {
     let y = row_y(row);
     let label = label_of(depth, y, scope_of(scope, opened), Fate::Open);
@@ -452,7 +453,7 @@ fn append_folded<R: Readings>(
 ) -> Result<(), AllocError>
     requires chart { IsChartOf chart.now chart.now.drawn (R.history readings.now) }
     requires opened { opening (R.history readings.now) scope ≡ Some opened }
-    ensures { OnOk result (string_bytes text.new ≡ string_bytes text.old ++ folded_lane (R.history readings.now) (sheet_of chart.now.drawn) row depth scope opened folded) }
+    ensures { OnOk result (string_bytes text.new ≡ string_bytes text.old ++ shown (folded_lane (R.history readings.now) (sheet_of chart.now.drawn) row depth scope opened folded)) }
 {
     let y = row_y(row);
     let fate = Fate::Folded(folded);
@@ -482,7 +483,7 @@ fn append_scope<R: Readings>(
     folded: Option<Folded>,
 ) -> Result<(), AllocError>
     requires { IsChartOf chart.now chart.now.drawn (R.history readings.now) }
-    ensures { OnOk result (string_bytes text.new ≡ string_bytes text.old ++ scope_lane (R.history readings.now) (sheet_of chart.now.drawn) row depth scope folded) }
+    ensures { OnOk result (string_bytes text.new ≡ string_bytes text.old ++ shown (scope_lane (R.history readings.now) (sheet_of chart.now.drawn) row depth scope folded)) }
 {
     let Some(opening) = readings.opening(scope) else {
         return Ok(());
@@ -502,7 +503,7 @@ pub(crate) fn append_row<R: Readings>(
     row: Row,
 ) -> Result<(), AllocError>
     requires { IsChartOf chart.now chart.now.drawn (R.history readings.now) }
-    ensures { OnOk result (string_bytes text.new ≡ string_bytes text.old ++ row_text (R.history readings.now) (sheet_of chart.now.drawn) index row) }
+    ensures { OnOk result (string_bytes text.new ≡ string_bytes text.old ++ shown (row_drawn (R.history readings.now) (sheet_of chart.now.drawn) index row)) }
 {
     match node_of(readings, row.node) {
         Some(Node::Task(task)) => append_task(readings, chart, text, index, row.depth, task),

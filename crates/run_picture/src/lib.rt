@@ -5,12 +5,12 @@
 //! indented by depth. If they are more than the view allows, a closed scope is one row with all that lies in it, and
 //! says how many tasks these are and how many of them failed. A view may show one scope alone.
 //!
-//! The way to the right is time where the caller hands the times of the events, and else their order; the picture says
+//! The way to the right is time if the caller hands the times of the events, and else their order; the picture says
 //! which. It fits the page that the view asks for, and is scaled down as a whole up to a fifth, so that some 200 rows
 //! are one screen. What comes later is drawn over what comes before.
 //!
 //! - A scope is a band from its opening to its close, or to the right edge, with its number, its owner if that is a
-//!   task, its joiner and its options at the left. A band that ended is told from an open one. It changes its colour
+//!   task, its joiner and its options at the left. A band that ended is distinguished from an open one. It changes its colour
 //!   where the scope becomes cancelled: by an accident, which is a deadline, a call, a joiner that gave up or a close
 //!   before the join, or else by a normal end. A line in it says from where on it is closing, by its own close or by
 //!   another's that covers it.
@@ -23,9 +23,9 @@
 //! - A shield that holds is a mark at the cancel of the scope around the shielded one, in the row of the latter, which
 //!   is open then, and not cancelled itself.
 //!
-//! Bars, labels and marks say in words what they are, where they are pointed at, with the line of the script where the
+//! Bars, labels and marks say in words what they are, where they are pointed at, with the line of the script if the
 //! caller hands the lines, or else the number of the event, from 1. Numbers are decimal, and names have no character
-//! that XML keeps for itself: what is written is XML, without more ado. The colours are told apart by those who see
+//! that XML keeps for itself: what is written is XML, without more ado. The colours are distinguished by those who see
 //! some of them alike, in light and in the dark. No number is larger than viewers take.
 //!
 //! `trace_of` writes the run as Chrome trace events in place of a picture.
@@ -40,6 +40,7 @@ mod forest;
 mod frame;
 mod landmarks;
 mod lanes;
+pub mod laws;
 mod marks;
 mod nodes;
 mod picture;
@@ -49,8 +50,10 @@ mod shields;
 mod sites;
 mod slices;
 mod spots;
+mod stamps;
 mod strokes;
 mod trace;
+mod turns;
 mod view;
 
 pub use captions::{Fate, Label, ShownFork, ShownScope, Span, Subject, Title};
@@ -61,8 +64,9 @@ pub use landmarks::Landmark;
 pub use marks::{Mark, ShownMark};
 pub use picture::{picture_of, picture_with};
 pub use rows::{Class, Folded, Node, Row};
-pub use slices::{Instant, ScopeBegin, ScopeEnd, TaskBegin, TaskEnd};
+pub use slices::{Arrow, Instant, ScopeSlice, Stretch, TaskSlice};
 pub use spots::Spot;
+pub use stamps::{open_times, start_times};
 pub use strokes::{Bar, Reach, Shade, Tick};
 pub use trace::trace_of;
 pub use view::View;

@@ -178,7 +178,7 @@ impl fmt::Display for ShownAt {
     }
 }
 
-/// What is read where a mark is pointed at.
+/// What is read if a mark is pointed at.
 #[derive(Clone, Copy)]
 struct ShownTitle(ShownMark);
 

@@ -1,13 +1,14 @@
 //! The picture.
-ghost use Rattle.std.specs.Prelude.{◌≡◌, ◌++◌, IfOk, OnOk, string_bytes};
-ghost use Rattle.std.specs.List.{flat_map};
+ghost use Rattle.std.specs.Prelude.{◌≡◌, ◌++◌, IfOk, OnOk, length, string_bytes};
+ghost use Rattle.run_picture.specs.Frame.{foot_text};
 ghost use Rattle.scope_rules.specs.History.{scope_numbers};
-ghost use Rattle.run_picture.specs.Cancels.{cancel_text};
-ghost use Rattle.run_picture.specs.Chart.{IsChartOf};
+ghost use Rattle.run_picture.specs.Cancels.{cancel_figures};
+ghost use Rattle.run_picture.specs.Drawing.{all, shown};
+ghost use Rattle.run_picture.specs.Chart.{IsChartOf, drawn_rows};
 ghost use Rattle.run_picture.specs.Sheet.{sheet_of};
-ghost use Rattle.run_picture.specs.Events.{event_text, moment_line};
-ghost use Rattle.run_picture.specs.Shields.{shield_text};
-ghost use Rattle.run_picture.specs.Picture.{body_text, drawn_text, indexes, picture_text, places, row_at_text};
+ghost use Rattle.run_picture.specs.Events.{event_figures, moment_line};
+ghost use Rattle.run_picture.specs.Shields.{shield_figures};
+ghost use Rattle.run_picture.specs.Picture.{drawn_text, figures, indexes, picture_text, places, row_at};
 
 use crate::cancels::append_cancel;
 use crate::chart::{Chart, Drawn, chart_of};
@@ -21,7 +22,7 @@ use scope_rules::Event;
 use std::alloc::{AllocError, Global};
 
 /// Appends the row with this index. It is refused for memory alone.
-#[tactic(auto, unfolding(crate::specs::Picture::row_at_text))]
+#[tactic(auto, unfolding(crate::specs::Picture::row_at))]
 fn append_row_at<R: Readings>(
     readings: &R,
     chart: &Chart<'_>,
@@ -29,7 +30,7 @@ fn append_row_at<R: Readings>(
     index: u32,
 ) -> Result<(), AllocError>
     requires { IsChartOf chart.now chart.now.drawn (R.history readings.now) }
-    ensures { OnOk result (string_bytes text.new ≡ string_bytes text.old ++ row_at_text (R.history readings.now) (sheet_of chart.now.drawn) index) }
+    ensures { OnOk result (string_bytes text.new ≡ string_bytes text.old ++ shown (row_at (R.history readings.now) (sheet_of chart.now.drawn) index)) }
 {
     match chart.rows.get(index as usize) {
         Some(row) => append_row(readings, chart, text, index, *row),
@@ -38,14 +39,14 @@ fn append_row_at<R: Readings>(
 }
 
 /// Appends the rows. It is refused for memory alone.
-#[tactic(auto, using(std::proofs::lemmas::Grind::common_steps, scope_log::proofs::LogSteps::flat_map_more))]
+#[tactic(auto, using(std::proofs::lemmas::Grind::common_steps, crate::proofs::Drawings::all_more))]
 fn append_rows_of<R: Readings>(
     readings: &R,
     chart: &Chart<'_>,
     text: &mut String,
 ) -> Result<(), AllocError>
     requires { IsChartOf chart.now chart.now.drawn (R.history readings.now) }
-    ensures { OnOk result (string_bytes text.new ≡ string_bytes text.old ++ flat_map (row_at_text (R.history readings.now) (sheet_of chart.now.drawn)) (indexes (R.history readings.now) (sheet_of chart.now.drawn))) }
+    ensures { OnOk result (string_bytes text.new ≡ string_bytes text.old ++ shown (all (row_at (R.history readings.now) (sheet_of chart.now.drawn)) (indexes (R.history readings.now) (sheet_of chart.now.drawn)))) }
 {
     for index in 0..chart.height {
         append_row_at(readings, chart, text, index)?;
@@ -54,14 +55,14 @@ fn append_rows_of<R: Readings>(
 }
 
 /// Appends what the events draw, one after the other. It is refused for memory alone.
-#[tactic(auto, using(std::proofs::lemmas::Grind::common_steps, scope_log::proofs::LogSteps::flat_map_more))]
+#[tactic(auto, using(std::proofs::lemmas::Grind::common_steps, crate::proofs::Drawings::all_more))]
 fn append_events<R: Readings>(
     readings: &R,
     chart: &Chart<'_>,
     text: &mut String,
 ) -> Result<(), AllocError>
     requires { IsChartOf chart.now chart.now.drawn (R.history readings.now) }
-    ensures { OnOk result (string_bytes text.new ≡ string_bytes text.old ++ flat_map (event_text (R.history readings.now) (sheet_of chart.now.drawn)) (places (R.history readings.now))) }
+    ensures { OnOk result (string_bytes text.new ≡ string_bytes text.old ++ shown (all (event_figures (R.history readings.now) (sheet_of chart.now.drawn)) (places (R.history readings.now)))) }
 {
     for place in 0..chart.columns {
         append_event(readings, chart, text, place)?;
@@ -70,14 +71,14 @@ fn append_events<R: Readings>(
 }
 
 /// Appends the lines of the ticks. It is refused for memory alone.
-#[tactic(auto, using(std::proofs::lemmas::Grind::common_steps, scope_log::proofs::LogSteps::flat_map_more))]
+#[tactic(auto, using(std::proofs::lemmas::Grind::common_steps, crate::proofs::Drawings::all_more))]
 fn append_moments<R: Readings>(
     readings: &R,
     chart: &Chart<'_>,
     text: &mut String,
 ) -> Result<(), AllocError>
     requires { IsChartOf chart.now chart.now.drawn (R.history readings.now) }
-    ensures { OnOk result (string_bytes text.new ≡ string_bytes text.old ++ flat_map (moment_line (R.history readings.now) (sheet_of chart.now.drawn)) (places (R.history readings.now))) }
+    ensures { OnOk result (string_bytes text.new ≡ string_bytes text.old ++ shown (all (moment_line (R.history readings.now) (sheet_of chart.now.drawn)) (places (R.history readings.now)))) }
 {
     for place in 0..chart.columns {
         append_moment(readings, chart, text, place)?;
@@ -86,14 +87,14 @@ fn append_moments<R: Readings>(
 }
 
 /// Appends the cancels with what they reach. It is refused for memory alone.
-#[tactic(auto, using(std::proofs::lemmas::Grind::common_steps, scope_log::proofs::LogSteps::flat_map_more))]
+#[tactic(auto, using(std::proofs::lemmas::Grind::common_steps, crate::proofs::Drawings::all_more))]
 fn append_cancels<R: Readings>(
     readings: &R,
     chart: &Chart<'_>,
     text: &mut String,
 ) -> Result<(), AllocError>
     requires { IsChartOf chart.now chart.now.drawn (R.history readings.now) }
-    ensures { OnOk result (string_bytes text.new ≡ string_bytes text.old ++ flat_map (cancel_text (R.history readings.now) (sheet_of chart.now.drawn)) (scope_numbers (R.history readings.now))) }
+    ensures { OnOk result (string_bytes text.new ≡ string_bytes text.old ++ shown (all (cancel_figures (R.history readings.now) (sheet_of chart.now.drawn)) (scope_numbers (R.history readings.now)))) }
 {
     let before = readings.retired_scopes();
     let last = readings.scopes();
@@ -104,14 +105,14 @@ fn append_cancels<R: Readings>(
 }
 
 /// Appends the shields that held. It is refused for memory alone.
-#[tactic(auto, using(std::proofs::lemmas::Grind::common_steps, scope_log::proofs::LogSteps::flat_map_more))]
+#[tactic(auto, using(std::proofs::lemmas::Grind::common_steps, crate::proofs::Drawings::all_more))]
 fn append_shields<R: Readings>(
     readings: &R,
     chart: &Chart<'_>,
     text: &mut String,
 ) -> Result<(), AllocError>
     requires { IsChartOf chart.now chart.now.drawn (R.history readings.now) }
-    ensures { OnOk result (string_bytes text.new ≡ string_bytes text.old ++ flat_map (shield_text (R.history readings.now) (sheet_of chart.now.drawn)) (scope_numbers (R.history readings.now))) }
+    ensures { OnOk result (string_bytes text.new ≡ string_bytes text.old ++ shown (all (shield_figures (R.history readings.now) (sheet_of chart.now.drawn)) (scope_numbers (R.history readings.now)))) }
 {
     let before = readings.retired_scopes();
     let last = readings.scopes();
@@ -128,7 +129,7 @@ fn append_body<R: Readings>(
     text: &mut String,
 ) -> Result<(), AllocError>
     requires { IsChartOf chart.now chart.now.drawn (R.history readings.now) }
-    ensures { OnOk result (string_bytes text.new ≡ string_bytes text.old ++ body_text (R.history readings.now) (sheet_of chart.now.drawn)) }
+    ensures { OnOk result (string_bytes text.new ≡ string_bytes text.old ++ (shown (figures (R.history readings.now) (sheet_of chart.now.drawn)) ++ foot_text (length (drawn_rows (R.history readings.now) (sheet_of chart.now.drawn))))) }
 {
     append_moments(readings, chart, text)?;
     append_rows_of(readings, chart, text)?;

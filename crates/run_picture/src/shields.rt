@@ -1,9 +1,10 @@
 //! Which shields held off a cancel, and where.
 ghost use Rattle.std.specs.Prelude.{◌≡◌, ◌++◌, ◌+◌, ◌<◌, OnOk, Some, length, string_bytes};
 ghost use Rattle.scope_rules.specs.History.{opening};
+ghost use Rattle.run_picture.specs.Drawing.{shown};
 ghost use Rattle.run_picture.specs.Chart.{IsChartOf};
 ghost use Rattle.run_picture.specs.Sheet.{sheet_of};
-ghost use Rattle.run_picture.specs.Shields.{goes_on, held_off, held_text, opened_shield, shield_text};
+ghost use Rattle.run_picture.specs.Shields.{goes_on, held_off, held_mark, opened_shield, shield_figures};
 
 use crate::arounds::{around, closed_before};
 use crate::cancels::is_cancelled_before;
@@ -66,7 +67,7 @@ fn append_held<R: Readings>(
     source: ScopeId,
 ) -> Result<(), AllocError>
     requires { IsChartOf chart.now chart.now.drawn (R.history readings.now) }
-    ensures { OnOk result (string_bytes text.new ≡ string_bytes text.old ++ held_text (R.history readings.now) (sheet_of chart.now.drawn) scope place source) }
+    ensures { OnOk result (string_bytes text.new ≡ string_bytes text.old ++ shown (held_mark (R.history readings.now) (sheet_of chart.now.drawn) scope place source)) }
 {
     let Some(row) = scope_row(readings, chart, scope) else {
         return Ok(());
@@ -80,7 +81,7 @@ fn append_held<R: Readings>(
 }
 
 /// Appends the shield of the scope, if it has one that held. It is refused for memory alone.
-#[tactic(auto, unfolding(crate::specs::Shields::shield_text))]
+#[tactic(auto, unfolding(crate::specs::Shields::shield_figures))]
 pub(crate) fn append_shield<R: Readings>(
     readings: &R,
     chart: &Chart<'_>,
@@ -88,7 +89,7 @@ pub(crate) fn append_shield<R: Readings>(
     scope: ScopeId,
 ) -> Result<(), AllocError>
     requires { IsChartOf chart.now chart.now.drawn (R.history readings.now) }
-    ensures { OnOk result (string_bytes text.new ≡ string_bytes text.old ++ shield_text (R.history readings.now) (sheet_of chart.now.drawn) scope) }
+    ensures { OnOk result (string_bytes text.new ≡ string_bytes text.old ++ shown (shield_figures (R.history readings.now) (sheet_of chart.now.drawn) scope)) }
 {
     let Some(opening) = readings.opening(scope) else {
         return Ok(());

@@ -12,6 +12,7 @@ use crate::chart::{Chart, Drawn};
 use crate::marks::{Mark, ShownMark};
 use crate::nodes::{node_count, scope_node};
 use crate::spots::Spot;
+use crate::turns::{closed_at, ended_at, started_at};
 use crate::view::x_at;
 use scope_checks::Readings;
 use scope_rules::{ScopeId, TaskId};
@@ -116,8 +117,7 @@ pub(crate) fn start_of<R: Readings>(readings: &R, chart: &Chart<'_>, task: TaskI
     requires forked { is_some (forking (R.history readings.now) task) ≡ true }
     ensures { result ≡ first_place landmark.Started (R.history readings.now).events task }
 {
-    let _readings = readings;
-    chart.starts.place(task)
+    started_at(readings, &chart.starts, task)
 }
 
 /// Where the task ended, or was rejected, if it did.
@@ -126,8 +126,7 @@ pub(crate) fn end_of<R: Readings>(readings: &R, chart: &Chart<'_>, task: TaskId)
     requires forked { is_some (forking (R.history readings.now) task) ≡ true }
     ensures { result ≡ first_place landmark.Ended (R.history readings.now).events task }
 {
-    let _readings = readings;
-    chart.ends.place(task)
+    ended_at(readings, &chart.ends, task)
 }
 
 /// Where the scope was joined, if it was.
@@ -164,6 +163,5 @@ pub(crate) fn close_of<R: Readings>(
     requires opened { is_some (opening (R.history readings.now) scope) ≡ true }
     ensures { result ≡ closed_place (R.history readings.now) scope }
 {
-    let _readings = readings;
-    chart.nest.closes.place(scope)
+    closed_at(readings, &chart.nest.closes, scope)
 }

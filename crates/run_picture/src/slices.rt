@@ -1,33 +1,103 @@
 //! The records of a trace.
 ghost use Rattle.std.specs.Prelude.{Some};
-ghost use Rattle.run_picture.specs.Slices.{cause_args, end_args, instant_text, scope_begin, scope_end, task_begin, task_end};
+ghost use Rattle.run_picture.specs.Slices.{arrow_head, arrow_tail, arrow_text, cause_args, instant_text, result_text, scope_text, stretch_text, task_text};
 
 use scope_log::{ShownJoiner, ShownOptions};
-use scope_rules::{Actor, Cause, Name, Options, Policy, ScopeId, State, TaskId};
+use scope_rules::{Actor, Cause, Name, Options, Policy, ScopeId, State};
 use std::fmt;
 
-/// A scope is opened: its slice begins, on the track of its owner.
+/// A stretch of a track, in microseconds.
 #[derive(Clone, Copy)]
-pub struct ScopeBegin {
-    /// In microseconds.
+pub struct Stretch {
+    /// The track: 0 is main's, and each task has its own.
+    pub track: Actor,
     pub at: u64,
-    pub owner: Actor,
+    /// How long it lasts, if it ended.
+    pub lasts: Option<u64>,
+}
+
+impl fmt::Display for Stretch {
+    ghost output = { λ s. Some (stretch_text s) };
+
+    fn fmt<W: fmt::Write>(&self, f: &mut fmt::Formatter<W>) -> fmt::Result {
+        match self.lasts {
+            Some(micros) => write!(
+                f,
+                ",\n{{\"ph\":\"X\",\"pid\":1,\"tid\":{},\"ts\":{},\"dur\":{micros},\"name\":\"",
+                self.track, self.at
+            ),
+            None => write!(
+                f,
+                ",\n{{\"ph\":\"B\",\"pid\":1,\"tid\":{},\"ts\":{},\"name\":\"",
+                self.track, self.at
+            ),
+        }
+    }
+}
+
+/// What can be read of a task, if it ended.
+#[derive(Clone, Copy)]
+struct ShownResult(Option<State>);
+
+impl fmt::Display for ShownResult {
+    ghost output = { λ r. Some (result_text r.0) };
+
+    fn fmt<W: fmt::Write>(&self, f: &mut fmt::Formatter<W>) -> fmt::Result {
+        match self.0 {
+            None => Ok(()),
+            Some(state) => {
+                let word = state.word();
+                write!(f, ",\"is\":\"{word}\"")
+            },
+        }
+    }
+}
+
+/// A task, from its start on, on a track of its own.
+#[derive(Clone, Copy)]
+pub struct TaskSlice {
+    pub stretch: Stretch,
+    pub name: Name,
+    /// The scope that it was forked in.
+    pub scope: ScopeId,
+    /// What can be read of it, if it ended.
+    pub result: Option<State>,
+}
+
+impl fmt::Display for TaskSlice {
+    ghost output = { λ s. Some (task_text s) };
+
+    #[tactic(auto, unfolding(crate::specs::Slices::task_text))]
+    fn fmt<W: fmt::Write>(&self, f: &mut fmt::Formatter<W>) -> fmt::Result {
+        let result = ShownResult(self.result);
+        write!(
+            f,
+            "{}{}\",\"args\":{{\"scope\":{}{result}}}}}",
+            self.stretch, self.name, self.scope
+        )
+    }
+}
+
+/// A scope, from its opening on, on the track of its owner.
+#[derive(Clone, Copy)]
+pub struct ScopeSlice {
+    pub stretch: Stretch,
     pub scope: ScopeId,
     pub policy: Policy,
     pub options: Options,
 }
 
-impl fmt::Display for ScopeBegin {
-    ghost output = { λ b. Some (scope_begin b) };
+impl fmt::Display for ScopeSlice {
+    ghost output = { λ s. Some (scope_text s) };
 
-    #[tactic(auto, unfolding(crate::specs::Slices::scope_begin))]
+    #[tactic(auto, unfolding(crate::specs::Slices::scope_text))]
     fn fmt<W: fmt::Write>(&self, f: &mut fmt::Formatter<W>) -> fmt::Result {
         let joiner = ShownJoiner(self.policy);
         let options = ShownOptions(self.options);
         write!(
             f,
-            ",\n{{\"ph\":\"b\",\"cat\":\"r\",\"pid\":1,\"id\":{},\"ts\":{},\"name\":\"scope {} {joiner}{options}\"}}",
-            self.owner, self.at, self.scope
+            "{}scope {} {joiner}{options}\"}}",
+            self.stretch, self.scope
         )
     }
 }
@@ -50,94 +120,13 @@ impl fmt::Display for CauseArgs {
     }
 }
 
-/// A task gets its thread: its slice begins, on a track of its own.
-#[derive(Clone, Copy)]
-pub struct TaskBegin {
-    /// In microseconds.
-    pub at: u64,
-    pub task: TaskId,
-    pub name: Name,
-    /// The scope that it was forked in.
-    pub scope: ScopeId,
-}
-
-impl fmt::Display for TaskBegin {
-    ghost output = { λ r. Some (task_begin r) };
-
-    #[tactic(auto, unfolding(crate::specs::Slices::task_begin))]
-    fn fmt<W: fmt::Write>(&self, f: &mut fmt::Formatter<W>) -> fmt::Result {
-        write!(
-            f,
-            ",\n{{\"ph\":\"b\",\"cat\":\"r\",\"pid\":1,\"id\":{},\"ts\":{},\"name\":\"{}\",\"args\":{{\"scope\":{}}}}}",
-            self.task, self.at, self.name, self.scope
-        )
-    }
-}
-
-/// A task ends: its slice ends, with what can be read of it.
-#[derive(Clone, Copy)]
-pub struct TaskEnd {
-    /// In microseconds.
-    pub at: u64,
-    pub task: TaskId,
-    pub state: State,
-}
-
-impl fmt::Display for TaskEnd {
-    ghost output = { λ r. Some (task_end r) };
-
-    #[tactic(auto, unfolding(crate::specs::Slices::task_end))]
-    fn fmt<W: fmt::Write>(&self, f: &mut fmt::Formatter<W>) -> fmt::Result {
-        let args = EndArgs(self.state);
-        write!(
-            f,
-            ",\n{{\"ph\":\"e\",\"cat\":\"r\",\"pid\":1,\"id\":{},\"ts\":{},{args}}}",
-            self.task, self.at
-        )
-    }
-}
-
-/// What can be read of a task.
-#[derive(Clone, Copy)]
-struct EndArgs(State);
-
-impl fmt::Display for EndArgs {
-    ghost output = { λ e. Some (end_args e.0) };
-
-    fn fmt<W: fmt::Write>(&self, f: &mut fmt::Formatter<W>) -> fmt::Result {
-        let word = self.0.word();
-        write!(f, "\"args\":{{\"is\":\"{word}\"}}")
-    }
-}
-
-/// A scope is closed: its slice ends, on the track of its owner.
-#[derive(Clone, Copy)]
-pub struct ScopeEnd {
-    /// In microseconds.
-    pub at: u64,
-    pub owner: Actor,
-}
-
-impl fmt::Display for ScopeEnd {
-    ghost output = { λ r. Some (scope_end r) };
-
-    #[tactic(auto, unfolding(crate::specs::Slices::scope_end))]
-    fn fmt<W: fmt::Write>(&self, f: &mut fmt::Formatter<W>) -> fmt::Result {
-        write!(
-            f,
-            ",\n{{\"ph\":\"e\",\"cat\":\"r\",\"pid\":1,\"id\":{},\"ts\":{}}}",
-            self.owner, self.at
-        )
-    }
-}
-
 /// A cancel reaches a scope: an instant, on the track of its owner.
 #[derive(Clone, Copy)]
 pub struct Instant {
+    /// The owner of the scope that it reached.
+    pub track: Actor,
     /// In microseconds.
     pub at: u64,
-    /// Of the scope that it reached.
-    pub owner: Actor,
     pub scope: ScopeId,
     pub cause: Cause,
 }
@@ -150,8 +139,65 @@ impl fmt::Display for Instant {
         let cause = CauseArgs(self.cause);
         write!(
             f,
-            ",\n{{\"ph\":\"n\",\"cat\":\"r\",\"pid\":1,\"id\":{},\"ts\":{},\"name\":\"scope {}\",{cause}}}",
-            self.owner, self.at, self.scope
+            ",\n{{\"ph\":\"i\",\"s\":\"t\",\"pid\":1,\"tid\":{},\"ts\":{},\"name\":\"cancel {}\",{cause}}}",
+            self.track, self.at, self.scope
         )
+    }
+}
+
+/// An arrow of a cancel, from the track where it was made to that of the scope that it reached.
+#[derive(Clone, Copy)]
+pub struct Arrow {
+    /// In microseconds.
+    pub at: u64,
+    /// The scope that it reached, as the arrow's number.
+    pub scope: ScopeId,
+    /// The owner of the scope whose own cancel it was.
+    pub from: Actor,
+    /// The owner of the scope that it reached.
+    pub to: Actor,
+}
+
+/// Where an arrow begins.
+#[derive(Clone, Copy)]
+struct Tail(Arrow);
+
+impl fmt::Display for Tail {
+    ghost output = { λ t. Some (arrow_tail t.0) };
+
+    #[tactic(auto, unfolding(crate::specs::Slices::arrow_tail))]
+    fn fmt<W: fmt::Write>(&self, f: &mut fmt::Formatter<W>) -> fmt::Result {
+        write!(
+            f,
+            ",\n{{\"ph\":\"s\",\"cat\":\"c\",\"name\":\"cancel\",\"id\":{},\"pid\":1,\"tid\":{},\"ts\":{}}}",
+            self.0.scope, self.0.from, self.0.at
+        )
+    }
+}
+
+/// Where it ends.
+#[derive(Clone, Copy)]
+struct Head(Arrow);
+
+impl fmt::Display for Head {
+    ghost output = { λ h. Some (arrow_head h.0) };
+
+    #[tactic(auto, unfolding(crate::specs::Slices::arrow_head))]
+    fn fmt<W: fmt::Write>(&self, f: &mut fmt::Formatter<W>) -> fmt::Result {
+        write!(
+            f,
+            ",\n{{\"ph\":\"f\",\"bp\":\"e\",\"cat\":\"c\",\"name\":\"cancel\",\"id\":{},\"pid\":1,\"tid\":{},\"ts\":{}}}",
+            self.0.scope, self.0.to, self.0.at
+        )
+    }
+}
+
+impl fmt::Display for Arrow {
+    ghost output = { λ a. Some (arrow_text a) };
+
+    fn fmt<W: fmt::Write>(&self, f: &mut fmt::Formatter<W>) -> fmt::Result {
+        let tail = Tail(*self);
+        let head = Head(*self);
+        write!(f, "{tail}{head}")
     }
 }

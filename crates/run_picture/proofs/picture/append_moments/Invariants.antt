@@ -1,10 +1,11 @@
 -- Those so far.
 use Rattle.std.proofs.Common.{◌≡◌, ◌++◌, string_bytes}
-use Rattle.std.specs.List.{flat_map, range_with_len}
+use Rattle.std.specs.List.{range_with_len}
 use Rattle.run_picture.specs.Events.{moment_line}
+use Rattle.run_picture.specs.Drawing.{all, shown}
 use Rattle.run_picture.specs.Sheet.{sheet_of}
 use Rattle.run_picture.proofs.picture.append_moments.Given as goal
 
 abbrev pub invariant-loop-place : goal.invariant-loop-place
 invariant-loop-place g l =
-    string_bytes l.text ≡ string_bytes l.fn.text ++ flat_map (moment_line (g.R.Readings.history l.readings) (sheet_of l.chart.drawn)) (range_with_len 0 l.place)
+    string_bytes l.text ≡ string_bytes l.fn.text ++ shown (all (moment_line (g.R.Readings.history l.readings) (sheet_of l.chart.drawn)) (range_with_len 0 l.place))

@@ -1,11 +1,12 @@
 -- Those with the numbers so far.
 use Rattle.std.proofs.Common.{◌≡◌, ◌++◌, ◌+◌, string_bytes}
-use Rattle.std.specs.List.{flat_map, range_with_len}
-use Rattle.run_picture.specs.Shields.{shield_text}
+use Rattle.std.specs.List.{range_with_len}
+use Rattle.run_picture.specs.Shields.{shield_figures}
+use Rattle.run_picture.specs.Drawing.{all, shown}
 use Rattle.run_picture.specs.Sheet.{sheet_of}
 use Rattle.run_picture.proofs.picture.append_shields.Given as goal
 
 abbrev pub invariant-loop-index : goal.invariant-loop-index
 invariant-loop-index g l =
     let h = g.R.Readings.history l.readings in
-    string_bytes l.text ≡ string_bytes l.fn.text ++ flat_map (shield_text h (sheet_of l.chart.drawn)) (range_with_len (h.base.scopes + 1) l.index)
+    string_bytes l.text ≡ string_bytes l.fn.text ++ shown (all (shield_figures h (sheet_of l.chart.drawn)) (range_with_len (h.base.scopes + 1) l.index))

@@ -4,7 +4,7 @@ use Rattle.std.proofs.lemmas.Option.{slice_get-get_or}
 use Rattle.run_picture.specs.declared.forest.Placed.{Placed}
 use Rattle.run_picture.specs.Rows.{folded_from, folded_in}
 use Rattle.scope_rules.proofs.Prefixes.{take_whole}
-use Rattle.run_picture.proofs.Laws.{folded_nothing}
+use Rattle.run_picture.proofs.Lossless.{folded_nothing}
 use Rattle.run_picture.proofs.Folding.{folded_more}
 use Rattle.run_picture.proofs.rows.folded_rows.Goals as goal
 

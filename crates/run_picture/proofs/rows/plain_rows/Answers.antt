@@ -2,7 +2,7 @@
 use Rattle.std.proofs.Common.{◌∙◌, arith, ap, map}
 use Rattle.scope_rules.proofs.Prefixes.{take_whole}
 use Rattle.run_picture.specs.Rows.{plain}
-use Rattle.run_picture.proofs.Laws.{unfolded_nothing}
+use Rattle.run_picture.proofs.Lossless.{unfolded_nothing}
 use Rattle.run_picture.proofs.rows.plain_rows.Goals as goal
 
 pub returns-clause-whole : goal.returns-clause-whole

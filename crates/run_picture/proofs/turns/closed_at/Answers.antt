@@ -4,10 +4,10 @@ use Rattle.scope_rules.specs.History.{opened_count}
 use Rattle.run_picture.proofs.Searched.{index_of}
 use Rattle.run_picture.proofs.Showing.{kept_place}
 use Rattle.run_picture.specs.declared.landmarks.Landmark.TheVariants as landmark
-use Rattle.run_picture.proofs.sites.close_of.Goals as goal
+use Rattle.run_picture.proofs.turns.closed_at.Goals as goal
 
 pub returns : goal.returns
 returns g c =
     let h = g.R.Readings.history c.args.readings.now in
     let it = index_of h c.args.scope c.requires.opened in
-    kept_place c.args.chart.now.nest.closes landmark.Closed h.events h.base.scopes (opened_count h) it.0 c.args.scope c.place.result c.requires.chart.nest.closes (sym it.2) it.1 c.place.ensures
+    kept_place c.args.closes.now landmark.Closed h.events h.base.scopes (opened_count h) it.0 c.args.scope c.place.result c.requires.closes (sym it.2) it.1 c.place.ensures

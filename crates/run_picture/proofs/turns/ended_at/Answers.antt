@@ -2,10 +2,10 @@
 use Rattle.scope_rules.specs.History.{forked_count}
 use Rattle.run_picture.proofs.Showing.{kept_place, task_index}
 use Rattle.run_picture.specs.declared.landmarks.Landmark.TheVariants as landmark
-use Rattle.run_picture.proofs.sites.end_of.Goals as goal
+use Rattle.run_picture.proofs.turns.ended_at.Goals as goal
 
 pub returns : goal.returns
 returns g c =
     let h = g.R.Readings.history c.args.readings.now in
     let it = task_index h c.args.task c.requires.forked in
-    kept_place c.args.chart.now.ends landmark.Ended h.events h.base.tasks (forked_count h) it.0 c.args.task c.place.result c.requires.chart.ends it.2 it.1 c.place.ensures
+    kept_place c.args.ends.now landmark.Ended h.events h.base.tasks (forked_count h) it.0 c.args.task c.place.result c.requires.ends it.2 it.1 c.place.ensures

@@ -1,0 +1,42 @@
+-- What is drawn, as data: the text of a picture is what its figures are written as, one after the other.
+use Rattle.std.specs.Prelude.{ℕ, List}
+use Rattle.run_picture.specs.declared.captions.Label.{Label}
+use Rattle.run_picture.specs.declared.marks.ShownMark.{ShownMark}
+use Rattle.run_picture.specs.declared.strokes.Bar.{Bar}
+use Rattle.run_picture.specs.declared.strokes.Reach.{Reach}
+use Rattle.run_picture.specs.declared.strokes.Tick.{Tick}
+use Rattle.run_picture.specs.Captions.{label_text}
+use Rattle.run_picture.specs.Marks.{mark_text}
+pub use Rattle.run_picture.specs.Parts.{Parts, Blank, One, Both, Everywhere, all, count_in}
+use Rattle.run_picture.specs.Parts.{written}
+use Rattle.run_picture.specs.Strokes.{bar_text, reach_text, tick_text}
+
+pub data Figure : Type 0 where
+  ALabel : Label → Figure
+  ABar : Bar → Figure
+  AMark : ShownMark → Figure
+  AReach : Reach → Figure
+  ATick : Tick → Figure
+
+abbrev pub Drawing : Type 0
+Drawing = Parts Figure
+
+abbrev pub label : Label → Drawing
+label l = One (ALabel l)
+
+abbrev pub bar : Bar → Drawing
+bar b = One (ABar b)
+
+abbrev pub mark : ShownMark → Drawing
+mark m = One (AMark m)
+
+abbrev pub figure_text : Figure → List ℕ
+figure_text (ALabel label) = label_text label
+figure_text (ABar bar) = bar_text bar
+figure_text (AMark mark) = mark_text mark
+figure_text (AReach reach) = reach_text reach
+figure_text (ATick tick) = tick_text tick
+
+-- what the figures are written as
+abbrev pub shown : Drawing → List ℕ
+shown d = written figure_text d

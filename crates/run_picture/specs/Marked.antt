@@ -1,0 +1,162 @@
+-- Laws of the marks of a picture, in the words of the rules.
+use Rattle.std.specs.Prelude.{◌≡◌, ℕ, ◌+◌, ◌<◌, ◌==◌, Bool, true, false, cond, Option, Some, slice_get}
+use Rattle.scope_rules.specs.declared.types.answers.Cause.{Cause}
+use Rattle.scope_rules.specs.declared.types.answers.Stage.TheVariants.{Finished, Never}
+use Rattle.scope_rules.specs.declared.types.capacity.Limits.{Limits}
+use Rattle.scope_rules.specs.declared.types.events.Event.{Event}
+use Rattle.scope_rules.specs.declared.types.events.Event.TheVariants as event
+use Rattle.scope_rules.specs.declared.types.records.Forking.{Forking}
+use Rattle.scope_rules.specs.declared.types.records.Opening.{Opening}
+use Rattle.scope_rules.specs.Cancels.{cancelled_at, cancelled_before, cause, is_cancelled}
+use Rattle.scope_rules.specs.History.{History, before, forking, opening}
+use Rattle.scope_rules.specs.Legal.{Legal}
+use Rattle.scope_rules.specs.Scopes.{around, closed}
+use Rattle.scope_rules.specs.Tasks.{is_settled, stage, state}
+use Rattle.run_picture.specs.declared.captions.Subject.{Subject}
+use Rattle.run_picture.specs.declared.captions.Subject.TheVariants as subject
+use Rattle.run_picture.specs.declared.marks.Mark.{Mark}
+use Rattle.run_picture.specs.declared.marks.Mark.TheVariants as mark
+use Rattle.run_picture.specs.declared.marks.ShownMark.{ShownMark}
+use Rattle.run_picture.specs.declared.strokes.Reach.{Reach}
+use Rattle.run_picture.specs.Drawing.{Everywhere, Figure, ALabel, ABar, AMark, AReach, ATick, count_in}
+use Rattle.run_picture.specs.Laws.{lanes_of, bands_of}
+use Rattle.run_picture.specs.Picture.{figures}
+use Rattle.run_picture.specs.Sheet.{Sheet}
+use Rattle.run_picture.specs.Sites.{number_in, scope_row, x_in}
+use Rattle.run_picture.specs.Spots.{row_y}
+
+-- ---- which figures there are
+
+-- the mark is of an end, or of a cancel, that passes
+abbrev pub mark_of : (ℕ → Bool) → (ℕ → Bool) → Mark → Bool
+mark_of ends cancels (mark.Ended task state) = ends task
+mark_of ends cancels (mark.Never task) = ends task
+mark_of ends cancels (mark.Cancelled scope cause accident) = cancels scope
+mark_of ends cancels _ = false
+
+-- the same, or a label of what passes
+abbrev pub figure_of : (Subject → Bool) → (ℕ → Bool) → (ℕ → Bool) → Figure → Bool
+figure_of labels ends cancels (ALabel l) = labels l.subject
+figure_of labels ends cancels (AMark m) = mark_of ends cancels m.mark
+figure_of labels ends cancels _ = false
+
+abbrev pub no_subject : Subject → Bool
+no_subject s = false
+
+abbrev pub no_number : ℕ → Bool
+no_number n = false
+
+abbrev pub is_number : ℕ → ℕ → Bool
+is_number n x = x == n
+
+abbrev pub is_task_subject : ℕ → Subject → Bool
+is_task_subject k (subject.Task f) = f.task == k
+is_task_subject k (subject.Scope s) = false
+
+abbrev pub is_scope_subject : ℕ → Subject → Bool
+is_scope_subject s (subject.Task f) = false
+is_scope_subject s (subject.Scope x) = x.scope == s
+
+-- a mark that task k ended, or never starts
+abbrev pub is_end_of : ℕ → Figure → Bool
+is_end_of k f = figure_of no_subject (is_number k) no_number f
+
+-- a mark that scope s became cancelled
+abbrev pub is_cancel_of : ℕ → Figure → Bool
+is_cancel_of s f = figure_of no_subject no_number (is_number s) f
+
+-- the label of task k
+abbrev pub is_label_of : ℕ → Figure → Bool
+is_label_of k f = figure_of (is_task_subject k) no_number no_number f
+
+-- the label of scope s
+abbrev pub is_band_of : ℕ → Figure → Bool
+is_band_of s f = figure_of (is_scope_subject s) no_number no_number f
+
+-- each lane of a task has one mark of its end, if the task ended or never starts, and else none; and no such mark
+-- stands anywhere else
+abbrev pub EachEndHasOneMark : Type 0
+EachEndHasOneMark = (h : History) (d : Sheet) (k : ℕ) (f : Forking) → forking h k ≡ Some f → count_in (is_end_of k) (figures h d) ≡ cond (is_settled (stage h k)) (lanes_of h d k) 0
+
+-- each scope with a row of its own has one mark of its cancel, if it is cancelled, and else none
+abbrev pub EachCancelHasOneMark : Type 0
+EachCancelHasOneMark = (h : History) (d : Sheet) (s row : ℕ) → scope_row h d s ≡ Some row → count_in (is_cancel_of s) (figures h d) ≡ cond (is_cancelled h s) 1 0
+
+-- each row that a task begins has the task's label, and each that a scope begins the scope's; no label stands
+-- anywhere else
+abbrev pub EachLaneHasOneLabel : Type 0
+EachLaneHasOneLabel = (h : History) (d : Sheet) (k : ℕ) (f : Forking) → forking h k ≡ Some f → count_in (is_label_of k) (figures h d) ≡ lanes_of h d k
+
+abbrev pub EachBandHasOneLabel : Type 0
+EachBandHasOneLabel = (h : History) (d : Sheet) (s : ℕ) (o : Opening) → opening h s ≡ Some o → count_in (is_band_of s) (figures h d) ≡ bands_of h d s
+
+-- ---- what the marks say
+
+-- the cancel of scope p comes to a scope: that is p, or it has no shield, and the cancel comes to what lies around it
+pub data ComesTo (h : History) (p : ℕ) : ℕ → Type 0 where
+  there : ComesTo h p p
+  inwards : {s q : ℕ} {o : Opening} → opening h s ≡ Some o → o.options.shield ≡ false → around h o ≡ Some q → ComesTo h p q → ComesTo h p s
+
+-- the mark stands in the row of scope s, at the event at place i
+pub record StandsAt (h : History) (d : Sheet) (m : ShownMark) (s i : ℕ) : Type 0 where
+  pub row : ℕ
+  pub row_is : scope_row h d s ≡ Some row
+  pub x : m.spot.x ≡ x_in h d i
+  pub y : m.spot.y ≡ row_y row
+  pub number : m.number ≡ number_in d i
+
+-- scope s became cancelled at place i, by that cause, whose cancel comes to it: no shield lies between
+pub record IsCancelledAt (h : History) (s i : ℕ) (c : Cause) : Type 0 where
+  pub at : cancelled_at h s ≡ Some i
+  pub by : cause h s ≡ Some c
+  pub comes : ComesTo h c.scope s
+
+-- the shield of scope s holds at place i: the scope around it becomes cancelled there by a cancel of the source, and
+-- s, which has a shield, was opened before, is not closed, and is not cancelled by then
+pub record HoldsAgainst (h : History) (s source i : ℕ) : Type 0 where
+  pub opened : Opening
+  pub opened_is : opening h s ≡ Some opened
+  pub shielded : opened.options.shield ≡ true
+  pub earlier : opened.place < i
+  pub unclosed : closed (before h i) s ≡ false
+  pub goes_on : cancelled_before h s (i + 1) ≡ false
+  pub outside : ℕ
+  pub around_is : around h opened ≡ Some outside
+  pub by : Cause
+  pub from : by.scope ≡ source
+  pub cut : IsCancelledAt h outside i by
+
+-- what the mark says is so, in the row where it stands, and by the event at which it stands
+abbrev pub IsSo : History → Sheet → ShownMark → Mark → Type 0
+IsSo h d m (mark.Ended k st) = (stage h k ≡ Finished) × (st ≡ state h k)
+IsSo h d m (mark.Never k) = stage h k ≡ Never
+IsSo h d m (mark.Joined s) = (i a : ℕ) × (slice_get h.events i ≡ Some (event.Join a s)) × StandsAt h d m s i
+IsSo h d m (mark.Closing s) = (i a : ℕ) × (slice_get h.events i ≡ Some (event.BeginClose a s)) × StandsAt h d m s i
+IsSo h d m (mark.Closed s) = (i a : ℕ) × (slice_get h.events i ≡ Some (event.EndClose a s)) × StandsAt h d m s i
+IsSo h d m (mark.Moved s deadline) = (i : ℕ) × (slice_get h.events i ≡ Some (event.Move s deadline)) × StandsAt h d m s i
+IsSo h d m (mark.Cancelled s c accident) = (i : ℕ) × IsCancelledAt h s i c × StandsAt h d m s i
+IsSo h d m (mark.Held s source) = (i : ℕ) × HoldsAgainst h s source i × StandsAt h d m s i
+
+-- a line of a cancel goes to the row of the scope that it reached, from the row of the scope whose own cancel it was,
+-- if that has one
+pub record IsReachOf (h : History) (d : Sheet) (r : Reach) : Type 0 where
+  pub scope : ℕ
+  pub place : ℕ
+  pub by : Cause
+  pub cut : IsCancelledAt h scope place by
+  pub row : ℕ
+  pub row_is : scope_row h d scope ≡ Some row
+  pub x : r.x ≡ x_in h d place
+  pub reached : r.reached ≡ row_y row
+  pub source : (q : ℕ) → scope_row h d by.scope ≡ Some q → r.source ≡ row_y q
+
+abbrev pub TellsTruth : History → Sheet → Figure → Type 0
+TellsTruth h d (AMark m) = IsSo h d m m.mark
+TellsTruth h d (AReach r) = IsReachOf h d r
+TellsTruth h d (ALabel l) = Unit {0}
+TellsTruth h d (ABar b) = Unit {0}
+TellsTruth h d (ATick t) = Unit {0}
+
+-- in a picture of a legal history each mark and each line of a cancel tells the truth
+abbrev pub EachMarkIsSo : Type 0
+EachMarkIsSo = (L : Limits) (h : History) (d : Sheet) → Legal L h → Everywhere (TellsTruth h d) (figures h d)

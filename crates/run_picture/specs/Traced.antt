@@ -1,0 +1,131 @@
+-- Laws of traces, in the words of the rules.
+use Rattle.std.specs.Prelude.{◌≡◌, ℕ, ◌+◌, ◌-◌, ◌==◌, ◌||◌, Bool, true, false, cond, Option, None, Some, List, slice_get}
+use Rattle.scope_rules.specs.declared.types.answers.Cause.{Cause}
+use Rattle.scope_rules.specs.declared.types.answers.State.{State}
+use Rattle.scope_rules.specs.declared.types.events.Event.{Event}
+use Rattle.scope_rules.specs.declared.types.events.Event.TheVariants as event
+use Rattle.scope_rules.specs.declared.types.records.Forking.{Forking}
+use Rattle.scope_rules.specs.declared.types.records.Opening.{Opening}
+use Rattle.scope_rules.specs.Cancels.{is_cancelled}
+use Rattle.scope_rules.specs.History.{History, forking, opening}
+use Rattle.scope_rules.specs.Scopes.{closed, ends}
+use Rattle.scope_rules.specs.Tasks.{finished, finishes, rejected, rejects, started, state}
+use Rattle.run_picture.specs.declared.slices.Arrow.{Arrow}
+use Rattle.run_picture.specs.declared.slices.Instant.{Instant}
+use Rattle.run_picture.specs.declared.slices.ScopeSlice.{ScopeSlice}
+use Rattle.run_picture.specs.declared.slices.Stretch.{Stretch}
+use Rattle.run_picture.specs.declared.slices.TaskSlice.{TaskSlice}
+use Rattle.run_picture.specs.Marked.{IsCancelledAt}
+use Rattle.run_picture.specs.Parts.{Everywhere, count_in}
+use Rattle.run_picture.specs.Stamps.{open_time, reading_at, start_time}
+use Rattle.run_picture.specs.Trace.{Record, ATask, AScope, AnInstant, AnArrow, micros, records}
+
+-- ---- which records there are
+
+abbrev pub is_slice_of : ℕ → Record → Bool
+is_slice_of k (ATask s) = s.stretch.track == k
+is_slice_of k _ = false
+
+abbrev pub is_band_of : ℕ → Record → Bool
+is_band_of s (AScope b) = b.scope == s
+is_band_of s _ = false
+
+abbrev pub is_instant_of : ℕ → Record → Bool
+is_instant_of s (AnInstant i) = i.scope == s
+is_instant_of s _ = false
+
+-- each task that got its thread has exactly one slice, and one that got none has none
+abbrev pub EachTaskHasOneSlice : Type 0
+EachTaskHasOneSlice = (h : History) (times : List ℕ) (k : ℕ) (f : Forking) → forking h k ≡ Some f → count_in (is_slice_of k) (records h times) ≡ cond (started h k) 1 0
+
+-- each scope has exactly one slice
+abbrev pub EachScopeHasOneSlice : Type 0
+EachScopeHasOneSlice = (h : History) (times : List ℕ) (s : ℕ) (o : Opening) → opening h s ≡ Some o → count_in (is_band_of s) (records h times) ≡ 1
+
+-- each scope has exactly one instant, if it is cancelled, and else none
+abbrev pub EachCancelHasOneInstant : Type 0
+EachCancelHasOneInstant = (h : History) (times : List ℕ) (s : ℕ) (o : Opening) → opening h s ≡ Some o → count_in (is_instant_of s) (records h times) ≡ cond (is_cancelled h s) 1 0
+
+-- ---- what the records say
+
+-- the stretch goes from the one place to the other, if it ended there
+pub record GoesFrom (times : List ℕ) (s : Stretch) (track from : ℕ) (to : Option ℕ) : Type 0 where
+  pub on : s.track ≡ track
+  pub at : s.at ≡ micros times from
+  pub open_end : to ≡ None → s.lasts ≡ None
+  pub ended : (i : ℕ) → to ≡ Some i → s.lasts ≡ Some (micros times i - micros times from)
+
+-- it ends, if it does, at an event that ends it, and what can be read then is so; if it does not end, no event ends it
+pub record EndsBy (h : History) (ends : Event → Bool) (ended : Bool) (to : Option ℕ) : Type 0 where
+  pub here : (i : ℕ) → to ≡ Some i → (e : Event) × (slice_get h.events i ≡ Some e) × (ends e ≡ true)
+  pub never : to ≡ None → ended ≡ false
+
+-- a slice of a task begins at its own start and ends at its own end, with what can be read of it, on its own track
+pub record IsSliceOf (h : History) (times : List ℕ) (s : TaskSlice) (k : ℕ) : Type 0 where
+  pub forked : Forking
+  pub is : forking h k ≡ Some forked
+  pub name : s.name ≡ forked.label.name
+  pub scope : s.scope ≡ forked.scope
+  pub from : ℕ
+  pub begins : slice_get h.events from ≡ Some (event.Start k)
+  pub to : Option ℕ
+  pub goes : GoesFrom times s.stretch k from to
+  pub ends : EndsBy h (λ e. rejects k e || finishes k e) (rejected h k || finished h k) to
+  pub result : (st : State) → s.result ≡ Some st → st ≡ state h k
+  pub open_result : to ≡ None → s.result ≡ None
+
+-- a slice of a scope begins at its own opening and ends at its own close, on the track of its owner
+pub record IsBandOf (h : History) (times : List ℕ) (b : ScopeSlice) (s : ℕ) : Type 0 where
+  pub opened : Opening
+  pub is : opening h s ≡ Some opened
+  pub to : Option ℕ
+  pub goes : GoesFrom times b.stretch opened.actor opened.place to
+  pub ends : EndsBy h (ends s) (closed h s) to
+
+-- an instant stands on the track of the owner of the scope that became cancelled, at that event
+pub record IsInstantOf (h : History) (times : List ℕ) (i : Instant) (s : ℕ) : Type 0 where
+  pub opened : Opening
+  pub is : opening h s ≡ Some opened
+  pub on : i.track ≡ opened.actor
+  pub place : ℕ
+  pub at : i.at ≡ micros times place
+  pub cut : IsCancelledAt h s place i.cause
+
+-- scope s became cancelled at place i by a cancel of the source
+pub record CancelledFrom (h : History) (s i source : ℕ) : Type 0 where
+  pub by : Cause
+  pub from : by.scope ≡ source
+  pub cut : IsCancelledAt h s i by
+
+-- an arrow goes from the owner of the scope whose own cancel it was to the owner of the one that it reached
+pub record IsArrowOf (h : History) (times : List ℕ) (a : Arrow) (s : ℕ) : Type 0 where
+  pub opened : Opening
+  pub is : opening h s ≡ Some opened
+  pub to : a.to ≡ opened.actor
+  pub place : ℕ
+  pub at : a.at ≡ micros times place
+  pub source : ℕ
+  pub source_opened : Opening
+  pub source_is : opening h source ≡ Some source_opened
+  pub from : a.from ≡ source_opened.actor
+  pub comes : CancelledFrom h s place source
+
+abbrev pub IsSo : History → List ℕ → Record → Type 0
+IsSo h times (ATask s) = IsSliceOf h times s s.stretch.track
+IsSo h times (AScope b) = IsBandOf h times b b.scope
+IsSo h times (AnInstant i) = IsInstantOf h times i i.scope
+IsSo h times (AnArrow a) = IsArrowOf h times a a.scope
+
+-- each record of a trace tells the truth
+abbrev pub EachRecordIsSo : Type 0
+EachRecordIsSo = (h : History) (times : List ℕ) → Everywhere (IsSo h times) (records h times)
+
+-- ---- the readings of a clock
+
+-- the reading of a task's start is that of the event by which this task started
+abbrev pub EachStartTimeIsItsOwn : Type 0
+EachStartTimeIsItsOwn = (h : History) (times : List ℕ) (k : ℕ) (f : Forking) → forking h k ≡ Some f → started h k ≡ true → (i : ℕ) × (slice_get h.events i ≡ Some (event.Start k)) × (start_time h times k ≡ reading_at times i)
+
+-- and that of a scope's opening is that of its own opening
+abbrev pub EachOpenTimeIsItsOwn : Type 0
+EachOpenTimeIsItsOwn = (h : History) (times : List ℕ) (s : ℕ) (o : Opening) → opening h s ≡ Some o → open_time h times s ≡ reading_at times o.place

@@ -1,0 +1,74 @@
+//! Laws of pictures and traces, above their definitions. Each function does nothing: its contract is the law.
+ghost use Rattle.run_picture.specs.Laws.{EachIsPlacedOnce, EachRowCountsItsOwn, EachScopeHasOneBand, EachTaskHasOneLane};
+ghost use Rattle.run_picture.specs.Marked.{EachBandHasOneLabel, EachCancelHasOneMark, EachEndHasOneMark, EachLaneHasOneLabel, EachMarkIsSo};
+ghost use Rattle.run_picture.specs.Traced.{EachCancelHasOneInstant, EachOpenTimeIsItsOwn, EachRecordIsSo, EachScopeHasOneSlice, EachStartTimeIsItsOwn, EachTaskHasOneSlice};
+
+/// In a picture of the whole run each task and each scope is placed exactly once. If nothing is folded, each task has one
+/// lane and each scope one band, in rows of their own.
+pub fn each_has_one_row()
+    ensures placed { EachIsPlacedOnce }
+    ensures tasks { EachTaskHasOneLane }
+    ensures scopes { EachScopeHasOneBand }
+{}
+
+/// A row counts what is folded into it, and nothing else: the rows stand for one stretch of the placed nodes after the
+/// other, and each counts the tasks of its own stretch, and those that failed.
+pub fn rows_count_their_own()
+    ensures { EachRowCountsItsOwn }
+{}
+
+/// Each row has one label: that of the task or the scope that begins it.
+#[tactic(auto, using(crate::proofs::Labelled::each_lane, crate::proofs::Labelled::each_band))]
+pub fn rows_are_labelled_once()
+    ensures lanes { EachLaneHasOneLabel }
+    ensures bands { EachBandHasOneLabel }
+{}
+
+/// Each lane of a task has one mark of its end, if the task ended, was rejected or never starts, and else none. No such
+/// mark stands anywhere else.
+#[tactic(auto, using(crate::proofs::Ended::each_end))]
+pub fn ends_are_marked_once()
+    ensures { EachEndHasOneMark }
+{}
+
+/// Each scope with a row of its own has one mark of its cancel, if the rules say that it is cancelled, and else none.
+#[tactic(auto, using(crate::proofs::Cancelled::each_cancel))]
+pub fn cancels_are_marked_once()
+    ensures { EachCancelHasOneMark }
+{}
+
+/// In a picture of a legal history each mark tells the truth, and so does each line of a cancel.
+///
+/// - It stands in the row of its scope, at the event that it speaks of.
+/// - A cancel came from the scope that it names, to the row of the scope that it reached, and no shield lay between.
+/// - A shield's scope was open as it held, and was not cancelled.
+/// - A task that ended is finished, and its mark says what can be read of it; a task that never starts is at that stage.
+pub fn marks_are_so()
+    ensures { EachMarkIsSo }
+{}
+
+/// In a trace each task that got its thread has exactly one slice, each scope has exactly one, and each cancelled scope has
+/// exactly one instant.
+#[tactic(auto, using(crate::proofs::Recorded::each_task, crate::proofs::Recorded::each_scope, crate::proofs::Recorded::each_cancel))]
+pub fn records_stand_once()
+    ensures tasks { EachTaskHasOneSlice }
+    ensures scopes { EachScopeHasOneSlice }
+    ensures cancels { EachCancelHasOneInstant }
+{}
+
+/// Each record of a trace tells the truth.
+///
+/// - A slice of a task goes from its own start to its own end, on its own track, with what can be read of it.
+/// - A slice of a scope goes from its own opening to its own close, on the track of its owner.
+/// - An instant stands on the track of the owner, where the scope became cancelled.
+/// - An arrow goes from the owner of the scope whose own cancel it was to the owner of the one that it reached.
+pub fn records_are_so()
+    ensures { EachRecordIsSo }
+{}
+
+/// The reading of a task's start is that of the event by which this task started, and the reading of a scope's opening is
+/// that of its own opening.
+pub fn times_are_their_own()
+    ensures starts { EachStartTimeIsItsOwn }
+    ensures opens { EachOpenTimeIsItsOwn }
+{}
