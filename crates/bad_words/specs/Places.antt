@@ -13,12 +13,12 @@ use Rattle.bad_words.specs.Shown.{all_shown}
 abbrev pub behind_first : List ℕ → List ℕ
 behind_first text = drop (position_or_len is_space text) text
 
--- the text from its field of this index on; no bytes where there is none
+-- the text from its field of this index on; no bytes if there is none
 unfoldable pub text_from : List ℕ → ℕ → List ℕ
 text_from text zero = without_spaces text
 text_from text (suc n) = text_from (behind_first (without_spaces text)) n
 
--- where the field of this index stands, counted from 1, and how many bytes it has; behind the line where there is none
+-- where the field of this index stands, counted from 1, and how many bytes it has; behind the line if there is none
 unfoldable pub field_place : List ℕ → ℕ → Place
 field_place line n = record {
   column = length line - length (text_from line n) + 1;
@@ -29,7 +29,7 @@ field_place line n = record {
 abbrev pub end_of : List ℕ → Place
 end_of line = record { column = length line + 1; width = 0 }
 
--- where a line is wrong: at the byte behind the last that it may have, at a field, or at its end
+-- if a line is wrong: at the byte behind the last that it may have, at a field, or at its end
 unfoldable pub place_of : List ℕ → WordFault → Place
 place_of line (fault.TooLong bytes) = record { column = LINE_LIMIT + 1; width = 0 }
 place_of line fault.NoForm = field_place line 0

@@ -21,7 +21,7 @@ use Rattle.script_words.specs.Joiners.{after, policy_said}
 use Rattle.script_words.specs.Openings.{deadline_said}
 use Rattle.script_words.specs.declared.lines.TheConstants.{LINE_LIMIT}
 
--- the field at the index; no bytes where there is none
+-- the field at the index; no bytes if there is none
 unfoldable pub field_at : List (List ℕ) → ℕ → List ℕ
 field_at [] n = []
 field_at (word ∷ words) zero = word

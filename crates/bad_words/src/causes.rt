@@ -30,7 +30,7 @@ pub enum Cause {
     TooWide,
     /// The number begins with a 0 that it needs not.
     NeedlessZero,
-    /// A sign stands in front, where no number is below 0.
+    /// A sign stands in front, if no number is below 0.
     Signed,
     /// The byte behind a first digit is no digit.
     NoDigit(u8),

@@ -39,7 +39,7 @@ pub(crate) fn misfit(
     }
 }
 
-/// The field at the index of the text; no bytes where there is none.
+/// The field at the index of the text; no bytes if there is none.
 #[tactic(auto, unfolding(crate::specs::Sentences::field_at))]
 pub(crate) fn field_at(text: &[u8], index: usize) -> &[u8]
     ensures { result.now ≡ field_at (fields text.now) index }
@@ -53,7 +53,7 @@ pub(crate) fn field_at(text: &[u8], index: usize) -> &[u8]
     field_at(rest, index - 1)
 }
 
-/// The text after a joiner, where one comes next, and else the text.
+/// The text after a joiner, if one comes next, and else the text.
 #[tactic(auto, using(crate::proofs::Options::policy_none, crate::proofs::Options::policy_taken, crate::proofs::Options::policy_kept))]
 fn after_policy(text: &[u8]) -> &[u8]
     ensures { fields result.now ≡ (policy_next (fields text.now)).1 }
@@ -64,7 +64,7 @@ fn after_policy(text: &[u8]) -> &[u8]
     if is_policy(word) { rest } else { text }
 }
 
-/// The text after a deadline, where one comes next, and else the text.
+/// The text after a deadline, if one comes next, and else the text.
 #[tactic(auto, using(crate::proofs::Options::deadline_none, crate::proofs::Options::deadline_taken, crate::proofs::Options::deadline_kept))]
 fn after_deadline(text: &[u8]) -> &[u8]
     ensures { fields result.now ≡ (deadline_next (fields text.now)).1 }
@@ -75,7 +75,7 @@ fn after_deadline(text: &[u8]) -> &[u8]
     if is_deadline(word) { rest } else { text }
 }
 
-/// The text after the flag, where it comes next, and else the text.
+/// The text after the flag, if it comes next, and else the text.
 #[tactic(auto, using(crate::proofs::Options::flag_none, crate::proofs::Options::flag_taken, crate::proofs::Options::flag_kept))]
 fn after_flag<'a>(flag: &[u8], text: &'a [u8]) -> &'a [u8]
     ensures { fields result.now ≡ (flag_next flag.now (fields text.now)).1 }

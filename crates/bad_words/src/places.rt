@@ -45,7 +45,7 @@ fn field_len(text: &[u8]) -> usize
     text.len()
 }
 
-/// The text from its field of this index on; no bytes where there is none.
+/// The text from its field of this index on; no bytes if there is none.
 #[tactic(auto, unfolding(crate::specs::Places::text_from))]
 fn text_from(text: &[u8], index: usize) -> &[u8]
     ensures is { result.now ≡ text_from text.now index }

@@ -80,7 +80,7 @@ const SHAPES: [(&[u8], Shape); 23] = [
     (b"retire", Shape::Actor),
 ];
 
-/// The shape of the form that begins with the word; `None` where none does.
+/// The shape of the form that begins with the word; `None` if none does.
 pub(crate) fn shape_of_word(word: &[u8]) -> Option<Shape>
     ensures { result ≡ option_map shape_of (keyword_said word.now) }
 {

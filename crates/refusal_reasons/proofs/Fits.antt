@@ -1,4 +1,4 @@
--- Each check is that of its twin: it refuses just where the twin has a reason, which is of that refusal.
+-- Each check is that of its twin: it refuses just if the twin has a reason, which is of that refusal.
 use Rattle.std.proofs.Common.{◌≡◌, ℕ, ◌+◌, ◌==◌, ◌&&◌, Bool, true, false, not, cond, is_some, nat_le, nat_lt, Option, Some, None, Ok, Err, List, [], ◌∷◌, refl, ap, sym, ◌∙◌}
 use Rattle.std.specs.Option.{option_map_or}
 use Rattle.scope_rules.specs.declared.types.refusals.Refusal.{Refusal}

@@ -1,4 +1,4 @@
--- A search finds something just where a test says that there is something.
+-- A search finds something just if a test says that there is something.
 use Rattle.std.proofs.Common.{◌≡◌, ℕ, zero, suc, ◌+◌, ◌&&◌, ◌||◌, Bool, true, false, not, cond, is_some, nat_lt, Option, Some, None, List, [], ◌∷◌, length, refl, ap, sym, ◌∙◌, arith}
 use Rattle.std.proofs.lemmas.Bool.{lt-ltb}
 use Rattle.std.proofs.lemmas.Bool.Decides.{nat_tests}
@@ -38,7 +38,7 @@ pub closed_is : (h : History) (s : ℕ) → closed h s ≡ is_some (closed_place
 unfolding closed
 closed_is h s = any_is_found (ends s) h.events
 
--- the test holds of some place just where there is a first
+-- the test holds of some place just if there is a first
 some_is_first : (test : ℕ → Bool) (n : ℕ) → some_below test n ≡ is_some (first_place test n)
 unfolding some_below first_place earliest
 some_is_first test zero = refl
@@ -66,7 +66,7 @@ pub settled_is : (h : History) (s : ℕ) → settled h s ≡ not (is_some (pendi
 unfolding settled pending_task tasks_of
 settled_is h s = ap not (any_is_in_filter (is_task_of h s) (is_pending h) (task_numbers h))
 
--- ---- so nothing is found where the test fails
+-- ---- so nothing is found if the test fails
 
 none_if : (o : Option ℕ) → is_some o ≡ false → o ≡ None
 none_if None none = refl

@@ -1,4 +1,4 @@
--- Each row refuses just where its reasons say so.
+-- Each row refuses just if its reasons say so.
 use Rattle.std.proofs.Common.{◌≡◌, ℕ, ◌||◌, Bool, true, false, not, cond, is_some, nat_le, Option, Some, None, ok_or, Result, Ok, Err, [], ◌∷◌, refl, ap, sym, ◌∙◌}
 use Rattle.std.specs.Option.{option_map_or}
 use Rattle.scope_rules.specs.declared.types.answers.State.{State}

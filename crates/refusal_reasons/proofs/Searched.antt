@@ -58,7 +58,7 @@ any_from p (x ∷ xs) n (suc i) = by (p x) (any_from p xs (n + 1) i)
 any_before : {A : Type 0} (p : A → Bool) (xs : List A) (i : ℕ) → list_any p (take i xs) ≡ is_before (position p xs) i
 any_before p xs i = any_from p xs 0 i ∙ (ap (is_before (position_from p 0 xs)) (omega arith) ∙ ap (λ o. is_before o i) (sym (position_from-zero p xs)))
 
--- the scope was closed before the place just where the place of its close is an earlier one
+-- the scope was closed before the place just if the place of its close is an earlier one
 pub closed_by : (h : History) (s i : ℕ) (place : Option ℕ) → place ≡ closed_place h.events s → is_before place i ≡ closed (before h i) s
 unfolding closed
 closed_by h s i place is = ap (λ o. is_before o i) is ∙ sym (any_before (ends s) h.events i)
@@ -91,7 +91,7 @@ find_found p (y ∷ ys) (suc i) x at none holds = by (p y) none (λ rest. find_f
     by true none more = absurd cc
     by false none more = more none
 
--- where the place has come to the number of all tasks, all tasks of the scope were passed
+-- if the place has come to the number of all tasks, all tasks of the scope were passed
 pub all_passed : (p : ℕ → Bool) (h : History) (s i : ℕ) → tasks h ≤ i → find p (take i (tasks_of h s)) ≡ None → find p (tasks_of h s) ≡ None
 all_passed p h s i all none = ap (find p) (sym (take_whole (tasks_of h s) i (omega (arith, all, few_tasks h s)))) ∙ none
 

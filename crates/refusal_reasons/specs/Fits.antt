@@ -86,7 +86,7 @@ question_check h (question.Until scope) = until_check h scope
 question_check h (question.Counts scope) = scope_check h scope
 question_check h (question.Get actor key) = refused_alone (binding_reply h actor key)
 
--- an event has a reason just where its row refuses it, and the reason is of that refusal
+-- an event has a reason just if its row refuses it, and the reason is of that refusal
 abbrev pub EventsFit : Type 0
 EventsFit = (L : Limits) (h : History) (e : Event) → check_of L h e ≡ refusing (event_reason L h e)
 

@@ -1,4 +1,4 @@
--- What stands in the way of a command where a check refuses it: each definition is the twin of a check.
+-- What is in the way of a command where a check refuses it: each definition is the twin of a check.
 use Rattle.std.specs.Prelude.{ℕ, ◌+◌, ◌==◌, ◌&&◌, Bool, not, nat_le, nat_lt, Option, Result, Ok, Err, is_some, List, [], ◌∷◌, length, if◌then◌else◌}
 use Rattle.std.specs.Option.{option_map_or}
 use Rattle.scope_rules.specs.declared.types.answers.Stage.{Stage}
@@ -24,11 +24,11 @@ use Rattle.refusal_reasons.specs.declared.reasons.ActorObstacle.TheVariants as a
 use Rattle.refusal_reasons.specs.declared.reasons.RoomObstacle.TheVariants as room_is
 use Rattle.refusal_reasons.specs.Places.{closing_place, closed_place, joined_place, pending_task}
 
--- nothing stands in the way, or the reason does
+-- nothing is in the way, or the reason does
 abbrev pub Explained : Type 0
 Explained = Result (Unit {0}) Reason
 
--- the reason stands in the way where the test holds
+-- the reason is in the way if the test holds
 abbrev pub stopped_if : Bool → Reason → Explained
 stopped_if b r = if b then Err r else Ok tt
 
@@ -42,7 +42,7 @@ unfoldable pub first_reason : List Explained → Explained
 first_reason [] = Ok tt
 first_reason (x ∷ xs) = then_reason x (first_reason xs)
 
--- what is found stands in the way, if there is any
+-- what is found is in the way, if there is any
 abbrev pub stopped_by : Option ℕ → (ℕ → Reason) → Explained
 stopped_by found why = option_map_or (λ x. Err (why x)) found (Ok tt)
 

@@ -11,7 +11,7 @@ use Rattle.script_words.specs.declared.commands.Question.{Question}
 use Rattle.script_words.specs.declared.commands.Question.TheVariants as question
 use Rattle.refusal_reasons.specs.Obstacles.{Explained, first_reason, scope_known, task_known, waits, runs, acts, owned, task_owned, is_main, stands, not_closed, is_closing, not_joined, scope_joined, no_pending, may_join, innermost_stands, all_closed, innermost_is, has_level, bound_alike, has_pair, frees_pair, sees, load_fits, scope_fits, task_fits, is_later, shows_value, shows_fault}
 
--- what may stand in the way of the event after h, in the order in which it is tried
+-- what may is in the way of the event after h, in the order in which it is tried
 abbrev pub reasons_of : Limits → History → Event → List Explained
 reasons_of L h (Open actor policy options) = acts h actor ∷ innermost_stands h actor ∷ has_level h actor ∷ scope_fits L h ∷ load_fits L h OPEN_LOAD ∷ []
 reasons_of L h (Fork actor scope label) = acts h actor ∷ scope_known h scope ∷ owned h actor scope ∷ stands h scope ∷ not_joined h scope ∷ bound_alike h actor scope ∷ task_fits L h ∷ load_fits L h FORK_LOAD ∷ []

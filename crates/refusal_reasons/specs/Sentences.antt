@@ -1,5 +1,5 @@
 -- The sentence of each reason.
-use Rattle.std.specs.Prelude.{ℕ, zero, suc, List, ◌++◌, Option, None, Some, codes}
+use Rattle.std.specs.Prelude.{ℕ, zero, suc, ◌==◌, ◌-◌, List, ◌++◌, Option, None, Some, unwrap_or, slice_get, codes, if◌then◌else◌}
 use Rattle.std.specs.Fmt.{decimal}
 use Rattle.scope_rules.specs.Names.{text_of}
 use Rattle.scope_rules.specs.Texts.{fault_text, value_text}
@@ -15,6 +15,11 @@ use Rattle.refusal_reasons.specs.declared.reasons.ActorObstacle.{ActorObstacle}
 use Rattle.refusal_reasons.specs.declared.reasons.ActorObstacle.TheVariants as actor_is
 use Rattle.refusal_reasons.specs.declared.reasons.RoomObstacle.{RoomObstacle}
 use Rattle.refusal_reasons.specs.declared.reasons.RoomObstacle.TheVariants as room_is
+
+-- the number of the line whose command recorded an event, if the lines of all events are known in turn, and events
+-- are counted from 1
+abbrev pub line_of : List ℕ → ℕ → ℕ
+line_of lines event = if event == 0 then 0 else unwrap_or (slice_get lines (event - 1)) 0
 
 -- an actor: main, or a task
 abbrev pub actor_text : ℕ → List ℕ
@@ -32,20 +37,20 @@ abbrev pub innermost_text : ℕ → ℕ → Option ℕ → List ℕ
 innermost_text s a None = codes "all scopes of " ++ (actor_text a ++ codes " are closed")
 innermost_text s a (Some inside) = codes "the innermost scope of " ++ (actor_text a ++ (codes " is scope " ++ (decimal inside ++ (codes ", not scope " ++ decimal s))))
 
--- what is so of scope s
-abbrev pub scope_sentence : ℕ → ScopeObstacle → List ℕ
-scope_sentence s (scope_is.Unknown opened) = codes "there is no scope " ++ (decimal s ++ (codes " (scopes opened so far: " ++ (decimal opened ++ codes ")")))
-scope_sentence s (scope_is.LetGo last) = codes "scope " ++ (decimal s ++ (codes " was discarded by a retire, as were all scopes up to " ++ decimal last))
-scope_sentence s (scope_is.Owned owner actor) = codes "scope " ++ (decimal s ++ (codes " is owned by " ++ (actor_text owner ++ (codes ", not by " ++ actor_text actor))))
-scope_sentence s (scope_is.Closing event) = codes "scope " ++ (decimal s ++ (codes " has been closing since event " ++ decimal event))
-scope_sentence s (scope_is.Closed event) = codes "scope " ++ (decimal s ++ (codes " was closed by event " ++ decimal event))
-scope_sentence s (scope_is.ClosingAround actor event) = codes "scope " ++ (decimal s ++ (codes ", the innermost scope of " ++ (actor_text actor ++ (codes ", has been closing since event " ++ decimal event))))
-scope_sentence s (scope_is.Joined event) = codes "scope " ++ (decimal s ++ (codes " was joined by event " ++ decimal event))
-scope_sentence s scope_is.NotClosing = codes "the close of scope " ++ (decimal s ++ codes " has not begun")
-scope_sentence s (scope_is.Awaits task stage) = codes "task " ++ (decimal task ++ (codes " of scope " ++ (decimal s ++ (codes " is still " ++ stage_text stage))))
-scope_sentence s (scope_is.BoundOtherwise actor pairs) = codes "the bindings of " ++ (actor_text actor ++ (codes " have changed since it opened scope " ++ (decimal s ++ (codes " (own bindings now: " ++ (decimal pairs ++ codes ")")))))
-scope_sentence s (scope_is.Unclosed actor) = actor_text actor ++ (codes " has not closed its scope " ++ decimal s)
-scope_sentence s (scope_is.NotInnermost actor innermost) = innermost_text s actor innermost
+-- what is so of scope s, if the lines of all events are known
+abbrev pub scope_sentence : (lines : List ℕ) → ℕ → ScopeObstacle → List ℕ
+scope_sentence lines s (scope_is.Unknown opened) = codes "there is no scope " ++ (decimal s ++ (codes " (scopes opened so far: " ++ (decimal opened ++ codes ")")))
+scope_sentence lines s (scope_is.LetGo last) = codes "scope " ++ (decimal s ++ (codes " was discarded by a retire, as were all scopes up to " ++ decimal last))
+scope_sentence lines s (scope_is.Owned owner actor) = codes "scope " ++ (decimal s ++ (codes " is owned by " ++ (actor_text owner ++ (codes ", not by " ++ actor_text actor))))
+scope_sentence lines s (scope_is.Closing event) = codes "scope " ++ (decimal s ++ (codes " has been closing since line " ++ decimal (line_of lines event)))
+scope_sentence lines s (scope_is.Closed event) = codes "scope " ++ (decimal s ++ (codes " was closed at line " ++ decimal (line_of lines event)))
+scope_sentence lines s (scope_is.ClosingAround actor event) = codes "scope " ++ (decimal s ++ (codes ", the innermost scope of " ++ (actor_text actor ++ (codes ", has been closing since line " ++ decimal (line_of lines event)))))
+scope_sentence lines s (scope_is.Joined event) = codes "scope " ++ (decimal s ++ (codes " was joined at line " ++ decimal (line_of lines event)))
+scope_sentence lines s scope_is.NotClosing = codes "the close of scope " ++ (decimal s ++ codes " has not begun")
+scope_sentence lines s (scope_is.Awaits task stage) = codes "task " ++ (decimal task ++ (codes " of scope " ++ (decimal s ++ (codes " is still " ++ stage_text stage))))
+scope_sentence lines s (scope_is.BoundOtherwise actor pairs) = codes "the bindings of " ++ (actor_text actor ++ (codes " have changed since it opened scope " ++ (decimal s ++ (codes " (own bindings now: " ++ (decimal pairs ++ codes ")")))))
+scope_sentence lines s (scope_is.Unclosed actor) = actor_text actor ++ (codes " has not closed its scope " ++ decimal s)
+scope_sentence lines s (scope_is.NotInnermost actor innermost) = innermost_text s actor innermost
 
 abbrev pub unreadable_text : ℕ → ℕ → Stage → List ℕ
 unreadable_text k s Finished = codes "task " ++ (decimal k ++ (codes " ended after its scope " ++ (decimal s ++ codes " was cancelled")))
@@ -69,7 +74,7 @@ actor_sentence a actor_is.NoPair = actor_text a ++ codes " has no binding of its
 actor_sentence a (actor_is.HeldPair pairs) = actor_text a ++ (codes " opened a scope after its last binding and has not closed it (own bindings: " ++ (decimal pairs ++ codes ")"))
 actor_sentence a (actor_is.Unbound key) = actor_text a ++ (codes " sees no binding for " ++ text_of key)
 
--- where there is no room
+-- if there is no room
 abbrev pub room_sentence : RoomObstacle → List ℕ
 room_sentence (room_is.Scopes opened limit) = codes "the limit of scopes is reached: " ++ (decimal opened ++ (codes " of " ++ decimal limit))
 room_sentence room_is.ScopeNumbers = codes "no scope number is left"
@@ -78,10 +83,10 @@ room_sentence room_is.TaskNumbers = codes "no task number is left"
 room_sentence (room_is.Load used limit wanted) = decimal used ++ (codes " of " ++ (decimal limit ++ (codes " units of load are used, and this needs " ++ decimal wanted)))
 room_sentence (room_is.Levels level) = codes "the scope would be at level " ++ (decimal level ++ codes ", and the limit is 16")
 
--- the sentence of a reason
-abbrev pub sentence : Reason → List ℕ
-sentence (reason.Scope scope obstacle) = scope_sentence scope obstacle
-sentence (reason.Task task obstacle) = task_sentence task obstacle
-sentence (reason.Actor actor obstacle) = actor_sentence actor obstacle
-sentence (reason.Room obstacle) = room_sentence obstacle
-sentence (reason.ClockBack wanted present) = codes "time " ++ (decimal wanted ++ (codes " is before the present time " ++ decimal present))
+-- the sentence of a reason, if the lines whose commands recorded the events are known
+abbrev pub sentence : (lines : List ℕ) → Reason → List ℕ
+sentence lines (reason.Scope scope obstacle) = scope_sentence lines scope obstacle
+sentence lines (reason.Task task obstacle) = task_sentence task obstacle
+sentence lines (reason.Actor actor obstacle) = actor_sentence actor obstacle
+sentence lines (reason.Room obstacle) = room_sentence obstacle
+sentence lines (reason.ClockBack wanted present) = codes "time " ++ (decimal wanted ++ (codes " is before the present time " ++ decimal present))

@@ -1,4 +1,4 @@
-//! The twins of the checks: each passes, or says what stands in the way.
+//! The twins of the checks: each passes, or says what is in the way.
 
 ghost use Rattle.std.specs.Prelude.{◌≡◌, ◌<◌, OnOk, length};
 ghost use Rattle.scope_rules.specs.Checks.{scope_check, task_check, actor_check, owner_check, refuse_closing};
@@ -13,7 +13,7 @@ use scope_checks::{Readings, checks};
 use scope_rules::types::values::MAIN;
 use scope_rules::{Actor, Event, ScopeId, Stage, TaskId};
 
-/// The reason stands in the way where the test holds.
+/// The reason is in the way if the test holds.
 pub(crate) fn stopped_if(test: bool, reason: Reason) -> Result<(), Reason>
     ensures { result ≡ stopped_if test reason }
 {

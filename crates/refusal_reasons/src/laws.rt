@@ -3,7 +3,7 @@
 ghost use Rattle.refusal_reasons.specs.Fits.{EventsFit, RetirementsFit, QuestionsFit};
 ghost use Rattle.refusal_reasons.specs.Truth.{EventsAreTrue, RetirementsAreTrue, QuestionsAreTrue};
 
-/// A command has a reason just where its checks refuse it, whatever the history, and the reason is of that
+/// A command has a reason just if its checks refuse it, whatever the history, and the reason is of that
 /// refusal.
 #[tactic(auto, using(crate::proofs::RowsFit::events_fit, crate::proofs::RowsFit::retirements_fit, crate::proofs::RowsFit::questions_fit))]
 pub fn reasons_fit()

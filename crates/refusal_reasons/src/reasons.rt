@@ -1,8 +1,8 @@
-//! What can stand in the way of a command.
+//! What can is in the way of a command.
 
 use scope_rules::{Actor, Fault, Name, ScopeId, Stage, TaskId, Value};
 
-/// What stands in the way of a command. Its text is a sentence, without a full stop.
+/// What is in the way of a command. `ShownReason` shows it as a sentence.
 #[derive(Clone, Copy)]
 pub enum Reason {
     /// Something of the scope.

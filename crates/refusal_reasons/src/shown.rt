@@ -1,10 +1,39 @@
 //! The sentences of reasons.
-ghost use Rattle.std.specs.Prelude.{Some};
-ghost use Rattle.refusal_reasons.specs.Sentences.{actor_text, stage_text, innermost_text, scope_sentence, unreadable_text, task_sentence, actor_sentence, room_sentence, sentence};
+ghost use Rattle.std.specs.Prelude.{◌≡◌, Some};
+ghost use Rattle.std.specs.Fmt.{decimal};
+ghost use Rattle.refusal_reasons.specs.Sentences.{line_of, actor_text, stage_text, innermost_text, scope_sentence, unreadable_text, task_sentence, actor_sentence, room_sentence, sentence};
 
 use crate::reasons::{ActorObstacle, Reason, RoomObstacle, ScopeObstacle, TaskObstacle};
 use scope_rules::{Actor, ScopeId, Stage, TaskId};
 use std::fmt;
+
+/// The number of the line whose command recorded the event, if the lines of all events are known in turn.
+fn line_of(lines: &[u64], event: usize) -> u64
+    ensures { result ≡ line_of lines.now event }
+{
+    if event == 0 {
+        return 0;
+    }
+    match lines.get(event - 1) {
+        Some(line) => *line,
+        None => 0,
+    }
+}
+
+/// The number of the line whose command recorded the event.
+#[derive(Clone, Copy)]
+struct ShownLine<'a> {
+    lines: &'a [u64],
+    event: usize,
+}
+
+impl fmt::Display for ShownLine<'_> {
+    ghost output = { λ l. Some (decimal (line_of l.lines.now l.event)) };
+
+    fn fmt<W: fmt::Write>(&self, f: &mut fmt::Formatter<W>) -> fmt::Result {
+        write!(f, "{}", line_of(self.lines, self.event))
+    }
+}
 
 /// `main` or `task K`.
 #[derive(Clone, Copy)]
@@ -62,17 +91,19 @@ impl fmt::Display for ShownInnermost {
     }
 }
 
-/// What is so of the scope.
+/// What is so of the scope, if the lines of all events are known.
 #[derive(Clone, Copy)]
-struct ShownScope {
+struct ShownScope<'a> {
+    lines: &'a [u64],
     scope: ScopeId,
     obstacle: ScopeObstacle,
 }
 
-impl fmt::Display for ShownScope {
-    ghost output = { λ s. Some (scope_sentence s.scope s.obstacle) };
+impl fmt::Display for ShownScope<'_> {
+    ghost output = { λ s. Some (scope_sentence s.lines.now s.scope s.obstacle) };
 
     fn fmt<W: fmt::Write>(&self, f: &mut fmt::Formatter<W>) -> fmt::Result {
+        let lines = self.lines;
         let scope = self.scope;
         match self.obstacle {
             ScopeObstacle::Unknown { opened } => write!(
@@ -90,18 +121,24 @@ impl fmt::Display for ShownScope {
                 ShownActor(actor)
             ),
             ScopeObstacle::Closing { event } => {
-                write!(f, "scope {scope} has been closing since event {event}")
+                let line = ShownLine { lines, event };
+                write!(f, "scope {scope} has been closing since line {line}")
             }
             ScopeObstacle::Closed { event } => {
-                write!(f, "scope {scope} was closed by event {event}")
+                let line = ShownLine { lines, event };
+                write!(f, "scope {scope} was closed at line {line}")
             }
-            ScopeObstacle::ClosingAround { actor, event } => write!(
-                f,
-                "scope {scope}, the innermost scope of {}, has been closing since event {event}",
-                ShownActor(actor)
-            ),
+            ScopeObstacle::ClosingAround { actor, event } => {
+                let line = ShownLine { lines, event };
+                write!(
+                    f,
+                    "scope {scope}, the innermost scope of {}, has been closing since line {line}",
+                    ShownActor(actor)
+                )
+            }
             ScopeObstacle::Joined { event } => {
-                write!(f, "scope {scope} was joined by event {event}")
+                let line = ShownLine { lines, event };
+                write!(f, "scope {scope} was joined at line {line}")
             }
             ScopeObstacle::NotClosing => { write!(f, "the close of scope {scope} has not begun") }
             ScopeObstacle::Awaits { task, stage } => {
@@ -255,13 +292,32 @@ impl fmt::Display for RoomObstacle {
     }
 }
 
-/// The sentence of the reason, without a full stop.
-impl fmt::Display for Reason {
-    ghost output = { λ r. Some (sentence r) };
+/// The sentence of a reason, without a full stop.
+#[derive(Clone, Copy)]
+pub struct ShownReason<'a> {
+    /// The reason, which may name an event by its number.
+    pub reason: Reason,
+    /// Of each event since the base the number of the line whose command recorded it, by which the sentence names it.
+    pub lines: &'a [u64],
+}
+
+impl fmt::Display for ShownReason<'_> {
+    ghost output = { λ r. Some (sentence r.lines.now r.reason) };
 
     fn fmt<W: fmt::Write>(&self, f: &mut fmt::Formatter<W>) -> fmt::Result {
-        match *self {
-            Reason::Scope { scope, obstacle } => { write!(f, "{}", ShownScope { scope, obstacle }) }
+        let lines = self.lines;
+        match self.reason {
+            Reason::Scope { scope, obstacle } => {
+                write!(
+                    f,
+                    "{}",
+                    ShownScope {
+                        lines,
+                        scope,
+                        obstacle
+                    }
+                )
+            }
             Reason::Task { task, obstacle } => write!(f, "{}", ShownTask { task, obstacle }),
             Reason::Actor { actor, obstacle } => {
                 write!(f, "{}", ShownActing { actor, obstacle })
