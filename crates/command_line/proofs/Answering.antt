@@ -24,7 +24,7 @@ first_parts : {X : Type 0} (o : Option X) (f : X → Text) (g : X → List Row) 
 first_parts None f g = refl
 first_parts (Some x) f g = refl
 
--- the name of the subcommand stands beside its rows
+-- the name of the subcommand is beside its rows
 pub name_in_rows : (m : ArgMatches) → subcommand_name_of m ≡ option_map (λ (p : Text × List Row). p.0) (subcommand_rows_of m)
 name_in_rows m = first_parts (out-ArgMatches m).subcommand (λ b. (out-SubCommand (box_value b)).name.now) (λ b. rows_of (found_of (out-SubCommand (box_value b)).matches))
 
@@ -51,7 +51,7 @@ answers_of words (Usage text) k kinds told h same =
     ]
 answers_of words Memory k kinds told h same = tt
 
--- where the parse took the words, help and the version are not answered
+-- if the parse took the words, help and the version are not answered
 pub taken_answers : (words : List Text) (fault : LineFault) → IsUsageOrMemory fault → fault_of scopectl (turned words) ≡ [] → Answers words fault
 taken_answers words Help told clear = absurd told
 taken_answers words Version told clear = absurd told
@@ -64,7 +64,7 @@ memory_is Version k told is = absurd (cc)
 memory_is (Usage text) k told is = absurd (told.2 is)
 memory_is Memory k told is = refl
 
--- a parse fails for want of memory alone where the words say a command
+-- a parse fails for want of memory alone if the words say a command
 pub refused_of : (words : List Text) (fault : LineFault) (k : ErrorKind) (kinds : Kinds) → TellsKind k fault → (k ≡ kind.OutOfMemory) ⊎ IsAmong k kinds
     → kinds ≡ fault_of scopectl words → (fault ≡ Memory) ⊎ (command_said words ≡ None)
 refused_of words fault k kinds told h same = go (command_said words) refl

@@ -11,7 +11,7 @@ use Rattle.clap.specs.Walk.{Names, Row, Rule, Text, arg_by_id, arg_by_index, arg
 use Rattle.command_line.specs.Application.{flag_rule, option_rule, scopectl, with_flags, with_options}
 use Rattle.command_line.specs.CommandLine.{command_word, flag_names, is_among, option_names}
 use Rattle.command_line.specs.declared.lines.Job.{Job}
-use Rattle.command_line.specs.declared.lines.Job.TheVariants.{Replay, Dump, Tree, Timeline, TraceEvents, Quote}
+use Rattle.command_line.specs.declared.lines.Job.TheVariants.{Replay, Dump, Tree, Timeline, TraceEvents, Quote, Generate}
 use Rattle.command_line.proofs.Levels.{IsLevel}
 
 -- the job has an option of this name, with a text
@@ -76,11 +76,11 @@ built_top = record (built_command Replay) { name = codes "scopectl"; rules = top
 abbrev pub built_app : App
 built_app = record {
   top = built_top;
-  subs = built_command Replay ∷ built_command Dump ∷ built_command Tree ∷ built_command Timeline ∷ built_command TraceEvents ∷ built_command Quote ∷ [];
+  subs = built_command Replay ∷ built_command Dump ∷ built_command Tree ∷ built_command Timeline ∷ built_command TraceEvents ∷ built_command Quote ∷ built_command Generate ∷ [];
 }
 
 abbrev pub command_names : Names
-command_names = (command_word Replay, []) ∷ (command_word Dump, []) ∷ (command_word Tree, []) ∷ (command_word Timeline, []) ∷ (command_word TraceEvents, []) ∷ (command_word Quote, []) ∷ []
+command_names = (command_word Replay, []) ∷ (command_word Dump, []) ∷ (command_word Tree, []) ∷ (command_word Timeline, []) ∷ (command_word TraceEvents, []) ∷ (command_word Quote, []) ∷ (command_word Generate, []) ∷ []
 
 pub is_built : built scopectl ≡ built_app
 unfolding scopectl with_options with_flags job_rules top_rules
@@ -193,6 +193,7 @@ flag_no_option Tree = of_each (λ n. has_option Tree n ≡ false) (flag_names Tr
 flag_no_option Timeline = of_each (λ n. has_option Timeline n ≡ false) (flag_names Timeline) (refl, (refl, (refl, tt)))
 flag_no_option TraceEvents = of_each (λ n. has_option TraceEvents n ≡ false) (flag_names TraceEvents) (refl, (refl, (refl, tt)))
 flag_no_option Quote = of_each (λ n. has_option Quote n ≡ false) (flag_names Quote) tt
+flag_no_option Generate = of_each (λ n. has_option Generate n ≡ false) (flag_names Generate) tt
 
 pub option_no_flag : (job : Job) (name : Text) → has_option job name ≡ true → has_flag job name ≡ false
 option_no_flag job name own = go (has_flag job name) refl
@@ -228,7 +229,7 @@ level_of s none once each = record {
   asks = λ x a is rows clear. (each x a is).1 rows (subst (λ b. use_fault b a [] rows ≡ []) once clear);
 }
 
--- where `-h` is the only short name, it asks for help
+-- if `-h` is the only short name, it asks for help
 help_asks : (x : ℕ) (a : Rule) → cond ((104 == x) || false) (Some built_help) None ≡ Some a → Asks a
 help_asks x a e = go ((104 == x) || false) e
   where
@@ -244,6 +245,7 @@ job_level Tree = level_of (built_command Tree) refl refl help_asks
 job_level Timeline = level_of (built_command Timeline) refl refl help_asks
 job_level TraceEvents = level_of (built_command TraceEvents) refl refl help_asks
 job_level Quote = level_of (built_command Quote) refl refl help_asks
+job_level Generate = level_of (built_command Generate) refl refl help_asks
 
 -- no default of the rule meets a fault
 abbrev pub is_quiet : Rule → Bool
@@ -257,6 +259,7 @@ job_quiet Tree = refl
 job_quiet Timeline = refl
 job_quiet TraceEvents = refl
 job_quiet Quote = refl
+job_quiet Generate = refl
 
 -- the faults of the words after a job's word
 abbrev pub words_fault : Job → List Text → Kinds

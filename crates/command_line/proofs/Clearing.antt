@@ -12,12 +12,12 @@ use Rattle.clap.specs.Kinds.{Kinds}
 use Rattle.clap.specs.Simple.{entered}
 use Rattle.clap.specs.Walk.{Row, Rule, Text, Walk, finished, has_row, is_empty, nothing_held, settled, walk, walk_from, walked, with_default}
 use Rattle.command_line.specs.Application.{scopectl}
-use Rattle.command_line.specs.CommandLine.{Given, Said, ScriptSaid, command_said, command_word, given_to, is_among, job_named, job_said, limit_names, quote, text_given, time_names}
-use Rattle.command_line.specs.Settings.{NameAndMillis, Numbers, deadline_by, delay_by, delay_said, greatest_of, if_given, is_digit, is_plain, name_of, numbers_by, plain_number, setting_number}
+use Rattle.command_line.specs.CommandLine.{Given, Said, ScriptSaid, command_said, command_word, generate, given_to, is_among, job_named, job_said, limit_names, quote, seed_names, text_given, time_names}
+use Rattle.command_line.specs.Settings.{NameAndMillis, Numbers, number_by, delay_by, delay_said, greatest_of, if_given, is_digit, is_plain, name_of, numbers_by, plain_number, setting_number}
 use Rattle.command_line.specs.declared.lines.Job.{Job}
-use Rattle.command_line.specs.declared.lines.Job.TheVariants.{Replay, Dump, Tree, Timeline, TraceEvents, Quote}
+use Rattle.command_line.specs.declared.lines.Job.TheVariants.{Replay, Dump, Tree, Timeline, TraceEvents, Quote, Generate}
 use Rattle.command_line.specs.declared.settings.Setting.{Setting}
-use Rattle.command_line.specs.declared.settings.Setting.TheVariants.{Scopes, Tasks, Load, Deadline, After}
+use Rattle.command_line.specs.declared.settings.Setting.TheVariants.{Scopes, Tasks, Load, Deadline, After, Seed, Lines}
 use Rattle.command_line.proofs.Built.{built_app, built_command, built_top, command_names, has_option, is_quiet, job_quiet, of_each, job_rules, top_rules, words_fault}
 use Rattle.command_line.proofs.Delays.{delay_is_no_flag}
 use Rattle.command_line.proofs.Passing.{NoFlags, is_no_flag, or_else-both, passes}
@@ -59,6 +59,7 @@ job_checks Tree rows = refl
 job_checks Timeline rows = refl
 job_checks TraceEvents rows = refl
 job_checks Quote rows = refl
+job_checks Generate rows = refl
 
 top_checks : (rows : List Row) → check_fault built_top rows true ≡ []
 unfolding top_rules
@@ -79,6 +80,7 @@ top_walk Tree rest = stopped_clear Tree [] rest
 top_walk Timeline rest = stopped_clear Timeline [] rest
 top_walk TraceEvents rest = stopped_clear TraceEvents [] rest
 top_walk Quote rest = stopped_clear Quote [] rest
+top_walk Generate rest = stopped_clear Generate [] rest
 
 met_checks : (job : Job) (rows : List Row) (rest : List Text) → check_fault built_top rows (is_some (entered built_app (Some (command_word job, rest)))) ≡ []
 met_checks Replay rows rest = top_checks rows
@@ -87,6 +89,7 @@ met_checks Tree rows rest = top_checks rows
 met_checks Timeline rows rest = top_checks rows
 met_checks TraceEvents rows rest = top_checks rows
 met_checks Quote rows rest = top_checks rows
+met_checks Generate rows rest = top_checks rows
 
 built_clear : (job : Job) (rest : List Text) → words_fault job rest ≡ [] → built_fault built_app nothing_held (command_word job ∷ rest) ≡ []
 built_clear job rest e =
@@ -125,7 +128,7 @@ number_is_no_flag greatest n text e = go (is_plain text) refl e
     go true is e = plain_is_no_flag text is
     go false is e = absurd (cc)
 
--- where the option was given, its text is no flag
+-- if the option was given, its text is no flag
 abbrev Flagless : Option Text → Type 0
 Flagless given = (text : Text) → given ≡ Some text → is_no_flag text ≡ true
 
@@ -172,6 +175,15 @@ module _ (said : Said) where
   times_have None c e = absurd (cc)
   times_have (Some d) c e = (some d refl, after_has d c e)
 
+  lines_has : (seed : Option ℕ) (c : Option (Option ℕ)) → option_map (λ lines. generate seed lines) c ≡ Some said → HasSome (Option ℕ) c
+  lines_has seed None e = absurd (cc)
+  lines_has seed (Some lines) e = some lines refl
+
+  seed_have : (b c : Option (Option ℕ)) → option_and_then (λ seed. option_map (λ lines. generate seed lines) c) b ≡ Some said
+      → HasSome (Option ℕ) b × HasSome (Option ℕ) c
+  seed_have None c e = absurd (cc)
+  seed_have (Some d) c e = (some d refl, lines_has d c e)
+
 -- ---- the options of a job have no flags for texts
 
 module _ (given : Text → Option Text) where
@@ -181,12 +193,20 @@ module _ (given : Text → Option Text) where
       of_each (λ name. Flagless (given name)) limit_names
       (limit_flagless Scopes _ have.0, (limit_flagless Tasks _ have.1, (limit_flagless Load _ have.2, tt)))
 
-  times_flagless : HasSome (Option ℕ) (deadline_by (given (name_of Deadline))) → HasSome (Option NameAndMillis) (delay_by (given (name_of After)))
+  times_flagless : HasSome (Option ℕ) (number_by Deadline (given (name_of Deadline))) → HasSome (Option NameAndMillis) (delay_by (given (name_of After)))
       → (name : Text) → is_among time_names name ≡ true → Flagless (given name)
   times_flagless deadline after =
       of_each (λ name. Flagless (given name)) time_names (
         given_flagless ℕ (plain_number (greatest_of Deadline)) (λ text n says. number_is_no_flag (greatest_of Deadline) n text says) _ deadline,
         (given_flagless NameAndMillis delay_said delay_is_no_flag _ after, tt),
+      )
+
+  seed_flagless : HasSome (Option ℕ) (number_by Seed (given (name_of Seed))) → HasSome (Option ℕ) (number_by Lines (given (name_of Lines)))
+      → (name : Text) → is_among seed_names name ≡ true → Flagless (given name)
+  seed_flagless seed lines =
+      of_each (λ name. Flagless (given name)) seed_names (
+        given_flagless ℕ (plain_number (greatest_of Seed)) (λ text n says. number_is_no_flag (greatest_of Seed) n text says) _ seed,
+        (given_flagless ℕ (plain_number (greatest_of Lines)) (λ text n says. number_is_no_flag (greatest_of Lines) n text says) _ lines, tt),
       )
 
 no_flags : (job : Job) (final : Given) (said : Said) → job_said job final ≡ Some said → NoFlags job final
@@ -203,6 +223,7 @@ no_flags job final said e name text own is = go job e own
     go Timeline e own = limits (script_has said _ _ _ _ e) own
     go TraceEvents e own = limits (script_has said _ _ _ _ e) own
     go Quote e own = let have = times_have said _ _ e in times_flagless (text_given final) have.0 have.1 name own text is
+    go Generate e own = let have = seed_have said _ _ e in seed_flagless (text_given final) have.0 have.1 name own text is
 
 -- ---- words that say a command
 
@@ -217,18 +238,19 @@ words_clear job rest said e = go (given_to job rest) refl e
 named_word : (word : Text) (job : Job) → job_named word ≡ Some job → command_word job ≡ word
 unfolding job_named
 named_word word job e =
-    go (bytes_eq (codes "replay") word) refl (bytes_eq (codes "dump") word) refl (bytes_eq (codes "tree") word) refl (bytes_eq (codes "timeline") word) refl (bytes_eq (codes "trace") word) refl (bytes_eq (codes "quote") word) refl e
+    go (bytes_eq (codes "replay") word) refl (bytes_eq (codes "dump") word) refl (bytes_eq (codes "tree") word) refl (bytes_eq (codes "timeline") word) refl (bytes_eq (codes "trace") word) refl (bytes_eq (codes "quote") word) refl (bytes_eq (codes "generate") word) refl e
   where
     go : (a : Bool) → bytes_eq (codes "replay") word ≡ a → (b : Bool) → bytes_eq (codes "dump") word ≡ b → (c : Bool) → bytes_eq (codes "tree") word ≡ c → (d : Bool) → bytes_eq (codes "timeline") word ≡ d
-        → (t : Bool) → bytes_eq (codes "trace") word ≡ t → (q : Bool) → bytes_eq (codes "quote") word ≡ q
-        → cond a (Some Replay) (cond b (Some Dump) (cond c (Some Tree) (cond d (Some Timeline) (cond t (Some TraceEvents) (cond q (Some Quote) None))))) ≡ Some job → command_word job ≡ word
-    go true replays b dumps c trees d lines t traces q quotes e = ap (λ o. command_word (unwrap_or o Replay)) (sym e) ∙ (bytes_eq-Decides (codes "replay") word).0 replays
-    go false replays true dumps c trees d lines t traces q quotes e = ap (λ o. command_word (unwrap_or o Replay)) (sym e) ∙ (bytes_eq-Decides (codes "dump") word).0 dumps
-    go false replays false dumps true trees d lines t traces q quotes e = ap (λ o. command_word (unwrap_or o Replay)) (sym e) ∙ (bytes_eq-Decides (codes "tree") word).0 trees
-    go false replays false dumps false trees true lines t traces q quotes e = ap (λ o. command_word (unwrap_or o Replay)) (sym e) ∙ (bytes_eq-Decides (codes "timeline") word).0 lines
-    go false replays false dumps false trees false lines true traces q quotes e = ap (λ o. command_word (unwrap_or o Replay)) (sym e) ∙ (bytes_eq-Decides (codes "trace") word).0 traces
-    go false replays false dumps false trees false lines false traces true quotes e = ap (λ o. command_word (unwrap_or o Replay)) (sym e) ∙ (bytes_eq-Decides (codes "quote") word).0 quotes
-    go false replays false dumps false trees false lines false traces false quotes e = absurd (cc)
+        → (t : Bool) → bytes_eq (codes "trace") word ≡ t → (q : Bool) → bytes_eq (codes "quote") word ≡ q → (g : Bool) → bytes_eq (codes "generate") word ≡ g
+        → cond a (Some Replay) (cond b (Some Dump) (cond c (Some Tree) (cond d (Some Timeline) (cond t (Some TraceEvents) (cond q (Some Quote) (cond g (Some Generate) None)))))) ≡ Some job → command_word job ≡ word
+    go true replays b dumps c trees d lines t traces q quotes g generates e = ap (λ o. command_word (unwrap_or o Replay)) (sym e) ∙ (bytes_eq-Decides (codes "replay") word).0 replays
+    go false replays true dumps c trees d lines t traces q quotes g generates e = ap (λ o. command_word (unwrap_or o Replay)) (sym e) ∙ (bytes_eq-Decides (codes "dump") word).0 dumps
+    go false replays false dumps true trees d lines t traces q quotes g generates e = ap (λ o. command_word (unwrap_or o Replay)) (sym e) ∙ (bytes_eq-Decides (codes "tree") word).0 trees
+    go false replays false dumps false trees true lines t traces q quotes g generates e = ap (λ o. command_word (unwrap_or o Replay)) (sym e) ∙ (bytes_eq-Decides (codes "timeline") word).0 lines
+    go false replays false dumps false trees false lines true traces q quotes g generates e = ap (λ o. command_word (unwrap_or o Replay)) (sym e) ∙ (bytes_eq-Decides (codes "trace") word).0 traces
+    go false replays false dumps false trees false lines false traces true quotes g generates e = ap (λ o. command_word (unwrap_or o Replay)) (sym e) ∙ (bytes_eq-Decides (codes "quote") word).0 quotes
+    go false replays false dumps false trees false lines false traces false quotes true generates e = ap (λ o. command_word (unwrap_or o Replay)) (sym e) ∙ (bytes_eq-Decides (codes "generate") word).0 generates
+    go false replays false dumps false trees false lines false traces false quotes false generates e = absurd (cc)
 
 pub said_clear : (words : List Text) (said : Said) → command_said words ≡ Some said → fault_of scopectl words ≡ []
 unfolding command_said

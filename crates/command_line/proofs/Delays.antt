@@ -48,7 +48,7 @@ begins_no_flag (byte ∷ rest) begins = go (not (byte == 61)) begins
 pub delay_is_no_flag : (text : List ℕ) (delay : NameAndMillis) → delay_said text ≡ Some delay → is_no_flag text ≡ true
 delay_is_no_flag text delay says = begins_no_flag text (named_begins _ (has_name text delay says))
 
--- ---- where `split_once` cuts
+-- ---- if `split_once` cuts
 
 module _ (text : List ℕ) (parts : Option (Bor (List ℕ) × Bor (List ℕ))) (split : IsSplitOnceResult 61 text parts) where
   pub whole : parts ≡ None → position_or_len is_equals text ≡ length text
@@ -60,7 +60,7 @@ module _ (text : List ℕ) (parts : Option (Bor (List ℕ) × Bor (List ℕ))) (
 -- ---- what each part of the text comes to
 
 module _ (text : List ℕ) where
-  nothing_after : position_or_len is_equals text ≡ length text → after_first is_equals text ≡ []
+  pub nothing_after : position_or_len is_equals text ≡ length text → after_first is_equals text ≡ []
   nothing_after none = ap (λ n. drop (n + 1) text) none ∙ drop_all (length text + 1) text (omega arith)
 
   no_number : plain_number (greatest_of After) (after_first is_equals text) ≡ None → delay_said text ≡ None

@@ -25,7 +25,7 @@ use Rattle.command_line.proofs.Passing.{ends, flags, gives, last_of, next_of, op
 use Rattle.command_line.proofs.Saying.{said_after}
 use Rattle.command_line.proofs.Walking.{at_missing, more, row_given, row_is_given, rows_given, text_kept}
 
--- ---- an option is given with a text just where it has one
+-- ---- an option is given with a text just if it has one
 
 abbrev pub is_fit : Job → Text × Option Text → Bool
 is_fit job o = cond (has_flag job o.0) (not (is_some o.1)) (is_some o.1)

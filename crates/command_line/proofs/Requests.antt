@@ -19,7 +19,7 @@ use Rattle.clap.specs.declared.builder.value_parser.ValueParser.{ValueParser}
 use Rattle.clap.specs.declared.error.kind.ErrorKind.{ErrorKind}
 use Rattle.clap.specs.declared.error.kind.ErrorKind.TheVariants as kind
 use Rattle.command_line.specs.Application.{scopectl}
-use Rattle.command_line.specs.declared.lines.Job.TheVariants.{Replay, Dump, Tree, Timeline, TraceEvents, Quote}
+use Rattle.command_line.specs.declared.lines.Job.TheVariants.{Replay, Dump, Tree, Timeline, TraceEvents, Quote, Generate}
 use Rattle.command_line.proofs.Built.{built_app, built_command, built_top}
 use Rattle.command_line.proofs.TopLevel.{fault_is}
 
@@ -198,17 +198,18 @@ module _ (s : Shape) (no_help : s.disable_help_subcommand ≡ true) where
 -- ---- the program
 
 entered_alone : (stop : Option (Text × List Text)) → Alone (entered_fault built_app stop)
-entered_alone stop = may _ stop (λ p. go p (answers_to p.0 (label_of (built_command Replay))) (answers_to p.0 (label_of (built_command Dump))) (answers_to p.0 (label_of (built_command Tree))) (answers_to p.0 (label_of (built_command Timeline))) (answers_to p.0 (label_of (built_command TraceEvents))) (answers_to p.0 (label_of (built_command Quote))))
+entered_alone stop = may _ stop (λ p. go p (answers_to p.0 (label_of (built_command Replay))) (answers_to p.0 (label_of (built_command Dump))) (answers_to p.0 (label_of (built_command Tree))) (answers_to p.0 (label_of (built_command Timeline))) (answers_to p.0 (label_of (built_command TraceEvents))) (answers_to p.0 (label_of (built_command Quote))) (answers_to p.0 (label_of (built_command Generate))))
   where
-    go : (p : Text × List Text) (a b c d t e : Bool)
-        → Alone (option_map_or (λ s. level_fault s [] nothing_held p.1 false []) (cond a (Some (built_command Replay)) (cond b (Some (built_command Dump)) (cond c (Some (built_command Tree)) (cond d (Some (built_command Timeline)) (cond t (Some (built_command TraceEvents)) (cond e (Some (built_command Quote)) None)))))) [])
-    go p true b c d t e = level_alone (built_command Replay) refl [] nothing_held p.1 false [] none
-    go p false true c d t e = level_alone (built_command Dump) refl [] nothing_held p.1 false [] none
-    go p false false true d t e = level_alone (built_command Tree) refl [] nothing_held p.1 false [] none
-    go p false false false true t e = level_alone (built_command Timeline) refl [] nothing_held p.1 false [] none
-    go p false false false false true e = level_alone (built_command TraceEvents) refl [] nothing_held p.1 false [] none
-    go p false false false false false true = level_alone (built_command Quote) refl [] nothing_held p.1 false [] none
-    go p false false false false false false = none
+    go : (p : Text × List Text) (a b c d t e g : Bool)
+        → Alone (option_map_or (λ s. level_fault s [] nothing_held p.1 false []) (cond a (Some (built_command Replay)) (cond b (Some (built_command Dump)) (cond c (Some (built_command Tree)) (cond d (Some (built_command Timeline)) (cond t (Some (built_command TraceEvents)) (cond e (Some (built_command Quote)) (cond g (Some (built_command Generate)) None))))))) [])
+    go p true b c d t e g = level_alone (built_command Replay) refl [] nothing_held p.1 false [] none
+    go p false true c d t e g = level_alone (built_command Dump) refl [] nothing_held p.1 false [] none
+    go p false false true d t e g = level_alone (built_command Tree) refl [] nothing_held p.1 false [] none
+    go p false false false true t e g = level_alone (built_command Timeline) refl [] nothing_held p.1 false [] none
+    go p false false false false true e g = level_alone (built_command TraceEvents) refl [] nothing_held p.1 false [] none
+    go p false false false false false true g = level_alone (built_command Quote) refl [] nothing_held p.1 false [] none
+    go p false false false false false false true = level_alone (built_command Generate) refl [] nothing_held p.1 false [] none
+    go p false false false false false false false = none
 
 fault_alone : (words : List Text) → Alone (fault_of scopectl words)
 fault_alone words =
@@ -230,6 +231,6 @@ only k (x ∷ []) asks (inl is) alone = ap (λ (y : ErrorKind). y ∷ []) (sym i
 only k (x ∷ []) asks (inr none) alone = absurd none
 only k (x ∷ y ∷ ks) asks among alone = absurd (true≢false (sym alone.is ∙ ap not (any_among k (x ∷ y ∷ ks) asks among)))
 
--- where a parse answers a request, it answers nothing else
+-- if a parse answers a request, it answers nothing else
 pub asked_alone : (words : List Text) (k : ErrorKind) → is_request k ≡ true → IsAmong k (fault_of scopectl words) → fault_of scopectl words ≡ k ∷ []
 asked_alone words k asks among = only k (fault_of scopectl words) asks among (fault_alone words)

@@ -13,7 +13,7 @@ use Rattle.command_line.specs.declared.settings.Flag.TheVariants.{Strict, Explai
 use Rattle.command_line.specs.declared.settings.Setting.{Setting}
 
 module _ (job : Job) (found : Found) (has : Flag → Bool) (tells : TellsFlags job found has) (given : Setting → Option (List ℕ)) (script : ScriptSaid) where
-  -- what is said of the script, where `--strict` and `--quiet` were found so
+  -- what is said of the script, if `--strict` and `--quiet` were found so
   abbrev pub SaysScript : Type 0
   SaysScript = (strict quiet : Bool) → one_text found (flag_name Strict) ≡ Some (bool_text strict) → one_text found (flag_name Quiet) ≡ Some (bool_text quiet) → script_by given strict quiet ≡ Some script
 

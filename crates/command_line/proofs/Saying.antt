@@ -20,7 +20,7 @@ end_of job w words = (fold (walked (job_rules job) []) w words).held
 abbrev pub said_after : Job → Given → List Text → Option Given
 said_after job given words = options_said job given words
 
--- the words are such that the walk over them, where it meets no fault, leaves what they say
+-- the words are such that the walk over them, if it meets no fault, leaves what they say
 abbrev Reads : Job → List Text → Type 0
 Reads job words = (before : Option Given) (rows : List Row) (pending : Option (Text × List Text)) → Comes job before (holding rows pending)
     → walk_fault (built_command job) [] (at (holding rows pending) idle) words ≡ []

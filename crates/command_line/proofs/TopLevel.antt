@@ -17,10 +17,10 @@ use Rattle.command_line.specs.Parsing.{TellsFlags}
 use Rattle.command_line.specs.Settings.{flag_name, name_of}
 use Rattle.command_line.specs.declared.settings.Flag.{Flag}
 use Rattle.command_line.specs.declared.settings.Setting.{Setting}
-use Rattle.command_line.specs.declared.settings.Setting.TheVariants.{Scopes, Tasks, Load, Deadline, After}
+use Rattle.command_line.specs.declared.settings.Setting.TheVariants.{Scopes, Tasks, Load, Deadline, After, Seed, Lines}
 use Rattle.command_line.proofs.Flagged.{AreFit, flag_filled, one_text-rows, rows_filled, said_fit, text_filled, text_row}
 use Rattle.command_line.specs.declared.lines.Job.{Job}
-use Rattle.command_line.specs.declared.lines.Job.TheVariants.{Replay, Dump, Tree, Timeline, TraceEvents, Quote}
+use Rattle.command_line.specs.declared.lines.Job.TheVariants.{Replay, Dump, Tree, Timeline, TraceEvents, Quote, Generate}
 use Rattle.command_line.proofs.Built.{asks_help, asks_version, built_app, built_help, built_top, built_version, command_names, has_flag, is_built, job_rules, top_level, top_rules, words_fault}
 use Rattle.command_line.proofs.Levels.{at, dashes, dashes_end, holding, long_clear, no_value, nothing_past_dashes, or_else-nil, past_dashes}
 use Rattle.command_line.proofs.Saying.{reads}
@@ -63,6 +63,7 @@ stops Tree rest = stop_more Tree [] rest
 stops Timeline rest = stop_more Timeline [] rest
 stops TraceEvents rest = stop_more TraceEvents [] rest
 stops Quote rest = stop_more Quote [] rest
+stops Generate rest = stop_more Generate [] rest
 
 -- ---- any other first word meets a fault
 
@@ -127,6 +128,7 @@ entered_is Tree rest = refl
 entered_is Timeline rest = refl
 entered_is TraceEvents rest = refl
 entered_is Quote rest = refl
+entered_is Generate rest = refl
 
 words_clear : (job : Job) (rest : List Text) → built_fault built_app nothing_held (command_word job ∷ rest) ≡ [] → words_fault job rest ≡ []
 words_clear job rest e =
@@ -134,7 +136,7 @@ words_clear job rest e =
     let below : entered_fault built_app (walk top_rules command_names nothing_held (command_word job ∷ rest)).stopped ≡ [] = (or_else-nil _ _ all.1).0 in
     sym (entered_is job rest) ∙ subst (λ (w : Walk). entered_fault built_app w.stopped ≡ []) (stops job rest) below
 
--- the job, and what it was given, where the words meet no fault
+-- the job, and what it was given, if the words meet no fault
 pub record IsRead (words : List Text) : Type 0 where
   pub job : Job
   pub given : Given
@@ -150,6 +152,7 @@ named_is Tree = refl
 named_is Timeline = refl
 named_is TraceEvents = refl
 named_is Quote = refl
+named_is Generate = refl
 
 -- the rows that a job's command leaves
 abbrev rows_left : Job → List Text → List Row
@@ -162,12 +165,13 @@ rows_entered Tree rest = refl
 rows_entered Timeline rest = refl
 rows_entered TraceEvents rest = refl
 rows_entered Quote rest = refl
+rows_entered Generate rest = refl
 
 said_at : (program : Text) (job : Job) (rest : List Text) → command_said (program ∷ command_word job ∷ rest) ≡ option_and_then (λ given. job_said job given) (given_to job rest)
 unfolding command_said
 said_at program job rest = ap (option_and_then (λ j. option_and_then (λ given. job_said j given) (given_to j rest))) (named_is job)
 
--- what the words after a job's word give, where they meet no fault, and the rows of it
+-- what the words after a job's word give, if they meet no fault, and the rows of it
 abbrev IsGiven : Job → List Text → Type 0
 IsGiven job rest = (given : Given) × (given_to job rest ≡ Some given) × (rows_left job rest ≡ rows_filled job given)
 
@@ -192,21 +196,22 @@ read_command program job rest e =
 
 read_after : (program word : Text) (rest : List Text) → built_fault built_app nothing_held (word ∷ rest) ≡ [] → IsRead (program ∷ word ∷ rest)
 read_after program word rest e =
-    go (bytes_eq (codes "replay") word) refl (bytes_eq (codes "dump") word) refl (bytes_eq (codes "tree") word) refl (bytes_eq (codes "timeline") word) refl (bytes_eq (codes "trace") word) refl (bytes_eq (codes "quote") word) refl
+    go (bytes_eq (codes "replay") word) refl (bytes_eq (codes "dump") word) refl (bytes_eq (codes "tree") word) refl (bytes_eq (codes "timeline") word) refl (bytes_eq (codes "trace") word) refl (bytes_eq (codes "quote") word) refl (bytes_eq (codes "generate") word) refl
   where
     at_job : (job : Job) → command_word job ≡ word → IsRead (program ∷ word ∷ rest)
     at_job job same =
         subst (λ w. IsRead (program ∷ w ∷ rest)) same (read_command program job rest (words_clear job rest (subst (λ w. built_fault built_app nothing_held (w ∷ rest) ≡ []) (sym same) e)))
 
     go : (a : Bool) → bytes_eq (codes "replay") word ≡ a → (b : Bool) → bytes_eq (codes "dump") word ≡ b → (c : Bool) → bytes_eq (codes "tree") word ≡ c → (d : Bool) → bytes_eq (codes "timeline") word ≡ d
-        → (t : Bool) → bytes_eq (codes "trace") word ≡ t → (q : Bool) → bytes_eq (codes "quote") word ≡ q → IsRead (program ∷ word ∷ rest)
-    go true replays b dumps c trees d lines t traces q quotes = at_job Replay ((bytes_eq-Decides (codes "replay") word).0 replays)
-    go false replays true dumps c trees d lines t traces q quotes = at_job Dump ((bytes_eq-Decides (codes "dump") word).0 dumps)
-    go false replays false dumps true trees d lines t traces q quotes = at_job Tree ((bytes_eq-Decides (codes "tree") word).0 trees)
-    go false replays false dumps false trees true lines t traces q quotes = at_job Timeline ((bytes_eq-Decides (codes "timeline") word).0 lines)
-    go false replays false dumps false trees false lines true traces q quotes = at_job TraceEvents ((bytes_eq-Decides (codes "trace") word).0 traces)
-    go false replays false dumps false trees false lines false traces true quotes = at_job Quote ((bytes_eq-Decides (codes "quote") word).0 quotes)
-    go false replays false dumps false trees false lines false traces false quotes = absurd (no_other word rest (rw (replays, dumps, trees, lines, traces, quotes) refl) e)
+        → (t : Bool) → bytes_eq (codes "trace") word ≡ t → (q : Bool) → bytes_eq (codes "quote") word ≡ q → (g : Bool) → bytes_eq (codes "generate") word ≡ g → IsRead (program ∷ word ∷ rest)
+    go true replays b dumps c trees d lines t traces q quotes g generates = at_job Replay ((bytes_eq-Decides (codes "replay") word).0 replays)
+    go false replays true dumps c trees d lines t traces q quotes g generates = at_job Dump ((bytes_eq-Decides (codes "dump") word).0 dumps)
+    go false replays false dumps true trees d lines t traces q quotes g generates = at_job Tree ((bytes_eq-Decides (codes "tree") word).0 trees)
+    go false replays false dumps false trees true lines t traces q quotes g generates = at_job Timeline ((bytes_eq-Decides (codes "timeline") word).0 lines)
+    go false replays false dumps false trees false lines true traces q quotes g generates = at_job TraceEvents ((bytes_eq-Decides (codes "trace") word).0 traces)
+    go false replays false dumps false trees false lines false traces true quotes g generates = at_job Quote ((bytes_eq-Decides (codes "quote") word).0 quotes)
+    go false replays false dumps false trees false lines false traces false quotes true generates = at_job Generate ((bytes_eq-Decides (codes "generate") word).0 generates)
+    go false replays false dumps false trees false lines false traces false quotes false generates = absurd (no_other word rest (rw (replays, dumps, trees, lines, traces, quotes, generates) refl) e)
 
 pub read : (words : List Text) → fault_of scopectl words ≡ [] → IsRead words
 read [] e = absurd (none_met [] refl (sym (fault_is []) ∙ e))
@@ -214,20 +219,23 @@ read (program ∷ []) e = absurd (none_met [] refl (sym (fault_is (program ∷ [
 read (program ∷ word ∷ rest) e = read_after program word rest (sym (fault_is (program ∷ word ∷ rest)) ∙ e)
 
 -- no option with a text is one without
-each_job : (P : Job → Type 0) → P Replay → P Dump → P Tree → P Timeline → P TraceEvents → P Quote → (job : Job) → P job
-each_job P a b c d t e Replay = a
-each_job P a b c d t e Dump = b
-each_job P a b c d t e Tree = c
-each_job P a b c d t e Timeline = d
-each_job P a b c d t e TraceEvents = t
-each_job P a b c d t e Quote = e
+each_job : (P : Job → Type 0) → P Replay → P Dump → P Tree → P Timeline → P TraceEvents → P Quote → P Generate → (job : Job) → P job
+each_job P a b c d t e g Replay = a
+each_job P a b c d t e g Dump = b
+each_job P a b c d t e g Tree = c
+each_job P a b c d t e g Timeline = d
+each_job P a b c d t e g TraceEvents = t
+each_job P a b c d t e g Quote = e
+each_job P a b c d t e g Generate = g
 
 setting_no_flag : (setting : Setting) (job : Job) → has_flag job (name_of setting) ≡ false
-setting_no_flag Scopes = each_job (λ job. has_flag job (name_of Scopes) ≡ false) refl refl refl refl refl refl
-setting_no_flag Tasks = each_job (λ job. has_flag job (name_of Tasks) ≡ false) refl refl refl refl refl refl
-setting_no_flag Load = each_job (λ job. has_flag job (name_of Load) ≡ false) refl refl refl refl refl refl
-setting_no_flag Deadline = each_job (λ job. has_flag job (name_of Deadline) ≡ false) refl refl refl refl refl refl
-setting_no_flag After = each_job (λ job. has_flag job (name_of After) ≡ false) refl refl refl refl refl refl
+setting_no_flag Scopes = each_job (λ job. has_flag job (name_of Scopes) ≡ false) refl refl refl refl refl refl refl
+setting_no_flag Tasks = each_job (λ job. has_flag job (name_of Tasks) ≡ false) refl refl refl refl refl refl refl
+setting_no_flag Load = each_job (λ job. has_flag job (name_of Load) ≡ false) refl refl refl refl refl refl refl
+setting_no_flag Deadline = each_job (λ job. has_flag job (name_of Deadline) ≡ false) refl refl refl refl refl refl refl
+setting_no_flag After = each_job (λ job. has_flag job (name_of After) ≡ false) refl refl refl refl refl refl refl
+setting_no_flag Seed = each_job (λ job. has_flag job (name_of Seed) ≡ false) refl refl refl refl refl refl refl
+setting_no_flag Lines = each_job (λ job. has_flag job (name_of Lines) ≡ false) refl refl refl refl refl refl refl
 
 module _ (words : List Text) (found : Found) (got : IsRead words) (same : rows_of found ≡ rows_filled got.job got.given) where
   text_is : (setting : Setting) → first_value found (name_of setting) ≡ text_given got.given (name_of setting)

@@ -1,4 +1,4 @@
--- The walk over the words after a job's word, where it meets no fault, reads the options that they say.
+-- The walk over the words after a job's word, if it meets no fault, reads the options that they say.
 use Rattle.std.proofs.Common.{◌≡◌, ◌∙◌, ◌&&◌, ◌||◌, Bool, cond, true, false, refl, sym, ap, List, [], ◌∷◌, ◌++◌, map, Option, Some, None, append-nil, codes, is_some}
 use Rattle.std.specs.Prelude.{unwrap_or}
 use Rattle.std.specs.Str.{bytes_eq}

@@ -5,7 +5,7 @@ use Rattle.clap.specs.Walk.{Rule}
 use Rattle.clap.specs.declared.builder.action.ArgAction.TheVariants.{SetTrue}
 use Rattle.command_line.specs.CommandLine.{command_word, flag_names, option_names}
 use Rattle.command_line.specs.declared.lines.Job.{Job}
-use Rattle.command_line.specs.declared.lines.Job.TheVariants.{Replay, Dump, Tree, Timeline, TraceEvents, Quote}
+use Rattle.command_line.specs.declared.lines.Job.TheVariants.{Replay, Dump, Tree, Timeline, TraceEvents, Quote, Generate}
 
 -- the option `--NAME VALUE`
 abbrev pub option_rule : List ℕ → Rule
@@ -29,8 +29,8 @@ command_of job =
     with_flags (with_options (new_app (command_word job)) (option_names job)) (flag_names job)
 
 unfoldable pub scopectl : App
-scopectl = with_subcommand (with_subcommand (with_subcommand (with_subcommand (with_subcommand (with_subcommand (on_top (λ top. record top {
+scopectl = with_subcommand (with_subcommand (with_subcommand (with_subcommand (with_subcommand (with_subcommand (with_subcommand (on_top (λ top. record top {
   has_version = true;
   subcommand_required = true;
   disable_help_subcommand = true;
-}) (new_app (codes "scopectl"))) (command_of Replay).top) (command_of Dump).top) (command_of Tree).top) (command_of Timeline).top) (command_of TraceEvents).top) (command_of Quote).top
+}) (new_app (codes "scopectl"))) (command_of Replay).top) (command_of Dump).top) (command_of Tree).top) (command_of Timeline).top) (command_of TraceEvents).top) (command_of Quote).top) (command_of Generate).top

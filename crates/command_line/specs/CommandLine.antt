@@ -5,7 +5,7 @@ use Rattle.std.specs.List.{list_any}
 use Rattle.std.specs.Str.{bytes_eq}
 use Rattle.clap.specs.Lexer.{long_of}
 use Rattle.command_line.specs.HelpWord.{turned}
-use Rattle.command_line.specs.Settings.{NameAndMillis, Numbers, deadline_by, delay_by, delay_of, flag_name, name_of, numbers_by, numbers_of}
+use Rattle.command_line.specs.Settings.{NameAndMillis, Numbers, number_by, delay_by, delay_of, flag_name, name_of, numbers_by, numbers_of}
 use Rattle.command_line.specs.declared.lines.CommandLine.{CommandLine}
 use Rattle.command_line.specs.declared.lines.CommandLine.TheVariants as line
 use Rattle.command_line.specs.declared.settings.ScriptOptions.{ScriptOptions}
@@ -13,8 +13,8 @@ use Rattle.command_line.specs.declared.settings.Flag.{Flag}
 use Rattle.command_line.specs.declared.settings.Flag.TheVariants.{Strict, Explain, Trace, Quiet, Lenient}
 use Rattle.command_line.specs.declared.settings.Setting.{Setting}
 use Rattle.command_line.specs.declared.lines.Job.{Job}
-use Rattle.command_line.specs.declared.lines.Job.TheVariants.{Replay, Dump, Tree, Timeline, TraceEvents, Quote}
-use Rattle.command_line.specs.declared.settings.Setting.TheVariants.{Scopes, Tasks, Load, Deadline, After}
+use Rattle.command_line.specs.declared.lines.Job.TheVariants.{Replay, Dump, Tree, Timeline, TraceEvents, Quote, Generate}
+use Rattle.command_line.specs.declared.settings.Setting.TheVariants.{Scopes, Tasks, Load, Deadline, After, Seed, Lines}
 
 -- ---- jobs
 
@@ -26,6 +26,7 @@ command_word Tree = codes "tree"
 command_word Timeline = codes "timeline"
 command_word TraceEvents = codes "trace"
 command_word Quote = codes "quote"
+command_word Generate = codes "generate"
 
 -- the job that has this word
 unfoldable pub job_named : List ℕ → Option Job
@@ -34,7 +35,8 @@ job_named word = if bytes_eq (command_word Replay) word then Some Replay
     else (if bytes_eq (command_word Tree) word then Some Tree
     else (if bytes_eq (command_word Timeline) word then Some Timeline
     else (if bytes_eq (command_word TraceEvents) word then Some TraceEvents
-    else (if bytes_eq (command_word Quote) word then Some Quote else None)))))
+    else (if bytes_eq (command_word Quote) word then Some Quote
+    else (if bytes_eq (command_word Generate) word then Some Generate else None))))))
 
 -- the names of the options that set the limits of a realm
 abbrev pub limit_names : List (List ℕ)
@@ -44,6 +46,10 @@ limit_names = name_of Scopes ∷ name_of Tasks ∷ name_of Load ∷ []
 abbrev pub time_names : List (List ℕ)
 time_names = name_of Deadline ∷ name_of After ∷ []
 
+-- the names of the options that say which random script is made
+abbrev pub seed_names : List (List ℕ)
+seed_names = name_of Seed ∷ name_of Lines ∷ []
+
 -- the names of the options with a text that a job has
 abbrev pub option_names : Job → List (List ℕ)
 option_names Replay = limit_names
@@ -52,6 +58,7 @@ option_names Tree = limit_names
 option_names Timeline = limit_names
 option_names TraceEvents = limit_names
 option_names Quote = time_names
+option_names Generate = seed_names
 
 -- the names of the options without a text that a job has: each that runs a script may be strict and quiet, a replay can
 -- be explained and traced, and a view for people may be lenient
@@ -62,6 +69,7 @@ flag_names Tree = flag_name Strict ∷ flag_name Quiet ∷ flag_name Lenient ∷
 flag_names Timeline = flag_name Strict ∷ flag_name Quiet ∷ flag_name Lenient ∷ []
 flag_names TraceEvents = flag_name Strict ∷ flag_name Quiet ∷ flag_name Lenient ∷ []
 flag_names Quote = []
+flag_names Generate = []
 
 -- ---- options
 
@@ -129,13 +137,17 @@ pub data Said : Type 0 where
   timeline : ScriptSaid → (lenient : Bool) → Said
   trace_events : ScriptSaid → (lenient : Bool) → Said
   quote : (deadline : Option ℕ) (after : Option NameAndMillis) → Said
+  generate : (seed lines : Option ℕ) → Said
 
 abbrev pub script_by : (Setting → Option (List ℕ)) → (strict quiet : Bool) → Option ScriptSaid
 script_by given strict quiet =
     option_map (λ numbers. record { numbers = numbers; strict = strict; quiet = quiet }) (numbers_by given)
 
 abbrev pub quote_by : (Setting → Option (List ℕ)) → Option Said
-quote_by given = option_and_then (λ deadline. option_map (λ after. quote deadline after) (delay_by (given After))) (deadline_by (given Deadline))
+quote_by given = option_and_then (λ deadline. option_map (λ after. quote deadline after) (delay_by (given After))) (number_by Deadline (given Deadline))
+
+abbrev pub generate_by : (Setting → Option (List ℕ)) → Option Said
+generate_by given = option_and_then (λ seed. option_map (λ lines. generate seed lines) (number_by Lines (given Lines))) (number_by Seed (given Seed))
 
 -- what is said of a job by the texts of its options, and by those options without a text that were given
 abbrev pub said_by : Job → (Setting → Option (List ℕ)) → (Flag → Bool) → Option Said
@@ -145,6 +157,7 @@ said_by Tree given has = option_map (λ script. tree script (has Lenient)) (scri
 said_by Timeline given has = option_map (λ script. timeline script (has Lenient)) (script_by given (has Strict) (has Quiet))
 said_by TraceEvents given has = option_map (λ script. trace_events script (has Lenient)) (script_by given (has Strict) (has Quiet))
 said_by Quote given has = quote_by given
+said_by Generate given has = generate_by given
 
 -- what is said of a job by the options that were given
 abbrev pub job_said : Job → Given → Option Said
@@ -166,6 +179,7 @@ said_of (line.Tree script lenient) = tree (script_of script) lenient
 said_of (line.Timeline script lenient) = timeline (script_of script) lenient
 said_of (line.TraceEvents script lenient) = trace_events (script_of script) lenient
 said_of (line.Quote deadline after) = quote deadline (option_map delay_of after)
+said_of (line.Generate seed lines) = generate seed lines
 
 -- the words say the command, as they are read
 abbrev pub Says : List (List ℕ) → CommandLine → Type 0

@@ -28,7 +28,7 @@ AsksVersion words = fault_of scopectl (turned words) ≡ kind.DisplayVersion ∷
 abbrev pub IsNoRequest : List (List ℕ) → Type 0
 IsNoRequest words = (AsksHelp words → ⊥) × (AsksVersion words → ⊥)
 
--- help comes where the words ask for it, and so does the version
+-- help comes if the words ask for it, and so does the version
 abbrev pub Answers : List (List ℕ) → LineFault → Type 0
 Answers words Help = AsksHelp words
 Answers words Version = AsksVersion words

@@ -7,9 +7,9 @@ use Rattle.std.specs.Str.{bytes_eq}
 use Rattle.clap.specs.Lexer.{strip_byte}
 use Rattle.command_line.specs.CommandLine.{flag_names, is_among, job_named, limit_names}
 use Rattle.command_line.specs.Settings.{is_equals}
-use Rattle.command_line.specs.declared.hints.TheConstants.{REPLAY_INPUT, DUMP_INPUT, TREE_INPUT, TIMELINE_INPUT, TRACE_INPUT, QUOTE_INPUT, QUOTE_OPTIONS}
+use Rattle.command_line.specs.declared.hints.TheConstants.{REPLAY_INPUT, DUMP_INPUT, TREE_INPUT, TIMELINE_INPUT, TRACE_INPUT, QUOTE_INPUT, GENERATE_INPUT, QUOTE_OPTIONS}
 use Rattle.command_line.specs.declared.lines.Job.{Job}
-use Rattle.command_line.specs.declared.lines.Job.TheVariants.{Replay, Dump, Tree, Timeline, TraceEvents, Quote}
+use Rattle.command_line.specs.declared.lines.Job.TheVariants.{Replay, Dump, Tree, Timeline, TraceEvents, Quote, Generate}
 
 -- ---- words
 
@@ -41,7 +41,7 @@ is_stray job before word =
 
 -- ---- hints
 
--- where the job finds what a stray word seems to name
+-- if the job finds what a stray word seems to name
 abbrev pub input_hint : Job → List ℕ
 input_hint Replay = REPLAY_INPUT.now
 input_hint Dump = DUMP_INPUT.now
@@ -49,6 +49,7 @@ input_hint Tree = TREE_INPUT.now
 input_hint Timeline = TIMELINE_INPUT.now
 input_hint TraceEvents = TRACE_INPUT.now
 input_hint Quote = QUOTE_INPUT.now
+input_hint Generate = GENERATE_INPUT.now
 
 -- what is hinted at where a job does not have the option
 abbrev pub option_hint : Job → List ℕ → Option (List ℕ)

@@ -12,8 +12,8 @@ use Rattle.command_line.specs.declared.settings.Delay.{Delay}
 use Rattle.command_line.specs.declared.settings.Flag.{Flag}
 use Rattle.command_line.specs.declared.settings.Flag.TheVariants.{Strict, Explain, Trace, Quiet, Lenient}
 use Rattle.command_line.specs.declared.settings.Setting.{Setting}
-use Rattle.command_line.specs.declared.settings.Setting.TheVariants.{Scopes, Tasks, Load, Deadline, After}
-use Rattle.command_line.specs.declared.settings.TheConstants.{DAY_MILLIS}
+use Rattle.command_line.specs.declared.settings.Setting.TheVariants.{Scopes, Tasks, Load, Deadline, After, Seed, Lines}
+use Rattle.command_line.specs.declared.settings.TheConstants.{DAY_MILLIS, SEED_LIMIT, LINES_LIMIT}
 
 -- an option's name, without its hyphens
 abbrev pub name_of : Setting → List ℕ
@@ -22,6 +22,8 @@ name_of Tasks = codes "tasks"
 name_of Load = codes "load"
 name_of Deadline = codes "deadline"
 name_of After = codes "after"
+name_of Seed = codes "seed"
+name_of Lines = codes "lines"
 
 -- the name of an option that has no text, without its hyphens
 abbrev pub flag_name : Flag → List ℕ
@@ -43,6 +45,8 @@ greatest_of Tasks = TASK_LIMIT
 greatest_of Load = LOAD_LIMIT
 greatest_of Deadline = DAY_MILLIS
 greatest_of After = DAY_MILLIS
+greatest_of Seed = SEED_LIMIT
+greatest_of Lines = LINES_LIMIT
 
 abbrev pub is_digit : ℕ → Bool
 is_digit byte = nat_le 48 byte && nat_le byte 57
@@ -82,16 +86,16 @@ numbers_by given = option_and_then (λ scopes. option_and_then (λ tasks. option
   load = load;
 }) (setting_number Load (given Load))) (setting_number Tasks (given Tasks))) (setting_number Scopes (given Scopes))
 
--- ---- the times of a quote
+-- ---- options that may be left out
 
 -- what an option says that may be left out: nothing where it was not given, else what its text says
 abbrev pub if_given : {X : Type 0} → (List ℕ → Option X) → Option (List ℕ) → Option (Option X)
 if_given said None = Some None
 if_given said (Some text) = option_map (λ x. Some x) (said text)
 
--- the deadline whose option was given with a text, or was not given
-abbrev pub deadline_by : Option (List ℕ) → Option (Option ℕ)
-deadline_by = if_given (plain_number (greatest_of Deadline))
+-- the number whose option was given with a text, or was not given
+abbrev pub number_by : Setting → Option (List ℕ) → Option (Option ℕ)
+number_by setting = if_given (plain_number (greatest_of setting))
 
 -- the text of a name, and a number of milliseconds
 pub record NameAndMillis : Type 0 where
@@ -106,7 +110,7 @@ abbrev pub is_equals : ℕ → Bool
 is_equals byte = byte == 61
 
 -- what a text NAME=MS says, if it says that: a name before its first `=`, and after it a number from 1 to
--- the greatest (where there is no `=` nothing stands after it, which is no number)
+-- the greatest (if there is no `=` nothing stands after it, which is no number)
 unfoldable pub delay_said : List ℕ → Option NameAndMillis
 delay_said text =
     let name = before_first is_equals text in

@@ -2,7 +2,7 @@
 use Rattle.std.specs.Prelude.{◌≡◌, ◌⊎◌, ◌++◌, ℕ, List, [], ◌∷◌, codes, slice_get, if◌then◌else◌}
 use Rattle.std.specs.Option.{option_map_or}
 use Rattle.std.specs.Str.{bytes_eq}
-use Rattle.command_line.specs.declared.help.TheConstants.{HELP, REPLAY_HELP, DUMP_HELP, TREE_HELP, TIMELINE_HELP, TRACE_HELP, QUOTE_HELP}
+use Rattle.command_line.specs.declared.help.TheConstants.{HELP, REPLAY_HELP, DUMP_HELP, TREE_HELP, TIMELINE_HELP, TRACE_HELP, QUOTE_HELP, GENERATE_HELP}
 use Rattle.command_line.specs.Faults.{AsksHelp, AsksVersion}
 use Rattle.command_line.specs.HelpWord.{turned}
 
@@ -13,7 +13,8 @@ help_at command = if bytes_eq command (codes "replay") then REPLAY_HELP.now
     else (if bytes_eq command (codes "tree") then TREE_HELP.now
     else (if bytes_eq command (codes "timeline") then TIMELINE_HELP.now
     else (if bytes_eq command (codes "trace") then TRACE_HELP.now
-    else (if bytes_eq command (codes "quote") then QUOTE_HELP.now else HELP.now)))))
+    else (if bytes_eq command (codes "quote") then QUOTE_HELP.now
+    else (if bytes_eq command (codes "generate") then GENERATE_HELP.now else HELP.now))))))
 
 -- the help of the command whose word stands at the place; of the program, if no word does
 abbrev pub help_in : List (List ℕ) → (place : ℕ) → List ℕ

@@ -4,7 +4,7 @@ ghost use Rattle.std.specs.Prelude.{◌≡◌, ◌∷◌, [], IfOk, false};
 ghost use Rattle.clap.specs.Words.{app_of, rule_of, with_subcommand};
 ghost use Rattle.clap.specs.declared.builder.command.Command.TheViews.{out-Command as fields_of};
 ghost use Rattle.command_line.specs.Application.{command_of, flag_rule, option_rule, scopectl, with_flags, with_options};
-ghost use Rattle.command_line.specs.CommandLine.{limit_names, time_names};
+ghost use Rattle.command_line.specs.CommandLine.{limit_names, seed_names, time_names};
 ghost use Rattle.command_line.specs.Settings.{flag_name, name_of};
 
 use crate::help;
@@ -29,7 +29,8 @@ pub fn application<'a>(alloc: Global) -> Result<Command<'a>, AllocError>
     let with_tree = with_job(alloc, with_dump, Job::Tree)?;
     let with_timeline = with_job(alloc, with_tree, Job::Timeline)?;
     let with_trace = with_job(alloc, with_timeline, Job::TraceEvents)?;
-    with_job(alloc, with_trace, Job::Quote)
+    let with_quote = with_job(alloc, with_trace, Job::Quote)?;
+    with_job(alloc, with_quote, Job::Generate)
 }
 
 // The program with the command of one job more.
@@ -54,6 +55,7 @@ fn command<'a>(alloc: Global, job: Job) -> Result<Command<'a>, AllocError>
         Job::Timeline => with_lenience(alloc, with_limits(alloc, bare)?),
         Job::TraceEvents => with_lenience(alloc, with_limits(alloc, bare)?),
         Job::Quote => with_times(alloc, bare),
+        Job::Generate => with_seed(alloc, bare),
     }
 }
 
@@ -93,6 +95,15 @@ fn with_times<'a>(alloc: Global, bare: Command<'a>) -> Result<Command<'a>, Alloc
 {
     bare.arg(option(alloc, Setting::Deadline))?
         .arg(option(alloc, Setting::After))
+}
+
+// The command with the options that say which random script is made.
+fn with_seed<'a>(alloc: Global, bare: Command<'a>) -> Result<Command<'a>, AllocError>
+    ensures app { IfOk result (λ command. app_of command ≡ with_options (app_of bare.entry) seed_names) }
+    ensures local { IfOk result (λ command. (fields_of command).has_globals ≡ (fields_of bare.entry).has_globals) }
+{
+    bare.arg(option(alloc, Setting::Seed))?
+        .arg(option(alloc, Setting::Lines))
 }
 
 // The option `--NAME VALUE`.

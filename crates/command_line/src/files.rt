@@ -1,8 +1,10 @@
-//! The file that words name, and the words without it.
-ghost use Rattle.std.specs.Prelude.{◌≡◌, ◌+◌, ◌<◌, ◌^◌, ◌++◌, ◌∷◌, [], IfOk, IfSome, drop, length, map, option_map, take};
-ghost use Rattle.command_line.specs.Files.{file_place, file_said, stray_at, version_turned, words_said};
+//! The files that words name, and the words without them.
+ghost use Rattle.std.specs.Prelude.{◌≡◌, ◌+◌, ◌<◌, ◌^◌, ◌++◌, ◌∷◌, [], IfOk, IfSome, drop, length, map, option_map, slice_get, take};
+ghost use Rattle.std.specs.List.{after_first, list_any};
+ghost use Rattle.command_line.specs.Files.{asks_help, expect_at, expect_behind, expect_place, expect_text, expected_said, file_place, file_said, has_text, is_expect, is_nil, job_expect, job_file, reads_file, stray_at, unexpected, version_turned, words_said};
+ghost use Rattle.command_line.specs.Settings.{is_equals};
 
-use crate::hints::is_stray;
+use crate::hints::{is_stray, long_name};
 use crate::lines::Job;
 use std::alloc::{AllocError, Global};
 
@@ -16,7 +18,8 @@ pub struct Parted<'a> {
 }
 
 /// The words of the line without the file that they name: behind the word of a job it is the first that is no option,
-/// and not the text of one. `version` asks for what `--version` does.
+/// and not the text of one. `version` asks for what `--version` does, and
+/// `version --help` for what `--help` does.
 ///
 /// # Errors
 /// Where memory was refused.
@@ -54,7 +57,7 @@ fn without<'a>(alloc: Global, words: &[&'a str], place: usize) -> Result<Vec<&'a
     Ok(others)
 }
 
-// The words, of which `version` is read as `--version`.
+// The words, of which `version` is read as `--version`, and before `--help` as no word.
 fn turned<'a>(alloc: Global, words: &[&'a str]) -> Result<Vec<&'a str>, AllocError>
     ensures { IfOk result (λ read. map (λ word. word.now) read.items ≡ version_turned (map (λ word. word.now) words.now)) }
 {
@@ -64,7 +67,19 @@ fn turned<'a>(alloc: Global, words: &[&'a str]) -> Result<Vec<&'a str>, AllocErr
         }
         return two_words(alloc, program, word);
     }
+    if let [program, word, option] = words {
+        if *word == "version" && asks_help(option) {
+            return two_words(alloc, program, "--help");
+        }
+    }
     Vec::from_slice(alloc, words)
+}
+
+// Whether the word asks for help.
+fn asks_help(word: &str) -> bool
+    ensures { result ≡ asks_help word.now }
+{
+    word == "--help" || word == "-h"
 }
 
 // Two words.
@@ -83,9 +98,28 @@ fn file_place(words: &[&str]) -> Option<usize>
     ensures within { IfSome result (λ place. place < length words.now) }
 {
     match words {
-        [_, command, rest @ ..] => stray_at(Job::named(command)?, 2, command, rest),
+        [_, command, rest @ ..] => job_file(Job::named(command)?, command, rest),
         _ => None,
     }
+}
+
+// Where the words behind a job's word name a file, if they do.
+fn job_file(job: Job, command: &str, rest: &[&str]) -> Option<usize>
+    requires { length rest.now + 2 < 2 ^ 63 }
+    ensures place { result ≡ job_file job command.now (map (λ word. word.now) rest.now) }
+    ensures within { IfSome result (λ place. place < length rest.now + 2) }
+{
+    if !reads_file(job) {
+        return None;
+    }
+    stray_at(job, 2, command, rest)
+}
+
+// Whether the job reads a file or standard input.
+fn reads_file(job: Job) -> bool
+    ensures { result ≡ reads_file job }
+{
+    !matches!(job, Job::Generate)
 }
 
 // The place of the first of the words that is no option of the job, and not the text of one. Places are counted from
@@ -103,6 +137,164 @@ fn stray_at(job: Job, place: usize, before: &str, words: &[&str]) -> Option<usiz
                 Some(place)
             } else {
                 stray_at(job, place + 1, word, rest)
+            }
+        }
+    }
+}
+
+/// The words of a line, and the file that replies are compared with.
+#[derive(Drop)]
+pub struct Compared<'a> {
+    /// The words without the option `--expect`, of which the first is the program's name.
+    pub words: Vec<&'a str>,
+    /// The file, if one is named.
+    pub expected: Option<&'a str>,
+}
+
+/// The words of the line without the option `--expect` of a replay, as `--expect FILE` or `--expect=FILE`, and the file
+/// that it names.
+///
+/// # Errors
+/// If memory was refused.
+pub fn part_expected<'a>(alloc: Global, words: &[&'a str]) -> Result<Compared<'a>, AllocError>
+    ensures words { IfOk result (λ parted. map (λ word. word.now) parted.words.items ≡ unexpected (map (λ word. word.now) words.now) (expect_place (map (λ word. word.now) words.now))) }
+    ensures file { IfOk result (λ parted. option_map (λ word. word.now) parted.expected ≡ expected_said (map (λ word. word.now) words.now)) }
+{
+    match expect_place(words) {
+        Some(place) => {
+            let (front, back) = words.split_at(place);
+            let mut left = Vec::new(alloc);
+            left.extend_from_slice(front)?;
+            left.extend_from_slice(expect_behind(back))?;
+            Ok(Compared {
+                words: left,
+                expected: expect_text(back),
+            })
+        }
+        None => Ok(Compared {
+            words: Vec::from_slice(alloc, words)?,
+            expected: None,
+        }),
+    }
+}
+
+// Where the words have the option, if they do.
+fn expect_place(words: &[&str]) -> Option<usize>
+    ensures place { result ≡ expect_place (map (λ word. word.now) words.now) }
+    ensures within { IfSome result (λ place. place < length words.now) }
+{
+    match words {
+        [_, command, rest @ ..] => job_expect(Job::named(command)?, rest),
+        _ => None,
+    }
+}
+
+// Where the words behind a job's word have the option, if they do.
+fn job_expect(job: Job, rest: &[&str]) -> Option<usize>
+    requires { length rest.now + 2 < 2 ^ 63 }
+    ensures place { result ≡ job_expect job (map (λ word. word.now) rest.now) }
+    ensures within { IfSome result (λ place. place < length rest.now + 2) }
+{
+    match job {
+        Job::Replay => expect_at(2, rest),
+        _ => None,
+    }
+}
+
+// The place of the first of the words that is the option, with a text or a word behind it. Places are counted from
+// `place`.
+#[tactic(auto, unfolding(crate::specs::Files::expect_at))]
+fn expect_at(place: usize, words: &[&str]) -> Option<usize>
+    requires { place + length words.now < 2 ^ 63 }
+    ensures place { result ≡ expect_at place (map (λ word. word.now) words.now) }
+    ensures within { IfSome result (λ found. found < place + length words.now) }
+{
+    match words {
+        [] => None,
+        [word, rest @ ..] => {
+            if is_expect(word) && (has_text(word) || !is_nil(rest)) {
+                Some(place)
+            } else {
+                expect_at(place + 1, rest)
+            }
+        }
+    }
+}
+
+// Whether there is no word.
+fn is_nil(words: &[&str]) -> bool
+    ensures { result ≡ is_nil (map (λ word. word.now) words.now) }
+{
+    match words {
+        [] => true,
+        [_, ..] => false,
+    }
+}
+
+// Whether the word is the option, with or without a text.
+fn is_expect(word: &str) -> bool
+    ensures { result ≡ is_expect word.now }
+{
+    match long_name(word) {
+        Some(name) => name == "expect",
+        None => false,
+    }
+}
+
+// Whether the word has a `=`.
+fn has_text(word: &str) -> bool
+    ensures { result ≡ has_text word.now }
+{
+    word.as_bytes().contains(&b'=')
+}
+
+// The text of the option that the first word is.
+fn expect_text<'a>(words: &[&'a str]) -> Option<&'a str>
+    ensures { option_map (λ word. word.now) result ≡ expect_text (map (λ word. word.now) words.now) }
+{
+    match words {
+        [] => None,
+        [word, rest @ ..] => {
+            if has_text(word) {
+                Some(after_equals(word))
+            } else {
+                first_of(rest)
+            }
+        }
+    }
+}
+
+// The first word, if there is one.
+fn first_of<'a>(words: &[&'a str]) -> Option<&'a str>
+    ensures { option_map (λ word. word.now) result ≡ slice_get (map (λ word. word.now) words.now) 0 }
+{
+    match words {
+        [] => None,
+        [word, ..] => Some(word),
+    }
+}
+
+// What stands behind the first `=` of the word.
+fn after_equals(word: &str) -> &str
+    ensures { result.now ≡ after_first is_equals word.now }
+{
+    match word.split_once('=') {
+        Some((_, text)) => text,
+        None => "",
+    }
+}
+
+// The words behind the option that the first word is, and behind its text.
+fn expect_behind<'w, 'a>(words: &'w [&'a str]) -> &'w [&'a str]
+    ensures { map (λ word. word.now) result.now ≡ expect_behind (map (λ word. word.now) words.now) }
+{
+    match words {
+        [] => words,
+        [word, rest @ ..] => {
+            if has_text(word) || is_nil(rest) {
+                rest
+            } else {
+                &rest[1..]
             }
         }
     }

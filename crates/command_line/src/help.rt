@@ -22,6 +22,7 @@ Commands:
   timeline  Replay a script and draw the run as an SVG picture
   trace     Replay a script and write the run as Chrome trace events
   quote     Ask the offers of a plan, on threads, and write the answer
+  generate  Write a random script
   help      Print this message or the help of a command
   version   Print version
 
@@ -83,6 +84,7 @@ Usage: scopectl replay [OPTIONS] [FILE]
 ",
     "      --explain     Explain each refused line on standard error
       --trace       Report each line with its reply on standard error
+      --expect <F>  Compare the replies with those in file F, and write none
 ",
     "
 Example: the script on the left gets the replies on the right.
@@ -95,7 +97,8 @@ Example: the script on the left gets the replies on the right.
   close 0 1       closing
   closed 0 1      closed
 ",
-    "  3  with --strict: the script was read to its end, and lines were refused
+    "  3  with --strict: the script was read to its end, and lines were refused; with --expect: the
+     replies differ, and standard error has the first line that does
 "
 );
 
@@ -226,6 +229,30 @@ Exit status:
   2  the command line was not understood
 ";
 
+/// What `scopectl generate --help` writes.
+pub const GENERATE_HELP: &str =
+    "Writes a random script to standard output: commands of all forms, one per line. The same number
+gives the same script, on any machine. Reads nothing.
+
+Usage: scopectl generate [OPTIONS]
+
+Options:
+      --seed <N>   The number to make the script from, from 1 to 4294967295 [default: 1]
+      --lines <N>  How many lines to write, from 1 to 1000000 [default: 100]
+  -h, --help       Print help
+
+Example: try another implementation on a random script.
+
+  scopectl generate --seed 7 > script
+  scopectl replay script > expected
+  OTHER < script | diff expected -
+
+Exit status:
+  0  the script was written
+  1  standard error has one line: scopectl: write or scopectl: memory
+  2  the command line was not understood
+";
+
 /// The help that the words ask for, of which the first is the program's name.
 pub fn help_of(words: &[&str]) -> &'static str
     ensures { result.now ≡ help_of (map (λ word. word.now) words.now) }
@@ -263,6 +290,8 @@ fn help_at(command: &str) -> &'static str
         TRACE_HELP
     } else if command == "quote" {
         QUOTE_HELP
+    } else if command == "generate" {
+        GENERATE_HELP
     } else {
         HELP
     }

@@ -33,6 +33,9 @@ pub const TRACE_INPUT: &str =
 pub const QUOTE_INPUT: &str =
     "hint: one FILE is read, or else standard input: scopectl quote [OPTIONS] [FILE]";
 
+/// A random script comes from nowhere.
+pub const GENERATE_INPUT: &str = "hint: generate reads no FILE: scopectl generate [OPTIONS]";
+
 /// Which options a quote has, and which it has not.
 pub const QUOTE_OPTIONS: &str =
     "hint: quote has no limits to set; its options are --deadline and --after";
@@ -84,6 +87,7 @@ fn input_hint(job: Job) -> &'static str
         Job::Timeline => TIMELINE_INPUT,
         Job::TraceEvents => TRACE_INPUT,
         Job::Quote => QUOTE_INPUT,
+        Job::Generate => GENERATE_INPUT,
     }
 }
 
@@ -139,7 +143,7 @@ fn has_flag(job: Job, name: &str) -> bool
         Job::Tree => is_script_flag(name) || name == Flag::Lenient.name(),
         Job::Timeline => is_script_flag(name) || name == Flag::Lenient.name(),
         Job::TraceEvents => is_script_flag(name) || name == Flag::Lenient.name(),
-        Job::Quote => false,
+        Job::Quote | Job::Generate => false,
     }
 }
 
@@ -172,7 +176,7 @@ fn sets_limit(word: &str) -> bool
 }
 
 // The name in `--name` or `--name=text`.
-fn long_name(word: &str) -> Option<&str>
+pub(crate) fn long_name(word: &str) -> Option<&str>
     ensures { option_map (λ name. name.now) result ≡ long_name word.now }
 {
     let option = without_hyphen(without_hyphen(word)?)?;

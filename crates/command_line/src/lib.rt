@@ -2,12 +2,14 @@
 //! that they ask for.
 //!
 //! ```text
-//! scopectl replay [--scopes N] [--tasks N] [--load N] [--strict] [--quiet] [--explain] [--trace] [FILE]
+//! scopectl replay [--scopes N] [--tasks N] [--load N] [--strict] [--quiet] [--explain] [--trace] [--expect FILE]
+//!     [FILE]
 //! scopectl dump [--scopes N] [--tasks N] [--load N] [--strict] [--quiet] [FILE]
 //! scopectl tree [--scopes N] [--tasks N] [--load N] [--strict] [--quiet] [--lenient] [FILE]
 //! scopectl timeline [--scopes N] [--tasks N] [--load N] [--strict] [--quiet] [--lenient] [FILE]
 //! scopectl trace    [--scopes N] [--tasks N] [--load N] [--strict] [--quiet] [--lenient] [FILE]
 //! scopectl quote [--deadline MS] [--after NAME=MS] [FILE]
+//! scopectl generate [--seed N] [--lines N]
 //! scopectl help [COMMAND]
 //! scopectl version
 //! ```
@@ -17,7 +19,7 @@
 //! a plan has one. Each option stands once at most, as `--scopes N` or `--scopes=N`, and `--` may stand last.
 //! Help, of the program and of each command, and the version are texts of this crate: `clap` only says that
 //! the words ask for them. `help COMMAND` asks for what `COMMAND --help` asks for, and `help help` for what
-//! `--help` does. The FILE is taken out of the words before the others are read. Behind what `clap` says of words
+//! `--help` does. The FILE is taken out of the words before the others are read, and so is `--expect FILE`. Behind what `clap` says of words
 //! that it does not understand may stand a hint.
 #![tactic(auto)]
 
@@ -31,7 +33,7 @@ mod lines;
 mod settings;
 
 pub use faults::LineFault;
-pub use files::{Parted, part_words};
+pub use files::{Compared, Parted, part_expected, part_words};
 pub use help::{VERSION_LINE, help_of};
 pub use lines::{CommandLine, Job, line};
 pub use settings::{Delay, ScriptOptions};

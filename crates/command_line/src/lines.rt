@@ -10,7 +10,7 @@ ghost use Rattle.command_line.specs.Settings.{name_of};
 use crate::faults::LineFault;
 use crate::help_word::{has_help_word, turned};
 use crate::hints::hint_for;
-use crate::settings::{Delay, Flag, ScriptOptions};
+use crate::settings::{Delay, Flag, ScriptOptions, Setting};
 use crate::{application, settings};
 use clap::ArgMatches;
 use std::alloc::Global;
@@ -53,6 +53,13 @@ pub enum CommandLine {
         /// Which job of the plan is to take time, if one is.
         after: Option<Delay>,
     },
+    /// Writes a random script.
+    Generate {
+        /// By which number it is made, if one is given.
+        seed: Option<u32>,
+        /// How many lines it has, if that is given.
+        lines: Option<u32>,
+    },
 }
 
 /// The jobs, each of which has a word.
@@ -64,6 +71,7 @@ pub enum Job {
     Timeline,
     TraceEvents,
     Quote,
+    Generate,
 }
 
 impl Job {
@@ -78,6 +86,7 @@ impl Job {
             Job::Timeline => "timeline",
             Job::TraceEvents => "trace",
             Job::Quote => "quote",
+            Job::Generate => "generate",
         }
     }
 
@@ -98,6 +107,8 @@ impl Job {
             Some(Job::TraceEvents)
         } else if word == "quote" {
             Some(Job::Quote)
+        } else if word == "generate" {
+            Some(Job::Generate)
         } else {
             None
         }
@@ -108,8 +119,8 @@ impl Job {
 /// given is the greatest that it can be.
 ///
 /// # Errors
-/// `Help` and `Version` where the words ask for them, `Usage` where the words are not understood,
-/// `Memory` where memory was refused.
+/// `Help` and `Version` if the words ask for them, `Usage` if the words are not understood,
+/// `Memory` if memory was refused.
 pub fn line<'a>(alloc: Global, words: &'a [&'a str]) -> Result<CommandLine, LineFault>
     ensures said { IfOk result (Says (map (λ word. word.now) words.entry.now)) }
     ensures refused { IfErr result (λ fault. (fault ≡ LineFault.Memory)
@@ -185,9 +196,14 @@ fn said(alloc: Global, job: Job, options: &ArgMatches<'_>) -> Result<CommandLine
             Ok(CommandLine::TraceEvents { script, lenient })
         }
         Job::Quote => {
-            let deadline = settings::deadline(alloc, options)?;
+            let deadline = settings::number_if_given(alloc, options, Setting::Deadline)?;
             let after = settings::after(alloc, options)?;
             Ok(CommandLine::Quote { deadline, after })
+        }
+        Job::Generate => {
+            let seed = settings::number_if_given(alloc, options, Setting::Seed)?;
+            let lines = settings::number_if_given(alloc, options, Setting::Lines)?;
+            Ok(CommandLine::Generate { seed, lines })
         }
     }
 }

@@ -4,7 +4,7 @@ ghost use Rattle.std.specs.List.{list_all};
 ghost use Rattle.clap.specs.Words.{first_value, found_of, one_text};
 ghost use Rattle.command_line.specs.CommandLine.{script_by, script_of};
 ghost use Rattle.command_line.specs.Faults.{IsUsageOrMemory};
-ghost use Rattle.command_line.specs.Settings.{bool_text, flag_name, greatest_of, is_digit, is_plain, name_of, setting_number, numbers_by, numbers_of, plain_number, deadline_by, delay_by, delay_of, delay_said};
+ghost use Rattle.command_line.specs.Settings.{bool_text, flag_name, greatest_of, is_digit, is_plain, name_of, setting_number, numbers_by, numbers_of, plain_number, number_by, delay_by, delay_of, delay_said};
 
 use crate::faults::LineFault;
 use clap::ArgMatches;
@@ -14,6 +14,12 @@ use std::alloc::Global;
 
 /// How many milliseconds a day has.
 pub const DAY_MILLIS: u32 = 86_400_000;
+
+/// The greatest number by which a random script can be made.
+pub const SEED_LIMIT: u32 = 4_294_967_295;
+
+/// How many lines a random script may have.
+pub const LINES_LIMIT: u32 = 1_000_000;
 
 /// An option of a job.
 #[derive(Clone, Copy)]
@@ -28,6 +34,10 @@ pub enum Setting {
     Deadline,
     /// Of which offer the job is to take time, and how many milliseconds.
     After,
+    /// By which number a random script is made.
+    Seed,
+    /// How many lines a random script has.
+    Lines,
 }
 
 impl Setting {
@@ -56,13 +66,16 @@ impl Setting {
             Setting::Load => ("load", LOAD_LIMIT),
             Setting::Deadline => ("deadline", DAY_MILLIS),
             Setting::After => ("after", DAY_MILLIS),
+            Setting::Seed => ("seed", SEED_LIMIT),
+            Setting::Lines => ("lines", LINES_LIMIT),
         }
     }
 
     /// How help and errors write what the option says.
     pub fn value_name(self) -> &'static str {
         match self {
-            Setting::Scopes | Setting::Tasks | Setting::Load => "N",
+            Setting::Scopes | Setting::Tasks | Setting::Load | Setting::Seed | Setting::Lines =>
+                "N",
             Setting::Deadline => "MS",
             Setting::After => "NAME=MS",
         }
@@ -71,9 +84,12 @@ impl Setting {
     /// How errors say what is wanted before the numbers from 1 to the greatest.
     fn wanted(self) -> &'static str {
         match self {
-            Setting::Scopes | Setting::Tasks | Setting::Load | Setting::Deadline => {
-                "a decimal number"
-            }
+            Setting::Scopes
+            | Setting::Tasks
+            | Setting::Load
+            | Setting::Deadline
+            | Setting::Seed
+            | Setting::Lines => "a decimal number",
             Setting::After => "the name of an offer, '=' and a decimal number",
         }
     }
@@ -129,10 +145,10 @@ pub struct Delay {
     pub millis: u32,
 }
 
-/// How the options of a job say that its script is run, where `--strict` and `--quiet` are such options.
+/// How the options of a job say that its script is run, if `--strict` and `--quiet` are such options.
 ///
 /// # Errors
-/// `Usage` where a number is none or too great, `Memory` where memory was refused.
+/// `Usage` if a number is none or too great, `Memory` if memory was refused.
 pub fn script(alloc: Global, matches: &ArgMatches<'_>) -> Result<ScriptOptions, LineFault>
     ensures said { (strict quiet : Bool) → one_text (found_of matches.now) (flag_name Flag.Strict) ≡ Some (bool_text strict) → one_text (found_of matches.now) (flag_name Flag.Quiet) ≡ Some (bool_text quiet) → IfOk result (λ options.
         script_by (λ setting. first_value (found_of matches.now) (name_of setting)) strict quiet ≡ Some (script_of options)) }
@@ -157,10 +173,10 @@ pub fn is_set(matches: &ArgMatches<'_>, flag: Flag) -> bool
     matches.get_flag(flag.name())
 }
 
-/// The limits that the options of a job say, each the greatest where its option is not given.
+/// The limits that the options of a job say, each the greatest if its option is not given.
 ///
 /// # Errors
-/// `Usage` where a number is none or too great, `Memory` where memory was refused.
+/// `Usage` if a number is none or too great, `Memory` if memory was refused.
 fn limits(alloc: Global, matches: &ArgMatches<'_>) -> Result<Limits, LineFault>
     ensures said { IfOk result (λ limits. numbers_by (λ setting.
         first_value (found_of matches.now) (name_of setting)) ≡ Some (numbers_of limits)) }
@@ -196,30 +212,34 @@ fn number(alloc: Global, matches: &ArgMatches<'_>, setting: Setting) -> Result<u
     }
 }
 
-/// The deadline that the options of a job say, if they say one.
+/// The number that the options of a job say by one of them that may be left out, if they say one.
 ///
 /// # Errors
-/// `Usage` where the number is none or too great, `Memory` where memory was refused.
-pub fn deadline(alloc: Global, matches: &ArgMatches<'_>) -> Result<Option<u32>, LineFault>
-    ensures said { IfOk result (λ deadline.
-        deadline_by (first_value (found_of matches.now) (name_of Setting.Deadline)) ≡ Some deadline) }
+/// `Usage` if the number is none or too great, `Memory` if memory was refused.
+pub fn number_if_given(
+    alloc: Global,
+    matches: &ArgMatches<'_>,
+    setting: Setting,
+) -> Result<Option<u32>, LineFault>
+    ensures said { IfOk result (λ number.
+        number_by setting (first_value (found_of matches.now) (name_of setting)) ≡ Some number) }
     ensures refused { IfErr result (λ fault. (fault ≡ LineFault.Memory)
-        ⊎ (deadline_by (first_value (found_of matches.now) (name_of Setting.Deadline)) ≡ None)) }
+        ⊎ (number_by setting (first_value (found_of matches.now) (name_of setting)) ≡ None)) }
     ensures told { IfErr result IsUsageOrMemory }
 {
-    let Some(text) = matches.get_str(Setting::Deadline.name()) else {
+    let Some(text) = matches.get_str(setting.name()) else {
         return Ok(None);
     };
-    match plain_number(text, Setting::Deadline.greatest()) {
-        Some(millis) => Ok(Some(millis)),
-        None => Err(refused_value(alloc, Setting::Deadline, text)),
+    match plain_number(text, setting.greatest()) {
+        Some(number) => Ok(Some(number)),
+        None => Err(refused_value(alloc, setting, text)),
     }
 }
 
 /// The delay that the options of a job say, if they say one.
 ///
 /// # Errors
-/// `Usage` where the text says no name and number, `Memory` where memory was refused.
+/// `Usage` if the text says no name and number, `Memory` if memory was refused.
 pub fn after(alloc: Global, matches: &ArgMatches<'_>) -> Result<Option<Delay>, LineFault>
     ensures said { IfOk result (λ delay.
         delay_by (first_value (found_of matches.now) (name_of Setting.After)) ≡ Some (option_map delay_of delay)) }

@@ -3,7 +3,7 @@ use Rattle.std.proofs.lemmas.Result.{IfOk-weaker}
 use Rattle.clap.specs.Simple.{on_top}
 use Rattle.clap.specs.Words.{App, app_of, new_app, with_subcommand}
 use Rattle.command_line.specs.Application.{command_of, scopectl}
-use Rattle.command_line.specs.declared.lines.Job.TheVariants.{Replay, Dump, Tree, Timeline, TraceEvents, Quote}
+use Rattle.command_line.specs.declared.lines.Job.TheVariants.{Replay, Dump, Tree, Timeline, TraceEvents, Quote, Generate}
 use Rattle.command_line.proofs.application.application.Goals as goal
 
 abbrev alone : App
@@ -28,6 +28,9 @@ timing = with_subcommand treeing (command_of Timeline).top
 abbrev tracing : App
 tracing = with_subcommand timing (command_of TraceEvents).top
 
+abbrev quoting : App
+quoting = with_subcommand tracing (command_of Quote).top
+
 pub returns : goal.returns
 unfolding scopectl
 returns c =
@@ -37,4 +40,5 @@ returns c =
     let three_is : app_of c.in_ok-with_tree.with_tree ≡ treeing = c.in_ok-with_tree.ensures ∙ ap (λ (a : App). with_subcommand a (command_of Tree).top) two_is in
     let four_is : app_of c.in_ok-with_timeline.with_timeline ≡ timing = c.in_ok-with_timeline.ensures ∙ ap (λ (a : App). with_subcommand a (command_of Timeline).top) three_is in
     let five_is : app_of c.in_ok-with_trace.with_trace ≡ tracing = c.in_ok-with_trace.ensures ∙ ap (λ (a : App). with_subcommand a (command_of TraceEvents).top) four_is in
-    IfOk-weaker c.with_job-6.result _ _ (λ m h. h ∙ ap (λ (a : App). with_subcommand a (command_of Quote).top) five_is) c.with_job-6.ensures
+    let six_is : app_of c.in_ok-with_quote.with_quote ≡ quoting = c.in_ok-with_quote.ensures ∙ ap (λ (a : App). with_subcommand a (command_of Quote).top) five_is in
+    IfOk-weaker c.with_job-7.result _ _ (λ m h. h ∙ ap (λ (a : App). with_subcommand a (command_of Generate).top) six_is) c.with_job-7.ensures

@@ -2,9 +2,9 @@ use Rattle.std.proofs.Common.{◌≡◌, ◌∙◌, ap, refl, sym, [], ◌∷◌
 use Rattle.std.proofs.lemmas.Result.{IfOk-weaker}
 use Rattle.clap.specs.Words.{App, app_of, new_app}
 use Rattle.command_line.specs.Application.{command_of, with_flags, with_options}
-use Rattle.command_line.specs.CommandLine.{command_word, flag_names, limit_names, time_names}
+use Rattle.command_line.specs.CommandLine.{command_word, flag_names, limit_names, seed_names, time_names}
 use Rattle.command_line.specs.Settings.{flag_name}
-use Rattle.command_line.specs.declared.lines.Job.TheVariants.{Quote, Replay, Timeline, TraceEvents, Tree}
+use Rattle.command_line.specs.declared.lines.Job.TheVariants.{Generate, Quote, Replay, Timeline, TraceEvents, Tree}
 use Rattle.command_line.specs.declared.settings.Flag.TheVariants.{Strict, Explain, Trace, Quiet, Lenient}
 use Rattle.command_line.proofs.application.command.Goals as goal
 
@@ -33,6 +33,10 @@ lenient_trace bare = refl
 timed : (bare : App) → with_options bare time_names ≡ with_flags (with_options bare time_names) (flag_names Quote)
 unfolding with_flags
 timed bare = refl
+
+seeded : (bare : App) → with_options bare seed_names ≡ with_flags (with_options bare seed_names) (flag_names Generate)
+unfolding with_flags
+seeded bare = refl
 
 pub returns-in_ok-with_limits-in-Replay-clause-app : goal.returns-in_ok-with_limits-in-Replay-clause-app
 returns-in_ok-with_limits-in-Replay-clause-app c =
@@ -63,3 +67,9 @@ returns-in-Quote-clause-app c =
     let base : app_of c.new-bare.result ≡ new_app (command_word Quote) = c.new-bare.ensures.app ∙ ap new_app (c.word-word.ensures ∙ ap command_word c.in-Quote.is) in
     let is = ap (λ (a : App). with_options a time_names) base ∙ timed (new_app (command_word Quote)) ∙ sym (ap command_of c.in-Quote.is) in
     IfOk-weaker c.with_times.result _ _ (λ command h. h ∙ is) c.with_times.ensures.app
+
+pub returns-in-Generate-clause-app : goal.returns-in-Generate-clause-app
+returns-in-Generate-clause-app c =
+    let base : app_of c.new-bare.result ≡ new_app (command_word Generate) = c.new-bare.ensures.app ∙ ap new_app (c.word-word.ensures ∙ ap command_word c.in-Generate.is) in
+    let is = ap (λ (a : App). with_options a seed_names) base ∙ seeded (new_app (command_word Generate)) ∙ sym (ap command_of c.in-Generate.is) in
+    IfOk-weaker c.with_seed.result _ _ (λ command h. h ∙ is) c.with_seed.ensures.app

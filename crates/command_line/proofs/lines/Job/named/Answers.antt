@@ -12,9 +12,9 @@ turned_round word name other = go (bytes_eq name word) refl
     go true same = absurd (true≢false (sym ((bytes_eq-Decides word name).1 (sym ((bytes_eq-Decides name word).0 same))) ∙ other))
     go false other = other
 
-pub returns-else-eq-6 : goal.returns-else-eq-6
+pub returns-else-eq-7 : goal.returns-else-eq-7
 unfolding job_named
-returns-else-eq-6 c =
+returns-else-eq-7 c =
     let word = c.args.word.now in
     rw (
       turned_round word (codes "replay") (sym c.eq.ensures ∙ c.if-eq.false),
@@ -23,4 +23,5 @@ returns-else-eq-6 c =
       turned_round word (codes "timeline") (sym c.eq-else-eq-3.ensures ∙ c.if-eq-4.false),
       turned_round word (codes "trace") (sym c.eq-else-eq-4.ensures ∙ c.if-eq-5.false),
       turned_round word (codes "quote") (sym c.eq-else-eq-5.ensures ∙ c.if-eq-6.false),
+      turned_round word (codes "generate") (sym c.eq-else-eq-6.ensures ∙ c.if-eq-7.false),
     ) refl
