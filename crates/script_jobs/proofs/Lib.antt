@@ -1,3 +1,11 @@
+pub mod Growing
+mod ByBytes
 mod Runs
-mod Walked
+mod Running
 mod RepliesFit
+mod Compared
+mod NoteLaws
+pub mod LineLaws
+mod Walked
+mod Timed
+mod Standing

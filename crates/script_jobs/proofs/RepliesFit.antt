@@ -1,5 +1,5 @@
--- A command has a reason just where its reply is a refusal.
-use Rattle.std.proofs.Common.{◌≡◌, ℕ, ◌||◌, Bool, true, false, not, cond, is_some, Option, Some, None, ok_or, Result, Ok, Err, [], ◌∷◌, ◌++◌, refl, ap, sym, ◌∙◌}
+-- A command has a reason just if its reply is a refusal.
+use Rattle.std.proofs.Common.{◌≡◌, ℕ, ◌||◌, Bool, true, false, Option, Some, None, ok_or, Result, Ok, Err, refl, ap, ◌∙◌}
 use Rattle.std.proofs.Common.{eq-eqb, if◌then◌else◌}
 use Rattle.std.specs.List.{list_any}
 use Rattle.scope_rules.specs.Origin.{Origin}
@@ -12,29 +12,27 @@ use Rattle.scope_rules.specs.declared.types.events.Event.{Event}
 use Rattle.scope_rules.specs.declared.types.events.Event.TheVariants as event
 use Rattle.scope_rules.specs.declared.types.outcomes.Outcome.{Outcome}
 use Rattle.scope_rules.specs.declared.types.refusals.Refusal.{Refusal}
-use Rattle.scope_rules.specs.declared.types.refusals.Refusal.TheVariants.{NotJoined, NoScope}
-use Rattle.scope_rules.specs.declared.types.records.Opening.{Opening}
-use Rattle.scope_rules.specs.Checks.{Checked, checks, then_check, refuse_if, scope_check}
-use Rattle.scope_rules.specs.History.{History, followed, opening}
+use Rattle.scope_rules.specs.declared.types.refusals.Refusal.TheVariants.{NotJoined}
+use Rattle.scope_rules.specs.Checks.{Checked, checks, then_check, scope_check}
+use Rattle.scope_rules.specs.History.{History, followed}
 use Rattle.scope_rules.specs.Outcomes.{outcome}
 use Rattle.scope_rules.specs.Replies.{Realm, base_of, result_reply, fault_reply, binding_reply, outcome_check}
 use Rattle.scope_rules.specs.Scopes.{joins, joined}
-use Rattle.scope_rules.specs.Table.{check_of, is_already, retire_check, until_check, answering}
+use Rattle.scope_rules.specs.Table.{check_of, is_already, retire_check, answering}
 use Rattle.scope_rules.proofs.Joined.{outcome_there}
-use Rattle.script_words.specs.declared.commands.Command.{Command}
 use Rattle.script_words.specs.declared.commands.Command.TheVariants.{Do, Retire, Ask}
 use Rattle.script_words.specs.declared.commands.Question.{Question}
 use Rattle.script_words.specs.declared.commands.Question.TheVariants as question
 use Rattle.script_words.specs.declared.reply.Reply.{Reply}
 use Rattle.script_words.specs.declared.reply.Reply.TheVariants as reply
-use Rattle.scope_script.specs.Replying.{replied, refused_or, told_of, told_base, passed_reply, answer_to, reply_to}
-use Rattle.refusal_reasons.specs.Fits.{refused_alone, refusing, question_check, EventsFit, RetirementsFit, QuestionsFit}
+use Rattle.scope_script.specs.Replying.{replied, refused_or, told_of, told_base, answer_to, reply_to}
+use Rattle.refusal_reasons.specs.Fits.{refused_alone, question_check, EventsFit, RetirementsFit, QuestionsFit}
 use Rattle.script_jobs.specs.Whys.{command_reason}
 use Rattle.script_jobs.specs.Fits.{refusal_said, RepliesFit}
 
 -- ---- events
 
--- where a join is accepted, it has an outcome
+-- if a join is accepted, it has an outcome
 outcome_said : (o : Option Outcome) → (o ≡ None → ⊥) → refusal_said (replied reply.Outcome (ok_or o NotJoined)) ≡ Ok tt
 outcome_said None there = absurd (there refl)
 outcome_said (Some x) there = refl

@@ -1,17 +1,22 @@
 -- What a run of a script has read and written is what a job has.
 use Rattle.std.proofs.Common.{◌≡◌, ◌∙◌, ℕ, ap, refl, subst, List, [], ◌∷◌, ◌++◌, Option}
-use Rattle.std.specs.Io.KnownBytes.{Appends}
+use Rattle.std.specs.Io.KnownBytes.{Appends, Consumes, IsAtEnd}
 use Rattle.scope_rules.specs.Replies.{Realm}
 use Rattle.scope_rules.specs.declared.types.capacity.Limits.{Limits}
-use Rattle.scope_script.specs.Sessions.{realm_of_script}
+use Rattle.scope_script.specs.Sessions.{realm_of_script, replies_of}
+use Rattle.scope_script.specs.Sessions.{shown as shown_bytes}
+use Rattle.scope_script.specs.Streams.{AppendsPart}
 use Rattle.scope_script.specs.Tallies.{tally_of_script}
-use Rattle.scope_script.specs.Running.{RunsPartly, RunsTallied}
+use Rattle.scope_script.specs.Running.{RunsPartly, RunsTallied, RunsText}
 use Rattle.scope_script.specs.declared.session.tally.Tally.{Tally}
 use Rattle.script_jobs.specs.Counts.{count_in, count_of_script}
 use Rattle.script_jobs.specs.declared.counting.Count.{Count}
 use Rattle.scope_script.specs.declared.session.run.Mode.TheVariants.{Quiet, Replies}
+use Rattle.script_jobs.specs.Times.{stamps_of_script}
 use Rattle.script_jobs.specs.Jobs.{ReadSome, Replayed, Showed, shown_text}
 use Rattle.script_jobs.specs.declared.showing.View.{View}
+use Rattle.script_jobs.specs.declared.showing.View.TheVariants.{Dump}
+use Rattle.tree_dump.specs.Tree.{dump_text}
 
 no_part : (part rest : List ℕ) → [] ≡ part ++ rest → part ≡ []
 no_part [] rest e = refl
@@ -35,15 +40,28 @@ module _ (limits : Limits) (unread unread_new written written_new : Option (List
 
   -- ---- a run that writes nothing
 
-  pub shown : (view : View) (realm : Realm) (tally : Tally) (text : List ℕ) (count : Count) → RunsTallied unread unread_new written written_new Quiet limits realm tally → (text ≡ shown_text view realm.history) × (count ≡ count_in tally realm.history)
-      → Showed unread unread_new limits view text count
-  shown view realm tally text count run is = record {
+  pub shown : (view : View) (script bytes : List ℕ) (realm : Realm) (tally : Tally) (text : List ℕ) (count : Count) → Consumes unread unread_new script → IsAtEnd unread_new → bytes ≡ script → RunsText written written_new Quiet limits bytes realm tally →
+      (text ≡ shown_text view realm.history (stamps_of_script limits bytes)) × (count ≡ count_in tally realm.history) → Showed unread unread_new limits view text count
+  shown view script bytes realm tally text count read all same run is = record {
+    script = script;
+    read = read;
+    all = all;
+    is = is.0 ∙ (ap (λ (r : Realm). shown_text view r.history (stamps_of_script limits bytes)) run.left ∙ ap (λ (b : List ℕ). shown_text view (realm_of_script limits b).history (stamps_of_script limits b)) same);
+    counted = count_is limits bytes realm tally count run.left run.counted is.1 ∙ ap (count_of_script limits) same;
+  }
+
+  pub dumped : (realm : Realm) (tally : Tally) (text : List ℕ) (count : Count) → RunsTallied unread unread_new written written_new Quiet limits realm tally → (text ≡ dump_text realm.history ++ 10 ∷ []) × (count ≡ count_in tally realm.history)
+      → Showed unread unread_new limits Dump text count
+  dumped realm tally text count run is = record {
     script = run.ends.script;
     read = run.ends.read;
     all = run.ends.all;
-    is = is.0 ∙ ap (λ (r : Realm). shown_text view r.history) run.ends.left;
+    is = is.0 ∙ ap (λ (r : Realm). dump_text r.history ++ 10 ∷ []) run.ends.left;
     counted = count_is limits run.ends.script realm tally count run.ends.left run.counted is.1;
   }
+
+  pub text_unwritten : (script : List ℕ) → AppendsPart written written_new (shown_bytes Quiet (replies_of limits script)) → Appends written written_new []
+  text_unwritten script part = subst (Appends written written_new) (no_part part.part part.rest part.whole) part.appended
 
   pub read_all : (realm : Realm) (tally : Tally) → RunsTallied unread unread_new written written_new Quiet limits realm tally → ReadSome unread unread_new
   read_all realm tally run = record { bytes = run.ends.script; read = run.ends.read }

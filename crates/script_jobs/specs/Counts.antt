@@ -15,7 +15,7 @@ is_nil (x ∷ xs) = false
 abbrev pub is_untouched : History → Bool
 is_untouched h = is_nil h.events && ((h.base.moment == 0) && ((h.base.scopes == 0) && ((h.base.tasks == 0) && is_nil h.base.binds)))
 
--- so many lines were refused of a script that leaves this history; it looks like another kind of text where all of
+-- so many lines were refused of a script that leaves this history; it looks like another kind of text if all of
 -- them are no commands, and no other line recorded anything
 abbrev pub count_in : Tally → History → Count
 count_in t h = record {

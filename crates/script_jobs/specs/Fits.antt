@@ -14,6 +14,6 @@ abbrev pub refusal_said : Reply → Checked
 refusal_said (Refused r) = Err r
 refusal_said _ = Ok tt
 
--- a command has a reason just where its reply is a refusal, and the reason is of that refusal
+-- a command has a reason just if its reply is a refusal, and the reason is of that refusal
 abbrev pub RepliesFit : Type 0
 RepliesFit = (realm : Realm) (c : Command) → refusal_said (reply_to realm c) ≡ refusing (command_reason realm c)

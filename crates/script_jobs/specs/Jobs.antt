@@ -3,14 +3,19 @@ use Rattle.std.specs.Prelude.{◌≡◌, ◌++◌, ℕ, Option, List, [], ◌∷
 use Rattle.std.specs.Io.KnownBytes.{Appends, Consumes, IsAtEnd}
 use Rattle.scope_rules.specs.declared.types.capacity.Limits.{Limits}
 use Rattle.scope_script.specs.Sessions.{replies_of, realm_of_script}
+use Rattle.scope_script.specs.Streams.{AppendsPart}
 use Rattle.script_jobs.specs.Counts.{count_of_script}
 use Rattle.script_jobs.specs.declared.counting.Count.{Count}
 use Rattle.scope_rules.specs.History.{History}
 use Rattle.tree_dump.specs.Tree.{dump_text}
-use Rattle.tree_dump.specs.TextTree.{tree_text}
-use Rattle.run_picture.specs.Picture.{picture_text}
+use Rattle.tree_dump.specs.Ages.{Clock, no_clock}
+use Rattle.tree_dump.specs.TextTree.{tree_by}
+use Rattle.run_picture.specs.Picture.{drawn_text}
+use Rattle.run_picture.specs.Stamps.{open_times, start_times}
+use Rattle.run_picture.specs.View.{whole}
 use Rattle.run_picture.specs.Trace.{trace_text}
 use Rattle.script_jobs.specs.Notes.{notes_text}
+use Rattle.script_jobs.specs.Times.{Stamps, stamps_of_script}
 use Rattle.script_jobs.specs.declared.notes.Notes.{Notes}
 use Rattle.script_jobs.specs.declared.showing.View.{View}
 use Rattle.script_jobs.specs.declared.showing.View.TheVariants.{Dump, Tree, Timeline, TraceEvents}
@@ -24,24 +29,40 @@ pub record Replayed (unread unread_new written written_new : Option (List ℕ)) 
   pub wrote : Appends written written_new (replies_of limits script)
   pub counted : count ≡ count_of_script limits script
 
--- the same, and the text is the notes on the script's lines
-pub record ReplayedNoted (unread unread_new written written_new : Option (List ℕ)) (limits : Limits) (notes : Notes) (text : List ℕ) (count : Count) : Type 0 where
+-- the same, and exactly the notes on the script's lines were said
+pub record ReplayedNoted (unread unread_new written written_new said said_new : Option (List ℕ)) (limits : Limits) (notes : Notes) (count : Count) : Type 0 where
   pub replay : Replayed unread unread_new written written_new limits count
-  pub noted : text ≡ notes_text notes limits replay.script
+  pub noted : Appends said said_new (notes_text notes limits replay.script)
 
--- the text of a view of a history
-abbrev pub shown_text : View → History → List ℕ
-shown_text Dump h = dump_text h ++ 10 ∷ []
-shown_text Tree h = tree_text h
-shown_text Timeline h = picture_text h
-shown_text TraceEvents h = trace_text h []
+-- a fault ended the replay: a beginning of the replies to what was read was written, and one of the notes on it was said
+pub record ReplayedPartly (unread unread_new written written_new said said_new : Option (List ℕ)) (limits : Limits) (notes : Notes) : Type 0 where
+  pub script : List ℕ
+  pub read : Consumes unread unread_new script
+  pub wrote : AppendsPart written written_new (replies_of limits script)
+  pub noted : AppendsPart said said_new (notes_text notes limits script)
 
--- all bytes were read, and the text is the view of the realm that they leave, which refused so many lines
+-- the clock of a tree: without times there is none
+abbrev pub clock_by : History → Stamps → List ℕ → Clock
+clock_by h s [] = no_clock
+clock_by h s (t ∷ times) = record { now = s.last; started = start_times h s.events; opened = open_times h s.events }
+
+abbrev pub clock_in : History → Stamps → Clock
+clock_in h s = clock_by h s s.events
+
+-- the text of a view of a history, by the times of its events
+abbrev pub shown_text : View → History → Stamps → List ℕ
+shown_text Dump h s = dump_text h ++ 10 ∷ []
+shown_text Tree h s = tree_by (clock_in h s) h
+shown_text Timeline h s = drawn_text h (record { view = whole; lines = []; times = s.events })
+shown_text TraceEvents h s = trace_text h s.events
+
+-- all bytes were read, and the text is the view of the realm that they leave, which refused so many lines, by the
+-- readings of a clock among these lines
 pub record Showed (unread unread_new : Option (List ℕ)) (limits : Limits) (view : View) (text : List ℕ) (count : Count) : Type 0 where
   pub script : List ℕ
   pub read : Consumes unread unread_new script
   pub all : IsAtEnd unread_new
-  pub is : text ≡ shown_text view (realm_of_script limits script).history
+  pub is : text ≡ shown_text view (realm_of_script limits script).history (stamps_of_script limits script)
   pub counted : count ≡ count_of_script limits script
 
 -- some bytes were read

@@ -1,5 +1,13 @@
 pub mod Counts
+pub mod Comparing
+pub mod Begun
+pub mod Noting
 pub mod Jobs
 pub mod Whys
 pub mod Notes
+pub mod Scripts
+pub mod Prompting
 pub mod Fits
+pub mod NoteLaws
+pub mod LineLaws
+pub mod Times

@@ -1,10 +1,8 @@
 -- The notes on a script.
-use Rattle.std.specs.Prelude.{ℕ, ◌+◌, List, [], ◌∷◌, ◌++◌, Option, Some, None, codes}
+use Rattle.std.specs.Prelude.{ℕ, ◌==◌, List, [], ◌∷◌, ◌++◌, length, Option, Some, None, codes, if◌then◌else◌}
 use Rattle.std.specs.Fmt.{decimal}
 use Rattle.scope_rules.specs.declared.types.capacity.Limits.{Limits}
 use Rattle.scope_rules.specs.declared.types.refusals.Refusal.TheVariants.{BadWord as bad_word}
-use Rattle.scope_rules.specs.Origin.{the_start}
-use Rattle.scope_rules.specs.Replies.{Realm, starting}
 use Rattle.script_words.specs.declared.commands.Command.{Command}
 use Rattle.script_words.specs.declared.commands.Line.{Line}
 use Rattle.script_words.specs.declared.commands.Line.TheVariants as line_is
@@ -14,11 +12,11 @@ use Rattle.script_words.specs.declared.reply.Reply.TheVariants.{Refused}
 use Rattle.script_words.specs.ReplyText.{reply_text}
 use Rattle.scope_script.specs.Cutting.{ended_lines, begun_line}
 use Rattle.scope_script.specs.Replying.{reply_to}
-use Rattle.scope_script.specs.Sessions.{realm_after_line}
-use Rattle.bad_words.specs.Faults.{fault_of}
 use Rattle.bad_words.specs.Places.{picture_text, place_of}
 use Rattle.bad_words.specs.Shown.{shown_text}
 use Rattle.bad_words.specs.declared.places.Place.{Place}
+use Rattle.script_jobs.specs.Begun.{Begun, begun_by, fault_in, grown, no_line}
+use Rattle.script_jobs.specs.Noting.{Noting, noting_after, noting_begins}
 use Rattle.script_jobs.specs.declared.notes.Notes.{Notes}
 use Rattle.script_jobs.specs.declared.notes.Notes.TheVariants.{Refusals, Replies, All}
 use Rattle.script_jobs.specs.declared.whys.Why.{Why}
@@ -48,48 +46,86 @@ below_text line (why.BadWord (Some fault)) = picture_text line (place_of line fa
 below_text line w = []
 
 -- why, behind a line's words, and what stands below
-abbrev pub why_below : List ℕ → Why → List ℕ
-why_below line w = codes ": " ++ (why_text line w ++ (codes "\n" ++ below_text line w))
+abbrev pub why_below : (lines : List ℕ) → List ℕ → Why → List ℕ
+why_below lines line w = codes ": " ++ (why_text lines line w ++ (codes "\n" ++ below_text line w))
 
-abbrev pub explained_text : List ℕ → List ℕ → Why → List ℕ
-explained_text words line w = words ++ why_below line w
+abbrev pub explained_text : (lines : List ℕ) → List ℕ → List ℕ → Why → List ℕ
+explained_text lines words line w = words ++ why_below lines line w
 
--- the note of the line with this number and reply, which was refused for that, if it was
-unfoldable pub note : Notes → ℕ → List ℕ → Reply → Option Why → List ℕ
-note Refusals n line reply None = []
-note Refusals n line reply (Some w) = explained_text (refused_text n line w) line w
-note Replies n line reply w = replied_text n line reply ++ codes "\n"
-note All n line reply None = replied_text n line reply ++ codes "\n"
-note All n line reply (Some w) = explained_text (replied_text n line reply) line w
+-- the note of the line with this number and reply, which was refused for that, if it was; of each event the line is known
+-- that recorded it
+unfoldable pub note : Notes → (lines : List ℕ) → ℕ → List ℕ → Reply → Option Why → List ℕ
+note Refusals lines n line reply None = []
+note Refusals lines n line reply (Some w) = explained_text lines (refused_text n line w) line w
+note Replies lines n line reply w = replied_text n line reply ++ codes "\n"
+note All lines n line reply None = replied_text n line reply ++ codes "\n"
+note All lines n line reply (Some w) = explained_text lines (replied_text n line reply) line w
 
--- the note of a line that is no command, for that
-abbrev pub bad_note : Notes → ℕ → List ℕ → Why → List ℕ
-bad_note wanted n line w = note wanted n line (Refused bad_word) (Some w)
+-- ---- of a script under way
 
--- the note of a line with this command
-abbrev pub done_note : Notes → Realm → ℕ → List ℕ → Command → List ℕ
-done_note wanted realm n line c = note wanted n line (reply_to realm c) (command_why realm c)
+-- the note of the next line, which is no command, for that
+abbrev pub bad_note : Notes → Noting → List ℕ → Why → List ℕ
+bad_note wanted s line w = note wanted s.lines s.number line (Refused bad_word) (Some w)
 
--- the note of a line that says this
-abbrev pub said_note : Notes → Realm → ℕ → List ℕ → Line → List ℕ
-said_note wanted realm n line line_is.Silent = []
-said_note wanted realm n line line_is.BadWord = bad_note wanted n line (why.BadWord (fault_of line))
-said_note wanted realm n line (line_is.Command c) = done_note wanted realm n line c
+-- the note of the next line, with this command
+abbrev pub done_note : Notes → Noting → List ℕ → Command → List ℕ
+done_note wanted s line c = note wanted s.lines s.number line (reply_to s.realm c) (command_why s.realm c)
 
--- the note of a line, without its line feed
-unfoldable pub line_note : Notes → Realm → ℕ → List ℕ → List ℕ
-line_note wanted realm n line = said_note wanted realm n line (line_said line)
+-- the note of the next line, which says this
+abbrev pub said_note : Notes → Noting → Begun → Line → List ℕ
+said_note wanted s begun line_is.Silent = []
+said_note wanted s begun line_is.BadWord = bad_note wanted s begun.first (why.BadWord (fault_in begun))
+said_note wanted s begun (line_is.Command c) = done_note wanted s begun.first c
+
+-- the note of the next line, of which that is kept; what is kept decides what the line says
+unfoldable pub line_note : Notes → Noting → Begun → List ℕ
+line_note wanted s begun = said_note wanted s begun (line_said begun.first)
 
 -- the note of a last line that no line feed ends; no bytes are no line
-abbrev pub cut_note : Notes → ℕ → List ℕ → List ℕ
-cut_note wanted n [] = []
-cut_note wanted n (b ∷ line) = bad_note wanted n (b ∷ line) why.Cut
+unfoldable pub cut_note : Notes → Noting → Begun → List ℕ
+cut_note wanted s begun = if length begun.first == 0 then [] else bad_note wanted s begun.first why.Cut
 
--- the notes of lines in turn, the first of which has the number n, and then of a cut line
-unfoldable pub notes_from : Notes → Realm → ℕ → List (List ℕ) → List ℕ → List ℕ
-notes_from wanted realm n [] cut = cut_note wanted n cut
-notes_from wanted realm n (line ∷ lines) cut = line_note wanted realm n line ++ notes_from wanted (realm_after_line realm (line_said line)) (n + 1) lines cut
+-- ---- of a whole script
 
--- the notes on a script, on a fresh realm of these limits; lines are numbered from 1
+-- the notes of lines in turn, and then of a cut line
+unfoldable pub notes_from : Notes → Noting → List (List ℕ) → List ℕ → List ℕ
+notes_from wanted s [] cut = cut_note wanted s (begun_by cut)
+notes_from wanted s (line ∷ lines) cut = line_note wanted s (begun_by line) ++ notes_from wanted (noting_after s (line_said line)) lines cut
+
+-- the notes on a script, on a fresh realm of these limits
 unfoldable pub notes_text : Notes → Limits → List ℕ → List ℕ
-notes_text wanted L script = notes_from wanted (starting L the_start) 1 (ended_lines [] script) (begun_line [] script)
+notes_text wanted L script = notes_from wanted (noting_begins L) (ended_lines [] script) (begun_line [] script)
+
+-- ---- of a script that comes byte by byte
+
+-- a script under way, and what is kept of the line that is begun
+pub record NoteSession : Type 0 where
+  pub noting : Noting
+  pub begun : Begun
+
+-- it goes on by a byte
+unfoldable pub noted_byte : NoteSession → ℕ → NoteSession
+noted_byte s b = if b == 10 then record { noting = noting_after s.noting (line_said s.begun.first); begun = no_line }
+    else record { noting = s.noting; begun = grown s.begun b }
+
+-- the note that is made at the byte
+unfoldable pub byte_note : Notes → NoteSession → ℕ → List ℕ
+byte_note wanted s b = if b == 10 then line_note wanted s.noting s.begun else []
+
+-- it goes on by bytes
+unfoldable pub noted_bytes : NoteSession → List ℕ → NoteSession
+noted_bytes s [] = s
+noted_bytes s (b ∷ bytes) = noted_bytes (noted_byte s b) bytes
+
+-- the notes that are made at the bytes
+unfoldable pub bytes_note : Notes → NoteSession → List ℕ → List ℕ
+bytes_note wanted s [] = []
+bytes_note wanted s (b ∷ bytes) = byte_note wanted s b ++ bytes_note wanted (noted_byte s b) bytes
+
+-- the note that is made at the end of the script
+abbrev pub end_note : Notes → NoteSession → List ℕ
+end_note wanted s = cut_note wanted s.noting s.begun
+
+-- a script that begins
+abbrev pub notes_begin : Limits → NoteSession
+notes_begin L = record { noting = noting_begins L; begun = no_line }

@@ -10,13 +10,13 @@ use Rattle.bad_words.specs.Sentences.{line_fault_text}
 use Rattle.script_jobs.specs.declared.whys.Why.{Why}
 use Rattle.script_jobs.specs.declared.whys.Why.TheVariants as why
 
--- what stands in the way of the command in the realm, if anything does
+-- what is in the way of the command in the realm, if anything does
 unfoldable pub command_reason : Realm → Command → Explained
 command_reason realm (Do e) = event_reason realm.limits realm.history e
 command_reason realm (Retire actor) = retire_reason realm.history actor
 command_reason realm (Ask question) = question_reason realm.history question
 
--- that the reason is why, where there is one
+-- that the reason is why, if there is one
 abbrev pub why_if : Explained → Option Why
 why_if (Ok done) = None
 why_if (Err r) = Some (why.Refused r)
@@ -25,9 +25,9 @@ why_if (Err r) = Some (why.Refused r)
 abbrev pub command_why : Realm → Command → Option Why
 command_why realm c = why_if (command_reason realm c)
 
--- the sentence that says why this line is refused
-abbrev pub why_text : List ℕ → Why → List ℕ
-why_text line (why.Refused r) = sentence r
-why_text line (why.BadWord (Some fault)) = line_fault_text line fault
-why_text line (why.BadWord None) = codes "the line is not a command"
-why_text line why.Cut = codes "the line does not end with a line feed"
+-- the sentence that says why this line is refused, if of each event the line is known that recorded it
+abbrev pub why_text : (lines : List ℕ) → List ℕ → Why → List ℕ
+why_text lines line (why.Refused r) = sentence lines r
+why_text lines line (why.BadWord (Some fault)) = line_fault_text line fault
+why_text lines line (why.BadWord None) = codes "the line is not a command"
+why_text lines line why.Cut = codes "the line does not end with a line feed"

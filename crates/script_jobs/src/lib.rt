@@ -6,30 +6,36 @@
 //! its reply, and WHY the sentence that says why it was refused:
 //!
 //! ```text
-//! line N: TEXT: WHY             a refused line, where refusals alone are wanted
+//! line N: TEXT: WHY             a refused line, if refusals alone are wanted
 //! line N, column C: WHY         the same of a line that is no command, for its field at byte C, from 1
-//! line N: TEXT -> REPLY         any line with a reply, where replies alone are wanted
-//! line N: TEXT -> REPLY: WHY    a refused line, where all is wanted
+//! line N: TEXT -> REPLY         any line with a reply, if replies alone are wanted
+//! line N: TEXT -> REPLY: WHY    a refused line, if all is wanted
 //! ```
 //!
 //! Below a WHY of a line that is no command the whole line is shown, with a caret below each byte of that field.
-//! TEXT has at most 60 bytes, with `...` behind them where the line has more, and `?` in place of each byte that
+//! TEXT has at most 60 bytes, with `...` behind them if the line has more, and `?` in place of each byte that
 //! is not printable ASCII. A line without a reply gets no note.
 #![tactic(auto)]
 
+mod begun;
+mod comparing;
 mod counting;
 pub mod laws;
 mod notes;
 mod noting;
+mod prompting;
 mod replaying;
+mod session;
 mod showing;
-mod walk;
+mod times;
 mod whole;
 mod whys;
 
+pub use comparing::{Difference, first_difference};
 pub use counting::Count;
 pub use notes::Notes;
-pub use noting::{NotedReplay, replayed_noted};
+pub use noting::{NotedFault, replayed_noted};
+pub use prompting::{PROMPT, PROMPT_HELP, prompted};
 pub use replaying::replayed;
 pub use showing::{Rendering, View, shown};
-pub use walk::notes_of;
+pub use times::{Times, times_of};

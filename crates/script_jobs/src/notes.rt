@@ -21,7 +21,7 @@ pub enum Notes {
 /// `line N: TEXT`.
 #[derive(Clone, Copy)]
 struct ShownHead<'a> {
-    number: usize,
+    number: u64,
     line: &'a [u8],
 }
 
@@ -95,37 +95,41 @@ impl fmt::Display for ShownBelow<'_> {
 /// Why a line was refused, and what stands below that.
 #[derive(Clone, Copy)]
 struct ShownExplained<'a> {
+    lines: &'a [u64],
     line: &'a [u8],
     why: Why,
 }
 
 impl fmt::Display for ShownExplained<'_> {
-    ghost output = { λ e. Some (why_below e.line.now e.why) };
+    ghost output = { λ e. Some (why_below e.lines.now e.line.now e.why) };
 
     fn fmt<W: fmt::Write>(&self, f: &mut fmt::Formatter<W>) -> fmt::Result {
+        let lines = self.lines;
         let line = self.line;
         let why = self.why;
         let below = ShownBelow { line, why };
-        write!(f, ": {}\n{below}", ShownWhy { line, why })
+        write!(f, ": {}\n{below}", ShownWhy { lines, line, why })
     }
 }
 
-/// The note of the line with this number and reply, which was refused for that, if it was. It is no text
-/// where no note is wanted.
+/// The note of the line with this number and reply, which was refused for that, if it was; of each event the line is
+/// known that recorded it. It is no text if no note is wanted.
 #[derive(Clone, Copy)]
 pub(crate) struct ShownNote<'a> {
     pub(crate) wanted: Notes,
-    pub(crate) number: usize,
+    pub(crate) lines: &'a [u64],
+    pub(crate) number: u64,
     pub(crate) line: &'a [u8],
     pub(crate) reply: &'a Reply,
     pub(crate) why: Option<Why>,
 }
 
 impl fmt::Display for ShownNote<'_> {
-    ghost output = { λ n. Some (note n.wanted n.number n.line.now n.reply.now n.why) };
+    ghost output = { λ n. Some (note n.wanted n.lines.now n.number n.line.now n.reply.now n.why) };
 
     #[tactic(auto, unfolding(crate::specs::Notes::note))]
     fn fmt<W: fmt::Write>(&self, f: &mut fmt::Formatter<W>) -> fmt::Result {
+        let lines = self.lines;
         let line = self.line;
         let head = ShownHead {
             number: self.number,
@@ -139,9 +143,11 @@ impl fmt::Display for ShownNote<'_> {
             (Notes::Refusals, None) => Ok(()),
             (Notes::Refusals, Some(why)) => {
                 let refused = ShownRefused { head, why };
-                write!(f, "{refused}{}", ShownExplained { line, why })
+                write!(f, "{refused}{}", ShownExplained { lines, line, why })
             }
-            (Notes::All, Some(why)) => write!(f, "{replied}{}", ShownExplained { line, why }),
+            (Notes::All, Some(why)) => {
+                write!(f, "{replied}{}", ShownExplained { lines, line, why })
+            }
             (Notes::Replies, _) | (Notes::All, None) => write!(f, "{replied}\n"),
         }
     }

@@ -13,7 +13,7 @@ use std::io::{Read, Write};
 /// refused, and whether it looks like a script.
 ///
 /// # Errors
-/// `Read` where the reader failed or was given up, `Write` where the writer failed, `Memory` where memory
+/// `Read` if the reader failed or was given up, `Write` if the writer failed, `Memory` if memory
 /// was refused. What was written is then a beginning of the replies to what was read.
 pub fn replayed<R: Read + Drop, W: Write + Drop>(
     alloc: Global,

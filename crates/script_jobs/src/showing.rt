@@ -5,15 +5,18 @@ ghost use Rattle.scope_book.specs.Books.{history_of};
 ghost use Rattle.tree_dump.specs.Tree.{dump_text};
 ghost use Rattle.script_jobs.specs.Counts.{count_in};
 ghost use Rattle.script_jobs.specs.Jobs.{ReadSome, Showed, shown_text};
+ghost use Rattle.script_jobs.specs.Times.{stamps_of, stamps_of_script};
 
 use crate::counting::{Count, count_of};
-use run_picture::{picture_of, trace_of};
+use crate::times::{Times, times_of};
+use crate::whole::read_whole;
+use run_picture::{Drawn, open_times, picture_with, start_times, trace_of};
 use scope_book::BookState;
 use scope_rules::{AnyEnd, Limits};
-use scope_script::{Mode, Ran, ScriptFault, Watched, run_tallied};
+use scope_script::{Mode, Ran, ScriptFault, Watched, run_tallied, run_text};
 use std::alloc::{AllocError, Global};
 use std::io::{Read, Write};
-use tree_dump::{dump, tree_of};
+use tree_dump::{Ages, dump, tree_of, tree_with};
 
 /// How what a script leaves is shown.
 #[derive(Clone, Copy)]
@@ -37,12 +40,12 @@ pub struct Rendering {
     pub count: Count,
 }
 
-/// The view of the realm of these limits that the script which is read leaves. Nothing is written; the writer
-/// is only passed on.
+/// The view of the realm of these limits that the script which is read leaves. Lines `# at MILLIS` are readings of a
+/// clock: an event happened at the last one before its line. So a script is read whole, but for a dump, which shows no
+/// times. Nothing is written; the writer is only passed on.
 ///
 /// # Errors
-/// `Read` where the reader failed or was given up, `Write` where the writer failed, `Memory` where memory
-/// was refused.
+/// `Read` if the reader failed or was given up, `Write` if the writer failed, `Memory` if memory was refused.
 pub fn shown<R: Read + Drop, W: Write + Drop>(
     alloc: Global,
     limits: Limits,
@@ -60,18 +63,43 @@ pub fn shown<R: Read + Drop, W: Write + Drop>(
     ensures write { IsErrOf result ScriptFault.Write → writer.new.failed ≡ true }
     ensures write_failed { writer.new.failed ≡ true → IsErrOf result ScriptFault.Write }
 {
+    match view {
+        View::Dump => dumped(alloc, limits, reader, writer),
+        View::Tree | View::Timeline | View::TraceEvents => {
+            shown_by_times(alloc, limits, view, reader, writer)
+        }
+    }
+}
+
+/// The dump of what the script leaves, which is run as it is read.
+fn dumped<R: Read + Drop, W: Write + Drop>(
+    alloc: Global,
+    limits: Limits,
+    reader: &mut Watched<R>,
+    writer: &mut Watched<W>,
+) -> Result<Rendering, ScriptFault>
+    requires reader { reader.old.failed ≡ false }
+    requires writer { writer.old.failed ≡ false }
+    ensures ok { IfOk result (λ s. Showed (R.remaining reader.old.inner) (R.remaining reader.new.inner) limits View.Dump (string_bytes s.text) s.count) }
+    ensures part { OnErr result (ReadSome (R.remaining reader.old.inner) (R.remaining reader.new.inner)) }
+    ensures unwritten { Appends (W.contents writer.old.inner) (W.contents writer.new.inner) [] }
+    ensures read { IsErrOf result ScriptFault.Read → (reader.new.failed ≡ true) ⊎ (reader.new.reads ≡ u64.MAX) }
+    ensures read_failed { reader.new.failed ≡ true → IsErrOf result ScriptFault.Read }
+    ensures write { IsErrOf result ScriptFault.Write → writer.new.failed ≡ true }
+    ensures write_failed { writer.new.failed ≡ true → IsErrOf result ScriptFault.Write }
+{
     match run_tallied(alloc, reader, writer, limits, Mode::Quiet) {
-        Ok(ran) => shown_of_run(alloc, view, &ran),
+        Ok(ran) => dumped_of_run(alloc, &ran),
         Err(fault) => Err(fault),
     }
 }
 
-/// The view of what a run left.
-fn shown_of_run(alloc: Global, view: View, ran: &Ran) -> Result<Rendering, ScriptFault>
-    ensures ok { IfOk result (λ s. (string_bytes s.text ≡ shown_text view (history_of ran.now.book)) × (s.count ≡ count_in ran.now.tally (history_of ran.now.book))) }
+/// The dump of what a run left.
+fn dumped_of_run(alloc: Global, ran: &Ran) -> Result<Rendering, ScriptFault>
+    ensures ok { IfOk result (λ s. (string_bytes s.text ≡ dump_text (history_of ran.now.book) ++ 10 ∷ []) × (s.count ≡ count_in ran.now.tally (history_of ran.now.book))) }
     ensures memory { IfErr result (λ fault. fault ≡ ScriptFault.Memory) }
 {
-    match text_of(alloc, view, &ran.book) {
+    match dump_line(alloc, &ran.book) {
         Ok(text) => Ok(Rendering {
             text,
             count: count_of(ran),
@@ -80,19 +108,114 @@ fn shown_of_run(alloc: Global, view: View, ran: &Ran) -> Result<Rendering, Scrip
     }
 }
 
-/// The view of the book's realm.
+/// The view of what the script leaves, by the readings in it: it is read whole.
+fn shown_by_times<R: Read + Drop, W: Write + Drop>(
+    alloc: Global,
+    limits: Limits,
+    view: View,
+    reader: &mut Watched<R>,
+    writer: &mut Watched<W>,
+) -> Result<Rendering, ScriptFault>
+    requires reader { reader.old.failed ≡ false }
+    requires writer { writer.old.failed ≡ false }
+    ensures ok { IfOk result (λ s. Showed (R.remaining reader.old.inner) (R.remaining reader.new.inner) limits view (string_bytes s.text) s.count) }
+    ensures part { OnErr result (ReadSome (R.remaining reader.old.inner) (R.remaining reader.new.inner)) }
+    ensures unwritten { Appends (W.contents writer.old.inner) (W.contents writer.new.inner) [] }
+    ensures read { IsErrOf result ScriptFault.Read → (reader.new.failed ≡ true) ⊎ (reader.new.reads ≡ u64.MAX) }
+    ensures read_failed { reader.new.failed ≡ true → IsErrOf result ScriptFault.Read }
+    ensures write { IsErrOf result ScriptFault.Write → writer.new.failed ≡ true }
+    ensures write_failed { writer.new.failed ≡ true → IsErrOf result ScriptFault.Write }
+{
+    let script = match read_whole(alloc, reader) {
+        Ok(script) => script,
+        Err(fault) => return Err(fault),
+    };
+    match run_text(alloc, &script, writer, limits, Mode::Quiet) {
+        Ok(ran) => shown_of_run(alloc, limits, view, &script, &ran),
+        Err(fault) => Err(fault),
+    }
+}
+
+/// The view of what a run of the script left.
+fn shown_of_run(
+    alloc: Global,
+    limits: Limits,
+    view: View,
+    script: &[u8],
+    ran: &Ran,
+) -> Result<Rendering, ScriptFault>
+    ensures ok { IfOk result (λ s. (string_bytes s.text ≡ shown_text view (history_of ran.now.book) (stamps_of_script limits script.now)) × (s.count ≡ count_in ran.now.tally (history_of ran.now.book))) }
+    ensures memory { IfErr result (λ fault. fault ≡ ScriptFault.Memory) }
+{
+    let Ok(times) = times_of(alloc, script, limits) else {
+        return Err(ScriptFault::Memory);
+    };
+    match text_of(alloc, view, &ran.book, &times) {
+        Ok(text) => Ok(Rendering {
+            text,
+            count: count_of(ran),
+        }),
+        Err(_) => Err(ScriptFault::Memory),
+    }
+}
+
+/// The view of the book's realm, by the times of its events.
 ///
 /// # Errors
-/// Where memory was refused.
-fn text_of(alloc: Global, view: View, book: &BookState<AnyEnd>) -> Result<String, AllocError>
-    ensures { IfOk result (λ text. string_bytes text ≡ shown_text view (history_of book.now)) }
+/// If memory was refused.
+fn text_of(
+    alloc: Global,
+    view: View,
+    book: &BookState<AnyEnd>,
+    times: &Times,
+) -> Result<String, AllocError>
+    ensures { IfOk result (λ text. string_bytes text ≡ shown_text view (history_of book.now) (stamps_of times.now)) }
 {
     match view {
         View::Dump => dump_line(alloc, book),
-        View::Tree => tree_of(alloc, book.realm()),
-        View::Timeline => picture_of(alloc, book.realm(), book.realm().events()),
-        View::TraceEvents => trace_of(alloc, book.realm(), book.realm().events(), &[]),
+        View::Tree => tree_text(alloc, book, times),
+        View::Timeline => timeline(alloc, book, times),
+        View::TraceEvents => trace_of(alloc, book.realm(), book.realm().events(), &times.events),
     }
+}
+
+/// The picture of the book's realm, with the way to the right as time, if there are times.
+///
+/// # Errors
+/// If memory was refused.
+fn timeline(alloc: Global, book: &BookState<AnyEnd>, times: &Times) -> Result<String, AllocError>
+    ensures { IfOk result (λ text. string_bytes text ≡ shown_text View.Timeline (history_of book.now) (stamps_of times.now)) }
+{
+    picture_with(
+        alloc,
+        book.realm(),
+        Drawn {
+            events: book.realm().events(),
+            lines: &[],
+            times: &times.events,
+            view: run_picture::View::whole(),
+        },
+    )
+}
+
+/// The tree of the book's realm, with ages, if there are times.
+///
+/// # Errors
+/// If memory was refused.
+fn tree_text(alloc: Global, book: &BookState<AnyEnd>, times: &Times) -> Result<String, AllocError>
+    ensures { IfOk result (λ text. string_bytes text ≡ shown_text View.Tree (history_of book.now) (stamps_of times.now)) }
+{
+    if times.events.is_empty() {
+        return tree_of(alloc, book.realm());
+    }
+    let started = start_times(alloc, book.realm(), book.realm().events(), &times.events)?;
+    let opened = open_times(alloc, book.realm(), &times.events)?;
+    let ages = Ages {
+        last: times.last,
+        started: &started,
+        opened: &opened,
+    };
+    tree_with(alloc, book.realm(), &ages)
 }
 
 /// The dump of the book's realm, and a line feed.

@@ -11,7 +11,7 @@ use std::io::Read;
 /// All that is left to read.
 ///
 /// # Errors
-/// `Read` where the reader failed or was given up, `Memory` where memory was refused.
+/// `Read` if the reader failed or was given up, `Memory` if memory was refused.
 pub(crate) fn read_whole<R: Read + Drop>(
     alloc: Global,
     reader: &mut Watched<R>,

@@ -4,7 +4,7 @@ ghost use Rattle.scope_book.specs.Books.{realm_of};
 ghost use Rattle.script_jobs.specs.Whys.{command_reason, command_why, why_if, why_text};
 
 use bad_words::{ShownFault, WordFault};
-use refusal_reasons::{Reason, event_reason, question_reason, retire_reason};
+use refusal_reasons::{Reason, ShownReason, event_reason, question_reason, retire_reason};
 use scope_book::BookState;
 use scope_rules::AnyEnd;
 use scope_script::Command;
@@ -13,7 +13,7 @@ use std::fmt;
 /// Why a line is refused.
 #[derive(Clone, Copy)]
 pub enum Why {
-    /// The reason stands in the way of its command.
+    /// The reason is in the way of its command.
     Refused(Reason),
     /// It is in no form, for this fault.
     BadWord(Option<WordFault>),
@@ -21,7 +21,7 @@ pub enum Why {
     Cut,
 }
 
-/// That the reason is why, where there is one.
+/// That the reason is why, if there is one.
 fn why_if(reason: Result<(), Reason>) -> Option<Why>
     ensures { result ≡ why_if reason }
 {
@@ -31,7 +31,7 @@ fn why_if(reason: Result<(), Reason>) -> Option<Why>
     }
 }
 
-/// What stands in the way of the command on the book, if anything does.
+/// What is in the way of the command on the book, if anything does.
 #[tactic(auto, unfolding(crate::specs::Whys::command_reason))]
 fn command_reason(book: &BookState<AnyEnd>, command: &Command) -> Result<(), Reason>
     ensures { result ≡ command_reason (realm_of book.now) command.now }
@@ -53,20 +53,24 @@ pub(crate) fn command_why(book: &BookState<AnyEnd>, command: &Command) -> Option
     why_if(command_reason(book, command))
 }
 
-/// Why this line was refused.
+/// Why this line was refused, if of each event the line is known that recorded it.
 #[derive(Clone, Copy)]
 pub(crate) struct ShownWhy<'a> {
+    pub(crate) lines: &'a [u64],
     pub(crate) line: &'a [u8],
     pub(crate) why: Why,
 }
 
 impl fmt::Display for ShownWhy<'_> {
-    ghost output = { λ w. Some (why_text w.line.now w.why) };
+    ghost output = { λ w. Some (why_text w.lines.now w.line.now w.why) };
 
     fn fmt<W: fmt::Write>(&self, f: &mut fmt::Formatter<W>) -> fmt::Result {
         let line = self.line;
         match self.why {
-            Why::Refused(reason) => write!(f, "{reason}"),
+            Why::Refused(reason) => {
+                let lines = self.lines;
+                write!(f, "{}", ShownReason { reason, lines })
+            }
             Why::BadWord(Some(fault)) => write!(f, "{}", ShownFault { line, fault }),
             Why::BadWord(None) => write!(f, "the line is not a command"),
             Why::Cut => write!(f, "the line does not end with a line feed"),

@@ -1,0 +1,9 @@
+use Rattle.std.proofs.Common.{◌∙◌, sym}
+use Rattle.script_jobs.specs.Scripts.{plain_of}
+use Rattle.script_jobs.proofs.Standing.{stands_more}
+use Rattle.script_jobs.proofs.prompting.Talk.take.Goals as goal
+
+pub returns-clause-stands : goal.returns-clause-stands
+returns-clause-stands g c =
+    stands_more c.extend_from_slice-2.result c.args.self.now.limits (plain_of c.args.self.now.script) (plain_of c.take.new.self) c.args.self.now.lines.items c.deref.result.now c.deref-2.result.now c.extend_from_slice-2.new.self.items
+    c.requires c.in_ok-take.ensures.plain (c.deref-2.ensures.value ∙ sym c.deref.ensures.value) c.extend_from_slice-2.ensures.items

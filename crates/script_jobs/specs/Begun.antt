@@ -1,0 +1,37 @@
+-- What is kept of a line that comes piece by piece, so that a note on it can be made.
+use Rattle.std.specs.Prelude.{ℕ, ◌+◌, min, nat_lt, List, [], ◌∷◌, ◌++◌, length, take, Option, Some, if◌then◌else◌}
+use Rattle.bad_words.specs.Faults.{fault_of}
+use Rattle.bad_words.specs.declared.faults.WordFault.{WordFault}
+use Rattle.bad_words.specs.declared.faults.WordFault.TheVariants.{TooLong}
+use Rattle.script_words.specs.declared.lines.TheConstants.{LINE_LIMIT}
+use Rattle.script_jobs.specs.declared.begun.TheConstants.{KEPT_LIMIT}
+
+-- the first bytes of a line, one more than a line may have, and how many bytes it has
+pub record Begun : Type 0 where
+  pub first : List ℕ
+  pub bytes : ℕ
+
+-- a count that stops at 2^64 - 1
+abbrev pub capped : ℕ → ℕ
+capped n = min n 18446744073709551615
+
+-- a line without bytes
+abbrev pub no_line : Begun
+no_line = record { first = []; bytes = 0 }
+
+-- what is kept of a line
+unfoldable pub begun_by : List ℕ → Begun
+begun_by line = record { first = take KEPT_LIMIT line; bytes = capped (length line) }
+
+-- what is kept of it once it goes on with a byte
+unfoldable pub grown : Begun → ℕ → Begun
+grown begun b = record { first = take KEPT_LIMIT (begun.first ++ b ∷ []); bytes = capped (begun.bytes + 1) }
+
+-- and with more bytes
+unfoldable pub grown_by : Begun → List ℕ → Begun
+grown_by begun [] = begun
+grown_by begun (b ∷ bytes) = grown_by (grown begun b) bytes
+
+-- why the line is no command, if it is none: it has too many bytes, or a field is wrong
+abbrev pub fault_in : Begun → Option WordFault
+fault_in begun = if nat_lt LINE_LIMIT begun.bytes then Some (TooLong begun.bytes) else fault_of begun.first

@@ -1,0 +1,36 @@
+-- A script under way whose lines get notes.
+use Rattle.std.specs.Prelude.{ℕ, ◌==◌, nat_lt, List, [], ◌∷◌, ◌++◌, length, if◌then◌else◌}
+use Rattle.scope_rules.specs.declared.types.capacity.Limits.{Limits}
+use Rattle.scope_rules.specs.History.{History}
+use Rattle.scope_rules.specs.Origin.{the_start}
+use Rattle.scope_rules.specs.Replies.{Realm, starting}
+use Rattle.script_words.specs.declared.commands.Line.{Line}
+use Rattle.scope_script.specs.Sessions.{realm_after_line}
+use Rattle.scope_script.specs.Tallies.{one_more}
+
+-- the realm, of each event since its base the number of the line whose command recorded it, and the number of the next
+-- line
+pub record Noting : Type 0 where
+  pub realm : Realm
+  pub lines : List ℕ
+  pub number : ℕ
+
+-- the lines of the events once the line with this number was answered: one more if it recorded an event, and none
+-- if it discarded all
+abbrev pub lines_after : List ℕ → ℕ → (old new : History) → List ℕ
+lines_after lines n old new =
+    if length new.events == length old.events then lines
+    else if nat_lt (length old.events) (length new.events) then lines ++ n ∷ []
+    else []
+
+-- the next line said this, and was answered
+abbrev pub noting_after : Noting → Line → Noting
+noting_after s line = record {
+  realm = realm_after_line s.realm line;
+  lines = lines_after s.lines s.number s.realm.history (realm_after_line s.realm line).history;
+  number = one_more s.number;
+}
+
+-- a script begins on a fresh realm of these limits; lines are numbered from 1
+abbrev pub noting_begins : Limits → Noting
+noting_begins L = record { realm = starting L the_start; lines = []; number = 1 }

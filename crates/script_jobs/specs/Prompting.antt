@@ -1,0 +1,15 @@
+-- A script that a person types at a prompt.
+use Rattle.std.specs.Prelude.{◌≡◌, ℕ, List, ◌++◌}
+use Rattle.scope_rules.specs.declared.types.capacity.Limits.{Limits}
+use Rattle.scope_script.specs.ByBytes.{after_bytes, the_beginning}
+use Rattle.script_jobs.specs.Scripts.{plain_of}
+use Rattle.script_jobs.specs.declared.session.NotedScript.{NotedScript}
+
+-- the script under way is that of these lines, on a fresh realm of these limits
+abbrev pub Stands : {g : _} {f : _} {m : _} → Limits → NotedScript g f m → List ℕ → Type 0
+Stands L script lines = plain_of script ≡ after_bytes (the_beginning L) lines
+
+-- these bytes come first
+pub record IsBeginning (some all : List ℕ) : Type 0 where
+  pub rest : List ℕ
+  pub whole : all ≡ some ++ rest

@@ -1,0 +1,24 @@
+-- What a script of the code stands for: for its replies, and for the notes on its lines.
+use Rattle.scope_book.specs.Books.{realm_of}
+use Rattle.std.specs.Prelude.{◌≡◌}
+use Rattle.scope_rules.specs.declared.types.capacity.Limits.{Limits}
+use Rattle.scope_script.specs.ByBytes.{Session, the_beginning}
+use Rattle.scope_script.specs.KeptLines.{kept}
+use Rattle.script_jobs.specs.Noting.{Noting}
+use Rattle.script_jobs.specs.Notes.{NoteSession, notes_begin}
+use Rattle.script_jobs.specs.declared.session.NotedScript.{NotedScript}
+
+-- the script under way as it is for its replies
+abbrev pub plain_of : {g : _} {f : _} {m : _} → NotedScript g f m → Session
+plain_of script = record { realm = realm_of script.book; tally = script.tally; begun = kept script.begun.first }
+
+abbrev pub noting_of : {g : _} {f : _} {m : _} → NotedScript g f m → Noting
+noting_of script = record { realm = realm_of script.book; lines = script.lines.items; number = script.number }
+
+-- the script under way as it is for the notes
+abbrev pub noted_of : {g : _} {f : _} {m : _} → NotedScript g f m → NoteSession
+noted_of script = record { noting = noting_of script; begun = script.begun }
+
+-- the script begins, on a fresh realm of these limits
+abbrev pub begins : {g : _} {f : _} {m : _} → NotedScript g f m → Limits → Type 0
+begins script L = (plain_of script ≡ the_beginning L) × (noted_of script ≡ notes_begin L)

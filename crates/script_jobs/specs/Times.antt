@@ -1,0 +1,58 @@
+-- Readings of a clock in a script: lines `# at MILLIS`, which say nothing to the realm.
+use Rattle.std.specs.Prelude.{◌≡◌, ℕ, ◌&&◌, ◌||◌, Bool, true, false, nat_le, nat_lt, is_some, unwrap_or, Option, None, Some, List, [], ◌∷◌, ◌++◌, length, codes, if◌then◌else◌}
+use Rattle.std.specs.List.{list_any}
+use Rattle.std.specs.Option.{option_and_then}
+use Rattle.std.specs.Str.{bytes_eq}
+use Rattle.scope_rules.specs.declared.types.capacity.Limits.{Limits}
+use Rattle.scope_rules.specs.Origin.{the_start}
+use Rattle.scope_rules.specs.Replies.{Realm, starting}
+use Rattle.script_words.specs.Fields.{fields, just_three}
+use Rattle.script_words.specs.Lines.{line_said}
+use Rattle.script_words.specs.Numbers.{moment_said}
+use Rattle.scope_script.specs.Cutting.{ended_lines}
+use Rattle.scope_script.specs.Sessions.{realm_after_line}
+use Rattle.script_jobs.specs.declared.times.Times.{Times}
+
+abbrev pub small : ℕ → Option ℕ
+small n = if nat_le n 4294967295 then Some n else None
+
+abbrev pub reading_by : List ℕ × List ℕ × List ℕ → Option ℕ
+reading_by f = if bytes_eq f.0 (codes "#") && bytes_eq f.1 (codes "at") then option_and_then small (moment_said f.2) else None
+
+-- the reading of a line `# at MILLIS`
+unfoldable pub reading_of : List ℕ → Option ℕ
+reading_of line = option_and_then reading_by (just_three (fields line))
+
+-- one of the script's lines has a reading
+abbrev pub has_reading : List (List ℕ) → Bool
+has_reading lines = list_any (λ line. is_some (reading_of line)) lines
+
+-- the times of the events behind a line that had so many before it and so many behind it: one more, or none behind a
+-- retirement
+abbrev pub stamped : List ℕ → ℕ → ℕ → ℕ → List ℕ
+stamped times before after at = if nat_lt before after then times ++ at ∷ [] else (if nat_lt after before then [] else times)
+
+-- the reading that counts behind a line
+abbrev pub at_line : ℕ → List ℕ → ℕ
+at_line at line = unwrap_or (reading_of line) at
+
+-- by event the last reading before its line, and behind them the last one of all; and that by itself
+pub record Stamps : Type 0 where
+  pub events : List ℕ
+  pub last : ℕ
+
+abbrev pub stamps_of : Times → Stamps
+stamps_of t = record { events = t.events.items; last = t.last }
+
+unfoldable pub stamps_from : List ℕ → Realm → ℕ → List (List ℕ) → Stamps
+stamps_from times realm at [] = record { events = times ++ at ∷ []; last = at }
+stamps_from times realm at (line ∷ lines) =
+    stamps_from (stamped times (length realm.history.events) (length (realm_after_line realm (line_said line)).history.events) (at_line at line)) (realm_after_line realm (line_said line)) (at_line at line) lines
+
+-- a script without a reading has no times
+abbrev pub no_stamps : Stamps
+no_stamps = record { events = []; last = 0 }
+
+-- the times of a script that is run on a fresh realm of these limits
+unfoldable pub stamps_of_script : Limits → List ℕ → Stamps
+stamps_of_script L bytes = if has_reading (ended_lines [] bytes) then stamps_from [] (starting L the_start) 0 (ended_lines [] bytes) else no_stamps

@@ -1,0 +1,277 @@
+//! A script under way whose lines get notes.
+ghost use Rattle.std.specs.Prelude.{◌≡◌, ◌++◌, ◌∷◌, [], Some, IfOk, OnOk, OnErr, length, string_bytes};
+ghost use Rattle.scope_rules.specs.History.{History};
+ghost use Rattle.scope_book.specs.Books.{history_of, limits_of, realm_of};
+ghost use Rattle.scope_rules.specs.Legal.{Legal};
+ghost use Rattle.script_words.specs.Lines.{line_said};
+ghost use Rattle.script_words.specs.ReplyText.{reply_text};
+ghost use Rattle.scope_script.specs.ByBytes.{after_bytes, bytes_reply, end_reply, end_tally, the_beginning};
+ghost use Rattle.scope_script.specs.Replying.{realm_after, reply_to};
+ghost use Rattle.scope_script.specs.Sessions.{bad_word_line, line_reply, realm_after_line};
+ghost use Rattle.scope_script.specs.Streams.{AppendsPart};
+ghost use Rattle.scope_script.specs.Tallies.{tally_after_line, with_bad_word, with_reply};
+ghost use Rattle.tree_dump.specs.TextTree.{tree_text};
+ghost use Rattle.script_jobs.specs.Begun.{no_line};
+ghost use Rattle.script_jobs.specs.Counts.{count_in};
+ghost use Rattle.script_jobs.specs.Noting.{lines_after, noting_after};
+ghost use Rattle.script_jobs.specs.Notes.{bad_note, bytes_note, done_note, end_note, line_note, note, noted_bytes, notes_begin, said_note};
+ghost use Rattle.script_jobs.specs.Scripts.{noted_of, noting_of, plain_of};
+
+use crate::begun::BegunLine;
+use crate::counting::{Count, count_in, no_refusals, one_more, with_bad_word, with_reply};
+use crate::notes::{Notes, ShownNote};
+use crate::whys::{Why, command_why};
+use scope_book::BookState;
+use scope_rules::{AnyEnd, Limits, Refusal};
+use scope_script::{Command, Line, Reply, Tally, append_line, first_line, perform, read_line};
+use std::alloc::{AllocError, Global};
+use tree_dump::tree_of;
+
+/// A script under way: the book that its commands are performed on, of each event since the base the number of the line
+/// whose command recorded it, the number of the next line, how many lines were refused, and the line that is begun.
+#[derive(Drop)]
+pub(crate) struct NotedScript {
+    alloc: Global,
+    book: BookState<AnyEnd>,
+    lines: Vec<u64>,
+    number: u64,
+    tally: Tally,
+    begun: BegunLine,
+}
+
+impl NotedScript {
+    /// A script that begins, on a fresh realm of these limits.
+    #[tactic(auto, unfolding(scope_script::specs::KeptLines::kept))]
+    pub(crate) fn new(alloc: Global, limits: Limits) -> NotedScript
+        ensures plain { plain_of result ≡ the_beginning limits }
+        ensures noted { noted_of result ≡ notes_begin limits }
+    {
+        NotedScript {
+            alloc,
+            book: BookState::over(alloc, limits, Vec::new(alloc)),
+            lines: Vec::new(alloc),
+            number: 1,
+            tally: no_refusals(),
+            begun: BegunLine::new(),
+        }
+    }
+
+    /// The script goes on by the bytes; the replies to them go to the end of `replies`, and the notes to the end of
+    /// `notes`. If memory is refused, beginnings of both went there.
+    pub(crate) fn take(
+        &mut self,
+        wanted: Notes,
+        bytes: &[u8],
+        replies: &mut Vec<u8>,
+        notes: &mut Vec<u8>,
+    ) -> Result<(), AllocError>
+        ensures plain { OnOk result (plain_of self.new ≡ after_bytes (plain_of self.old) bytes.now) }
+        ensures noted { OnOk result (noted_of self.new ≡ noted_bytes (noted_of self.old) bytes.now) }
+        ensures replies { OnOk result (replies.new.items ≡ replies.old.items ++ bytes_reply (plain_of self.old) bytes.now) }
+        ensures notes { OnOk result (notes.new.items ≡ notes.old.items ++ bytes_note wanted (noted_of self.old) bytes.now) }
+        ensures replies_part { OnErr result (AppendsPart (Some replies.old.items) (Some replies.new.items) (bytes_reply (plain_of self.old) bytes.now)) }
+        ensures notes_part { OnErr result (AppendsPart (Some notes.old.items) (Some notes.new.items) (bytes_note wanted (noted_of self.old) bytes.now)) }
+    {
+        let mut rest = bytes;
+        while let Some((line, others)) = first_line(rest) {
+            self.begun.extend(line);
+            match self.answer(wanted, replies, notes) {
+                Ok(()) => rest = others,
+                Err(error) => return Err(error),
+            }
+        }
+        self.begun.extend(rest);
+        Ok(())
+    }
+
+    /// Answers the line that is begun, which has ended; the next begins. If memory is refused, `replies` and `notes` stay
+    /// as they are.
+    #[tactic(auto, unfolding(crate::specs::Notes::line_note))]
+    fn answer(
+        &mut self,
+        wanted: Notes,
+        replies: &mut Vec<u8>,
+        notes: &mut Vec<u8>,
+    ) -> Result<(), AllocError>
+        ensures realm { OnOk result (realm_of self.new.book ≡ realm_after_line (realm_of self.old.book) (line_said self.old.begun.first)) }
+        ensures tally { OnOk result (self.new.tally ≡ tally_after_line self.old.tally (realm_of self.old.book) (line_said self.old.begun.first)) }
+        ensures noting { OnOk result (noting_of self.new ≡ noting_after (noting_of self.old) (line_said self.old.begun.first)) }
+        ensures begun { OnOk result (self.new.begun ≡ no_line) }
+        ensures replies { OnOk result (replies.new.items ≡ replies.old.items ++ line_reply (realm_of self.old.book) (line_said self.old.begun.first)) }
+        ensures notes { OnOk result (notes.new.items ≡ notes.old.items ++ line_note wanted (noting_of self.old) self.old.begun) }
+        ensures err { OnErr result ((replies.new.items ≡ replies.old.items) × (notes.new.items ≡ notes.old.items)) }
+    {
+        let _legal = self.book.limits();
+        let said = read_line(self.begun.first());
+        self.answer_said(wanted, said, replies, notes)?;
+        self.number = one_more(self.number);
+        self.begun.restart();
+        Ok(())
+    }
+
+    /// Answers the line that is begun, which says this; it stays begun.
+    #[tactic(auto, unfolding(scope_script::specs::Sessions::line_reply, scope_script::specs::Sessions::realm_after_line, scope_script::specs::Tallies::tally_after_line))]
+    fn answer_said(
+        &mut self,
+        wanted: Notes,
+        said: Line,
+        replies: &mut Vec<u8>,
+        notes: &mut Vec<u8>,
+    ) -> Result<(), AllocError>
+        requires { Legal (limits_of self.old.book) (history_of self.old.book) }
+        ensures realm { OnOk result (realm_of self.new.book ≡ realm_after_line (realm_of self.old.book) said) }
+        ensures tally { OnOk result (self.new.tally ≡ tally_after_line self.old.tally (realm_of self.old.book) said) }
+        ensures lines { OnOk result (self.new.lines.items ≡ lines_after self.old.lines.items self.old.number (history_of self.old.book) (history_of self.new.book)) }
+        ensures number { self.new.number ≡ self.old.number }
+        ensures begun { self.new.begun ≡ self.old.begun }
+        ensures replies { OnOk result (replies.new.items ≡ replies.old.items ++ line_reply (realm_of self.old.book) said) }
+        ensures notes { OnOk result (notes.new.items ≡ notes.old.items ++ said_note wanted (noting_of self.old) self.old.begun said) }
+        ensures err { OnErr result ((replies.new.items ≡ replies.old.items) × (notes.new.items ≡ notes.old.items)) }
+    {
+        match said {
+            Line::Silent => Ok(()),
+            Line::BadWord => {
+                let why = Why::BadWord(self.begun.fault());
+                self.answer_bad(wanted, why, replies, notes)
+            }
+            Line::Command(command) => self.answer_done(wanted, command, replies, notes),
+        }
+    }
+
+    /// Answers the line that is begun, which is no command, for that.
+    fn answer_bad(
+        &mut self,
+        wanted: Notes,
+        why: Why,
+        replies: &mut Vec<u8>,
+        notes: &mut Vec<u8>,
+    ) -> Result<(), AllocError>
+        ensures same { (self.new.book ≡ self.old.book) × (self.new.lines ≡ self.old.lines) × (self.new.number ≡ self.old.number) × (self.new.begun ≡ self.old.begun) }
+        ensures tally { self.new.tally ≡ with_bad_word self.old.tally }
+        ensures replies { OnOk result (replies.new.items ≡ replies.old.items ++ bad_word_line) }
+        ensures notes { OnOk result (notes.new.items ≡ notes.old.items ++ bad_note wanted (noting_of self.old) self.old.begun.first why) }
+        ensures err { OnErr result ((replies.new.items ≡ replies.old.items) × (notes.new.items ≡ notes.old.items)) }
+    {
+        self.tally = with_bad_word(self.tally);
+        let reply = Reply::Refused(Refusal::BadWord);
+        let note = self.note_of(wanted, &reply, Some(why))?;
+        append_both(&reply, &note, replies, notes)
+    }
+
+    /// Answers the line that is begun, with this command, which is performed.
+    fn answer_done(
+        &mut self,
+        wanted: Notes,
+        command: Command,
+        replies: &mut Vec<u8>,
+        notes: &mut Vec<u8>,
+    ) -> Result<(), AllocError>
+        requires { Legal (limits_of self.old.book) (history_of self.old.book) }
+        ensures realm { OnOk result (realm_of self.new.book ≡ realm_after (realm_of self.old.book) command) }
+        ensures tally { OnOk result (self.new.tally ≡ with_reply self.old.tally (reply_to (realm_of self.old.book) command)) }
+        ensures lines { OnOk result (self.new.lines.items ≡ lines_after self.old.lines.items self.old.number (history_of self.old.book) (history_of self.new.book)) }
+        ensures number { self.new.number ≡ self.old.number }
+        ensures begun { self.new.begun ≡ self.old.begun }
+        ensures replies { OnOk result (replies.new.items ≡ replies.old.items ++ (reply_text (reply_to (realm_of self.old.book) command) ++ 10 ∷ [])) }
+        ensures notes { OnOk result (notes.new.items ≡ notes.old.items ++ done_note wanted (noting_of self.old) self.old.begun.first command) }
+        ensures err { OnErr result ((replies.new.items ≡ replies.old.items) × (notes.new.items ≡ notes.old.items)) }
+    {
+        let why = command_why(&self.book, &command);
+        let before = self.book.realm().events().len();
+        let reply = perform(&mut self.book, command)?;
+        let note = self.note_of(wanted, &reply, why)?;
+        self.record_line(before)?;
+        self.tally = with_reply(self.tally, &reply);
+        append_both(&reply, &note, replies, notes)
+    }
+
+    /// The note of the line that is begun, with this reply, which was refused for that, if it was.
+    fn note_of(&self, wanted: Notes, reply: &Reply, why: Option<Why>) -> Result<String, AllocError>
+        ensures { IfOk result (λ text. string_bytes text ≡ note wanted self.now.lines.items self.now.number self.now.begun.first reply.now why) }
+    {
+        let shown = ShownNote {
+            wanted,
+            lines: &self.lines,
+            number: self.number,
+            line: self.begun.first(),
+            reply,
+            why,
+        };
+        format!(in self.alloc; "{shown}")
+    }
+
+    /// The events have the line that is begun as the last one's, if there is one more than before, and those that were
+    /// discarded have none.
+    fn record_line(&mut self, before: usize) -> Result<(), AllocError>
+        ensures lines { OnOk result ((h : History) → before ≡ length h.events → self.new.lines.items ≡ lines_after self.old.lines.items self.old.number h (history_of self.old.book)) }
+        ensures same { (self.new.book ≡ self.old.book) × (self.new.number ≡ self.old.number) × (self.new.tally ≡ self.old.tally) × (self.new.begun ≡ self.old.begun) }
+    {
+        let after = self.book.realm().events().len();
+        if after == before {
+            return Ok(());
+        }
+        if before < after {
+            self.lines.push(self.number)?;
+        } else {
+            self.lines.clear();
+        }
+        Ok(())
+    }
+
+    /// Answers the end of the script: a line that is begun then is a bad word. If memory is refused, `replies` and `notes`
+    /// stay as they are.
+    #[tactic(auto, unfolding(crate::specs::Notes::cut_note))]
+    pub(crate) fn end(
+        &mut self,
+        wanted: Notes,
+        replies: &mut Vec<u8>,
+        notes: &mut Vec<u8>,
+    ) -> Result<(), AllocError>
+        ensures realm { realm_of self.new.book ≡ realm_of self.old.book }
+        ensures tally { OnOk result (self.new.tally ≡ end_tally (plain_of self.old)) }
+        ensures replies { OnOk result (replies.new.items ≡ replies.old.items ++ end_reply (plain_of self.old)) }
+        ensures notes { OnOk result (notes.new.items ≡ notes.old.items ++ end_note wanted (noted_of self.old)) }
+        ensures err { OnErr result ((replies.new.items ≡ replies.old.items) × (notes.new.items ≡ notes.old.items)) }
+    {
+        if self.begun.is_empty() {
+            return Ok(());
+        }
+        self.answer_bad(wanted, Why::Cut, replies, notes)
+    }
+
+    /// What is open now, as text.
+    pub(crate) fn tree(&self) -> Result<String, AllocError>
+        ensures { IfOk result (λ text. string_bytes text ≡ tree_text (history_of self.now.book)) }
+    {
+        tree_of(self.alloc, self.book.realm())
+    }
+
+    /// What there is to count of the script.
+    pub(crate) fn count(&self) -> Count
+        ensures { result ≡ count_in self.now.tally (history_of self.now.book) }
+    {
+        count_in(self.tally, self.book.realm())
+    }
+}
+
+/// Appends the line of the reply, and the note. If memory is refused for one, neither is appended.
+fn append_both(
+    reply: &Reply,
+    note: &str,
+    replies: &mut Vec<u8>,
+    notes: &mut Vec<u8>,
+) -> Result<(), AllocError>
+    ensures replies { OnOk result (replies.new.items ≡ replies.old.items ++ (reply_text reply.now ++ 10 ∷ [])) }
+    ensures notes { OnOk result (notes.new.items ≡ notes.old.items ++ note.now) }
+    ensures err { OnErr result ((replies.new.items ≡ replies.old.items) × (notes.new.items ≡ notes.old.items)) }
+{
+    let length = notes.len();
+    notes.extend_from_slice(note.as_bytes())?;
+    match append_line(replies, reply) {
+        Ok(()) => Ok(()),
+        Err(error) => {
+            notes.truncate(length);
+            Err(error)
+        }
+    }
+}
