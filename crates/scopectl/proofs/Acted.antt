@@ -13,7 +13,7 @@ module _ (ReaderKept WriterKept ErrorsKept ByReader Sound : Type 0) (unread unre
     status = omega (arith, it.0);
     done = λ e f. absurd (e it.0);
     fault = λ e. inl (reader, writer);
-    named = λ e. (record { fault = Memory; came = sound; line = it.1 });
+    named = λ e. inl (record { fault = Memory; came = sound; line = it.1 });
     not_understood = λ e. absurd (omega (arith, it.0, e));
   }
 

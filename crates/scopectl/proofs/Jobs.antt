@@ -7,15 +7,17 @@ use Rattle.scope_script.specs.Streams.{AppendsPart}
 use Rattle.scope_script.specs.declared.session.run.Mode.TheVariants.{Replies}
 use Rattle.scope_script.specs.declared.session.run.ScriptFault.{ScriptFault}
 use Rattle.scope_script.specs.declared.session.run.ScriptFault.TheVariants as ended
-use Rattle.script_jobs.specs.Jobs.{ReadSome, Replayed, ReplayedNoted, Showed}
+use Rattle.script_jobs.specs.Jobs.{ReadSome, Replayed, ReplayedNoted, ReplayedPartly, Showed}
+use Rattle.script_jobs.specs.declared.noting.NotedFault.{NotedFault}
+use Rattle.script_jobs.specs.declared.noting.NotedFault.TheVariants as noted
 use Rattle.script_jobs.specs.declared.showing.View.{View}
 use Rattle.script_jobs.specs.declared.showing.View.TheVariants as view
-use Rattle.scopectl.specs.Naming.{CameFrom, NamesFault}
-use Rattle.scopectl.specs.Program.{AnswersPlan, DidJob, DidPart, DidWhole, FailedAtEnd, Made, Makes, Shows, Told, ToldNotes, WroteLate, WrotePart, command_of, count_of, is_lenient, is_strict, lenience, notes_wanted}
+use Rattle.scopectl.specs.Naming.{CameFrom, NamesFault, OfNotes}
+use Rattle.scopectl.specs.Program.{AnswersPlan, DidJob, DidPart, DidWhole, FailedAtEnd, Made, Makes, Shows, Told, ToldNotes, WroteLate, WrotePart, command_of, count_of, is_lenient, is_strict, lenience, noted_text, notes_on, notes_wanted}
 use Rattle.script_jobs.specs.Notes.{notes_text}
 use Rattle.script_jobs.specs.declared.notes.Notes.{Notes}
-use Rattle.scopectl.specs.Saying.{Noted, SaidNotes, status_of}
-use Rattle.scopectl.specs.Texts.{fault_of_run}
+use Rattle.scopectl.specs.Saying.{EitherBy, IsSaid, Noted, SaidNotes, count_text, is_silent, status_of}
+use Rattle.scopectl.specs.Texts.{fault_of_noted, fault_of_run}
 use Rattle.script_jobs.specs.Counts.{count_of_script}
 use Rattle.script_jobs.specs.declared.counting.Count.{Count}
 use Rattle.command_line.specs.declared.lines.CommandLine.{CommandLine}
@@ -39,7 +41,7 @@ came_of ended.Write ByReader ByWriter Sound OfPlan read write memory = write ref
 came_of ended.Memory ByReader ByWriter Sound OfPlan read write memory = memory refl
 
 module _ {T : Type 0} (failed : Bool) (stream : ScriptFault) (r : Result T ScriptFault) where
-  -- a stream whose fault would be told did not fail where memory was refused
+  -- a stream whose fault would be told did not fail if memory was refused
   pub sound_at : (fault : ScriptFault) → r ≡ Err fault → (failed ≡ true → r ≡ Err stream) → fault ≡ ended.Memory → (stream ≡ ended.Memory → ⊥) → failed ≡ false
   sound_at fault is tells memory other = by failed tells
     where
@@ -55,6 +57,61 @@ module _ {T : Type 0} (failed : Bool) (stream : ScriptFault) (r : Result T Scrip
       by false tells = refl
       by true tells = absurd (let e = tells refl in cc)
 
+-- the same of a replay with notes
+pub came_of_noted : (fault : NotedFault) (ByReader ByWriter Sound Failed : Type 0) → (fault ≡ noted.Run ended.Read → ByReader) → (fault ≡ noted.Run ended.Write → ByWriter) → (fault ≡ noted.Run ended.Memory → Sound) → (fault ≡ noted.Notes → Failed)
+    → CameFrom (fault_of_noted fault) ByReader ByWriter Sound (OfNotes Failed)
+came_of_noted (noted.Run ended.Read) ByReader ByWriter Sound Failed read write memory notes = read refl
+came_of_noted (noted.Run ended.Write) ByReader ByWriter Sound Failed read write memory notes = write refl
+came_of_noted (noted.Run ended.Memory) ByReader ByWriter Sound Failed read write memory notes = memory refl
+came_of_noted noted.Notes ByReader ByWriter Sound Failed read write memory notes = notes refl
+
+pub sound_noted : {T : Type 0} (failed : Bool) (stream : NotedFault) (r : Result T NotedFault) (fault : NotedFault) → r ≡ Err fault → (failed ≡ true → r ≡ Err stream) → fault ≡ noted.Run ended.Memory → (stream ≡ noted.Run ended.Memory → ⊥) → failed ≡ false
+sound_noted failed stream r fault is tells memory other = by failed tells
+  where
+    by : (b : Bool) → (b ≡ true → r ≡ Err stream) → b ≡ false
+    by false tells = refl
+    by true tells = absurd (other (let e = tells refl in cc))
+
+pub read_no_memory : noted.Run ended.Read ≡ noted.Run ended.Memory → ⊥
+read_no_memory e = cc
+
+pub write_no_memory : noted.Run ended.Write ≡ noted.Run ended.Memory → ⊥
+write_no_memory e = cc
+
+-- what is known of a text that is written alone may be said with less
+came_alone : (fault : ProgramFault) (ByReader ByWriter Sound Sounder : Type 0) (Plan : ProgramFault → Type 0) → (Sound → Sounder) → CameFrom fault ⊥ ByWriter Sound (λ _. ⊥) → CameFrom fault ByReader ByWriter Sounder Plan
+came_alone program.Read ByReader ByWriter Sound Sounder Plan sounds came = absurd came
+came_alone program.Write ByReader ByWriter Sound Sounder Plan sounds came = came
+came_alone program.Notes ByReader ByWriter Sound Sounder Plan sounds came = absurd came
+came_alone program.Memory ByReader ByWriter Sound Sounder Plan sounds came = sounds came
+came_alone (program.PlanLine line why) ByReader ByWriter Sound Sounder Plan sounds came = absurd came
+came_alone program.Strange ByReader ByWriter Sound Sounder Plan sounds came = absurd came
+came_alone program.Rejected ByReader ByWriter Sound Sounder Plan sounds came = absurd came
+came_alone program.Cancelled ByReader ByWriter Sound Sounder Plan sounds came = absurd came
+came_alone program.Lost ByReader ByWriter Sound Sounder Plan sounds came = absurd came
+came_alone program.NoOffer ByReader ByWriter Sound Sounder Plan sounds came = absurd came
+came_alone program.Time ByReader ByWriter Sound Sounder Plan sounds came = absurd came
+
+pub names_alone : (said said_new : Option (List ℕ)) (failed : Bool) (ByReader ByWriter Sound Sounder : Type 0) (Plan : ProgramFault → Type 0) → (Sound → Sounder)
+    → NamesFault said said_new failed ⊥ ByWriter Sound (λ _. ⊥) → NamesFault said said_new failed ByReader ByWriter Sounder Plan
+names_alone said said_new failed ByReader ByWriter Sound Sounder Plan sounds names = record {
+  fault = names.fault;
+  came = came_alone names.fault ByReader ByWriter Sound Sounder Plan sounds names.came;
+  line = names.line;
+}
+
+-- nothing more is known of a stream that was left alone
+pub noted_kept : (quiet : Bool) (count : Count) (Kept Other : Type 0) (said said_new : Option (List ℕ)) (failed : Bool) → (Kept → Other) → Noted quiet count Kept said said_new failed → Noted quiet count Other said said_new failed
+noted_kept quiet count Kept Other said said_new failed weaker it = by (is_silent quiet count) it
+  where
+    by : (b : Bool) → EitherBy b Kept (IsSaid (count_text count) said said_new failed) → EitherBy b Other (IsSaid (count_text count) said said_new failed)
+    by true kept = weaker kept
+    by false text = text
+
+-- the notes that the words want
+pub notes_are : (script : ScriptOptions) (explain trace : Bool) (notes : Notes) (bytes : List ℕ) → notes_wanted explain trace ≡ Some notes → notes_text notes script.limits bytes ≡ notes_on (line.Replay script explain trace) bytes
+notes_are script explain trace notes bytes same = ap (λ (w : Option Notes). noted_text w script.limits bytes) (sym same)
+
 pub read_is_other : ended.Read ≡ ended.Memory → ⊥
 read_is_other e = cc
 
@@ -66,6 +123,7 @@ pub came_weaker : (fault : ProgramFault) (ByReader ByWriter Writer Sound Sounder
     → CameFrom fault ByReader ByWriter Sound OfPlan → CameFrom fault ByReader Writer Sounder Plan
 came_weaker program.Read ByReader ByWriter Writer Sound Sounder OfPlan Plan writes sounds weaker came = came
 came_weaker program.Write ByReader ByWriter Writer Sound Sounder OfPlan Plan writes sounds weaker came = writes came
+came_weaker program.Notes ByReader ByWriter Writer Sound Sounder OfPlan Plan writes sounds weaker came = weaker program.Notes came
 came_weaker program.Memory ByReader ByWriter Writer Sound Sounder OfPlan Plan writes sounds weaker came = sounds came
 came_weaker (program.PlanLine line why) ByReader ByWriter Writer Sound Sounder OfPlan Plan writes sounds weaker came = weaker (program.PlanLine line why) came
 came_weaker program.Strange ByReader ByWriter Writer Sound Sounder OfPlan Plan writes sounds weaker came = weaker program.Strange came
@@ -86,10 +144,13 @@ names_weaker said said_new failed ByReader ByWriter Sound OfPlan Plan weaker nam
 -- ---- a script's jobs
 
 module _ (script : ScriptOptions) (explain trace : Bool) (unread unread_new written written_new : Option (List ℕ)) where
+  pub noted_part : (failed : Bool) (said said_new : Option (List ℕ)) (notes : Notes) → ReplayedPartly unread unread_new written written_new said said_new script.limits notes → DidPart (line.Replay script explain trace) unread unread_new written written_new failed
+  noted_part failed said said_new notes run = record { bytes = run.script; read = run.read; wrote = run.wrote }
+
   pub replayed_part : (failed : Bool) → RunsPartly unread unread_new written written_new Replies script.limits → DidPart (line.Replay script explain trace) unread unread_new written written_new failed
   replayed_part failed run = record { bytes = run.script; read = run.read; wrote = run.replied }
 
-  -- where all was written, so was a part
+  -- if all was written, so was a part
   pub replayed_all : (failed : Bool) (count : Count) → Replayed unread unread_new written written_new script.limits count → DidPart (line.Replay script explain trace) unread unread_new written written_new failed
   replayed_all failed count it = record {
     bytes = it.script;
@@ -197,12 +258,15 @@ module _ (Kept : Type 0) (unread unread_new written written_new said said_new : 
     told_notes wanted wanted_so same bytes it = subst (λ (w : Option Notes). ToldNotes w script bytes Kept said said_new failed) (sym same) it
 
     module _ (status : result ≡ status_of script.strict true count) (explain trace : Bool) where
-      pub replay_noted : (notes : Notes) (text : List ℕ) → notes_wanted explain trace ≡ Some notes → SaidNotes text script.quiet count said said_new failed → ReplayedNoted unread unread_new written written_new script.limits notes text count
+      pub replay_noted : (notes : Notes) (mid : Option (List ℕ)) → notes_wanted explain trace ≡ Some notes → Noted script.quiet count (said_new ≡ mid) mid said_new failed → ReplayedNoted unread unread_new written written_new said mid script.limits notes count
           → DidWhole (line.Replay script explain trace) Kept unread unread_new written written_new said said_new failed result
-      replay_noted notes text same noted it = record {
+      replay_noted notes mid same noted it = record {
         did = record { bytes = it.replay.script; read = it.replay.read; all = it.replay.all; text = _; makes = refl; wrote = it.replay.wrote };
-        noted = told_notes (Some notes) (notes_wanted explain trace) same it.replay.script
-            (subst (λ (t : Count). SaidNotes (notes_text notes script.limits it.replay.script) script.quiet t said said_new failed) it.replay.counted (subst (λ (bytes : List ℕ). SaidNotes bytes script.quiet count said said_new failed) it.noted noted));
+        noted = told_notes (Some notes) (notes_wanted explain trace) same it.replay.script (record {
+          noted = mid;
+          notes_said = it.noted;
+          counted = subst (λ (t : Count). Noted script.quiet t (said_new ≡ mid) mid said_new failed) it.replay.counted noted;
+        });
         status = status ∙ ap (status_of script.strict true) it.replay.counted;
       }
 

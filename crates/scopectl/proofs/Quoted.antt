@@ -52,6 +52,7 @@ of_plan deadline after plan unread unread_new program.Time ByReader Sound sound 
 of_plan deadline after plan unread unread_new (program.PlanLine line why) ByReader Sound sound read it = absurd it
 of_plan deadline after plan unread unread_new program.Read ByReader Sound sound read it = absurd it
 of_plan deadline after plan unread unread_new program.Write ByReader Sound sound read it = absurd it
+of_plan deadline after plan unread unread_new program.Notes ByReader Sound sound read it = absurd it
 of_plan deadline after plan unread unread_new program.Strange ByReader Sound sound read it = absurd it
 of_plan deadline after plan unread unread_new program.Rejected ByReader Sound sound read it = record { plan = plan; read = read; may = it }
 of_plan deadline after plan unread unread_new program.Cancelled ByReader Sound sound read it = record { plan = plan; read = read; may = it }
@@ -92,6 +93,7 @@ of_line deadline after unread unread_new program.Time ByReader Sound it = absurd
 of_line deadline after unread unread_new (program.PlanLine line why) ByReader Sound it = it
 of_line deadline after unread unread_new program.Read ByReader Sound it = it
 of_line deadline after unread unread_new program.Write ByReader Sound it = absurd it
+of_line deadline after unread unread_new program.Notes ByReader Sound it = absurd it
 of_line deadline after unread unread_new program.Strange ByReader Sound it = absurd it
 of_line deadline after unread unread_new program.Rejected ByReader Sound it = absurd it
 of_line deadline after unread unread_new program.Cancelled ByReader Sound it = absurd it

@@ -10,7 +10,9 @@ use Rattle.command_line.specs.declared.settings.Delay.{Delay}
 use Rattle.scopectl.specs.declared.fault.ProgramFault.{ProgramFault}
 use Rattle.scopectl.specs.declared.fault.ProgramFault.TheVariants as program
 use Rattle.command_line.specs.CommandLine.{Says}
-use Rattle.scopectl.specs.Program.{ReadPlan, has_late}
+use Rattle.command_line.specs.declared.lines.CommandLine.{CommandLine}
+use Rattle.scope_script.specs.Streams.{AppendsPart}
+use Rattle.scopectl.specs.Program.{ReadPlan, has_late, notes_on}
 use Rattle.scopectl.specs.Saying.{IsSaid}
 use Rattle.scopectl.specs.Texts.{line_of}
 
@@ -21,7 +23,7 @@ abbrev pub is_timed : (deadline : Option ℕ) (after : Option Delay) → Bool
 is_timed deadline after = is_some deadline || is_some after
 
 -- what may come at a plan that was read: the jobs are never strange, `time` comes only where it is asked for, and that
--- an offer is missing only where the plan lacks the one that is to take time
+-- an offer is missing only if the plan lacks the one that is to take time
 abbrev pub MayEndPlan : (timed lacks : Bool) → ProgramFault → Type 0
 MayEndPlan timed lacks program.Rejected = ⊤
 MayEndPlan timed lacks program.Cancelled = ⊤
@@ -63,7 +65,7 @@ pub record IsOfQuote (words : List (List ℕ)) (unread unread_new : Option (List
 
 -- ---- all faults
 
--- `read` comes only where the reader ended the run, `write` only where the writer did, `memory` only where the streams
+-- `read` comes only if the reader ended the run, `write` only if the writer did, `memory` only if the streams
 -- are sound, and any other only of a plan
 abbrev pub CameFrom : ProgramFault → (ByReader ByWriter Sound : Type 0) → (OfPlan : ProgramFault → Type 0) → Type 0
 CameFrom program.Read ByReader ByWriter Sound OfPlan = ByReader
@@ -76,3 +78,30 @@ pub record NamesFault (said said_new : Option (List ℕ)) (failed : Bool) (ByRea
   pub fault : ProgramFault
   pub came : CameFrom fault ByReader ByWriter Sound OfPlan
   pub line : IsSaid (line_of fault) said said_new failed
+
+-- ---- behind notes
+
+-- standard error failed, if notes were to be written, or the fault came of none of the others
+abbrev pub OfNotes : (Failed : Type 0) → ProgramFault → Type 0
+OfNotes Failed program.Notes = Failed
+OfNotes Failed other = ⊥
+
+-- one line was said, which names a fault that came, behind a beginning of the notes on what the command read
+pub record NamesAfter (command : CommandLine) (unread unread_new said said_new : Option (List ℕ)) (failed : Bool) (ByReader ByWriter Sound : Type 0) : Type 0 where
+  pub bytes : List ℕ
+  pub read : Consumes unread unread_new bytes
+  pub noted : Option (List ℕ)
+  pub notes : AppendsPart said noted (notes_on command bytes)
+  pub names : NamesFault noted said_new failed ByReader ByWriter Sound (OfNotes (failed ≡ true))
+
+-- the same, of the command that the words say
+pub record NamesNoted (words : List (List ℕ)) (unread unread_new said said_new : Option (List ℕ)) (failed : Bool) (ByReader ByWriter Sound : Type 0) : Type 0 where
+  pub command : CommandLine
+  pub says : Says words command
+  pub names : NamesAfter command unread unread_new said said_new failed ByReader ByWriter Sound
+
+-- one line was said, which names a fault that came; where notes are wanted it stands behind a beginning of them
+abbrev pub NamesAny : (words : List (List ℕ)) (unread unread_new said said_new : Option (List ℕ)) (failed : Bool) (ByReader ByWriter Sound : Type 0) → Type 0
+NamesAny words unread unread_new said said_new failed ByReader ByWriter Sound =
+    NamesFault said said_new failed ByReader ByWriter Sound (IsOfQuote words unread unread_new)
+    ⊎ NamesNoted words unread unread_new said said_new failed ByReader ByWriter Sound

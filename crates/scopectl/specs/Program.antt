@@ -1,5 +1,5 @@
 -- What the program has done.
-use Rattle.std.specs.Prelude.{◌≡◌, ◌⊎◌, ◌++◌, ℕ, Bool, true, false, Option, None, Some, List, [], ◌∷◌}
+use Rattle.std.specs.Prelude.{◌≡◌, ◌⊎◌, ◌++◌, ℕ, Bool, true, false, Option, None, Some, List, [], ◌∷◌, unwrap_or}
 use Rattle.std.specs.Io.KnownBytes.{Appends, Consumes, IsAtEnd}
 use Rattle.scope_rules.specs.declared.types.capacity.Limits.{Limits}
 use Rattle.scope_script.specs.Sessions.{replies_of, realm_of_script}
@@ -7,10 +7,12 @@ use Rattle.scope_script.specs.Tallies.{no_refusals}
 use Rattle.script_jobs.specs.Counts.{count_of_script}
 use Rattle.script_jobs.specs.declared.counting.Count.{Count}
 use Rattle.script_jobs.specs.Notes.{notes_text}
+use Rattle.random_scripts.specs.Made.{IsScript}
 use Rattle.script_jobs.specs.declared.notes.Notes.{Notes}
 use Rattle.script_jobs.specs.declared.notes.Notes.TheVariants as notes
 use Rattle.scopectl.specs.Saying.{Noted, SaidNotes, status_of}
 use Rattle.script_jobs.specs.Jobs.{shown_text}
+use Rattle.script_jobs.specs.Times.{stamps_of_script}
 use Rattle.script_jobs.specs.declared.showing.View.{View}
 use Rattle.script_jobs.specs.declared.showing.View.TheVariants as view
 use Rattle.scope_script.specs.Streams.{AppendsPart}
@@ -34,16 +36,34 @@ IsNotUnderstood words = SaysNone words × IsNoRequest words
 
 -- ---- what was read and written
 
+-- the numbers by which a random script is made if none are said: the seed, and how many lines
+abbrev pub seed_or : Option ℕ → ℕ
+seed_or seed = unwrap_or seed 1
+
+abbrev pub lines_or : Option ℕ → ℕ
+lines_or lines = unwrap_or lines 100
+
+-- the words ask for a random script, and the text is one: so many lines, each of which says a command
+pub record Generates (words : List (List ℕ)) (text : List ℕ) : Type 0 where
+  pub seed : Option ℕ
+  pub lines : Option ℕ
+  pub said : Says words (line.Generate seed lines)
+  pub is : IsScript (lines_or lines) text
+
+-- the words ask for this text: help, the version, or a random script
+abbrev pub Asks : List (List ℕ) → List ℕ → Type 0
+Asks words text = AsksFor words text ⊎ Generates words text
+
 -- it wrote exactly the text that the words ask for
 pub record GaveText (words : List (List ℕ)) (written written_new : Option (List ℕ)) : Type 0 where
   pub text : List ℕ
-  pub asked : AsksFor words text
+  pub asked : Asks words text
   pub wrote : Appends written written_new text
 
 -- the writer failed, and took a beginning of the text that the words ask for
 pub record GaveTextPartly (words : List (List ℕ)) (written written_new : Option (List ℕ)) (failed : Bool) : Type 0 where
   pub text : List ℕ
-  pub asked : AsksFor words text
+  pub asked : Asks words text
   pub wrote : AppendsPart written written_new text
   pub writer : failed ≡ true
 
@@ -90,7 +110,7 @@ lenience view.TraceEvents lenient = lenient
 
 -- the text is the view of the realm of these limits that the script leaves
 abbrev pub Shows : View → Limits → (bytes text : List ℕ) → Type 0
-Shows view limits bytes text = text ≡ shown_text view (realm_of_script limits bytes).history
+Shows view limits bytes text = text ≡ shown_text view (realm_of_script limits bytes).history (stamps_of_script limits bytes)
 
 -- what a command makes of the bytes that are read: the replies to a script, in a realm of its limits; a view of the
 -- realm that the script leaves; or an answer to a plan by the deadline
@@ -101,6 +121,7 @@ Makes (line.Tree script lenient) bytes text = Shows view.Tree script.limits byte
 Makes (line.Timeline script lenient) bytes text = Shows view.Timeline script.limits bytes text
 Makes (line.TraceEvents script lenient) bytes text = Shows view.TraceEvents script.limits bytes text
 Makes (line.Quote deadline after) bytes text = AnswersPlan deadline after bytes text
+Makes (line.Generate seed lines) bytes text = IsScript (lines_or lines) text
 
 -- the command was done: all bytes were read, and exactly a text that it makes of them was written
 pub record DidJob (command : CommandLine) (unread unread_new written written_new : Option (List ℕ)) : Type 0 where
@@ -122,6 +143,7 @@ count_of (line.Tree script lenient) bytes = count_of_script script.limits bytes
 count_of (line.Timeline script lenient) bytes = count_of_script script.limits bytes
 count_of (line.TraceEvents script lenient) bytes = count_of_script script.limits bytes
 count_of (line.Quote deadline after) bytes = no_count
+count_of (line.Generate seed lines) bytes = no_count
 
 -- the status is to tell that lines were refused
 abbrev pub is_strict : CommandLine → Bool
@@ -131,6 +153,7 @@ is_strict (line.Tree script lenient) = script.strict
 is_strict (line.Timeline script lenient) = script.strict
 is_strict (line.TraceEvents script lenient) = script.strict
 is_strict (line.Quote deadline after) = false
+is_strict (line.Generate seed lines) = false
 
 -- the status is 0 though lines are no commands
 abbrev pub is_lenient : CommandLine → Bool
@@ -147,6 +170,7 @@ is_quiet (line.Tree script lenient) = script.quiet
 is_quiet (line.Timeline script lenient) = script.quiet
 is_quiet (line.TraceEvents script lenient) = script.quiet
 is_quiet (line.Quote deadline after) = true
+is_quiet (line.Generate seed lines) = true
 
 -- the notes that are wanted: on the lines that were refused, on each line's reply, or on both
 abbrev pub notes_wanted : (explain trace : Bool) → Option Notes
@@ -161,6 +185,15 @@ ToldNotes (Some wanted) script bytes ErrorsKept said said_new errors_failed =
     SaidNotes (notes_text wanted script.limits bytes) script.quiet (count_of_script script.limits bytes) said said_new errors_failed
 ToldNotes None script bytes ErrorsKept said said_new errors_failed =
     Noted script.quiet (count_of_script script.limits bytes) ErrorsKept said said_new errors_failed
+
+-- the notes that are wanted on the lines of the bytes that were read: those on the lines of a replay, and no others
+abbrev pub noted_text : Option Notes → Limits → List ℕ → List ℕ
+noted_text (Some wanted) limits bytes = notes_text wanted limits bytes
+noted_text None limits bytes = []
+
+abbrev pub notes_on : CommandLine → List ℕ → List ℕ
+notes_on (line.Replay script explain trace) bytes = noted_text (notes_wanted explain trace) script.limits bytes
+notes_on _ bytes = []
 
 -- what was said of the bytes that were read: the notes that are wanted on the lines of a replay, and how many lines
 -- were refused

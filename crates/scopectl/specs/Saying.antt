@@ -29,9 +29,6 @@ count_text count = tally_line count.tally ++ foreign_text count
 abbrev pub is_silent : (quiet : Bool) → Count → Bool
 is_silent quiet count = quiet || (count.tally.refused == 0)
 
-abbrev pub refusals_text : (quiet : Bool) → Count → List ℕ
-refusals_text quiet count = if is_silent quiet count then [] else count_text count
-
 abbrev pub EitherBy : Bool → Type 0 → Type 0 → Type 0
 EitherBy true A B = A
 EitherBy false A B = B
@@ -40,9 +37,11 @@ EitherBy false A B = B
 abbrev pub Noted : (quiet : Bool) → Count → (Kept : Type 0) (said said_new : Option (List ℕ)) (failed : Bool) → Type 0
 Noted quiet count Kept said said_new failed = EitherBy (is_silent quiet count) Kept (IsSaid (count_text count) said said_new failed)
 
--- the notes on a script's lines were said, and then that text
-abbrev pub SaidNotes : (notes : List ℕ) → (quiet : Bool) → Count → (said said_new : Option (List ℕ)) (failed : Bool) → Type 0
-SaidNotes notes quiet count said said_new failed = IsSaid (notes ++ refusals_text quiet count) said said_new failed
+-- exactly the notes on a script's lines were said, and then that text, if there is something to say
+pub record SaidNotes (notes : List ℕ) (quiet : Bool) (count : Count) (said said_new : Option (List ℕ)) (failed : Bool) : Type 0 where
+  pub noted : Option (List ℕ)
+  pub notes_said : Appends said noted notes
+  pub counted : Noted quiet count (said_new ≡ noted) noted said_new failed
 
 -- some text was said
 pub record SaidSome (said said_new : Option (List ℕ)) (failed : Bool) : Type 0 where
@@ -50,11 +49,11 @@ pub record SaidSome (said said_new : Option (List ℕ)) (failed : Bool) : Type 0
   pub some : text ≡ [] → ⊥
   pub is : IsSaid text said said_new failed
 
--- the status where some lines make it 3
+-- the status if some lines make it 3
 abbrev pub three_if_some : ℕ → ℕ
 three_if_some n = if n == 0 then 0 else 3
 
--- the status: 3 where lines were refused and it is to be strict, or where lines are no commands and it is not to be
+-- the status: 3 if lines were refused and it is to be strict, or where lines are no commands and it is not to be
 -- lenient
 abbrev pub status_of : (strict lenient : Bool) → Count → ℕ
 status_of strict lenient count =

@@ -3,18 +3,24 @@ use Rattle.std.specs.Prelude.{◌++◌, ℕ, List, [], ◌∷◌, codes}
 use Rattle.std.specs.Fmt.{decimal}
 use Rattle.scope_script.specs.declared.session.run.ScriptFault.{ScriptFault}
 use Rattle.scope_script.specs.declared.session.run.ScriptFault.TheVariants as script
+use Rattle.script_jobs.specs.declared.noting.NotedFault.{NotedFault}
+use Rattle.script_jobs.specs.declared.noting.NotedFault.TheVariants as noted
 use Rattle.quote_plan.specs.declared.reading.PlanFault.{PlanFault}
 use Rattle.quote_plan.specs.declared.reading.PlanFault.TheVariants as plan
 use Rattle.quote_plan.specs.PlanWhys.{words_of}
 use Rattle.quote_gateway.specs.declared.faults.GatewayFault.{GatewayFault}
 use Rattle.quote_gateway.specs.declared.faults.GatewayFault.TheVariants as service
 use Rattle.scopectl.specs.declared.fault.ProgramFault.{ProgramFault}
-use Rattle.scopectl.specs.declared.fault.ProgramFault.TheVariants.{Read, Write, Memory, PlanLine, Strange, Rejected, Cancelled, Lost, NoOffer, Time}
+use Rattle.scopectl.specs.declared.fault.ProgramFault.TheVariants.{Read, Write, Notes, Memory, PlanLine, Strange, Rejected, Cancelled, Lost, NoOffer, Time}
 
 abbrev pub fault_of_run : ScriptFault → ProgramFault
 fault_of_run script.Read = Read
 fault_of_run script.Write = Write
 fault_of_run script.Memory = Memory
+
+abbrev pub fault_of_noted : NotedFault → ProgramFault
+fault_of_noted (noted.Run fault) = fault_of_run fault
+fault_of_noted noted.Notes = Notes
 
 abbrev pub fault_of_plan : PlanFault → ProgramFault
 fault_of_plan (plan.Word line why) = PlanLine line why
@@ -30,6 +36,7 @@ fault_of_service service.Lost = Lost
 abbrev pub word_of : ProgramFault → List ℕ
 word_of Read = codes "read"
 word_of Write = codes "write"
+word_of Notes = codes "notes"
 word_of Memory = codes "memory"
 word_of (PlanLine line why) = codes "bad-word"
 word_of Strange = codes "strange"

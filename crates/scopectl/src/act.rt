@@ -1,10 +1,11 @@
 //! All that the program does.
-ghost use Rattle.std.specs.Prelude.{◌≡◌, ◌≢◌, ◌≤◌, ◌⊎◌, ◌++◌, Bool, None, Some, false, true, map, string_bytes};
+ghost use Rattle.std.specs.Prelude.{◌≡◌, ◌≢◌, ◌≤◌, ◌⊎◌, Bool, List, ℕ, None, Some, false, true, map, string_bytes};
 ghost use Rattle.std.specs.Io.KnownBytes.{Appends};
 ghost use Rattle.scope_script.specs.Streams.{AppendsPart};
-ghost use Rattle.scopectl.specs.Naming.{IsOfPlan, IsOfQuote, NamesFault};
-ghost use Rattle.scopectl.specs.Program.{DidAsSaid, DidJob, DidPart, DidPartly, DidWhole, GaveText, GaveTextPartly, IsNotUnderstood, command_of, lenience, notes_wanted};
-ghost use Rattle.scopectl.specs.Saying.{IsSaid, Noted, SaidNotes, SaidSome, count_text, is_silent, status_of, three_if_some};
+ghost use Rattle.scopectl.specs.Naming.{IsOfPlan, NamesAfter, NamesAny, NamesFault};
+ghost use Rattle.scopectl.specs.Program.{DidAsSaid, DidJob, DidPart, DidPartly, DidWhole, GaveText, GaveTextPartly, IsNotUnderstood, command_of, lenience, lines_or, notes_wanted};
+ghost use Rattle.random_scripts.specs.Made.{IsScript};
+ghost use Rattle.scopectl.specs.Saying.{IsSaid, Noted, SaidSome, count_text, is_silent, status_of, three_if_some};
 ghost use Rattle.scopectl.specs.Texts.{line_of, not_utf8_line};
 
 use crate::fault::{ProgramFault, count_text};
@@ -12,15 +13,22 @@ use crate::quoting::quoted;
 use command_line::{CommandLine, Delay, LineFault, ScriptOptions, VERSION_LINE, help_of, line};
 use job_runner::JobWork;
 use quote_gateway::LateJob;
+use random_scripts::script_by;
 use realm_lock::{RealmName, Seed};
 use scope_rules::Due;
 use scope_script::Watched;
-use script_jobs::{Count, NotedReplay, Notes, Rendering, View, replayed, replayed_noted, shown};
+use script_jobs::{Count, Notes, Rendering, View, replayed, replayed_noted, shown};
 use std::alloc::Global;
 use std::io::{ErrorKind, Read, Write};
 use std::rt::Clock as SystemTime;
 use std::sync::Wait;
 use thread_crew::Spawns;
+
+/// By which number a random script is made if none is given.
+const SEED: u32 = 1;
+
+/// How many lines a random script has if that is not given.
+const LINES: u32 = 100;
 
 /// The status of a line that was understood and carried out.
 pub const DONE: u8 = 0;
@@ -31,7 +39,7 @@ pub const FAULT: u8 = 1;
 /// The status of a line that is not understood.
 pub const NOT_UNDERSTOOD: u8 = 2;
 
-/// The status of a line that was carried out, where lines of the script were refused and the status is to tell so.
+/// The status of a line that was carried out, if lines of the script were refused and the status is to tell so.
 pub const LINES_REFUSED: u8 = 3;
 
 /// Does what the words say, of which the first is the program's name, and answers the exit status.
@@ -45,16 +53,16 @@ pub const LINES_REFUSED: u8 = 3;
 /// and exactly that text of the realm that they leave was written; or they said a quote, all bytes
 /// were read, which are a plan, and exactly a line that it allows was written, and a line feed; by a deadline
 /// the line may say some of the prices. Where lines of a script were refused and the words are not quiet, a line on
-/// `errors` says how many, and how many of them are no commands, and another one where no other line did anything;
+/// `errors` says how many, and how many of them are no commands, and another one if no other line did anything;
 /// before it stand the notes on the lines of a replay that are to be explained or traced; else nothing was said
-/// there. The status is 3 where lines were refused and the words are strict, or where lines of a tree, timeline or trace
+/// there. The status is 3 if lines were refused and the words are strict, or where lines of a tree, timeline or trace
 /// are no commands and the words are not lenient, and else 0.
 ///
-/// With status 1 one line on `errors` names the fault: `read` or `write` only where that stream failed,
+/// With status 1 one line on `errors` names the fault: `read` or `write` only if that stream failed,
 /// or the reader was given up after 2^64 - 1 reads; a line of the plan only where it is the first bad one of all
 /// bytes, or of those that were read and whatever comes after them; `after` only of a quote whose plan lacks the offer
 /// that is to take time; `rejected`, `cancelled` or `lost` only of a
-/// quote whose bytes were all read; `strange` never; `memory` only where no stream failed; `time` only of a quote
+/// quote whose bytes were all read; `strange` never; `memory` only if no stream failed; `time` only of a quote
 /// whose bytes were all read, with a deadline or a delay.
 /// Nothing was read or written, or the writer failed at the text that was asked for, or what was written
 /// is a beginning of the replies to what was read. Of any other job nothing was written, but where all
@@ -62,7 +70,7 @@ pub const LINES_REFUSED: u8 = 3;
 ///
 /// With status 2 the words say no command and ask for no text, nothing was read or written, and some text was said on
 /// `errors`. So words
-/// that say a command or ask for a text never end with 2, and other words with 2, or with 1 where memory
+/// that say a command or ask for a text never end with 2, and other words with 2, or with 1 if memory
 /// was refused.
 pub fn act<
     'a,
@@ -93,9 +101,8 @@ pub fn act<
         ⊎ (((reader.new ≡ reader.old)
         × GaveTextPartly (map (λ word. word.now) words.now) (W.contents writer.old.inner) (W.contents writer.new.inner) writer.new.failed)
         ⊎ DidPartly (map (λ word. word.now) words.now) (R.remaining reader.old.inner) (R.remaining reader.new.inner) (W.contents writer.old.inner) (W.contents writer.new.inner) writer.new.failed) }
-    ensures named { result ≡ 1 → NamesFault (E.contents errors.old.inner) (E.contents errors.new.inner) errors.new.failed ((reader.new.failed ≡ true) ⊎ (reader.new.reads ≡ u64.MAX)) (writer.new.failed ≡ true)
-        ((reader.new.failed ≡ false) × (writer.new.failed ≡ false))
-        (IsOfQuote (map (λ word. word.now) words.now) (R.remaining reader.old.inner) (R.remaining reader.new.inner)) }
+    ensures named { result ≡ 1 → NamesAny (map (λ word. word.now) words.now) (R.remaining reader.old.inner) (R.remaining reader.new.inner) (E.contents errors.old.inner) (E.contents errors.new.inner) errors.new.failed ((reader.new.failed ≡ true) ⊎ (reader.new.reads ≡ u64.MAX)) (writer.new.failed ≡ true)
+        ((reader.new.failed ≡ false) × (writer.new.failed ≡ false)) }
     ensures not_understood { result ≡ 2 → IsNotUnderstood (map (λ word. word.now) words.now)
         × (reader.new ≡ reader.old) × (writer.new ≡ writer.old)
         × SaidSome (E.contents errors.old.inner) (E.contents errors.new.inner) errors.new.failed }
@@ -139,6 +146,7 @@ pub fn act<
         Ok(CommandLine::Quote { deadline, after }) => quote::<N, S, T, R, W, E>(
             rt, alloc, seed, spawner, deadline, after, reader, writer, errors,
         ),
+        Ok(CommandLine::Generate { seed, lines }) => generate(alloc, seed, lines, writer, errors),
         Err(LineFault::Help) => tell(help_of(words), writer, errors),
         Err(LineFault::Version) => tell(VERSION_LINE, writer, errors),
         Err(LineFault::Usage(text)) => refuse_line(&text, errors),
@@ -146,7 +154,7 @@ pub fn act<
     }
 }
 
-/// Answers the status where the words of the line could not be had: for want of memory, or since one is
+/// Answers the status if the words of the line could not be had: for want of memory, or since one is
 /// not UTF-8.
 pub fn refuse_words<E: Write + Drop>(kind: ErrorKind, errors: &mut Watched<E>) -> u8
     ensures memory { kind ≡ ErrorKind.OutOfMemory → (result ≡ 1)
@@ -201,7 +209,8 @@ fn replay<R: Read + Drop, W: Write + Drop, E: Write + Drop>(
     ensures status { (result ≤ 3) × (result ≢ 2) }
     ensures done { result ≢ 1 → DidWhole (CommandLine.Replay script explain trace) (errors.new ≡ errors.old) (R.remaining reader.old.inner) (R.remaining reader.new.inner) (W.contents writer.old.inner) (W.contents writer.new.inner) (E.contents errors.old.inner) (E.contents errors.new.inner) errors.new.failed result }
     ensures fault { result ≡ 1 → DidPart (CommandLine.Replay script explain trace) (R.remaining reader.old.inner) (R.remaining reader.new.inner) (W.contents writer.old.inner) (W.contents writer.new.inner) writer.new.failed }
-    ensures named { result ≡ 1 → NamesFault (E.contents errors.old.inner) (E.contents errors.new.inner) errors.new.failed ((reader.new.failed ≡ true) ⊎ (reader.new.reads ≡ u64.MAX)) (writer.new.failed ≡ true) ((reader.new.failed ≡ false) × (writer.new.failed ≡ false)) (λ _. ⊥) }
+    ensures named { result ≡ 1 → NamesFault (E.contents errors.old.inner) (E.contents errors.new.inner) errors.new.failed ((reader.new.failed ≡ true) ⊎ (reader.new.reads ≡ u64.MAX)) (writer.new.failed ≡ true) ((reader.new.failed ≡ false) × (writer.new.failed ≡ false)) (λ _. ⊥)
+        ⊎ NamesAfter (CommandLine.Replay script explain trace) (R.remaining reader.old.inner) (R.remaining reader.new.inner) (E.contents errors.old.inner) (E.contents errors.new.inner) errors.new.failed ((reader.new.failed ≡ true) ⊎ (reader.new.reads ≡ u64.MAX)) (writer.new.failed ≡ true) ((reader.new.failed ≡ false) × (writer.new.failed ≡ false)) }
 {
     match notes_wanted(explain, trace) {
         Some(notes) => replay_noted(alloc, script, notes, reader, writer, errors),
@@ -231,7 +240,7 @@ fn replay_plainly<R: Read + Drop, W: Write + Drop, E: Write + Drop>(
     fail(ProgramFault::of_run(fault), errors)
 }
 
-/// Replays the script that is read, and says the notes on its lines.
+/// Replays the script that is read, and says the note on each of its lines as it is answered.
 fn replay_noted<R: Read + Drop, W: Write + Drop, E: Write + Drop>(
     alloc: Global,
     script: ScriptOptions,
@@ -245,52 +254,33 @@ fn replay_noted<R: Read + Drop, W: Write + Drop, E: Write + Drop>(
     ensures status { (result ≤ 3) × (result ≢ 2) }
     ensures done { (explain trace : Bool) → notes_wanted explain trace ≡ Some notes → result ≢ 1 → DidWhole (CommandLine.Replay script explain trace) (errors.new ≡ errors.old) (R.remaining reader.old.inner) (R.remaining reader.new.inner) (W.contents writer.old.inner) (W.contents writer.new.inner) (E.contents errors.old.inner) (E.contents errors.new.inner) errors.new.failed result }
     ensures fault { (explain trace : Bool) → result ≡ 1 → DidPart (CommandLine.Replay script explain trace) (R.remaining reader.old.inner) (R.remaining reader.new.inner) (W.contents writer.old.inner) (W.contents writer.new.inner) writer.new.failed }
-    ensures named { result ≡ 1 → NamesFault (E.contents errors.old.inner) (E.contents errors.new.inner) errors.new.failed ((reader.new.failed ≡ true) ⊎ (reader.new.reads ≡ u64.MAX)) (writer.new.failed ≡ true) ((reader.new.failed ≡ false) × (writer.new.failed ≡ false)) (λ _. ⊥) }
+    ensures named { (explain trace : Bool) → notes_wanted explain trace ≡ Some notes → result ≡ 1 → NamesAfter (CommandLine.Replay script explain trace) (R.remaining reader.old.inner) (R.remaining reader.new.inner) (E.contents errors.old.inner) (E.contents errors.new.inner) errors.new.failed ((reader.new.failed ≡ true) ⊎ (reader.new.reads ≡ u64.MAX)) (writer.new.failed ≡ true) ((reader.new.failed ≡ false) × (writer.new.failed ≡ false)) }
 {
-    match replayed_noted(alloc, script.limits, notes, reader, writer) {
-        Ok(noted) => say_notes(script, noted, errors),
-        Err(reason) => fail(ProgramFault::of_run(reason), errors),
+    match replayed_noted(alloc, script.limits, notes, reader, writer, errors) {
+        Ok(count) => note(script, true, count, errors),
+        Err(reason) => fail(ProgramFault::of_noted(reason), errors),
     }
 }
 
-/// Says the notes on a script's lines, and how many were refused, if that is to be said, and answers the status of a
-/// script that was read to its end. Where memory is refused for it, that is said instead.
-fn say_notes<E: Write + Drop>(
-    script: ScriptOptions,
-    noted: NotedReplay,
+/// Writes a random script.
+fn generate<W: Write + Drop, E: Write + Drop>(
+    alloc: Global,
+    seed: Option<u32>,
+    lines: Option<u32>,
+    writer: &mut Watched<W>,
     errors: &mut Watched<E>,
 ) -> u8
-    ensures status { (result ≤ 3) × (result ≢ 2) }
-    ensures told { result ≢ 1 → result ≡ status_of script.strict true noted.count }
-    ensures said { result ≢ 1 → SaidNotes (string_bytes noted.notes) script.quiet noted.count (E.contents errors.old.inner) (E.contents errors.new.inner) errors.new.failed }
-    ensures memory { result ≡ 1 → IsSaid (line_of ProgramFault.Memory) (E.contents errors.old.inner) (E.contents errors.new.inner) errors.new.failed }
+    requires { writer.old.failed ≡ false }
+    ensures status { result ≤ 1 }
+    ensures done { result ≡ 0 → (text : List ℕ) × IsScript (lines_or lines) text × Appends (W.contents writer.old.inner) (W.contents writer.new.inner) text }
+    ensures silent { result ≡ 0 → errors.new ≡ errors.old }
+    ensures fault { result ≡ 1 → (writer.new ≡ writer.old) ⊎ ((text : List ℕ) × IsScript (lines_or lines) text × AppendsPart (W.contents writer.old.inner) (W.contents writer.new.inner) text × (writer.new.failed ≡ true)) }
+    ensures named { result ≡ 1 → NamesFault (E.contents errors.old.inner) (E.contents errors.new.inner) errors.new.failed ⊥ (writer.new.failed ≡ true) (writer.new.failed ≡ false) (λ _. ⊥) }
 {
-    let NotedReplay { notes, count } = noted;
-    if is_silent(script.quiet, count) {
-        say(&notes, errors);
-        return status_of(script.strict, true, count);
+    match script_by(alloc, seed.unwrap_or(SEED), lines.unwrap_or(LINES)) {
+        Ok(text) => tell(&text, writer, errors),
+        Err(_) => fail(ProgramFault::Memory, errors),
     }
-    say_both(script.strict, notes, count, errors)
-}
-
-/// Says the notes, and then how many lines were refused.
-fn say_both<E: Write + Drop>(
-    strict: bool,
-    notes: String,
-    count: Count,
-    errors: &mut Watched<E>,
-) -> u8
-    ensures status { (result ≤ 3) × (result ≢ 2) }
-    ensures told { result ≢ 1 → result ≡ status_of strict true count }
-    ensures said { result ≢ 1 → IsSaid (string_bytes notes ++ count_text count) (E.contents errors.old.inner) (E.contents errors.new.inner) errors.new.failed }
-    ensures memory { result ≡ 1 → IsSaid (line_of ProgramFault.Memory) (E.contents errors.old.inner) (E.contents errors.new.inner) errors.new.failed }
-{
-    let mut text = notes;
-    match text.push_str(count_text(count).as_str()) {
-        Ok(()) => say(&text, errors),
-        Err(_) => return fail(ProgramFault::Memory, errors),
-    }
-    status_of(strict, true, count)
 }
 
 /// Shows the realm that the script which is read leaves.
@@ -385,7 +375,7 @@ fn quote<
 
 /// Says how many lines of a script were refused, if that is to be said, and answers the status of a script that was
 /// read to its end.
-fn note<E: Write + Drop>(
+pub fn note<E: Write + Drop>(
     script: ScriptOptions,
     lenient: bool,
     count: Count,
@@ -422,7 +412,7 @@ fn status_of(strict: bool, lenient: bool, count: Count) -> u8
     }
 }
 
-/// The status where some lines make it `LINES_REFUSED`.
+/// The status if some lines make it `LINES_REFUSED`.
 fn three_if_some(lines: u64) -> u8
     ensures status { result ≡ three_if_some lines }
     ensures well { (result ≤ 3) × (result ≢ 1) × (result ≢ 2) }
@@ -457,9 +447,10 @@ fn tell<W: Write + Drop, E: Write + Drop>(
 }
 
 /// Names the fault.
-fn fail<E: Write + Drop>(fault: ProgramFault, errors: &mut Watched<E>) -> u8
+pub fn fail<E: Write + Drop>(fault: ProgramFault, errors: &mut Watched<E>) -> u8
     ensures status { result ≡ 1 }
     ensures named { IsSaid (line_of fault) (E.contents errors.old.inner) (E.contents errors.new.inner) errors.new.failed }
+    ensures stays { errors.old.failed ≡ true → errors.new.failed ≡ true }
 {
     say(fault.line().as_str(), errors);
     FAULT
@@ -467,7 +458,8 @@ fn fail<E: Write + Drop>(fault: ProgramFault, errors: &mut Watched<E>) -> u8
 
 /// Says the text on standard error, whose own failing is passed over.
 fn say<E: Write + Drop>(text: &str, errors: &mut Watched<E>)
-    ensures { IsSaid text.now (E.contents errors.old.inner) (E.contents errors.new.inner) errors.new.failed }
+    ensures said { IsSaid text.now (E.contents errors.old.inner) (E.contents errors.new.inner) errors.new.failed }
+    ensures stays { errors.old.failed ≡ true → errors.new.failed ≡ true }
 {
     let _said = errors.write_bytes(text.as_bytes());
 }

@@ -1,13 +1,13 @@
 //! What the program says on standard error: why it ends with status 1, and how many lines were refused.
 ghost use Rattle.std.specs.Prelude.{◌≡◌, ◌≤◌, length};
 ghost use Rattle.scopectl.specs.Saying.{count_text, foreign_text};
-ghost use Rattle.scopectl.specs.Texts.{fault_of_plan, fault_of_run, fault_of_service, line_of, word_of};
+ghost use Rattle.scopectl.specs.Texts.{fault_of_noted, fault_of_plan, fault_of_run, fault_of_service, line_of, word_of};
 
 use arrayvec::ArrayString;
 use itoa::Buffer;
 use quote_gateway::{GatewayFault, PlanFault, PlanWhy};
 use scope_script::ScriptFault;
-use script_jobs::Count;
+use script_jobs::{Count, NotedFault};
 use thiserror::Error;
 
 /// Why the program ends with status 1. It is shown as on standard error, but for the program's name and the line's end.
@@ -19,10 +19,13 @@ pub enum ProgramFault {
     /// Standard output failed.
     #[error("write")]
     Write,
+    /// Standard error failed, if notes were to be written.
+    #[error("notes")]
+    Notes,
     /// Memory was refused.
     #[error("memory")]
     Memory,
-    /// This line of the plan is the first bad one, counted from 1, for this cause; where no line says a mode
+    /// This line of the plan is the first bad one, counted from 1, for this cause; if no line says a mode
     /// and none is bad, it is the line after the last.
     #[error("plan line {line}: bad-word: {}", .why.words())]
     PlanLine { line: usize, why: PlanWhy },
@@ -58,6 +61,16 @@ impl ProgramFault {
             ScriptFault::Read => ProgramFault::Read,
             ScriptFault::Write => ProgramFault::Write,
             ScriptFault::Memory => ProgramFault::Memory,
+        }
+    }
+
+    /// The program's fault for a fault of a replay with notes.
+    pub fn of_noted(fault: NotedFault) -> ProgramFault
+        ensures { result ≡ fault_of_noted fault }
+    {
+        match fault {
+            NotedFault::Run(fault) => ProgramFault::of_run(fault),
+            NotedFault::Notes => ProgramFault::Notes,
         }
     }
 
@@ -118,6 +131,7 @@ impl ProgramFault {
         match self {
             ProgramFault::Read => "read",
             ProgramFault::Write => "write",
+            ProgramFault::Notes => "notes",
             ProgramFault::Memory => "memory",
             ProgramFault::PlanLine { .. } => "bad-word",
             ProgramFault::Strange => "strange",
@@ -167,9 +181,10 @@ mod tests {
     use quote_gateway::PlanWhy;
     use std::alloc::{AllocError, Global};
 
-    const FAULTS: [ProgramFault; 11] = [
+    const FAULTS: [ProgramFault; 12] = [
         ProgramFault::Read,
         ProgramFault::Write,
+        ProgramFault::Notes,
         ProgramFault::Memory,
         ProgramFault::PlanLine {
             line: 1,

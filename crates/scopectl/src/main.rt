@@ -9,8 +9,10 @@ mod pipes;
 mod quoting;
 mod threads;
 
-use command_line::part_words;
-use opening::{GREETING, Input, act_from, input_of};
+use command_line::{part_expected, part_words};
+use opening::{
+    Expected, GREETING, Input, PROMPT_GREETING, act_by, act_prompted, expected_of, input_of,
+};
 use pipes::{Messages, Output};
 use scope_script::Watched;
 use std::cell::Cell;
@@ -33,23 +35,39 @@ fn main(rt: HostRuntime) -> ExitCode {
     let Ok(words) = borrowed(alloc, &owned) else {
         return ExitCode::from(act::refuse_words(ErrorKind::OutOfMemory, &mut errors));
     };
-    let Ok(parted) = part_words(alloc, &words) else {
+    let Ok(compared) = part_expected(alloc, &words) else {
+        return ExitCode::from(act::refuse_words(ErrorKind::OutOfMemory, &mut errors));
+    };
+    let Ok(parted) = part_words(alloc, &compared.words) else {
         return ExitCode::from(act::refuse_words(ErrorKind::OutOfMemory, &mut errors));
     };
     let words = &parted.words;
+    let expected = match expected_of(&rt, alloc, words, compared.expected, &mut errors) {
+        Expected::Refused(status) => return ExitCode::from(status),
+        expected => expected,
+    };
     let output = Output {
         inner: rt.stdout(),
         broken: &broken,
     };
     let status = match input_of(&rt, alloc, words, parted.file, &mut errors) {
-        Input::Standard { greets } => {
+        Input::Standard { greets, prompts } => {
             let input = rt.reader();
-            if greets && input.is_terminal() {
-                let _said = errors.write_bytes(GREETING.as_bytes());
+            let is_terminal = input.is_terminal();
+            match (prompts, expected) {
+                (Some(how), Expected::Nothing) if is_terminal => {
+                    let _said = errors.write_bytes(PROMPT_GREETING.as_bytes());
+                    act_prompted(alloc, how, input, output, &mut errors)
+                }
+                (_, expected) => {
+                    if greets && is_terminal {
+                        let _said = errors.write_bytes(GREETING.as_bytes());
+                    }
+                    act_by(&rt, alloc, words, input, expected, output, &mut errors)
+                }
             }
-            act_from(&rt, alloc, words, input, output, &mut errors)
         }
-        Input::File(file) => act_from(&rt, alloc, words, file, output, &mut errors),
+        Input::File(file) => act_by(&rt, alloc, words, file, expected, output, &mut errors),
         Input::Refused(status) => status,
     };
     ExitCode::from(status)

@@ -31,8 +31,8 @@ const PIECE: usize = 4096;
 /// The answer's line of the plan that is read, and a line feed.
 ///
 /// # Errors
-/// `Read` where the reader failed or was given up; else `PlanLine` as soon as the first bad line has ended, or once
-/// all was read, and then what the service answers. `NoOffer` where the plan lacks the offer that is to take time. `Memory` where memory was refused, `Time` where the system gives
+/// `Read` if the reader failed or was given up; else `PlanLine` as soon as the first bad line has ended, or once
+/// all was read, and then what the service answers. `NoOffer` if the plan lacks the offer that is to take time. `Memory` if memory was refused, `Time` if the system gives
 /// no time and a deadline or a late job is asked for.
 pub fn quoted<
     N: RealmName,
@@ -187,7 +187,7 @@ fn has_offer_from(plan: &Plan, name: &Name, place: usize, left: usize) -> bool
     }
 }
 
-/// Which job is late, by the clock. `Time` where one is and there is no clock.
+/// Which job is late, by the clock. `Time` if one is and there is no clock.
 fn late_by<T: Copy>(
     after: Option<Delay>,
     clock: Option<SystemClock<T>>,

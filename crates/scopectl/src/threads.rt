@@ -1,4 +1,4 @@
-//! The threads of a plan's jobs, which there are only where the words say a quote.
+//! The threads of a plan's jobs, which there are only if the words say a quote.
 ghost use Rattle.std.specs.Prelude.{◌≡◌, ◌⊎◌, false, true, map, IfOk};
 ghost use Rattle.std.specs.String.{string_bytes};
 ghost use Rattle.scopectl.specs.Acting.{Acts};
@@ -20,7 +20,7 @@ use thread_crew::{Crew, CrewRuntime, Nobody, OsThreads};
 /// How many threads of a crew may rest.
 const KEPT: usize = 4;
 
-/// Does what the words say, and answers the exit status: `act` over threads where the words say a quote,
+/// Does what the words say, and answers the exit status: `act` over threads if the words say a quote,
 /// and over none else. Of words that memory is refused for, it says so and does nothing.
 pub fn act_on<'a, T: CrewRuntime + SystemTime, R: Read + Drop, W: Write + Drop, E: Write + Drop>(
     rt: &T,
@@ -44,7 +44,7 @@ pub fn act_on<'a, T: CrewRuntime + SystemTime, R: Read + Drop, W: Write + Drop, 
     }
 }
 
-/// The words, borrowed. Refused where memory is.
+/// The words, borrowed. Refused if memory is.
 pub fn borrowed<'a>(alloc: Global, owned: &'a [String]) -> Result<Vec<&'a str>, AllocError>
     ensures { IfOk result (λ words. map (λ word. word.now) words.items ≡ map string_bytes owned.now) }
 {

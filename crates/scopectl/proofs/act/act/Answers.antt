@@ -1,8 +1,8 @@
 use Rattle.std.proofs.Common.{◌≡◌, ◌≢◌, ◌≤◌, arith, inl, inr, refl, subst, ℕ}
 use Rattle.command_line.specs.CommandLine.{Says}
 use Rattle.command_line.specs.Faults.{Answers}
-use Rattle.scopectl.specs.declared.fault.ProgramFault.TheVariants.{Write}
-use Rattle.scopectl.proofs.Jobs.{names_weaker, quote_whole, well_ended}
+use Rattle.scopectl.specs.declared.fault.ProgramFault.TheVariants.{Memory, Write}
+use Rattle.scopectl.proofs.Jobs.{names_alone, names_weaker, quote_whole, well_ended}
 use Rattle.scopectl.proofs.act.act.Goals as goal
 
 pub returns-in-Ok-Replay-clause-done : goal.returns-in-Ok-Replay-clause-done
@@ -12,7 +12,10 @@ pub returns-in-Ok-Replay-clause-fault : goal.returns-in-Ok-Replay-clause-fault
 returns-in-Ok-Replay-clause-fault g c = λ e. inr (inr (record { command = _; said = subst (Says _) c.in-Ok-Replay.field-0-is c.in-Ok-Replay.ensures.said; did = c.replay.ensures.fault e }))
 
 pub returns-in-Ok-Replay-clause-named : goal.returns-in-Ok-Replay-clause-named
-returns-in-Ok-Replay-clause-named g c = λ e. names_weaker _ _ _ _ _ _ _ _ (λ f none. absurd none) (c.replay.ensures.named e)
+returns-in-Ok-Replay-clause-named g c = λ e. elim (c.replay.ensures.named e) [
+  | inl plain ↦ inl (names_weaker _ _ _ _ _ _ _ _ (λ f none. absurd none) plain)
+  | inr after ↦ inr (record { command = _; says = subst (Says _) c.in-Ok-Replay.field-0-is c.in-Ok-Replay.ensures.said; names = after })
+]
 
 pub returns-in-Ok-Dump-clause-done : goal.returns-in-Ok-Dump-clause-done
 returns-in-Ok-Dump-clause-done g c = λ e f. inr (record { command = _; says = subst (Says _) c.in-Ok-Dump.field-0-is c.in-Ok-Dump.ensures.said; did = c.show.ensures.done e })
@@ -21,7 +24,7 @@ pub returns-in-Ok-Dump-clause-fault : goal.returns-in-Ok-Dump-clause-fault
 returns-in-Ok-Dump-clause-fault g c = λ e. inr (inr (record { command = _; said = subst (Says _) c.in-Ok-Dump.field-0-is c.in-Ok-Dump.ensures.said; did = c.show.ensures.fault e }))
 
 pub returns-in-Ok-Dump-clause-named : goal.returns-in-Ok-Dump-clause-named
-returns-in-Ok-Dump-clause-named g c = λ e. names_weaker _ _ _ _ _ _ _ _ (λ f none. absurd none) (c.show.ensures.named e)
+returns-in-Ok-Dump-clause-named g c = λ e. inl (names_weaker _ _ _ _ _ _ _ _ (λ f none. absurd none) (c.show.ensures.named e))
 
 pub returns-in-Ok-Tree-clause-done : goal.returns-in-Ok-Tree-clause-done
 returns-in-Ok-Tree-clause-done g c = λ e f. inr (record { command = _; says = subst (Says _) c.in-Ok-Tree.field-0-is c.in-Ok-Tree.ensures.said; did = c.show-in-Ok-Tree.ensures.done e })
@@ -30,7 +33,7 @@ pub returns-in-Ok-Tree-clause-fault : goal.returns-in-Ok-Tree-clause-fault
 returns-in-Ok-Tree-clause-fault g c = λ e. inr (inr (record { command = _; said = subst (Says _) c.in-Ok-Tree.field-0-is c.in-Ok-Tree.ensures.said; did = c.show-in-Ok-Tree.ensures.fault e }))
 
 pub returns-in-Ok-Tree-clause-named : goal.returns-in-Ok-Tree-clause-named
-returns-in-Ok-Tree-clause-named g c = λ e. names_weaker _ _ _ _ _ _ _ _ (λ f none. absurd none) (c.show-in-Ok-Tree.ensures.named e)
+returns-in-Ok-Tree-clause-named g c = λ e. inl (names_weaker _ _ _ _ _ _ _ _ (λ f none. absurd none) (c.show-in-Ok-Tree.ensures.named e))
 
 pub returns-in-Ok-Timeline-clause-done : goal.returns-in-Ok-Timeline-clause-done
 returns-in-Ok-Timeline-clause-done g c = λ e f. inr (record { command = _; says = subst (Says _) c.in-Ok-Timeline.field-0-is c.in-Ok-Timeline.ensures.said; did = c.show-in-Ok-Timeline.ensures.done e })
@@ -39,7 +42,7 @@ pub returns-in-Ok-Timeline-clause-fault : goal.returns-in-Ok-Timeline-clause-fau
 returns-in-Ok-Timeline-clause-fault g c = λ e. inr (inr (record { command = _; said = subst (Says _) c.in-Ok-Timeline.field-0-is c.in-Ok-Timeline.ensures.said; did = c.show-in-Ok-Timeline.ensures.fault e }))
 
 pub returns-in-Ok-Timeline-clause-named : goal.returns-in-Ok-Timeline-clause-named
-returns-in-Ok-Timeline-clause-named g c = λ e. names_weaker _ _ _ _ _ _ _ _ (λ f none. absurd none) (c.show-in-Ok-Timeline.ensures.named e)
+returns-in-Ok-Timeline-clause-named g c = λ e. inl (names_weaker _ _ _ _ _ _ _ _ (λ f none. absurd none) (c.show-in-Ok-Timeline.ensures.named e))
 
 pub returns-in-Ok-TraceEvents-clause-done : goal.returns-in-Ok-TraceEvents-clause-done
 returns-in-Ok-TraceEvents-clause-done g c = λ e f. inr (record { command = _; says = subst (Says _) c.in-Ok-TraceEvents.field-0-is c.in-Ok-TraceEvents.ensures.said; did = c.show-in-Ok-TraceEvents.ensures.done e })
@@ -48,7 +51,7 @@ pub returns-in-Ok-TraceEvents-clause-fault : goal.returns-in-Ok-TraceEvents-clau
 returns-in-Ok-TraceEvents-clause-fault g c = λ e. inr (inr (record { command = _; said = subst (Says _) c.in-Ok-TraceEvents.field-0-is c.in-Ok-TraceEvents.ensures.said; did = c.show-in-Ok-TraceEvents.ensures.fault e }))
 
 pub returns-in-Ok-TraceEvents-clause-named : goal.returns-in-Ok-TraceEvents-clause-named
-returns-in-Ok-TraceEvents-clause-named g c = λ e. names_weaker _ _ _ _ _ _ _ _ (λ f none. absurd none) (c.show-in-Ok-TraceEvents.ensures.named e)
+returns-in-Ok-TraceEvents-clause-named g c = λ e. inl (names_weaker _ _ _ _ _ _ _ _ (λ f none. absurd none) (c.show-in-Ok-TraceEvents.ensures.named e))
 
 pub returns-in-Ok-Quote-clause-done : goal.returns-in-Ok-Quote-clause-done
 returns-in-Ok-Quote-clause-done g c =
@@ -59,7 +62,7 @@ returns-in-Ok-Quote-clause-fault g c = λ e. inr (inr (record { command = _; sai
 
 pub returns-in-Ok-Quote-clause-named : goal.returns-in-Ok-Quote-clause-named
 returns-in-Ok-Quote-clause-named g c =
-    λ e. names_weaker _ _ _ _ _ _ _ _ (λ f it. (record { deadline = c.in-Ok-Quote.deadline; after = c.in-Ok-Quote.after; said = subst (Says _) c.in-Ok-Quote.field-0-is c.in-Ok-Quote.ensures.said; is = it })) (c.quote.ensures.named e)
+    λ e. inl (names_weaker _ _ _ _ _ _ _ _ (λ f it. (record { deadline = c.in-Ok-Quote.deadline; after = c.in-Ok-Quote.after; said = subst (Says _) c.in-Ok-Quote.field-0-is c.in-Ok-Quote.ensures.said; is = it })) (c.quote.ensures.named e))
 
 pub returns-in-Err-Help-clause-done : goal.returns-in-Err-Help-clause-done
 returns-in-Err-Help-clause-done g c = λ e f. (let none = well_ended _ c.tell.ensures.status e in inl (
@@ -68,7 +71,7 @@ returns-in-Err-Help-clause-done g c = λ e f. (let none = well_ended _ c.tell.en
   c.tell.ensures.silent none,
   record {
     text = _;
-    asked = inl (subst (Answers _) c.in-Err-Help.field-0-is c.in-Err-Help.ensures.answers, c.help_of.ensures);
+    asked = inl (inl (subst (Answers _) c.in-Err-Help.field-0-is c.in-Err-Help.ensures.answers, c.help_of.ensures));
     wrote = c.tell.ensures.done none;
   },
 ))
@@ -78,7 +81,7 @@ returns-in-Err-Help-clause-fault g c = λ e. inr (inl (
   refl,
   record {
     text = _;
-    asked = inl (subst (Answers _) c.in-Err-Help.field-0-is c.in-Err-Help.ensures.answers, c.help_of.ensures);
+    asked = inl (inl (subst (Answers _) c.in-Err-Help.field-0-is c.in-Err-Help.ensures.answers, c.help_of.ensures));
     wrote = c.tell.ensures.fault e;
     writer = c.tell.ensures.failed e;
   },
@@ -86,11 +89,11 @@ returns-in-Err-Help-clause-fault g c = λ e. inr (inl (
 
 pub returns-in-Err-Help-clause-named : goal.returns-in-Err-Help-clause-named
 returns-in-Err-Help-clause-named g c =
-    λ e. record { fault = Write; came = c.tell.ensures.failed e; line = c.tell.ensures.named e }
+    λ e. inl (record { fault = Write; came = c.tell.ensures.failed e; line = c.tell.ensures.named e })
 
 pub returns-in-Err-Version-clause-named : goal.returns-in-Err-Version-clause-named
 returns-in-Err-Version-clause-named g c =
-    λ e. record { fault = Write; came = c.tell-in-Err-Version.ensures.failed e; line = c.tell-in-Err-Version.ensures.named e }
+    λ e. inl (record { fault = Write; came = c.tell-in-Err-Version.ensures.failed e; line = c.tell-in-Err-Version.ensures.named e })
 
 pub returns-in-Err-Usage-clause-not_understood : goal.returns-in-Err-Usage-clause-not_understood
 returns-in-Err-Usage-clause-not_understood g c = λ e. (
@@ -102,3 +105,35 @@ returns-in-Err-Usage-clause-not_understood g c = λ e. (
   refl,
   c.refuse_line.ensures.said,
 )
+
+pub returns-in-Ok-Generate-clause-done : goal.returns-in-Ok-Generate-clause-done
+returns-in-Ok-Generate-clause-done g c = λ e f. (let none = well_ended _ c.generate.ensures.status e in let made = c.generate.ensures.done none in inl (
+  none,
+  refl,
+  c.generate.ensures.silent none,
+  record {
+    text = made.0;
+    asked = inr (record { seed = _; lines = _; said = subst (Says _) c.in-Ok-Generate.field-0-is c.in-Ok-Generate.ensures.said; is = made.1 });
+    wrote = made.2;
+  },
+))
+
+pub returns-in-Ok-Generate-clause-fault : goal.returns-in-Ok-Generate-clause-fault
+returns-in-Ok-Generate-clause-fault g c = λ e. elim (c.generate.ensures.fault e) [
+  | inl kept ↦ inl (refl, kept)
+  | inr made ↦ inr (inl (
+    refl,
+    record {
+      text = made.0;
+      asked = inr (record { seed = _; lines = _; said = subst (Says _) c.in-Ok-Generate.field-0-is c.in-Ok-Generate.ensures.said; is = made.1 });
+      wrote = made.2;
+      writer = made.3;
+    },
+  ))
+]
+
+pub returns-in-Ok-Generate-clause-named : goal.returns-in-Ok-Generate-clause-named
+returns-in-Ok-Generate-clause-named g c = λ e. inl (names_alone _ _ _ _ _ _ _ _ (λ sound. (c.requires.reader, sound)) (c.generate.ensures.named e))
+
+pub returns-clause-named : goal.returns-clause-named
+returns-clause-named g c = λ e. inl (record { fault = Memory; came = (c.requires.reader, c.requires.writer); line = c.fail.ensures.named })

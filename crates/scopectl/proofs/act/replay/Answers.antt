@@ -1,5 +1,5 @@
 -- The notes that are wanted are those of the words.
-use Rattle.std.proofs.Common.{sym, ◌∙◌}
+use Rattle.std.proofs.Common.{sym, ◌∙◌, inl, inr}
 use Rattle.scopectl.proofs.act.replay.Goals as goal
 
 pub returns-in-Some-clause-done : goal.returns-in-Some-clause-done
@@ -7,3 +7,9 @@ returns-in-Some-clause-done g c = c.replay_noted.ensures.done c.args.explain c.a
 
 pub returns-in-None-clause-done : goal.returns-in-None-clause-done
 returns-in-None-clause-done g c = c.replay_plainly.ensures.done c.args.explain c.args.trace (sym c.notes_wanted.ensures ∙ c.in-None.is)
+
+pub returns-in-Some-clause-named : goal.returns-in-Some-clause-named
+returns-in-Some-clause-named g c = λ e. inr (c.replay_noted.ensures.named c.args.explain c.args.trace (sym c.notes_wanted.ensures ∙ c.in-Some.is) e)
+
+pub returns-in-None-clause-named : goal.returns-in-None-clause-named
+returns-in-None-clause-named g c = λ e. inl (c.replay_plainly.ensures.named e)
