@@ -1,4 +1,6 @@
 mod Acted
+mod Looked
 pub mod Shown
 mod Tried
 pub mod Waited
+pub mod Timed

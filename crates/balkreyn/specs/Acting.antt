@@ -9,24 +9,16 @@ use Rattle.scope_rules.specs.declared.types.events.Event.TheVariants.{Bind, Unbi
 use Rattle.scope_rules.specs.declared.types.events.Expiry.{Expiry}
 use Rattle.scope_rules.specs.declared.types.events.Options.{Options}
 use Rattle.scope_rules.specs.declared.types.names.Name.{Name}
-use Rattle.scope_rules.specs.declared.types.outcomes.Outcome.TheVariants.{Any, Done}
 use Rattle.scope_rules.specs.declared.types.refusals.Refusal.{Refusal}
 use Rattle.scope_rules.specs.declared.types.values.Value.{Value}
 use Rattle.share_ledger.specs.declared.steps.RealmStep.TheVariants.{Happened}
 use Rattle.share_ledger.specs.Values.{OwnerValue}
-use Rattle.realm_core.specs.Calls.{DoesOrMemory, Reads}
+use Rattle.realm_core.specs.Calls.{DoesOrMemory}
 use Rattle.realm_core.specs.declared.joins.Joined.{Joined}
 use Rattle.realm_lock.specs.Waits.{HasPassed, JoinsBy, Stopped, Waited, shown_in}
 use Rattle.job_runner.specs.Marks.{Shows}
-use Rattle.scope_rules.specs.Checks.{task_check}
-use Rattle.scope_rules.specs.Table.{answering}
-use Rattle.scope_rules.specs.Tasks.{state}
-use Rattle.scope_rules.specs.declared.types.answers.ForkReply.{ForkReply}
-use Rattle.scope_rules.specs.declared.types.answers.State.{State}
-use Rattle.scope_rules.specs.declared.types.answers.State.TheVariants.{Failed as failed_with, Success, Unavailable}
 use Rattle.scope_rules.specs.declared.types.answers.Verdict.{Verdict}
 use Rattle.balkreyn.specs.Bodies.{ClosesFrom}
-use Rattle.balkreyn.specs.Slots.{ForksUnder, Takes}
 use Rattle.balkreyn.specs.declared.act.blocks.Backoff.{Backoff}
 
 -- the clock was read, and the options have a deadline so many milliseconds later
@@ -61,17 +53,6 @@ pub record SleepsFor {K : Type 0} (reads : K → K → ℕ → Type 0) (reading 
 abbrev pub Sleeps : {K X : Type 0} → (K → K → ℕ → Type 0) → (K → Option ℕ) → (X → K) → (X → OwnerValue) → (X → Option Seen) → (millis : ℕ) → X → X → Result (Option Mark) Refusal → Type 0
 Sleeps reads reading time token seat millis old new result = SleepsFor reads reading (time old) (token old) (token new) (seat old) (seat new) millis result
 
--- the join of scope s answered that this task was the first to succeed, and the value is that which this task's slot gives
-pub record Won {K V : Type 0} (reads : K → K → ℕ → Type 0) (may : Name → V → Type 0) (start : K) (old new : OwnerValue) (s : ℕ) (value : V) : Type 0 where
-  pub joined : Joined
-  pub there : OwnerValue
-  pub joins : JoinsFrom reads start old there s (Ok joined)
-  pub task : ℕ
-  pub number : Value
-  pub first : joined.outcome ≡ Any task number
-  pub name : Name
-  pub takes : Takes (may name) there new task (Ok value)
-
 -- what a close by a copy of the context's clock did, and answered, as that stood then
 abbrev pub ClosesNow : {X K : Type 0} → (X → OwnerValue) → (X → X → ℕ → Result Verdict Refusal → Type 0) → (K → K → ℕ → Type 0) → (X → K) → X → X → ℕ → Result Verdict Refusal → Type 0
 ClosesNow token leaves reads time old new s result = ClosesFrom token leaves reads (time old) old new s result
@@ -100,7 +81,7 @@ pub record StaysUnbound {X T E : Type 0} (binds : X → X → Result (Unit {0}) 
   pub refused : binds old new (Err refusal)
   pub answers : IsErrAnd result (makes refusal)
 
--- what is answered where the body found this, and the unbind was answered that
+-- what is answered if the body found this, and the unbind was answered that
 abbrev pub Unbound : {T E : Type 0} → (Refusal → E → Type 0) → Result T E → Result (Unit {0}) Refusal → Result T E → Type 0
 Unbound makes found (Ok done) result = result ≡ found
 Unbound makes found (Err refusal) result = IsErrAnd result (makes refusal)
@@ -180,68 +161,3 @@ pub record Repeats {F X E : Type 0} (calls : Mut F (MutBor X × (ℕ × Unit {0}
   pub repeated : Repeated calls sleeps body old number state begun
   pub within : number ≤ rounds
   pub ends : ((number ≡ rounds) × (result ≡ Ok None) × (new ≡ begun)) ⊎ LastRound calls sleeps makes number state begun new result
-
--- ---- many jobs
-
--- so many jobs were forked in scope s under this name, one after the other
-pub data Forked {X : Type 0} (token : X → OwnerValue) (s : ℕ) (name : Name) (old : X) : ℕ → X → Type 0 where
-  unforked : Forked token s name old 0 old
-  forked : {number : ℕ} {here new : X} {reply : ForkReply} → Forked token s name old number here → ForksUnder (token here) (token new) s name (Ok reply) → Forked token s name old (number + 1) new
-
--- a scope was opened, then jobs ran in it so, by which this was found, and last the scope was closed
-pub record RunsJobs {X V : Type 0} (opens : X → X → Result ℕ Refusal → Type 0) (closes : X → X → ℕ → Result Verdict Refusal → Type 0) (runs : ℕ → X → X → V → Type 0) (old new : X) (value : V) : Type 0 where
-  pub scope : ℕ
-  pub begun : X
-  pub ended : X
-  pub how : Verdict
-  pub opened : opens old begun (Ok scope)
-  pub ran : runs scope begun ended value
-  pub closed : closes ended new scope (Ok how)
-
--- in scope s the jobs were forked, and once they were, its join answered which was the first to succeed: the value is that
--- of this task's slot
-abbrev pub Races : {X K V : Type 0} → (X → OwnerValue) → (K → K → ℕ → Type 0) → (X → K) → (Name → V → Type 0) → ℕ → X → X → V → Type 0
-Races {X = X} token reads time may s begun ended value = (there : X) × Won reads may (time there) (token there) (token ended) s value
-
--- in scope s just so many workers were forked, and its join answered that all is done
-pub record Staffs {X K : Type 0} (token : X → OwnerValue) (reads : K → K → ℕ → Type 0) (time : X → K) (name : Name) (workers : ℕ) (s : ℕ) (begun ended : X) : Type 0 where
-  pub there : X
-  pub staffed : Forked token s name begun workers there
-  pub joined : Joined
-  pub last : X
-  pub joins : JoinsFrom reads (time there) (token there) (token last) s (Ok joined)
-  pub done : joined.outcome ≡ Done
-
--- ---- a body with a permit
-
--- what is answered where the body found this
-abbrev pub limited_to : {T E : Type 0} → Result T E → Result (Option T) E
-limited_to (Ok value) = Ok (Some value)
-limited_to (Err error) = Err error
-
--- the body ran once, and last of all
-pub record RunsHolding {F X T E : Type 0} (calls : Once F (MutBor X × Unit {0}) (Result T E × (MutBor X × Unit {0}))) (body : F) (new : X) (result : Result (Option T) E) : Type 0 where
-  pub begun : X
-  pub found : Result T E
-  pub ran : RanBound calls body begun new found
-  pub answers : result ≡ limited_to found
-
--- the body ran with a permit; or it was not called: a cancel came before a permit, or the wait was refused
-abbrev pub RunsLimited : {F X T E : Type 0} → Once F (MutBor X × Unit {0}) (Result T E × (MutBor X × Unit {0})) → (Refusal → E → Type 0) → F → X → Result (Option T) E → Type 0
-RunsLimited calls makes body new result = RunsHolding calls body new result ⊎ (result ≡ Ok None) ⊎ ((refusal : Refusal) × IsErrAnd result (makes refusal))
-
--- ---- results as they complete
-
--- what is given of a task in this state, before the join: a value that its job may answer, or none if it was taken before;
--- of one that failed none
-abbrev pub GivesDone : {V : Type 0} → (V → Type 0) → State → Option V → Type 0
-GivesDone may (Success number) (Some value) = may value
-GivesDone may (Success number) None = Unit {0}
-GivesDone may (failed_with fault) given = given ≡ None
-GivesDone may Unavailable given = ⊥
-
--- the task was seen in a state, and that was given
-pub record Completes {V : Type 0} (may : V → Type 0) (old new : OwnerValue) (task : ℕ) (given : Option V) : Type 0 where
-  pub seen : State
-  pub reads : Reads old new (λ h. Ok seen ≡ answering (task_check h task) (state h task))
-  pub gives : GivesDone may seen given

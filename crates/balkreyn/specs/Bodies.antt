@@ -23,7 +23,7 @@ use Rattle.job_runner.specs.Rooms.{DoesInRoom}
 abbrev pub Opens : {X : Type 0} → (X → OwnerValue) → (X → X → Result ℕ Refusal → Type 0) → Policy → Options → X → X → Result ℕ Refusal → Type 0
 Opens token leaves policy options old new result = DoesInRoom (token old) (token new) (Happened (Open (token old).actor policy options)) next_scope result × SeesMore (token old) (token new) × leaves old new result
 
--- what a close of scope s without a report did, and answered, in the same words: it is not refused where the token
+-- what a close of scope s without a report did, and answered, in the same words: it is not refused if the token
 -- shows the scope as its actor's, and not closed
 abbrev pub Closes : {X : Type 0} → (X → OwnerValue) → (X → X → ℕ → Result Verdict Refusal → Type 0) → X → X → ℕ → Result Verdict Refusal → Type 0
 Closes token leaves old new s result = ClosesBare (token old) (token new) s result × (IsOpenOf (history_seen (token old)) (token old).actor s → IsOk result) × SeesMore (token old) (token new) × leaves old new s result
@@ -35,14 +35,14 @@ WaitsFirst reads old there start last s (Ok done) = WaitsToClose reads old there
 WaitsFirst reads old there start last s (Err refusal) = StaysUnclosed reads old there start last s refusal
 
 -- what a close of scope s by a clock did, and answered: it waited so, and then it was closed as one is without a
--- clock, also where a tick was refused
+-- clock, also if a tick was refused
 pub record ClosesBy {K : Type 0} (reads : K → K → ℕ → Type 0) (old new : OwnerValue) (start last : K) (s : ℕ) (result : Result Verdict Refusal) : Type 0 where
   pub there : OwnerValue
   pub waited : Result (Unit {0}) Refusal
   pub waits : WaitsFirst reads old there start last s waited
   pub closes : ClosesBare there new s result
 
--- the same with what it left of the rest of the context; it is not refused where one without a clock isn't
+-- the same with what it left of the rest of the context; it is not refused if one without a clock isn't
 abbrev pub ClosesInTime : {X K : Type 0} → (X → OwnerValue) → (X → X → ℕ → Result Verdict Refusal → Type 0) → (K → K → ℕ → Type 0) → X → X → K → K → ℕ → Result Verdict Refusal → Type 0
 ClosesInTime token leaves reads old new start last s result = ClosesBy reads (token old) (token new) start last s result × (IsOpenOf (history_seen (token old)) (token old).actor s → IsOk result) × SeesMore (token old) (token new) × leaves old new s result
 
@@ -50,7 +50,7 @@ ClosesInTime token leaves reads old new start last s result = ClosesBy reads (to
 abbrev pub ClosesFrom : {X K : Type 0} → (X → OwnerValue) → (X → X → ℕ → Result Verdict Refusal → Type 0) → (K → K → ℕ → Type 0) → K → X → X → ℕ → Result Verdict Refusal → Type 0
 ClosesFrom {K = K} token leaves reads start old new s result = (last : K) × ClosesInTime token leaves reads old new start last s result
 
--- what is answered where the body found this, and the close of its scope answered that: a refused close comes
+-- what is answered if the body found this, and the close of its scope answered that: a refused close comes
 -- first, with an error that `makes` says of its refusal, and else it is just what the body found
 abbrev pub Settles : {T E : Type 0} → (Refusal → E → Type 0) → Result T E → Result Verdict Refusal → Result T E → Type 0
 Settles makes found (Ok how) result = result ≡ found
@@ -73,7 +73,7 @@ pub record StaysOut {X T E : Type 0} (opens : X → X → Result ℕ Refusal →
   pub answers : IsErrAnd result (makes refusal)
 
 -- first a scope was opened, then the body ran with its number, and last a close of just this scope was done,
--- whatever the body had found. So where the answer is Ok, both were, and it is the body's.
+-- whatever the body had found. So if the answer is Ok, both were, and it is the body's.
 pub record RunsInside {F X T E : Type 0} (opens : X → X → Result ℕ Refusal → Type 0) (closes : X → X → ℕ → Result Verdict Refusal → Type 0) (makes : Refusal → E → Type 0) (calls : Once F (MutBor X × (ℕ × Unit {0})) (Result T E × (MutBor X × Unit {0}))) (body : F) (old new : X) (result : Result T E) : Type 0 where
   pub scope : ℕ
   pub begun : X

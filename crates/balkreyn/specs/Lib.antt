@@ -1,7 +1,12 @@
 pub mod Acting
 pub mod Bodies
+pub mod Channels
+pub mod Looking
 pub mod Looks
 pub mod Names
+pub mod Parts
 pub mod Rooms
 pub mod Slots
+pub mod Together
 pub mod Turns
+pub mod Times

@@ -4,7 +4,7 @@ use Rattle.scope_rules.specs.declared.types.answers.ForkReply.{ForkReply}
 use Rattle.scope_rules.specs.declared.types.answers.ForkReply.TheVariants.{Thread, Never}
 use Rattle.scope_rules.specs.declared.types.names.Name.{Name}
 use Rattle.scope_rules.specs.declared.types.refusals.Refusal.{Refusal}
-use Rattle.scope_rules.specs.declared.types.refusals.Refusal.TheVariants.{Unavailable}
+use Rattle.scope_rules.specs.declared.types.refusals.Refusal.TheVariants.{NotSuccess, Unavailable}
 use Rattle.scope_rules.specs.declared.types.values.Value.{Value}
 use Rattle.scope_rules.specs.Ends.{LabelValue}
 use Rattle.scope_rules.specs.Replies.{result_reply}
@@ -37,7 +37,7 @@ pub record IsRefusedInto (old new : OwnerValue) (scope : ℕ) (name : Name) (ref
   pub forks : ForksJob old new scope (label_of name) (Err why)
   pub numbered : refusal ≡ refusal_of why
 
--- what a fork under this name did, whose refused job is let go
+-- what a fork under this name did, whose refused job is dropped
 abbrev pub ForksUnder : OwnerValue → OwnerValue → ℕ → Name → Result ForkReply Refusal → Type 0
 ForksUnder old new scope name (Ok reply) = ForksJob old new scope (label_of name) (Ok reply)
 ForksUnder old new scope name (Err refusal) = IsRefusedInto old new scope name refusal
@@ -47,13 +47,30 @@ abbrev pub ForksInto : OwnerValue → OwnerValue → ℕ → Name → Result Slo
 ForksInto old new scope name (Ok slot) = (slot.name ≡ name) × ForksJob old new scope (label_of name) (Ok slot.reply)
 ForksInto old new scope name (Err refusal) = IsRefusedInto old new scope name refusal
 
--- what a slot gives up where the task's result was answered so: a value that its job may answer, or nothing, where
--- it was taken before; where the result was refused, that refusal
+-- what a slot gives up if the task's result was answered so: a value that its job may answer, or nothing, where
+-- it was taken before; if the result was refused, that refusal
 abbrev pub IsGiven : {V : Type 0} → (V → Type 0) → Result Value Refusal → Result V Refusal → Type 0
 IsGiven may (Ok number) (Ok value) = may value
 IsGiven may (Ok number) (Err refusal) = refusal ≡ Unavailable
 IsGiven may (Err refused) (Ok value) = ⊥
 IsGiven may (Err refused) (Err refusal) = refusal ≡ refused
+
+-- what a slot says of a job that has ended, if the task's result was answered so: a value that its job may answer, of one
+-- that failed its job's own error, or nothing, if that was taken before; if the result was refused for another reason,
+-- that refusal
+abbrev pub IsSaid : {V E : Type 0} → (V → Type 0) → Result Value Refusal → Result (Result V E) Refusal → Type 0
+IsSaid may (Ok number) (Ok (Ok value)) = may value
+IsSaid may (Ok number) (Ok (Err error)) = ⊥
+IsSaid may (Ok number) (Err refusal) = refusal ≡ Unavailable
+IsSaid may (Err refused) (Ok (Ok value)) = ⊥
+IsSaid may (Err refused) (Ok (Err error)) = refused ≡ NotSuccess
+IsSaid may (Err refused) (Err refusal) = refusal ≡ refused
+
+-- the task's result was asked for by the token's actor, and what it was answered decides what is said
+pub record Says {V E : Type 0} (may : V → Type 0) (old new : OwnerValue) (task : ℕ) (result : Result (Result V E) Refusal) : Type 0 where
+  pub asked : Result Value Refusal
+  pub reads : Reads old new (λ h. asked ≡ result_reply h new.actor task)
+  pub said : IsSaid may asked result
 
 -- the task's result was asked for by the token's actor, and what it was answered by what the token has seen then
 -- decides what is given

@@ -3,18 +3,27 @@
 
 mod batches;
 mod blocks;
+mod channels;
 mod contexts;
+mod hooks;
 mod limits;
 mod periods;
 mod progress;
+mod stops;
 mod tasks;
 mod valued;
+mod waits;
+mod watches;
 
 pub use batches::{Worker, map_at_most};
 pub use blocks::{Backoff, bound, retry, scope, shielded};
+pub use channels::{Channel, Received, Sent, receive, send};
 pub use contexts::{Acts, Cx};
+pub use hooks::{Happening, Hooks, Load, Observes};
 pub use limits::{Limiter, limited};
 pub use periods::every;
 pub use progress::next_done;
-pub use tasks::{Serves, Task, Timed, serve};
+pub use stops::Stop;
+pub use tasks::{Serves, Task, Timed, serve, serve_until, serve_with};
 pub use valued::{TypedTask, all_of, fork_value, race};
+pub use watches::Watch;

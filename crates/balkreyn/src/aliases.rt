@@ -7,7 +7,7 @@ use std::rt::Clock as SystemTime;
 use std::sync::Wait;
 use thread_crew::Spawns;
 
-/// A spawner of the threads of a realm that is named `N`, onto which jobs of type `J` can be forked. All
+/// An executor on the threads of a realm that is named `N`, onto which jobs of type `J` can be forked. All
 /// spawners of their works are such.
 pub trait Forks<C: Catalog, N: RealmName, J: Answers>: Spawns<N, JobWork<C, N, J>> {}
 

@@ -88,7 +88,7 @@ impl<Q: Drop, J: Drop> Baton<Q, J> {
         }
     }
 
-    /// Takes the baton for the owner of this side, once it may; false where all is over.
+    /// Takes the baton for the owner of this side, once it may; false if all is over.
     pub(crate) fn take<R: Wait>(&self, rt: &R, side: Side) -> bool {
         let mut between = self.between.lock(rt);
         between.waiting = between.waiting.saturating_add(1);

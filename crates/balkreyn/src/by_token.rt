@@ -5,8 +5,10 @@ ghost use Rattle.tree_dump.specs.Tree.{dump_text};
 ghost use Rattle.tree_dump.specs.TextTree.{tree_text};
 ghost use Rattle.realm_core.specs.Calls.{Reads};
 ghost use Rattle.balkreyn.specs.Looks.{Says};
+ghost use Rattle.balkreyn.specs.Times.{HasReached, SaysWhen};
 
-use crate::copies::{CopyOut, dump_in, journal_in, tree_in};
+use crate::copies::{CopyOut, dump_in, journal_in, timed_in, tree_in};
+use crate::times::{Counting, Reached, Times};
 use job_runner::TaskCtx;
 use realm_lock::RealmName;
 use scope_rules::{Catalog, Refusal};
@@ -47,6 +49,25 @@ pub trait ShowsByToken {
     fn journal<R: Wait>(&mut self, rt: &R, alloc: Global) -> Result<String, Refusal>
         ensures rest { Self.kept self.old self.new }
         ensures answer { Reads (Self.token self.old) (Self.token self.new) (λ h. Says (script_text h) result) };
+
+    /// How far the history has come, as `Shows::reached`.
+    fn reached<R: Wait>(&mut self, rt: &R) -> Reached
+        ensures rest { Self.kept self.old self.new }
+        ensures answer { Reads (Self.token self.old) (Self.token self.new) (λ h. HasReached h result) };
+
+    /// The journal with times, as `Shows::timed_journal`.
+    ///
+    /// # Errors
+    /// `Memory`.
+    fn timed_journal<R: Wait>(
+        &mut self,
+        rt: &R,
+        alloc: Global,
+        times: &Times,
+        now: u64,
+    ) -> Result<String, Refusal>
+        ensures rest { Self.kept self.old self.new }
+        ensures answer { Reads (Self.token self.old) (Self.token self.new) (λ h. SaysWhen h times.now.found.items now result) };
 }
 
 impl<C: Catalog, S: Spawner<N>, N: RealmName> ShowsByToken for TaskCtx<C, S, N> {
@@ -64,5 +85,19 @@ impl<C: Catalog, S: Spawner<N>, N: RealmName> ShowsByToken for TaskCtx<C, S, N> 
 
     fn journal<R: Wait>(&mut self, rt: &R, alloc: Global) -> Result<String, Refusal> {
         journal_in(alloc, self.look(rt, CopyOut { alloc }))
+    }
+
+    fn reached<R: Wait>(&mut self, rt: &R) -> Reached {
+        self.look(rt, Counting)
+    }
+
+    fn timed_journal<R: Wait>(
+        &mut self,
+        rt: &R,
+        alloc: Global,
+        times: &Times,
+        now: u64,
+    ) -> Result<String, Refusal> {
+        timed_in(alloc, self.look(rt, CopyOut { alloc }), times, now)
     }
 }

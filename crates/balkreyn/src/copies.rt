@@ -6,7 +6,9 @@ ghost use Rattle.script_journal.specs.Script.{script_text};
 ghost use Rattle.tree_dump.specs.Tree.{dump_text};
 ghost use Rattle.tree_dump.specs.TextTree.{tree_text};
 ghost use Rattle.balkreyn.specs.Looks.{IsCopyOf, Says};
+ghost use Rattle.balkreyn.specs.Times.{SaysWhen};
 
+use crate::times::{Times, timed_script};
 use realm_lock::{KeptRealm, Look};
 use scope_checks::records;
 use scope_rules::{Base, Event, Limits, Refusal};
@@ -63,7 +65,7 @@ impl Look for CopyOut {
 
 impl Copied {
     /// A realm of its own in which all this has happened, so that questions need not scan. That each event is
-    /// accepted again, no clause says: one that isn't would be told as want of memory.
+    /// accepted again, no clause says: one that isn't would be reported as want of memory.
     fn replayed(self, alloc: Global) -> Result<KeptRealm, Refusal>
         ensures { MatchResult result (λ realm. realm.history ≡ self) (λ refusal. refusal ≡ Memory) }
     {
@@ -111,6 +113,23 @@ pub(crate) fn journal_in(alloc: Global, copied: Result<Copied, Refusal>) -> Resu
 {
     let copied = copied?;
     match script_of(alloc, &copied.base, copied.events.as_slice()) {
+        Ok(text) => Ok(text),
+        Err(_) => Err(Refusal::Memory),
+    }
+}
+
+/// The script of the history with the times of its events, and behind it the time of this look.
+#[tactic(auto, using(crate::proofs::Timed::with_times))]
+pub(crate) fn timed_in(
+    alloc: Global,
+    copied: Result<Copied, Refusal>,
+    times: &Times,
+    now: u64,
+) -> Result<String, Refusal>
+    ensures { (h : History) → IsCopyOf h copied → SaysWhen h times.now.found.items now result }
+{
+    let copied = copied?;
+    match timed_script(alloc, &copied.base, copied.events.as_slice(), times, now) {
         Ok(text) => Ok(text),
         Err(_) => Err(Refusal::Memory),
     }

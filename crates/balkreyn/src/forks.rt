@@ -13,7 +13,7 @@ use std::sync::Wait;
 /// Forks the job under the name in the actor's scope, as `TaskCtx::fork_job` does (JEP 505, `fork`).
 ///
 /// # Errors
-/// Those of `TaskCtx::fork_job`, by their refusal; the job is let go, uncalled.
+/// Those of `TaskCtx::fork_job`, by their refusal; the job is dropped, uncalled.
 pub fn fork<J: Answers + Drop, S: Forks<AnyEnd, N, J>, N: RealmName, R: Wait>(
     rt: &R,
     ctx: &mut TaskCtx<AnyEnd, S, N>,

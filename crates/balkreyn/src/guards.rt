@@ -29,7 +29,7 @@ use std::sync::Wait;
 use thread_crew::Spawner;
 
 /// A scope that was opened and is still to be closed (JEP 505 has the block of a `try` in its place, Trio
-/// that of a nursery). It can't be let go: where it would be, by a forgotten `close` or by a `?` before it,
+/// that of a nursery). It can't be dropped: if it would be, by a forgotten `close` or by a `?` before it,
 /// the program doesn't compile. Pass it to `close_by` or `report_by`, or to `close` or `report`, which wait without
 /// a clock, in the context in which it was opened: another refuses it.
 pub struct Opened {

@@ -5,8 +5,8 @@ ghost use Rattle.balkreyn.specs.Turns.{IsThread};
 use crate::requests::{Requests, Side};
 use crate::{ForkReply, Handle, Name, SystemClock};
 
-/// A request that the source gave, and that is neither begun nor refused yet. It can't be let go: where it would
-/// be, the program doesn't compile. Pass it to `begun` where its job has a thread, to `Intake::refuse`, or to
+/// A request that the source gave, and that is neither begun nor refused yet. It can't be dropped: if it would
+/// be, the program doesn't compile. Pass it to `begun` if its job has a thread, to `Intake::refuse`, or to
 /// `Intake::put_back`.
 pub(crate) struct Asked {
     pub(crate) name: Name,

@@ -2,14 +2,33 @@
 ghost use Rattle.std.specs.Prelude.{◌≡◌, IfOk, pos};
 ghost use Rattle.scope_rules.specs.declared.types.values.Value.TheVariants as value;
 
+use crate::errors::ServiceError;
 use crate::places::Place;
 use job_runner::{Answers, Job, TaskCtx};
 use realm_lock::RealmName;
-use scope_rules::{AnyEnd, End, Fault, Name, Value};
+use scope_rules::{AnyEnd, End, Fault, Name, Refusal, Value};
 use std::alloc::Global;
 use std::marker::Model;
 use std::sync::{Arc, Wait};
 use thread_crew::Spawner;
+
+/// What a job fails with that has errors of its own type. The rules know its task by a fault, which the error gives.
+pub trait JobError: Drop {
+    /// The fault of a task whose job failed so, and was forked under the name: that name, if it does not say.
+    fn fault(&self, name: Name) -> Fault {
+        Fault(name)
+    }
+}
+
+impl JobError for Refusal {}
+
+impl JobError for ServiceError {}
+
+impl JobError for Fault {
+    fn fault(&self, _name: Name) -> Fault {
+        *self
+    }
+}
 
 /// What a job answers that is of a type of its own. It stands apart from how the job runs, as `Answers`
 /// does.
@@ -19,6 +38,10 @@ pub trait Yields {
     /// Of what type that is.
     type Value: Drop;
 
+    /// What it fails with: `Refusal`, `Fault`, `ServiceError`, or a type of its own. `?` makes one of a refusal if it
+    /// has `From<Refusal>`.
+    type Error: JobError + Drop;
+
     /// A job that is forked under this name may answer this value: any, if it does not say.
     ghost may_yield: { Name → Self.Value → Type 0 } = { λ name value. Unit {0} };
 
@@ -26,7 +49,7 @@ pub trait Yields {
     ghost is_fact: { (name : Name) (value : Self.Value) → IsProp (may_yield name value) };
 }
 
-/// A job that answers a value of a type of its own (JEP 505 has a `Callable` of that type), or a fault. It
+/// A job that answers a value of a type of its own (JEP 505 has a `Callable` of that type), or an error of its own. It
 /// acts by its context, as any job.
 pub trait TypedJob<S: Spawner<N>, N: RealmName>: Yields {
     /// Does the job, which was forked under the name.
@@ -35,12 +58,12 @@ pub trait TypedJob<S: Spawner<N>, N: RealmName>: Yields {
         rt: &R,
         ctx: &mut TaskCtx<AnyEnd, S, N>,
         name: Name,
-    ) -> Result<Self::Value, Fault>
+    ) -> Result<Self::Value, Self::Error>
         ensures { IfOk result (λ value. Self.may_yield name value) };
 }
 
 /// Such a job, with the place to which its value goes. It is a job of the runtime, whose task succeeds with
-/// the number 0 where there is a value, and else fails with the job's fault.
+/// the number 0 if there is a value, and else fails with the fault of the job's error.
 #[derive(Drop)]
 pub struct Typed<J: Yields> {
     pub(crate) name: Name,
@@ -68,7 +91,7 @@ impl<J: TypedJob<S, N>, N: RealmName, S: Spawner<N>> Job<AnyEnd, S, N> for Typed
                 place.put(rt, name, value);
                 Ok(Value::Num(0))
             }
-            Err(fault) => Err(fault),
+            Err(error) => Err(place.fail(rt, name, error)),
         }
     }
 }

@@ -26,6 +26,7 @@ mod rotation;
 mod scoped;
 mod services;
 mod slots;
+mod times;
 
 pub use aliases::{Forks, Handle};
 pub use by_token::ShowsByToken;
@@ -37,7 +38,7 @@ pub use job_runner::{
     Answers, Clock, ForkRefusal, Job, JobWork, NamedJob, SetClock, SystemClock, TaskCtx,
     fail_after, move_on_after, pulse,
 };
-pub use jobs::{Typed, TypedJob, Yields};
+pub use jobs::{JobError, Typed, TypedJob, Yields};
 pub use join_rules::{CompletionTest, Joiner, UntilTest};
 pub use literals::named;
 pub use pictures::Shows;
@@ -59,3 +60,4 @@ pub use slots::{Slot, fork_typed};
 pub use std::marker::Brand;
 pub use std::sync::Wait;
 pub use thread_crew::{Crew, CrewRuntime, OsThreads, Recalls, Spawner, Spawns};
+pub use times::{Reached, Times};

@@ -4,8 +4,10 @@ ghost use Rattle.tree_dump.specs.Tree.{dump_text};
 ghost use Rattle.tree_dump.specs.TextTree.{tree_text};
 ghost use Rattle.realm_lock.specs.Looks.{IsSeen};
 ghost use Rattle.balkreyn.specs.Looks.{Says};
+ghost use Rattle.balkreyn.specs.Times.{HasReached, SaysWhen};
 
-use crate::copies::{CopyOut, dump_in, journal_in, tree_in};
+use crate::copies::{CopyOut, dump_in, journal_in, timed_in, tree_in};
+use crate::times::{Counting, Reached, Times};
 use realm_lock::{Realm, RealmName};
 use scope_rules::{Catalog, Refusal};
 use std::alloc::Global;
@@ -42,6 +44,24 @@ pub trait Shows {
     /// `Memory`.
     fn journal<R: Wait>(&self, rt: &R, alloc: Global) -> Result<String, Refusal>
         ensures { Self.seen (λ h. Says (script_text h) result) };
+
+    /// How far the history has come: a look that reads three numbers, for `Times::note`.
+    fn reached<R: Wait>(&self, rt: &R) -> Reached
+        ensures { Self.seen (λ h. HasReached h result) };
+
+    /// The journal with times: before an event whose time is another than the last a comment `# at N`, in milliseconds,
+    /// and behind all of them the time of this look. A script passes over comments, so it plays as the journal does.
+    ///
+    /// # Errors
+    /// `Memory`.
+    fn timed_journal<R: Wait>(
+        &self,
+        rt: &R,
+        alloc: Global,
+        times: &Times,
+        now: u64,
+    ) -> Result<String, Refusal>
+        ensures { Self.seen (λ h. SaysWhen h times.now.found.items now result) };
 }
 
 impl<C: Catalog, N: RealmName> Shows for Realm<C, N> {
@@ -57,5 +77,24 @@ impl<C: Catalog, N: RealmName> Shows for Realm<C, N> {
 
     fn journal<R: Wait>(&self, rt: &R, alloc: Global) -> Result<String, Refusal> {
         journal_in(alloc, self.look_from_outside(rt, CopyOut { alloc }))
+    }
+
+    fn reached<R: Wait>(&self, rt: &R) -> Reached {
+        self.look_from_outside(rt, Counting)
+    }
+
+    fn timed_journal<R: Wait>(
+        &self,
+        rt: &R,
+        alloc: Global,
+        times: &Times,
+        now: u64,
+    ) -> Result<String, Refusal> {
+        timed_in(
+            alloc,
+            self.look_from_outside(rt, CopyOut { alloc }),
+            times,
+            now,
+        )
     }
 }

@@ -8,7 +8,7 @@ pub trait Requests<J, R: Handle> {
     /// which the request is to be served: its job waits and sleeps by a copy of it.
     fn next(&mut self, clock: SystemClock<R>) -> Option<(Name, J)>;
 
-    /// Is told of a request that was not begun: its job was let go uncalled.
+    /// Gets the name of a request that was not begun: its job was dropped, uncalled.
     fn refused(&mut self, name: Name);
 }
 
@@ -19,10 +19,10 @@ pub enum Side {
     Second,
 }
 
-/// What is told how turns ended, by whichever owner had them.
+/// Gets reports of how turns ended, by whichever owner had them.
 pub trait Turned {
     /// Takes the report of the scope in which a turn's requests were served, in the realm of this side: its log
-    /// has an entry for each event of it, with the end of each request. There is none where memory was refused
+    /// has an entry for each event of it, with the end of each request. There is none if memory was refused
     /// for it.
     fn ended(&self, side: Side, report: Option<CloseReport>);
 }

@@ -7,7 +7,7 @@ use crate::{Limits, Refusal};
 use scope_rules::Base;
 use scope_rules::types::capacity::{FORK_LOAD, OPEN_LOAD, STEP_LOAD};
 
-/// What one request takes of its realm's room, between two retirements, at the most.
+/// What one request takes of its realm's capacity, between two retirements, at the most.
 #[derive(Clone, Copy)]
 pub struct Need {
     /// Scopes: those that it opens, with all its jobs.

@@ -17,13 +17,13 @@ use std::thread;
 #[derive(Clone, Copy)]
 pub struct Turns {
     /// How many requests a realm begins before it hands on to the other, if that is free; 0 counts as 1. With
-    /// none it hands on where it has no room for one more. As long as the other isn't free it goes on so, too.
+    /// none it hands on if it has no capacity for one more. As long as the other isn't free it goes on so, too.
     pub requests: Option<u32>,
-    /// What a request needs: so many are begun between two retirements as there is room for.
+    /// What a request needs: so many are begun between two retirements as there is capacity for.
     pub request: Need,
     /// The limits of the first realm, and of the second.
     pub limits: (Limits, Limits),
-    /// How many threads of each crew may rest.
+    /// How many idle threads each pool keeps.
     pub keep: usize,
 }
 
@@ -36,11 +36,11 @@ pub struct Stopped<Q> {
     pub source: Q,
 }
 
-/// Serves the requests until the source has no more, and gives it back: in two realms in turn, each with a crew
+/// Serves the requests until the source has no more, and gives it back: in two realms in turn, each with a pool
 /// of its own, on two owner threads. So a realm retires while the other takes requests, and a service goes on
 /// past the limits of one, until numbers run out, some 4,294 million scopes and as many tasks a realm. A realm
 /// hands on only to one whose requests have ended, so a slow request holds up nobody else while the other realm
-/// has room. A request for which a realm has no room goes to the next; it is refused where neither has, though
+/// has room. A request for which a realm has no room goes to the next; it is refused if neither has, though
 /// nothing else is there.
 ///
 /// # Errors

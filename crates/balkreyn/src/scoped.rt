@@ -34,7 +34,7 @@ pub trait Scopes {
     /// What a close of this scope that is answered so leaves of the rest of the context.
     ghost left_by_close: { Self → Self → ℕ → Result Verdict Refusal → Type 0 };
 
-    /// Opens a scope, as `TaskCtx::open` does; a refused joiner is let go.
+    /// Opens a scope, as `TaskCtx::open` does; a refused joiner is dropped.
     fn open_scope<R: Wait>(
         &mut self,
         rt: &R,
@@ -48,7 +48,7 @@ pub trait Scopes {
         ensures { Closes Self.token Self.left_by_close self.old self.new scope result };
 
     /// Waits by the clock until the scope can be closed, as `TaskCtx::await_close_by` does, and then closes it as
-    /// `close_opened` does, also where a tick was refused.
+    /// `close_opened` does, also if a tick was refused.
     fn close_opened_by<R: Wait + SystemTime, K: Clock>(
         &mut self,
         rt: &R,
@@ -95,7 +95,7 @@ impl<C: Catalog, S: Spawner<N>, N: RealmName> Scopes for TaskCtx<C, S, N> {
     }
 }
 
-/// Waits by the clock until the scope can be closed, and then closes it, also where a tick was refused.
+/// Waits by the clock until the scope can be closed, and then closes it, also if a tick was refused.
 pub(crate) fn close_in_time<
     C: Catalog,
     S: Spawner<N>,
@@ -120,7 +120,7 @@ pub(crate) fn close_in_time<
 ///
 /// # Errors
 /// Where the open is refused, what `E` makes of its refusal, and the body is not called. Else what `E` makes of
-/// the refusal of the close, if that is refused: never where the token shows the scope as its actor's and not
+/// the refusal of the close, if that is refused: never if the token shows the scope as its actor's and not
 /// closed when the body is done. Else what the body answered.
 pub fn within<
     X: Scopes,

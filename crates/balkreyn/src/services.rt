@@ -10,9 +10,9 @@ use std::alloc::Global;
 use std::rt::Clock as SystemTime;
 use thread_crew::{Crew, CrewRuntime, OsThreads, Spawner};
 
-/// What a service may come to. It stands apart from how the service runs, as `Answers` does.
+/// What a service may return. It is apart from how the service runs, as `Answers` does.
 pub trait Promises {
-    /// What it comes to.
+    /// What it returns.
     type Answer: Drop;
 
     /// What it fails with: `Refusal`, `ServiceError`, or a type of its own.
@@ -32,19 +32,19 @@ pub trait Service<S: Spawner<N>, N: RealmName, R: Handle>: Promises {
 /// The system's clock for a realm that has just begun: its moments count from now. Jobs get copies of it.
 ///
 /// # Errors
-/// `NoTime`, where the system gives none.
+/// `NoTime`, if the system gives none.
 pub fn realm_clock<R: Handle>(rt: &R) -> Result<SystemClock<R>, NoTime>
     ensures { IfOk result (λ clock. (clock.first ≡ 0) × (clock.last ≡ None)) }
 {
     SystemClock::starting_at(*rt, 0).ok_or(NoTime)
 }
 
-/// Runs the service, which forks jobs of type `J`: opens a crew of which so many threads may rest, makes a
+/// Runs the service, which forks jobs of type `J`: opens a thread pool that keeps up to `keep` idle threads, makes a
 /// realm with the greatest limits, and serves with main's context; then leaves that, which closes every scope,
-/// and closes the crew, which joins all threads. That it returns is not promised.
+/// and closes the pool, which joins all threads. That it returns is not promised.
 ///
 /// # Errors
-/// That of the service; and before it begins one of `Memory`, where memory or a thread is refused.
+/// That of the service; and before it begins one of `Memory`, if memory or a thread is refused.
 pub fn serve_on_crew<
     N: RealmName + Send + Sync + 'static,
     J: Answers + Job<AnyEnd, OsThreads<N, JobWork<AnyEnd, N, J>>, N> + Send + Drop + 'static,

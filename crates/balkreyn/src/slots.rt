@@ -14,7 +14,7 @@ use std::marker::Model;
 use std::sync::{Arc, Wait};
 use thread_crew::{Spawner, Spawns};
 
-/// What a forked job's value is had from (JEP 505, `Subtask`). Its value is the job's name, with what its
+/// What a forked job's value is obtained from (JEP 505, `Subtask`). Its value is the job's name, with what its
 /// fork was answered.
 #[derive(Drop)]
 pub struct Slot<J: Yields> {
@@ -36,7 +36,7 @@ impl<J: Yields> Model for Slot<J> {
 /// (`From`): so a slot has no other job's place.
 ///
 /// # Errors
-/// Those of `TaskCtx::fork_job`, by their refusal, and `Memory` where there is none for the place; the job is let
+/// Those of `TaskCtx::fork_job`, by their refusal, and `Memory` if there is none for the place; the job is let
 /// go.
 pub fn fork_typed<
     J: Yields + Drop,
@@ -91,11 +91,11 @@ impl<J: Yields> Slot<J> {
         }
     }
 
-    /// The value, which the owner of the scope has once, after the join, where the task succeeded (JEP 505,
+    /// The value, which the owner of the scope has once, after the join, if the task succeeded (JEP 505,
     /// `Subtask.get`). A slot that was refused can be asked again.
     ///
     /// # Errors
-    /// Those of `TaskCtx::result`; and `Unavailable` where the value was taken before.
+    /// Those of `TaskCtx::result`; and `Unavailable` if the value was taken before.
     pub fn take<C: Catalog, S: Spawner<N>, N: RealmName, R: Wait>(
         &self,
         rt: &R,

@@ -54,21 +54,20 @@ struct Replica {
 impl Yields for Replica {
     type Value = i64;
 
+    type Error = Refusal;
+
     ghost is_fact = { λ name value. Prim.hlevel };
 }
 
 impl TypedTask<Work> for Replica {
-    fn run_typed<X: Acts<Work>>(self, cx: &mut X, name: Name) -> Result<i64, Fault> {
-        let slept = cx.sleep(self.takes);
-        match (
-            slept,
-            cx.get(&named(b"request")),
-            number_in(&self.io, self.file),
-        ) {
-            (Ok(None), Ok(Value::Num(request)), Some(number)) if !self.down => {
+    fn run_typed<X: Acts<Work>>(self, cx: &mut X, _name: Name) -> Result<i64, Refusal> {
+        let slept = cx.sleep(self.takes)?;
+        let request = cx.get(&named(b"request"))?;
+        match (slept, request, number_in(&self.io, self.file)) {
+            (None, Value::Num(request), Some(number)) if !self.down => {
                 Ok(number.saturating_mul(request))
             }
-            _ => Err(Fault(name)),
+            _ => Err(Refusal::Unavailable),
         }
     }
 }
@@ -91,16 +90,18 @@ struct Backend {
 impl Yields for Backend {
     type Value = i64;
 
+    type Error = Refusal;
+
     ghost is_fact = { λ name value. Prim.hlevel };
 }
 
 impl TypedTask<Work> for Backend {
-    fn run_typed<X: Acts<Work>>(self, cx: &mut X, name: Name) -> Result<i64, Fault> {
+    fn run_typed<X: Acts<Work>>(self, cx: &mut X, name: Name) -> Result<i64, Refusal> {
         let backoff = Backoff {
             retries: 1,
             pause: 5,
         };
-        retry(cx, backoff, |cx, tried| self.raced(cx, name, tried)).map_err(|_| Fault(name))
+        retry(cx, backoff, |cx, tried| self.raced(cx, name, tried))
     }
 }
 
@@ -140,13 +141,15 @@ struct Answer {
 impl Yields for Request {
     type Value = Answer;
 
+    type Error = Refusal;
+
     ghost is_fact = { λ name value. Prim.hlevel };
 }
 
 impl TypedTask<Work> for Request {
-    fn run_typed<X: Acts<Work>>(self, cx: &mut X, name: Name) -> Result<Answer, Fault> {
+    fn run_typed<X: Acts<Work>>(self, cx: &mut X, _name: Name) -> Result<Answer, Refusal> {
         let number = Value::Num(self.number);
-        bound(cx, named(b"request"), number, |cx| self.answered(cx)).map_err(|_| Fault(name))
+        bound(cx, named(b"request"), number, |cx| self.answered(cx))
     }
 }
 
@@ -205,7 +208,7 @@ impl Serves<Work> for FanOut {
                 .push(Request { io, number })
                 .map_err(Refusal::from)?;
         }
-        Ok(map_at_most(cx, named(b"request"), Options::PLAIN, 3, requests)?)
+        Ok(map_at_most(cx, named(b"request"), Options::PLAIN, 3, requests)??)
     }
 }
 

@@ -4,6 +4,12 @@ use balkreyn::act::*;
 use balkreyn::*;
 use std::rt::Clock as SystemTime;
 
+/// A square is not less than the limit.
+#[derive(Clone, Copy)]
+struct TooLarge;
+
+impl JobError for TooLarge {}
+
 /// An item, which answers its square if that is less than the limit, and fails if not.
 #[derive(Clone, Copy)]
 struct Square {
@@ -14,14 +20,16 @@ struct Square {
 impl Yields for Square {
     type Value = u64;
 
+    type Error = TooLarge;
+
     ghost is_fact = { λ name value. Prim.hlevel };
 }
 
 impl TypedTask<Worker<Square>> for Square {
-    fn run_typed<X: Acts<Worker<Square>>>(self, _cx: &mut X, name: Name) -> Result<u64, Fault> {
+    fn run_typed<X: Acts<Worker<Square>>>(self, _cx: &mut X, _name: Name) -> Result<u64, TooLarge> {
         match self.of.saturating_mul(self.of) {
             square if square < self.limit => Ok(square),
-            _ => Err(Fault(name)),
+            _ => Err(TooLarge),
         }
     }
 }
@@ -33,24 +41,26 @@ struct Sum {
 }
 
 impl Promises for Sum {
-    type Answer = u64;
+    type Answer = Result<u64, TooLarge>;
 
     type Error = ServiceError;
 }
 
 impl Serves<Worker<Square>> for Sum {
-    fn serve<X: Acts<Worker<Square>>>(self, cx: &mut X) -> Result<u64, ServiceError> {
+    fn serve<X: Acts<Worker<Square>>>(
+        self,
+        cx: &mut X,
+    ) -> Result<Result<u64, TooLarge>, ServiceError> {
         let mut items = Vec::new(cx.alloc());
         for of in 0..10_000u64 {
             let limit = self.limit;
             items.push(Square { of, limit }).map_err(Refusal::from)?;
         }
         let squares = map_at_most(cx, named(b"square"), Options::PLAIN, 8, items)?;
-        Ok(
-            squares
-                .iter()
-                .fold(0u64, |sum, square| sum.saturating_add(*square)),
-        )
+        Ok(squares.map(|all| {
+            all.iter()
+                .fold(0u64, |sum, square| sum.saturating_add(*square))
+        }))
     }
 }
 
@@ -58,7 +68,8 @@ impl Serves<Worker<Square>> for Sum {
 pub fn show<R: CrewRuntime + SystemTime>(rt: &R, io: HostRuntime) -> std::io::Result<()> {
     for limit in [u64::MAX, 64_000_000] {
         match serve::<Worker<Square>, Sum, R>(rt, io.alloc(), 8, Sum { limit }) {
-            Ok(sum) => println!(io; "squares: {sum}")?,
+            Ok(Ok(sum)) => println!(io; "squares: {sum}")?,
+            Ok(Err(TooLarge)) => println!(io; "squares: one is too large")?,
             Err(failed) => println!(io; "squares: {failed}")?,
         }
     }

@@ -5,8 +5,8 @@ use balkreyn::act::{
     limited, map_at_most, next_done, race, retry, scope, serve, shielded,
 };
 use balkreyn::{
-    End, Fault, Joiner, Name, Options, Outcome, Promises, Refusal, ScopeId, ServiceError, Slot,
-    Typed, Value, Yields, named,
+    End, Fault, JobError, Joiner, Name, Options, Outcome, Promises, Refusal, ScopeId, ServiceError,
+    Slot, State, Typed, Value, Yields, named,
 };
 use std::process::Abort;
 use std::test::Fail;
@@ -64,6 +64,32 @@ struct Stock {
     pieces: u32,
 }
 
+/// Why a shop doesn't say.
+#[derive(Clone, Copy, PartialEq, Eq)]
+enum NoStock {
+    /// There are no pieces.
+    Empty,
+    /// A cancel or a deadline came first.
+    TooLate,
+    /// The runtime refused a call.
+    Refused(Refusal),
+}
+
+impl JobError for NoStock {
+    fn fault(&self, name: Name) -> Fault {
+        match self {
+            NoStock::Empty => Fault(named(b"empty")),
+            _ => Fault(name),
+        }
+    }
+}
+
+impl From<Refusal> for NoStock {
+    fn from(refusal: Refusal) -> NoStock {
+        NoStock::Refused(refusal)
+    }
+}
+
 /// A job that answers that after so many milliseconds, and fails if there are none.
 #[derive(Clone, Copy)]
 struct AskStock {
@@ -74,14 +100,17 @@ struct AskStock {
 impl Yields for AskStock {
     type Value = Stock;
 
+    type Error = NoStock;
+
     ghost is_fact = { λ name stock. Prim.hlevel };
 }
 
 impl TypedTask<Shop> for AskStock {
-    fn run_typed<X: Acts<Shop>>(self, cx: &mut X, name: Name) -> Result<Stock, Fault> {
-        match (cx.sleep(self.after), self.pieces) {
-            (Ok(None), pieces) if pieces > 0 => Ok(Stock { pieces }),
-            _ => Err(Fault(name)),
+    fn run_typed<X: Acts<Shop>>(self, cx: &mut X, _name: Name) -> Result<Stock, NoStock> {
+        match (cx.sleep(self.after)?, self.pieces) {
+            (Some(_mark), _) => Err(NoStock::TooLate),
+            (None, 0) => Err(NoStock::Empty),
+            (None, pieces) => Ok(Stock { pieces }),
         }
     }
 }
@@ -95,6 +124,7 @@ struct Seen {
     bindings: (Option<i64>, bool, bool),
     shields: (bool, bool, bool),
     slots: (Result<Stock, Refusal>, Result<Stock, Refusal>),
+    errors: Failures,
     raced: (Result<Stock, Refusal>, bool),
     in_time: (Option<Stock>, Option<Stock>, Option<Stock>),
     tried: (Result<u32, Refusal>, Result<u32, Refusal>),
@@ -102,7 +132,20 @@ struct Seen {
     mapping: u128,
     limits: (Option<bool>, bool, Option<u32>),
     rounds: (u64, bool, u64, bool),
-    completed: (Option<Stock>, Option<Stock>, Option<Stock>, bool),
+    completed: (Done, Done, Done, bool),
+}
+
+/// What a job gives that has ended.
+type Done = Option<Result<Stock, NoStock>>;
+
+/// What the slot of a job that failed gives: its value; its error, once and again; and whether its task failed by the name
+/// that the error gives.
+#[derive(Clone, Copy)]
+struct Failures {
+    value: Option<Refusal>,
+    first: Result<Result<Stock, NoStock>, Refusal>,
+    again: Result<Result<Stock, NoStock>, Refusal>,
+    fault: bool,
 }
 
 /// The service, with a handle that reads the time for the test.
@@ -124,6 +167,7 @@ impl Serves<Shop> for Shops {
         let bindings = bindings(cx)?;
         let shields = shields(cx)?;
         let slots = slots(cx)?;
+        let errors = errors(cx)?;
         let raced = raced(cx, [(0, 0), (5, 60_000), (7, 10)]);
         let none_won = raced_none(cx);
         let in_time = had_in_time(cx)?;
@@ -139,6 +183,7 @@ impl Serves<Shop> for Shops {
             bindings,
             shields,
             slots,
+            errors,
             raced: (raced, none_won),
             in_time,
             tried,
@@ -233,6 +278,24 @@ fn slots<X: Acts<Shop>>(
     })
 }
 
+/// What the slot of a job that fails gives.
+fn errors<X: Acts<Shop>>(cx: &mut X) -> Result<Failures, Refusal> {
+    scope(cx, Joiner::AwaitAll, Options::PLAIN, |cx, scope| {
+        let empty = AskStock {
+            pieces: 0,
+            after: 0,
+        };
+        let empty = fork_value(cx, scope, named(b"stock"), empty)?;
+        cx.join(scope)?;
+        Ok(Failures {
+            value: empty.value(cx).err(),
+            first: empty.answer(cx),
+            again: empty.answer(cx),
+            fault: cx.state(empty.task())? == State::Failed(Fault(named(b"empty"))),
+        })
+    })
+}
+
 /// The jobs that answer so many pieces after so many milliseconds.
 fn asks<X: Acts<Shop>>(cx: &mut X, shops: [(u32, u64); 3]) -> Result<Vec<AskStock>, Refusal> {
     let mut jobs = Vec::new(cx.alloc());
@@ -287,7 +350,9 @@ fn mapped<X: Acts<Shop>>(cx: &mut X) -> Result<bool, Refusal> {
     for pieces in 1..=32u32 {
         jobs.push(AskStock { pieces, after: 10 })?;
     }
-    let stocks = map_at_most(cx, named(b"stock"), Options::PLAIN, 8, jobs)?;
+    let Ok(stocks) = map_at_most(cx, named(b"stock"), Options::PLAIN, 8, jobs)? else {
+        return Ok(false);
+    };
     let in_order = stocks
         .iter()
         .zip(1..=32u32)
@@ -295,11 +360,13 @@ fn mapped<X: Acts<Shop>>(cx: &mut X) -> Result<bool, Refusal> {
     Ok(stocks.len() == 32 && in_order)
 }
 
-/// Whether one that fails ends the others, of which one would take a minute.
+/// Whether one that fails ends the others, of which one would take a minute, and its error is given.
 fn failed<X: Acts<Shop>>(cx: &mut X) -> Result<bool, Refusal> {
     let jobs = asks(cx, [(1, 60_000), (0, 0), (3, 60_000)])?;
-    let failed = map_at_most(cx, named(b"stock"), Options::PLAIN, 2, jobs);
-    Ok(failed.err() == Some(Refusal::NotSuccess))
+    match map_at_most(cx, named(b"stock"), Options::PLAIN, 2, jobs)? {
+        Ok(_stocks) => Ok(false),
+        Err(error) => Ok(error == NoStock::Empty),
+    }
 }
 
 /// Whether a deadline ends the wait for the one permit, which is held; whether a body that failed gave it back; and what
@@ -348,9 +415,7 @@ fn rounds<X: Acts<Shop>>(cx: &mut X) -> Result<(u64, bool, u64, bool), Refusal> 
 
 /// What three give as they complete, before the join: the second at once, then one that fails, then the first; and whether
 /// nothing is left then.
-fn completed<X: Acts<Shop>>(
-    cx: &mut X,
-) -> Result<(Option<Stock>, Option<Stock>, Option<Stock>, bool), Refusal> {
+fn completed<X: Acts<Shop>>(cx: &mut X) -> Result<(Done, Done, Done, bool), Refusal> {
     let jobs = asks(cx, [(1, 120), (2, 0), (0, 60)])?;
     scope(cx, Joiner::AwaitAll, Options::PLAIN, |cx, scope| {
         let mut slots = Vec::new(cx.alloc());
@@ -365,10 +430,7 @@ fn completed<X: Acts<Shop>>(
 }
 
 /// What the next one gives.
-fn done<X: Acts<Shop>>(
-    cx: &mut X,
-    slots: &mut Vec<Slot<AskStock>>,
-) -> Result<Option<Stock>, Refusal> {
+fn done<X: Acts<Shop>>(cx: &mut X, slots: &mut Vec<Slot<AskStock>>) -> Result<Done, Refusal> {
     match next_done(cx, slots)? {
         Some((_task, stock)) => Ok(stock),
         None => Err(Refusal::Unavailable),
@@ -389,7 +451,18 @@ fn a_service_acts_by_one_value(rt: HostRuntime) -> Result<(), Fail> {
     assert!(rt; seen.mapped == (true, true) && seen.mapping >= 40);
     assert!(rt; seen.limits == (Some(true), true, Some(7)));
     let (one, two) = (Stock { pieces: 1 }, Stock { pieces: 2 });
-    assert!(rt; seen.completed == (Some(two), None, Some(one), true));
+    assert!(rt;
+        seen.completed
+            == (
+                Some(Ok(two)),
+                Some(Err(NoStock::Empty)),
+                Some(Ok(one)),
+                true
+            )
+    );
+    assert!(rt; seen.errors.value == Some(Refusal::NotSuccess) && seen.errors.fault);
+    assert!(rt; seen.errors.first == Ok(Err(NoStock::Empty)));
+    assert!(rt; seen.errors.again == Err(Refusal::NotSuccess));
     assert!(rt; seen.rounds == (3, true, 3, true));
     Ok(())
 }

@@ -23,6 +23,8 @@ struct AskPage {
 impl Yields for AskPage {
     type Value = Vec<u32>;
 
+    type Error = Fault;
+
     ghost may_yield = { λ name lines. Unit {0} };
 
     ghost is_fact = { λ name lines. Prim.hlevel };
@@ -59,6 +61,8 @@ struct AskStock {
 
 impl Yields for AskStock {
     type Value = Stock;
+
+    type Error = Fault;
 
     ghost may_yield = { λ name stock. Unit {0} };
 

@@ -5,6 +5,10 @@
 #[cfg(test)]
 mod acting;
 #[cfg(test)]
+mod channels;
+#[cfg(test)]
+mod hooked;
+#[cfg(test)]
 mod kinds;
 #[cfg(test)]
 mod requests;
@@ -13,6 +17,9 @@ mod rotation;
 #[cfg(test)]
 mod shields;
 #[cfg(test)]
+mod stopping;
+#[cfg(test)]
 mod turns;
 #[cfg(test)]
+mod watches;
 mod watching;

@@ -35,6 +35,8 @@ struct Watch<K, N: RealmName> {
 impl<K, N: RealmName> Yields for Watch<K, N> {
     type Value = Seen;
 
+    type Error = Fault;
+
     ghost may_yield = { λ name seen. Unit {0} };
 
     ghost is_fact = { λ name seen. Prim.hlevel };

@@ -1,25 +1,48 @@
 //! Many typed jobs, of which so many run at a time.
-ghost use Rattle.std.specs.Prelude.{◌≡◌, IfOk, max};
+ghost use Rattle.std.specs.Prelude.{◌≡◌, ◌⊎◌, All, Err, IfOk, MatchResult, length, max, pos};
 ghost use Rattle.scope_rules.specs.declared.types.joiners.Policy.TheVariants as policy;
-ghost use Rattle.balkreyn.specs.Acting.{ClosesNow, Forked, RunsJobs, Staffs};
+ghost use Rattle.scope_rules.specs.declared.types.refusals.Refusal.TheVariants.{Memory};
+ghost use Rattle.scope_rules.specs.declared.types.values.Value.TheVariants as value;
+ghost use Rattle.std.specs.Arc.{arc_value};
+ghost use Rattle.balkreyn.specs.Acting.{ClosesNow};
 ghost use Rattle.balkreyn.specs.Bodies.{Opens};
+ghost use Rattle.balkreyn.specs.Together.{Forked, Maps, RunsJobs, StopsStaffing};
 
 use crate::act::blocks::entered;
 use crate::act::contexts::Acts;
 use crate::act::tasks::Task;
 use crate::act::valued::TypedTask;
-use crate::jobs::Yields;
+use crate::jobs::{JobError, Yields};
 use crate::places::Place;
 use join_rules::Joiner;
 use scope_rules::{End, Fault, Name, Options, Outcome, Refusal, ScopeId, Value};
 use std::alloc::Global;
-use std::sync::{Arc, Mutex};
+use std::sync::{Arc, Mutex, Wait};
 
-/// The jobs that no worker has taken, the first of them last, and where each puts its value.
+/// The jobs that no worker has taken, the first of them last, where each puts its value, and the error of the first that
+/// failed.
 #[derive(Drop)]
 struct Batch<J: Yields> {
     jobs: Mutex<Vec<(usize, J)>>,
     places: Vec<Place<J>>,
+    error: Mutex<Option<J::Error>>,
+}
+
+impl<J: Yields> Batch<J> {
+    /// Keeps the error, if it is the first, and gives the fault of the worker whose job failed so.
+    fn fail<R: Wait>(&self, rt: &R, name: Name, error: J::Error) -> Fault {
+        let fault = error.fault(name);
+        let mut first = self.error.lock(rt);
+        if first.is_none() {
+            *first = Some(error);
+        }
+        fault
+    }
+
+    /// The error of the first that failed, if it is still there.
+    fn first_error<R: Wait>(&self, rt: &R) -> Option<J::Error> {
+        self.error.lock(rt).take()
+    }
 }
 
 /// What does one job of a batch after the other, until there is none left, or one fails. It is a job of the service,
@@ -31,10 +54,12 @@ pub struct Worker<J: Yields> {
 }
 
 impl<J: Yields + Drop> Worker<J> {
-    /// Does the jobs that it takes. Its task succeeds with the number 0 once there is none left.
+    /// Does the jobs that it takes, one after the other. Its task succeeds with the number 0 once there is none left, and
+    /// fails with the fault of the first error.
     pub fn act<W, X: Acts<W>>(self, cx: &mut X) -> End
     where
         J: TypedTask<W>,
+        ensures { IfOk result (λ number. number ≡ value.Num (pos 0)) }
     {
         for _ in 0..self.batch.places.len() {
             if cx.checkpoint().is_some() {
@@ -43,7 +68,10 @@ impl<J: Yields + Drop> Worker<J> {
             let Some((place, job)) = self.batch.jobs.lock(cx).pop() else {
                 return Ok(Value::Num(0));
             };
-            let value = job.run_typed(cx, self.name)?;
+            let value = match job.run_typed(cx, self.name) {
+                Ok(value) => value,
+                Err(error) => return Err(self.batch.fail(cx, self.name, error)),
+            };
             if let Some(place) = self.batch.places.get(place) {
                 place.put(cx, self.name, value);
             }
@@ -60,18 +88,19 @@ impl<J: Yields + TypedTask<Worker<J>> + Drop> Task for Worker<J> {
 }
 
 /// Runs all these jobs in a scope of their own, so many at a time, in order, and gives the value of each (Trio, a
-/// `CapacityLimiter` in a nursery). The first that fails ends it: then no job begins any more.
+/// `CapacityLimiter` in a nursery). The first that fails ends it, and its error is given: then no job begins any more.
 ///
 /// # Errors
-/// `NotSuccess` if a job failed, `Unavailable` if a cancel or a deadline came first, and else the refusal of a call.
+/// `NotSuccess` if a worker failed without an error of a job, `Unavailable` if a cancel or a deadline came first, and else
+/// the refusal of a call.
 pub fn map_at_most<J: Yields + Drop, W: From<Worker<J>>, X: Acts<W>>(
     cx: &mut X,
     name: Name,
     options: Options,
     at_once: u32,
     jobs: Vec<J>,
-) -> Result<Vec<J::Value>, Refusal>
-    ensures { IfOk result (RunsJobs (Opens X.token X.left_by_open policy.AwaitOk options) (ClosesNow X.token X.left_by_close X.reads X.time) (λ scope begun ended values. Staffs X.token X.reads X.time name (max at_once 1) scope begun ended) cx.old cx.new) }
+) -> Result<Result<Vec<J::Value>, J::Error>, Refusal>
+    ensures { ((result ≡ Err Memory) × (cx.new ≡ cx.old)) ⊎ RunsJobs (Opens X.token X.left_by_open policy.AwaitOk options) (ClosesNow X.token X.left_by_close X.reads X.time) (λ scope begun ended found. Maps X.token X.reads X.time name (max at_once 1) (λ values. All (J.may_yield name) values.items × (length values.items ≡ length jobs.items)) scope begun ended found) cx.old cx.new result }
 {
     let batch = batch_of(cx.alloc(), jobs)?;
     let scope = entered(cx, Joiner::AwaitOk, options)?;
@@ -80,21 +109,25 @@ pub fn map_at_most<J: Yields + Drop, W: From<Worker<J>>, X: Acts<W>>(
     found
 }
 
-/// Forks so many workers in the scope, joins it, and gives the values that they put.
+/// Forks so many workers in the scope, joins it, and gives the values that they put, or the error of the first job that
+/// failed.
 fn mapped<J: Yields + Drop, W: From<Worker<J>>, X: Acts<W>>(
     cx: &mut X,
     scope: ScopeId,
     name: Name,
     workers: u32,
     batch: &Arc<Batch<J>, Global>,
-) -> Result<Vec<J::Value>, Refusal>
-    ensures { IfOk result (λ values. Staffs X.token X.reads X.time name workers scope cx.old cx.new) }
+) -> Result<Result<Vec<J::Value>, J::Error>, Refusal>
+    ensures { Maps X.token X.reads X.time name workers (λ values. All (J.may_yield name) values.items × (length values.items ≡ length (arc_value batch.now).places.items)) scope cx.old cx.new result }
 {
     staffed(cx, scope, name, workers, batch)?;
     let joined = cx.join(scope)?;
     match &joined.outcome {
-        Outcome::Done => values_of(cx, name, batch),
-        Outcome::Failed { .. } => Err(Refusal::NotSuccess),
+        Outcome::Done => Ok(Ok(values_of(cx, name, batch)?)),
+        Outcome::Failed { .. } => match batch.first_error(cx) {
+            Some(error) => Ok(Err(error)),
+            None => Err(Refusal::NotSuccess),
+        },
         _ => Err(Refusal::Unavailable),
     }
 }
@@ -107,7 +140,7 @@ fn staffed<J: Yields + Drop, W: From<Worker<J>>, X: Acts<W>>(
     workers: u32,
     batch: &Arc<Batch<J>, Global>,
 ) -> Result<(), Refusal>
-    ensures { IfOk result (λ _. Forked X.token scope name cx.old workers cx.new) }
+    ensures { MatchResult result (λ _. Forked X.token scope name cx.old workers cx.new) (StopsStaffing X.token scope name cx.old cx.new) }
 {
     let mut number = 0u32;
     while number < workers {
@@ -119,27 +152,44 @@ fn staffed<J: Yields + Drop, W: From<Worker<J>>, X: Acts<W>>(
 }
 
 /// A batch of these jobs.
-fn batch_of<J: Yields + Drop>(
-    alloc: Global,
-    jobs: Vec<J>,
-) -> Result<Arc<Batch<J>, Global>, Refusal> {
+fn batch_of<J: Yields + Drop>(alloc: Global, jobs: Vec<J>) -> Result<Arc<Batch<J>, Global>, Refusal>
+    ensures { MatchResult result (λ batch. length (arc_value batch).places.items ≡ length jobs.items) (λ refusal. refusal ≡ Memory) }
+{
+    let places = places_of(alloc, jobs.len())?;
     let mut left = Vec::new(alloc);
-    let mut places = Vec::new(alloc);
     for (place, job) in jobs.into_iter().enumerate() {
         left.push((place, job))?;
-        places.push(Place::new())?;
     }
     left.reverse();
     let jobs = Mutex::new(left);
-    Ok(Arc::new(alloc, Batch { jobs, places })?)
+    let error = Mutex::new(None);
+    let batch = Batch {
+        jobs,
+        places,
+        error,
+    };
+    Ok(Arc::new(alloc, batch)?)
+}
+
+/// So many places with nothing in them.
+fn places_of<J: Yields>(alloc: Global, count: usize) -> Result<Vec<Place<J>>, Refusal>
+    ensures { MatchResult result (λ places. length places.items ≡ count) (λ refusal. refusal ≡ Memory) }
+{
+    let mut places = Vec::new(alloc);
+    for _place in 0..count {
+        places.push(Place::new())?;
+    }
+    Ok(places)
 }
 
 /// The values of a batch whose jobs have all ended.
 fn values_of<J: Yields, W, X: Acts<W>>(
-    cx: &mut X,
+    cx: &X,
     name: Name,
     batch: &Batch<J>,
-) -> Result<Vec<J::Value>, Refusal> {
+) -> Result<Vec<J::Value>, Refusal>
+    ensures { IfOk result (λ values. All (J.may_yield name) values.items × (length values.items ≡ length batch.now.places.items)) }
+{
     let mut values = Vec::new(cx.alloc());
     for place in batch.places.iter() {
         match place.take(cx, name) {

@@ -1,9 +1,14 @@
 //! One value to act by: a task's context with the realm's time.
+ghost use Rattle.realm_core.specs.Calls.{SeesMore};
+ghost use Rattle.balkreyn.specs.Slots.{ForksUnder};
 
-use crate::act::tasks::{Task, Timed};
+use crate::act::hooks::{Happening, Hooks, Observes};
+use crate::act::tasks::{Part, Task, Timed};
 use crate::aliases::{Forks, Handle};
+use crate::by_token::ShowsByToken;
 use crate::forks::fork;
 use crate::scoped::Scopes;
+use crate::times::Times;
 use job_runner::{Clock, SystemClock, TaskCtx};
 use join_rules::Joiner;
 use realm_lock::{Joined, Mark, RealmName};
@@ -38,6 +43,9 @@ pub trait Acts<W>: Scopes + Wait {
     ghost use Rattle.balkreyn.specs.Acting.{ClosesNow, IsSoAfter, JoinsFrom, SleepsFor};
     ghost use Rattle.balkreyn.specs.Bodies.{Opens};
     ghost use Rattle.balkreyn.specs.Slots.{ForksUnder};
+    ghost use Rattle.balkreyn.specs.Looks.{Says};
+    ghost use Rattle.balkreyn.specs.Times.{NotesNow, SaysWhenNow};
+    ghost use Rattle.tree_dump.specs.TextTree.{tree_text};
 
     /// The clock of the realm's time, as the prover sees it.
     ghost Time: { Type 0 };
@@ -124,30 +132,87 @@ pub trait Acts<W>: Scopes + Wait {
     /// Discards the history and frees its capacity, once main has no open scope; refused as `TaskCtx::retire` is.
     fn retire(&mut self) -> Result<Base, Refusal>
         ensures { DoesOrMemory (Self.token self.old) (Self.token self.new) Retirement base_of result };
+
+    /// The tree of the realm's open scopes, as text for a terminal; `Memory` if there is none for it.
+    fn tree(&mut self) -> Result<String, Refusal>
+        ensures { Reads (Self.token self.old) (Self.token self.new) (λ h. Says (tree_text h) result) };
+
+    /// Notes how far the realm's history has come by now; `Memory` if there is none for that.
+    fn note(&mut self, times: &mut Times) -> Result<(), Refusal>
+        ensures { Reads (Self.token self.old) (Self.token self.new) (NotesNow Self.reads (Self.time self.old) times.old times.new result) };
+
+    /// The journal with these times, as `Shows::timed_journal`; `Memory` if there is none for it.
+    fn timed_journal(&mut self, times: &Times) -> Result<String, Refusal>
+        ensures { Reads (Self.token self.old) (Self.token self.new) (SaysWhenNow Self.reads (Self.time self.old) times.now.found.items result) };
 }
 
-/// The context of a task, with the clock of its realm.
+/// The context of a task, with the clock of its realm and the hooks of its service.
 #[derive(Drop)]
-pub struct Cx<'a, K, S: Spawner<N>, N: RealmName> {
+pub struct Cx<'a, K, O, S: Spawner<N>, N: RealmName> {
     pub(crate) alloc: Global,
     pub(crate) clock: SystemClock<K>,
+    pub(crate) hooks: &'a Hooks<O>,
     pub(crate) ctx: &'a mut TaskCtx<AnyEnd, S, N>,
 }
 
-impl<'a, K, S: Spawner<N>, N: RealmName> Cx<'a, K, S, N> {
-    /// This context, with its realm's clock.
+impl<'a, K, O, S: Spawner<N>, N: RealmName> Cx<'a, K, O, S, N> {
+    /// This context, with its realm's clock and its service's hooks.
     pub(crate) fn new(
         alloc: Global,
         clock: SystemClock<K>,
+        hooks: &'a Hooks<O>,
         ctx: &'a mut TaskCtx<AnyEnd, S, N>,
-    ) -> Cx<'a, K, S, N> {
-        Cx { alloc, clock, ctx }
+    ) -> Cx<'a, K, O, S, N> {
+        Cx {
+            alloc,
+            clock,
+            hooks,
+            ctx,
+        }
     }
 }
 
-impl<K: Wait, S: Spawner<N>, N: RealmName> Wait for Cx<'_, K, S, N> {}
+impl<K: Handle, O: Observes, S: Spawner<N>, N: RealmName> Cx<'_, K, O, S, N> {
+    /// Calls the observer about it.
+    fn report(&self, what: Happening) {
+        let mut clock = self.clock;
+        self.hooks.observer.saw(&clock.runtime(), clock.now(), what);
+    }
 
-impl<K, S: Spawner<N>, N: RealmName> Scopes for Cx<'_, K, S, N> {
+    /// Forks the job, if there may be one more.
+    fn fork_counted<W: Task>(
+        &mut self,
+        scope: ScopeId,
+        name: Name,
+        job: W,
+    ) -> Result<ForkReply, Refusal>
+    where
+        S: Forks<AnyEnd, N, Timed<K, W, O>>,
+        ensures sees { SeesMore self.old.ctx.now.token self.new.ctx.now.token }
+        ensures answer { ForksUnder self.old.ctx.now.token self.new.ctx.now.token scope name result }
+    {
+        let (alloc, clock) = (self.alloc, self.clock);
+        match self.hooks.begin() {
+            Ok((one, hooks)) => {
+                let (one, job) = (Some(one), Part::Own(job));
+                let timed = Timed {
+                    alloc,
+                    clock,
+                    hooks,
+                    one,
+                    name,
+                    job,
+                };
+                fork(&clock.runtime(), self.ctx, scope, name, timed)
+            }
+            Err(refusal) => Err(refusal),
+        }
+    }
+}
+
+impl<K: Wait, O, S: Spawner<N>, N: RealmName> Wait for Cx<'_, K, O, S, N> {}
+
+impl<K, O, S: Spawner<N>, N: RealmName> Scopes for Cx<'_, K, O, S, N> {
     ghost use Rattle.std.specs.Prelude.{◌≡◌, MatchResult};
     ghost use Rattle.thread_crew.specs.Teams.{AreGone};
     ghost use Rattle.job_runner.specs.Lists.{ListsBelow, ListsOne};
@@ -181,8 +246,8 @@ impl<K, S: Spawner<N>, N: RealmName> Scopes for Cx<'_, K, S, N> {
     }
 }
 
-impl<K: Handle, N: RealmName, W: Task, S: Forks<AnyEnd, N, Timed<K, W>>> Acts<W>
-    for Cx<'_, K, S, N> {
+impl<K: Handle, O: Observes, N: RealmName, W: Task, S: Forks<AnyEnd, N, Timed<K, W, O>>> Acts<W>
+    for Cx<'_, K, O, S, N> {
     ghost use Rattle.named_jobs.specs.declared.clocks.SystemClock.{SystemClock};
     ghost use Rattle.job_runner.specs.Marks.{seat_here};
 
@@ -221,9 +286,17 @@ impl<K: Handle, N: RealmName, W: Task, S: Forks<AnyEnd, N, Timed<K, W>>> Acts<W>
     }
 
     fn fork(&mut self, scope: ScopeId, name: Name, job: W) -> Result<ForkReply, Refusal> {
-        let (alloc, clock) = (self.alloc, self.clock);
-        let timed = Timed { alloc, clock, job };
-        fork(&clock.runtime(), self.ctx, scope, name, timed)
+        let found = self.fork_counted(scope, name, job);
+        self.hooks.load.count(found.is_ok());
+        match found {
+            Ok(_reply) => self.report(Happening::Forked { name, scope }),
+            Err(refusal) => self.report(Happening::Refused {
+                name,
+                scope,
+                refusal,
+            }),
+        }
+        found
     }
 
     fn join(&mut self, scope: ScopeId) -> Result<Joined, Refusal> {
@@ -250,7 +323,11 @@ impl<K: Handle, N: RealmName, W: Task, S: Forks<AnyEnd, N, Timed<K, W>>> Acts<W>
     }
 
     fn cancel(&mut self, scope: ScopeId) -> Result<Cancelling, Refusal> {
-        self.ctx.cancel(&self.clock.runtime(), scope)
+        let how = self.ctx.cancel(&self.clock.runtime(), scope);
+        if how.is_ok() {
+            self.report(Happening::Cancelled { scope });
+        }
+        how
     }
 
     fn bind(&mut self, key: Name, value: Value) -> Result<(), Refusal> {
@@ -267,5 +344,22 @@ impl<K: Handle, N: RealmName, W: Task, S: Forks<AnyEnd, N, Timed<K, W>>> Acts<W>
 
     fn retire(&mut self) -> Result<Base, Refusal> {
         self.ctx.retire(&self.clock.runtime())
+    }
+
+    fn tree(&mut self) -> Result<String, Refusal> {
+        self.ctx.tree(&self.clock.runtime(), self.alloc)
+    }
+
+    fn note(&mut self, times: &mut Times) -> Result<(), Refusal> {
+        let mut clock = self.clock;
+        let reached = self.ctx.reached(&clock.runtime());
+        times.note(reached, clock.now())
+    }
+
+    fn timed_journal(&mut self, times: &Times) -> Result<String, Refusal> {
+        let mut clock = self.clock;
+        let now = clock.now();
+        let rt = clock.runtime();
+        self.ctx.timed_journal(&rt, self.alloc, times, now)
     }
 }

@@ -1,7 +1,9 @@
 //! A limit on how many do something at a time, whatever their scopes.
-ghost use Rattle.balkreyn.specs.Acting.{RunsLimited};
+ghost use Rattle.balkreyn.specs.Acting.{Sleeps};
+ghost use Rattle.balkreyn.specs.Looking.{RunsLimited};
 
 use crate::act::contexts::Acts;
+use crate::act::waits::{Looks, awaited};
 use scope_rules::Refusal;
 use std::sync::{Mutex, Wait};
 
@@ -43,21 +45,20 @@ impl Limiter {
     }
 }
 
-/// A permit, once one is free; none if a cancel or a deadline comes first. It looks each millisecond.
-fn permitted<W, X: Acts<W>>(cx: &mut X, limiter: &Limiter) -> Result<Option<Permit>, Refusal> {
-    for _ in 0..u64::MAX {
-        if let Some(permit) = limiter.taken(cx) {
-            return Ok(Some(permit));
-        }
-        if cx.sleep(1)?.is_some() {
-            return Ok(None);
-        }
-    }
-    Ok(None)
+/// Who asks for a permit.
+#[derive(Drop)]
+struct Asking<'a> {
+    limiter: &'a Limiter,
 }
 
-/// Runs the body with a permit of the limiter, and gives that back on each way out. It waits until one is free. If a
-/// cancel or a deadline comes first, the body is not called, and there is no value.
+impl Looks<Permit> for Asking<'_> {
+    fn look<R: Wait>(&mut self, rt: &R) -> Option<Permit> {
+        self.limiter.taken(rt)
+    }
+}
+
+/// Runs the body with a permit of the limiter, and gives that back on each way out. It looks each millisecond until one is
+/// free. If a cancel or a deadline comes first, the body is not called, and there is no value.
 ///
 /// # Errors
 /// What the body failed with; or what `E` makes of the refusal of the wait.
@@ -67,10 +68,12 @@ pub fn limited<W, X: Acts<W>, T: Drop, E: From<Refusal> + Drop, F: FnOnce(&mut X
     body: F,
 ) -> Result<Option<T>, E>
     requires { F.IsAlwaysCallable body }
-    ensures { RunsLimited F.FnOnce E.from_gives body cx.new result }
+    ensures { RunsLimited X.token (λ old new slept. Sleeps X.reads X.reading X.time X.token X.seat 1 old new slept) E.from_gives F.FnOnce body cx.old cx.new result }
 {
-    let Some(permit) = permitted(cx, limiter)? else {
-        return Ok(None);
+    let mut asking = Asking { limiter };
+    let permit: Permit = match awaited(cx, 1, &mut asking)? {
+        Some(permit) => permit,
+        None => return Ok(None),
     };
     let found = body(cx);
     limiter.give_back(cx, permit);

@@ -1,6 +1,8 @@
 //! Results as they complete, before the join.
-ghost use Rattle.std.specs.Prelude.{IfOk, IfSome};
-ghost use Rattle.balkreyn.specs.Acting.{Completes};
+ghost use Rattle.std.specs.Prelude.{◌≡◌, IfSome, MatchOption, MatchResult, remove};
+ghost use Rattle.realm_core.specs.Calls.{SeesMore};
+ghost use Rattle.balkreyn.specs.Acting.{Sleeps};
+ghost use Rattle.balkreyn.specs.Looking.{Completes, FindsDone, FindsNone, IsNotFound, LookRefused};
 ghost use Rattle.balkreyn.specs.Slots.{task_of};
 
 use crate::act::contexts::Acts;
@@ -8,64 +10,81 @@ use crate::jobs::Yields;
 use crate::slots::Slot;
 use scope_rules::{Refusal, State, TaskId};
 
-/// Waits until one more of the tasks of these slots has ended, takes its slot out, and gives its number and its value; no
-/// value if it failed. None once there is no slot left, or if a cancel or a deadline comes first: then those that are left
-/// are as they were. It looks each millisecond (Java, `ExecutorCompletionService`).
+/// Waits until one more of the tasks of these slots has ended, takes its slot out, and gives its number and what its job
+/// came to: its value, or its own error; nothing if the task failed without one, since its job never ran, or left a scope
+/// open. None once there is no slot left, or if a cancel or a deadline comes first: then those that are left are as they
+/// were. It looks each millisecond (Java, `ExecutorCompletionService`).
 ///
 /// # Errors
-/// The refusal of a look, or of the wait.
+/// The refusal of a look, or of the wait. The slots are as they were.
 pub fn next_done<J: Yields, W, X: Acts<W>>(
     cx: &mut X,
     slots: &mut Vec<Slot<J>>,
-) -> Result<Option<(TaskId, Option<J::Value>)>, Refusal>
-    ensures { IfOk result (λ found. IfSome found (λ done. (name : _) × (old : _) × (new : _) × Completes (J.may_yield name) old new done.0 done.1)) }
+) -> Result<Option<(TaskId, Option<Result<J::Value, J::Error>>)>, Refusal>
+    ensures { MatchResult result (λ found. MatchOption found ((slots.new ≡ slots.old) × FindsNone X.token (λ old new slept. Sleeps X.reads X.reading X.time X.token X.seat 1 old new slept) slots.old.items cx.old cx.new) (λ done. (index : _) × FindsDone X.token J.may_yield slots.old.items cx.old cx.new index done.0 done.1 × (slots.new.items ≡ remove slots.old.items index))) (λ refusal. (slots.new ≡ slots.old) × IsNotFound X.token (λ old new slept. Sleeps X.reads X.reading X.time X.token X.seat 1 old new slept) cx.old cx.new refusal) }
 {
+    match one_done(cx, slots.as_slice())? {
+        Some((index, task, given)) => {
+            let _slot = slots.remove(index);
+            Ok(Some((task, given)))
+        }
+        None => Ok(None),
+    }
+}
+
+/// The index of a slot whose task has ended, once there is one, with that task's number and what its job came to.
+fn one_done<J: Yields, W, X: Acts<W>>(
+    cx: &mut X,
+    slots: &[Slot<J>],
+) -> Result<Option<(usize, TaskId, Option<Result<J::Value, J::Error>>)>, Refusal>
+    ensures { MatchResult result (λ found. MatchOption found (FindsNone X.token (λ old new slept. Sleeps X.reads X.reading X.time X.token X.seat 1 old new slept) slots.now cx.old cx.new) (λ done. FindsDone X.token J.may_yield slots.now cx.old cx.new done.0 done.1 done.2)) (λ refusal. IsNotFound X.token (λ old new slept. Sleeps X.reads X.reading X.time X.token X.seat 1 old new slept) cx.old cx.new refusal) }
+{
+    if slots.is_empty() {
+        return Ok(None);
+    }
     for _ in 0..u64::MAX {
-        if slots.is_empty() {
-            return Ok(None);
+        if let Some((index, task, given)) = first_done(cx, slots)? {
+            return Ok(Some((index, task, given)));
         }
-        if let Some(done) = done_among(cx, slots)? {
-            return Ok(Some(done));
-        }
-        if cx.sleep(1)?.is_some() {
+        let shown = cx.sleep(1)?;
+        if shown.is_some() {
             return Ok(None);
         }
     }
-    Ok(None)
+    for _ in cx.forever() {}
+    unreachable!()
 }
 
-/// The first of the slots whose task has ended, taken out.
-fn done_among<J: Yields, W, X: Acts<W>>(
+/// The index of the first of the slots whose task has ended, if there is one, with that task's number and what its job
+/// came to.
+fn first_done<J: Yields, W, X: Acts<W>>(
     cx: &mut X,
-    slots: &mut Vec<Slot<J>>,
-) -> Result<Option<(TaskId, Option<J::Value>)>, Refusal>
-    ensures { IfOk result (λ found. IfSome found (λ done. (name : _) × (old : _) × (new : _) × Completes (J.may_yield name) old new done.0 done.1)) }
+    slots: &[Slot<J>],
+) -> Result<Option<(usize, TaskId, Option<Result<J::Value, J::Error>>)>, Refusal>
+    ensures sees { SeesMore (X.token cx.old) (X.token cx.new) }
+    ensures answer { MatchResult result (λ found. IfSome found (λ done. FindsDone X.token J.may_yield slots.now cx.old cx.new done.0 done.1 done.2)) (λ refusal. (there : _) × (task : _) × SeesMore (X.token cx.old) (X.token there) × LookRefused (X.token there) (X.token cx.new) task refusal) }
 {
     for index in 0..slots.len() {
-        let Some(slot) = slots.get(index) else {
-            return Ok(None);
-        };
-        if let Some(done) = done_of(cx, slot)? {
-            if index < slots.len() {
-                let _slot = slots.remove(index);
-            }
-            return Ok(Some(done));
+        let slot = &slots[index];
+        if let Some((task, given)) = done_of(cx, slot)? {
+            return Ok(Some((index, task, given)));
         }
     }
     Ok(None)
 }
 
-/// The number of the slot's task and its value, once that has ended.
+/// The number of the slot's task and what its job came to, once that has ended.
 fn done_of<J: Yields, W, X: Acts<W>>(
     cx: &mut X,
     slot: &Slot<J>,
-) -> Result<Option<(TaskId, Option<J::Value>)>, Refusal>
-    ensures { IfOk result (λ found. IfSome found (λ done. (name : _) × (old : _) × (new : _) × Completes (J.may_yield name) old new done.0 done.1)) }
+) -> Result<Option<(TaskId, Option<Result<J::Value, J::Error>>)>, Refusal>
+    ensures sees { SeesMore (X.token cx.old) (X.token cx.new) }
+    ensures answer { MatchResult result (λ found. IfSome found (λ done. (done.0 ≡ task_of slot.now.reply) × Completes (J.may_yield slot.now.name) (X.token cx.old) (X.token cx.new) done.0 done.1)) (λ refusal. LookRefused (X.token cx.old) (X.token cx.new) (task_of slot.now.reply) refusal) }
 {
     let task = slot.task();
     match cx.state(task) {
-        Ok(State::Success(_number)) => Ok(Some((task, slot.place.take(cx, slot.name)))),
-        Ok(State::Failed(_fault)) => Ok(Some((task, None))),
+        Ok(State::Success(_number)) => Ok(Some((task, slot.place.won(cx, slot.name)))),
+        Ok(State::Failed(_fault)) => Ok(Some((task, slot.place.lost(cx)))),
         Ok(State::Unavailable) => Ok(None),
         Err(refusal) => Err(refusal),
     }

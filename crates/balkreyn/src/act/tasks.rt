@@ -2,16 +2,22 @@
 ghost use Rattle.std.specs.Prelude.{◌≡◌, IfOk};
 
 use crate::act::contexts::{Acts, Cx};
+use crate::act::hooks::{AtHand, Happening, Hooks, Load, Observes};
+use crate::act::stops::{Stop, Watch};
 use crate::aliases::{Forks, Handle};
 use crate::errors::NoTime;
+use crate::forks::fork;
+use crate::literals::named;
+use crate::scoped::Scopes;
 use crate::services::{Promises, Service, realm_clock, serve_on_crew};
-use job_runner::{Answers, Job, JobWork, SystemClock, TaskCtx};
+use job_runner::{Answers, Clock, Job, JobWork, SystemClock, TaskCtx};
+use join_rules::Joiner;
 use realm_lock::{RealmName, Seed};
-use scope_rules::{AnyEnd, End, Refusal};
-use std::alloc::Global;
+use scope_rules::{AnyEnd, End, ForkReply, Name, Options, Refusal};
+use std::alloc::{AllocError, Global};
 use std::marker::{Brand, PhantomData};
 use std::rt::Clock as SystemTime;
-use std::sync::Wait;
+use std::sync::{Arc, Wait};
 use thread_crew::{CrewRuntime, OsThreads};
 
 /// What a thread runs that acts by one value (JEP 505 has callables in its place). A scope that it leaves open is
@@ -27,23 +33,58 @@ pub trait Task: Drop + Sized {
         ensures { Self.may_end self result };
 }
 
+/// What is run for a service: a job of its own, or the watch for its stop.
+#[derive(Drop)]
+pub enum Part<W> {
+    Own(W),
+    Watch(Watch),
+}
+
 /// Such a job on its way to a thread, with the realm's clock.
 #[derive(Drop)]
-pub struct Timed<K, W> {
+pub struct Timed<K, W, O> {
     pub(crate) alloc: Global,
     pub(crate) clock: SystemClock<K>,
-    pub(crate) job: W,
+    pub(crate) hooks: Hooks<O>,
+    pub(crate) one: Option<AtHand>,
+    pub(crate) name: Name,
+    pub(crate) job: Part<W>,
 }
 
-impl<K, W: Task> Answers for Timed<K, W> {
-    ghost may_end = { λ timed end. W.may_end timed.job end };
+impl<K, W: Task, O> Answers for Timed<K, W, O> {
+    ghost use Rattle.balkreyn.specs.Parts.{PartMayEnd};
+
+    ghost may_end = { λ timed end. PartMayEnd W.may_end timed.job end };
 }
 
-impl<K: Handle, N: RealmName, W: Task, S: Forks<AnyEnd, N, Timed<K, W>>> Job<AnyEnd, S, N>
-    for Timed<K, W> {
+impl<K: Handle, N: RealmName, W: Task, O: Observes, S: Forks<AnyEnd, N, Timed<K, W, O>>> Job<
+    AnyEnd,
+    S,
+    N,
+> for Timed<K, W, O> {
     fn run<R: Wait>(self, _rt: &R, ctx: &mut TaskCtx<AnyEnd, S, N>) -> End {
-        let Timed { alloc, clock, job } = self;
-        job.run(&mut Cx::new(alloc, clock, ctx))
+        let Timed {
+            alloc,
+            clock,
+            hooks,
+            one,
+            name,
+            job,
+        } = self;
+        let (observer, mut last) = (&hooks.observer, clock);
+        observer.saw(&last.runtime(), last.now(), Happening::Started { name });
+        let end = match job {
+            Part::Own(job) => job.run(&mut Cx::new(alloc, clock, &hooks, ctx)),
+            Part::Watch(watch) => watch.run(&mut Cx::new(alloc, clock, &hooks, ctx)),
+        };
+        let fault = end.err();
+        observer.saw(
+            &last.runtime(),
+            last.now(),
+            Happening::Ended { name, fault },
+        );
+        drop(one);
+        end
     }
 }
 
@@ -54,15 +95,16 @@ pub trait Serves<W>: Promises {
         ensures { IfOk result (λ answer. Self.may_answer self answer) };
 }
 
-/// Such a service, by the context of main.
+/// Such a service, by the context of main, with its hooks.
 #[derive(Drop)]
-struct Acting<W, V> {
+struct Acting<W, O, V> {
     alloc: Global,
     service: V,
+    hooks: Hooks<O>,
     jobs: PhantomData<W>,
 }
 
-impl<W, V: Promises> Promises for Acting<W, V> {
+impl<W, O, V: Promises> Promises for Acting<W, O, V> {
     type Answer = V::Answer;
 
     type Error = V::Error;
@@ -74,17 +116,79 @@ impl<
     K: Handle,
     N: RealmName,
     W: Task,
+    O: Observes,
     V: Serves<W> + Drop,
-    S: Forks<AnyEnd, N, Timed<K, W>>,
-> Service<S, N, K> for Acting<W, V>
+    S: Forks<AnyEnd, N, Timed<K, W, O>>,
+> Service<S, N, K> for Acting<W, O, V>
 where
     V::Error: From<NoTime>,
 {
     fn serve(self, rt: &K, ctx: &mut TaskCtx<AnyEnd, S, N>) -> Result<V::Answer, V::Error> {
-        let Acting { alloc, service, .. } = self;
+        let Acting {
+            alloc,
+            service,
+            mut hooks,
+            ..
+        } = self;
         let clock = realm_clock(rt)?;
-        service.serve(&mut Cx::new(alloc, clock, ctx))
+        match hooks.stop.take() {
+            None => service.serve(&mut Cx::new(alloc, clock, &hooks, ctx)),
+            Some(stop) => {
+                serve_watched::<K, N, W, O, V, S>(alloc, clock, ctx, stop, &hooks, service)
+            }
+        }
     }
+}
+
+/// Serves in a scope, which a watch cancels once the stop is asked for.
+fn serve_watched<
+    K: Handle,
+    N: RealmName,
+    W: Task,
+    O: Observes,
+    V: Serves<W> + Drop,
+    S: Forks<AnyEnd, N, Timed<K, W, O>>,
+>(
+    alloc: Global,
+    clock: SystemClock<K>,
+    ctx: &mut TaskCtx<AnyEnd, S, N>,
+    stop: Arc<Stop, Global>,
+    hooks: &Hooks<O>,
+    service: V,
+) -> Result<V::Answer, V::Error>
+    ensures { IfOk result (λ answer. V.may_answer service answer) }
+{
+    let rt = clock.runtime();
+    let scope = ctx.open_scope(&rt, Joiner::AwaitAll, Options::PLAIN)?;
+    let watch = Watch { stop, scope };
+    let found = match fork_watch::<K, N, W, O, S>(alloc, clock, ctx, hooks, watch) {
+        Ok(_reply) => service.serve(&mut Cx::new(alloc, clock, hooks, ctx)),
+        Err(refusal) => Err(refusal.into()),
+    };
+    let mut last = clock;
+    ctx.close_opened_by(&rt, scope, &mut last)?;
+    found
+}
+
+/// Forks the watch in the scope that it watches. It is none of the service's jobs at hand.
+fn fork_watch<K: Handle, N: RealmName, W: Task, O: Observes, S: Forks<AnyEnd, N, Timed<K, W, O>>>(
+    alloc: Global,
+    clock: SystemClock<K>,
+    ctx: &mut TaskCtx<AnyEnd, S, N>,
+    hooks: &Hooks<O>,
+    watch: Watch,
+) -> Result<ForkReply, Refusal> {
+    let (scope, name, hooks) = (watch.scope, named(b"stop"), hooks.share()?);
+    let (one, job) = (None, Part::Watch(watch));
+    let timed = Timed {
+        alloc,
+        clock,
+        hooks,
+        one,
+        name,
+        job,
+    };
+    fork(&clock.runtime(), ctx, scope, name, timed)
 }
 
 /// Runs the service on a thread pool of its own, as `serve_on_crew` does: at most `keep` of its threads may be idle.
@@ -103,19 +207,80 @@ where
     V::Error: From<NoTime>,
     ensures { IfOk result (λ answer. V.may_answer service answer) }
 {
+    match plain(alloc, None) {
+        Ok(hooks) => serve_with::<W, (), V, R>(rt, alloc, keep, hooks, service),
+        Err(_) => Err(Refusal::Memory.into()),
+    }
+}
+
+/// Hooks with no observer and no cap, and this stop.
+fn plain(alloc: Global, stop: Option<Arc<Stop, Global>>) -> Result<Hooks<()>, AllocError> {
+    Ok(Hooks {
+        stop,
+        load: Arc::new(alloc, Load::at_most(u64::MAX))?,
+        observer: Arc::new(alloc, ())?,
+    })
+}
+
+/// Runs the service as `serve` does, until the stop is asked for: then all that it does is cancelled, but what is behind
+/// a shield. It has a scope around it all, so `retire` is refused: a service that retires has a scope of its own to stop.
+/// One thread watches, and looks each ten milliseconds.
+///
+/// # Errors
+/// Those of `serve`, and the refusal of the scope, of its watch, or of its close.
+pub fn serve_until<W: Task + Send + 'static, V: Serves<W> + Drop, R: CrewRuntime + SystemTime>(
+    rt: &R,
+    alloc: Global,
+    keep: usize,
+    stop: Arc<Stop, Global>,
+    service: V,
+) -> Result<V::Answer, V::Error>
+where
+    V::Error: From<NoTime>,
+    ensures { IfOk result (λ answer. V.may_answer service answer) }
+{
+    match plain(alloc, Some(stop)) {
+        Ok(hooks) => serve_with::<W, (), V, R>(rt, alloc, keep, hooks, service),
+        Err(_) => Err(Refusal::Memory.into()),
+    }
+}
+
+/// Runs the service as `serve` does, with hooks: an observer, counters with a cap on the jobs at hand, and a stop, if there
+/// is one.
+///
+/// # Errors
+/// Those of `serve_until`.
+pub fn serve_with<
+    W: Task + Send + 'static,
+    O: Observes + Send + Sync + 'static,
+    V: Serves<W> + Drop,
+    R: CrewRuntime + SystemTime,
+>(rt: &R, alloc: Global, keep: usize, hooks: Hooks<O>, service: V) -> Result<V::Answer, V::Error>
+where
+    V::Error: From<NoTime>,
+    ensures { IfOk result (λ answer. V.may_answer service answer) }
+{
     let Ok(seed) = Seed::new(alloc) else {
         return Err(Refusal::Memory.into());
     };
-    serve_named::<Brand, W, V, R>(rt, alloc, seed, keep, service)
+    serve_named::<Brand, W, O, V, R>(rt, alloc, seed, keep, hooks, service)
 }
 
 /// The same in a realm of this seed, by its name.
 fn serve_named<
     N: RealmName + Send + Sync + 'static,
     W: Task + Send + 'static,
+    O: Observes + Send + Sync + 'static,
     V: Serves<W> + Drop,
     R: CrewRuntime + SystemTime,
->(rt: &R, alloc: Global, seed: Seed, keep: usize, service: V) -> Result<V::Answer, V::Error>
+>(
+    rt: &R,
+    alloc: Global,
+    seed: Seed,
+    keep: usize,
+    hooks: Hooks<O>,
+    service: V,
+) -> Result<V::Answer, V::Error>
 where
     V::Error: From<NoTime>,
     requires { seed ≡ N.table }
@@ -124,7 +289,8 @@ where
     let acting = Acting {
         alloc,
         service,
+        hooks,
         jobs: PhantomData,
     };
-    serve_on_crew::<N, Timed<R, W>, Acting<W, V>, R>(rt, alloc, seed, keep, acting)
+    serve_on_crew::<N, Timed<R, W, O>, Acting<W, O, V>, R>(rt, alloc, seed, keep, acting)
 }

@@ -1,11 +1,12 @@
 //! Typed jobs that act by one value, and what is done with several of them.
-ghost use Rattle.std.specs.Prelude.{◌≡◌, IfOk, IfSome, Ok, pos};
+ghost use Rattle.std.specs.Prelude.{◌≡◌, IfOk, IfSome, MatchResult, Ok, pos, Contains, length};
 ghost use Rattle.scope_rules.specs.declared.types.joiners.Policy.TheVariants as policy;
 ghost use Rattle.scope_rules.specs.declared.types.values.Value.TheVariants as value;
 ghost use Rattle.realm_core.specs.Calls.{SeesMore};
-ghost use Rattle.balkreyn.specs.Acting.{ClosesNow, Races, RunsJobs, Won};
+ghost use Rattle.balkreyn.specs.Acting.{ClosesNow, JoinsFrom};
 ghost use Rattle.balkreyn.specs.Bodies.{Opens};
-ghost use Rattle.balkreyn.specs.Slots.{ForksInto, Takes, task_of};
+ghost use Rattle.balkreyn.specs.Slots.{ForksInto, Says, SlotValue, Takes, task_of};
+ghost use Rattle.balkreyn.specs.Together.{FindsNothing, ForkedInto, Gathers, Gave, Races, RunsJobs, StopsForking, Won};
 
 use crate::act::blocks::entered;
 use crate::act::contexts::Acts;
@@ -13,18 +14,18 @@ use crate::act::tasks::Task;
 use crate::jobs::{Typed, Yields};
 use crate::slots::{Slot, place_and_share};
 use join_rules::Joiner;
-use scope_rules::{End, Fault, Name, Options, Outcome, Refusal, ScopeId, TaskId, Value};
+use scope_rules::{End, Name, Options, Outcome, Refusal, ScopeId, TaskId, Value};
 
 /// A job that answers a value of a type of its own, and acts by one value (JEP 505 has a `Callable` of that type).
 pub trait TypedTask<W>: Yields {
     /// Does the job, which was forked under the name.
-    fn run_typed<X: Acts<W>>(self, cx: &mut X, name: Name) -> Result<Self::Value, Fault>
+    fn run_typed<X: Acts<W>>(self, cx: &mut X, name: Name) -> Result<Self::Value, Self::Error>
         ensures { IfOk result (λ value. Self.may_yield name value) };
 }
 
 impl<J: Yields> Typed<J> {
-    /// Does the job, and puts its value where its slot takes it from. Its task succeeds with the number 0 if there is a
-    /// value, and else fails with the job's fault.
+    /// Does the job, and puts its value if its slot takes it from. Its task succeeds with the number 0 if there is a
+    /// value, and else fails with the fault of the job's error, which its slot gives, too.
     pub fn act<W, X: Acts<W>>(self, cx: &mut X) -> End
     where
         J: TypedTask<W>,
@@ -36,7 +37,7 @@ impl<J: Yields> Typed<J> {
                 place.put(cx, name, value);
                 Ok(Value::Num(0))
             }
-            Err(fault) => Err(fault),
+            Err(error) => Err(place.fail(cx, name, error)),
         }
     }
 }
@@ -94,13 +95,39 @@ impl<J: Yields> Slot<J> {
     }
 }
 
+impl<J: Yields> Slot<J> {
+    /// What the job returned, as the owner of the scope has it once, after the join: its value, or the error with which it
+    /// failed (JEP 505, `Subtask.get` and `exception` in one).
+    ///
+    /// # Errors
+    /// Those of `value`; `NotSuccess` only if the task failed without an error of its job, which left a scope open, or
+    /// never ran.
+    pub fn answer<W, X: Acts<W>>(&self, cx: &mut X) -> Result<Result<J::Value, J::Error>, Refusal>
+        ensures { Says (J.may_yield self.now.name) (X.token cx.old) (X.token cx.new) (task_of self.now.reply) result }
+    {
+        match cx.result(self.task()) {
+            Ok(_number) => match self.place.won(cx, self.name) {
+                Some(found) => Ok(found),
+                None => Err(Refusal::Unavailable),
+            },
+            Err(Refusal::NotSuccess) => match self.place.lost(cx) {
+                Some(found) => Ok(found),
+                None => Err(Refusal::NotSuccess),
+            },
+            Err(refusal) => Err(refusal),
+        }
+    }
+}
+
 /// Forks all these jobs in the scope under the name, in order, and gives their slots.
 fn fork_all<J: Yields + Drop, W: From<Typed<J>>, X: Acts<W>>(
     cx: &mut X,
     scope: ScopeId,
     name: Name,
     jobs: Vec<J>,
-) -> Result<Vec<Slot<J>>, Refusal> {
+) -> Result<Vec<Slot<J>>, Refusal>
+    ensures { MatchResult result (λ slots. ForkedInto X.token scope name cx.old slots.items cx.new × (length slots.items ≡ length jobs.items)) (StopsForking X.token scope name cx.old cx.new) }
+{
     let mut slots = Vec::new(cx.alloc());
     for job in jobs {
         let slot = fork_value(cx, scope, name, job)?;
@@ -115,7 +142,7 @@ fn won<J: Yields, W, X: Acts<W>>(
     scope: ScopeId,
     slots: &[Slot<J>],
 ) -> Result<J::Value, Refusal>
-    ensures { IfOk result (Won X.reads J.may_yield (X.time cx.old) (X.token cx.old) (X.token cx.new) scope) }
+    ensures { MatchResult result (Won X.reads J.may_yield (X.time cx.old) (X.token cx.old) (X.token cx.new) scope slots.now) (λ refusal. (answered : _) × (after : _) × JoinsFrom X.reads (X.time cx.old) (X.token cx.old) after scope answered) }
 {
     let joined = cx.join(scope)?;
     match &joined.outcome {
@@ -130,7 +157,7 @@ fn value_in<J: Yields, W, X: Acts<W>>(
     slots: &[Slot<J>],
     task: TaskId,
 ) -> Result<J::Value, Refusal>
-    ensures { IfOk result (λ value. (name : _) × Takes (J.may_yield name) (X.token cx.old) (X.token cx.new) task (Ok value)) }
+    ensures { IfOk result (λ value. (slot : SlotValue) × Contains slots.now slot × (task_of slot.reply ≡ task) × Takes (J.may_yield slot.name) (X.token cx.old) (X.token cx.new) task (Ok value)) }
 {
     match slot_of(slots, task) {
         Some(slot) => slot.value(cx),
@@ -140,7 +167,7 @@ fn value_in<J: Yields, W, X: Acts<W>>(
 
 /// The slot of this task, if it is one of them.
 fn slot_of<J: Yields>(slots: &[Slot<J>], task: TaskId) -> Option<&Slot<J>>
-    ensures { IfSome result (λ slot. task_of slot.now.reply ≡ task) }
+    ensures { IfSome result (λ slot. Contains slots.now slot.now × (task_of slot.now.reply ≡ task)) }
 {
     for slot in slots {
         if slot.task() == task {
@@ -161,7 +188,7 @@ pub fn race<J: Yields + Drop, W: From<Typed<J>>, X: Acts<W>>(
     options: Options,
     jobs: Vec<J>,
 ) -> Result<J::Value, Refusal>
-    ensures { IfOk result (RunsJobs (Opens X.token X.left_by_open policy.Any options) (ClosesNow X.token X.left_by_close X.reads X.time) (Races X.token X.reads X.time J.may_yield) cx.old cx.new) }
+    ensures { RunsJobs (Opens X.token X.left_by_open policy.Any options) (ClosesNow X.token X.left_by_close X.reads X.time) (λ scope begun ended found. MatchResult found (Races X.token X.reads X.time J.may_yield name (length jobs.items) scope begun ended) (FindsNothing X.token X.reads X.time name (length jobs.items) scope begun ended)) cx.old cx.new result }
 {
     let scope = entered(cx, Joiner::Any, options)?;
     let found = raced(cx, scope, name, jobs);
@@ -176,7 +203,7 @@ fn raced<J: Yields + Drop, W: From<Typed<J>>, X: Acts<W>>(
     name: Name,
     jobs: Vec<J>,
 ) -> Result<J::Value, Refusal>
-    ensures { IfOk result (Races X.token X.reads X.time J.may_yield scope cx.old cx.new) }
+    ensures { MatchResult result (Races X.token X.reads X.time J.may_yield name (length jobs.items) scope cx.old cx.new) (FindsNothing X.token X.reads X.time name (length jobs.items) scope cx.old cx.new) }
 {
     let slots = fork_all(cx, scope, name, jobs)?;
     won(cx, scope, &slots)
@@ -192,7 +219,9 @@ pub fn all_of<J: Yields + Drop, W: From<Typed<J>>, X: Acts<W>>(
     name: Name,
     options: Options,
     jobs: Vec<J>,
-) -> Result<Vec<Option<J::Value>>, Refusal> {
+) -> Result<Vec<Option<J::Value>>, Refusal>
+    ensures { RunsJobs (Opens X.token X.left_by_open policy.AwaitAll options) (ClosesNow X.token X.left_by_close X.reads X.time) (λ scope begun ended found. MatchResult found (λ values. Gathers X.token X.reads X.time J.may_yield name (length jobs.items) scope begun ended values.items) (FindsNothing X.token X.reads X.time name (length jobs.items) scope begun ended)) cx.old cx.new result }
+{
     let scope = entered(cx, Joiner::AwaitAll, options)?;
     let found = gathered(cx, scope, name, jobs);
     cx.close(scope)?;
@@ -205,11 +234,23 @@ fn gathered<J: Yields + Drop, W: From<Typed<J>>, X: Acts<W>>(
     scope: ScopeId,
     name: Name,
     jobs: Vec<J>,
-) -> Result<Vec<Option<J::Value>>, Refusal> {
+) -> Result<Vec<Option<J::Value>>, Refusal>
+    ensures { MatchResult result (λ values. Gathers X.token X.reads X.time J.may_yield name (length jobs.items) scope cx.old cx.new values.items) (FindsNothing X.token X.reads X.time name (length jobs.items) scope cx.old cx.new) }
+{
     let slots = fork_all(cx, scope, name, jobs)?;
     cx.join(scope)?;
+    given(cx, &slots)
+}
+
+/// The value of each of the slots, in order, if it has one.
+fn given<J: Yields, W, X: Acts<W>>(
+    cx: &mut X,
+    slots: &[Slot<J>],
+) -> Result<Vec<Option<J::Value>>, Refusal>
+    ensures { IfOk result (λ values. Gave X.token J.may_yield slots.now cx.old (length slots.now) values.items cx.new) }
+{
     let mut values = Vec::new(cx.alloc());
-    for slot in slots.iter() {
+    for slot in slots {
         values.push(slot.value(cx).ok())?;
     }
     Ok(values)

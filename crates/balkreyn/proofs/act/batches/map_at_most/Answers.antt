@@ -1,6 +1,31 @@
-use Rattle.std.proofs.Common.{max, rules}
-use Rattle.balkreyn.proofs.Acted.{ran_jobs, staffs_so}
+use Rattle.std.proofs.Common.{◌∙◌, inr, max, rules}
+use Rattle.balkreyn.proofs.Looked.{maps_so}
 use Rattle.balkreyn.proofs.act.batches.map_at_most.Goals as goal
 
+-- the workers ran, and the close was refused
+pub returns-in_err-close : goal.returns-in_err-close
+returns-in_err-close g c = inr (inr (record {
+  scope = c.in_ok-scope.scope;
+  begun = c.entered.new.cx;
+  ended = c.mapped-found.new.cx;
+  found = c.mapped-found.result;
+  closed = c.close.result;
+  opened = c.in_ok-scope.ensures;
+  ran = maps_so g.X.Scopes.token g.X.Acts.reads g.X.Acts.time c.args.name c.max.result (max c.args.at_once 1) _ _ c.in_ok-scope.scope c.entered.new.cx c.mapped-found.new.cx (search rules) (λ values it. (it.0, it.1 ∙ c.in_ok-batch.ensures)) c.mapped-found.result c.mapped-found.ensures;
+  shut = c.close.ensures;
+  answers = search rules;
+}))
+
+-- and here it was not
 pub returns : goal.returns
-returns g c = ran_jobs _ _ _ _ _ _ _ c.in_ok-scope.scope c.in_ok-close.field-0 c.in_ok-scope.ensures c.in_ok-close.ensures c.mapped-found.result (staffs_so _ _ _ _ c.max.result (max c.args.at_once 1) _ _ _ (search rules) c.mapped-found.result c.mapped-found.ensures)
+returns g c = inr (inr (record {
+  scope = c.in_ok-scope.scope;
+  begun = c.entered.new.cx;
+  ended = c.mapped-found.new.cx;
+  found = c.mapped-found.result;
+  closed = c.close.result;
+  opened = c.in_ok-scope.ensures;
+  ran = maps_so g.X.Scopes.token g.X.Acts.reads g.X.Acts.time c.args.name c.max.result (max c.args.at_once 1) _ _ c.in_ok-scope.scope c.entered.new.cx c.mapped-found.new.cx (search rules) (λ values it. (it.0, it.1 ∙ c.in_ok-batch.ensures)) c.mapped-found.result c.mapped-found.ensures;
+  shut = c.close.ensures;
+  answers = search rules;
+}))

@@ -1,10 +1,15 @@
-use Rattle.std.proofs.Common.{rules, refl, inl}
+use Rattle.std.proofs.Common.{rules, refl, inl, inr}
 use Rattle.balkreyn.proofs.act.limits.limited.Goals as goal
+
+-- a cancel or a deadline came before a permit
+pub returns-in-None : goal.returns-in-None
+returns-in-None g c = let it = rw c.in-None.is at c.in_ok-permit.ensures.answer in inr (inl (it.0, it.1, refl))
 
 -- the body succeeded
 pub returns-in-Ok : goal.returns-in-Ok
 returns-in-Ok g c = inl (record {
-  begun = _;
+  begun = c.awaited.new.cx;
+  waited = c.awaited.ensures.sees;
   found = c.body-found.result;
   ran = record { lent = _; given = refl; back = _; left = refl; met = c.body-found.ensures };
   answers = search rules;
@@ -13,7 +18,8 @@ returns-in-Ok g c = inl (record {
 -- and here it failed
 pub returns-in-Err : goal.returns-in-Err
 returns-in-Err g c = inl (record {
-  begun = _;
+  begun = c.awaited.new.cx;
+  waited = c.awaited.ensures.sees;
   found = c.body-found.result;
   ran = record { lent = _; given = refl; back = _; left = refl; met = c.body-found.ensures };
   answers = search rules;

@@ -1,5 +1,30 @@
-use Rattle.balkreyn.proofs.Acted.{ran_jobs}
+use Rattle.std.proofs.Common.{rules, inr}
 use Rattle.balkreyn.proofs.act.valued.race.Goals as goal
 
+-- the jobs ran, and the close was refused
+pub returns-in_err-close : goal.returns-in_err-close
+returns-in_err-close g c = inr (record {
+  scope = c.in_ok-scope.scope;
+  begun = c.entered.new.cx;
+  ended = c.raced-found.new.cx;
+  found = c.raced-found.result;
+  closed = c.close.result;
+  opened = c.in_ok-scope.ensures;
+  ran = c.raced-found.ensures;
+  shut = c.close.ensures;
+  answers = search rules;
+})
+
+-- and here it was not
 pub returns : goal.returns
-returns g c = ran_jobs _ _ _ _ _ _ _ c.in_ok-scope.scope c.in_ok-close.field-0 c.in_ok-scope.ensures c.in_ok-close.ensures c.raced-found.result c.raced-found.ensures
+returns g c = inr (record {
+  scope = c.in_ok-scope.scope;
+  begun = c.entered.new.cx;
+  ended = c.raced-found.new.cx;
+  found = c.raced-found.result;
+  closed = c.close.result;
+  opened = c.in_ok-scope.ensures;
+  ran = c.raced-found.ensures;
+  shut = c.close.ensures;
+  answers = search rules;
+})

@@ -1,0 +1,176 @@
+//! Channels between jobs, whose waits a cancel and a deadline end.
+ghost use Rattle.std.specs.Prelude.{◌≡◌, MatchResult};
+ghost use Rattle.balkreyn.specs.Acting.{Sleeps};
+ghost use Rattle.balkreyn.specs.Channels.{HandsBack, Receives, Sends};
+ghost use Rattle.balkreyn.specs.Looking.{SleptLast};
+
+use crate::act::contexts::Acts;
+use crate::act::waits::{Looks, awaited};
+use scope_rules::Refusal;
+use std::alloc::{AllocError, AllocFailed, Global};
+use std::collections::VecDeque;
+use std::sync::{Mutex, Wait};
+
+/// A queue between jobs, which holds so many values at most and gives them in the order in which they were sent (Trio, a
+/// memory channel). Jobs share it in an `Arc`.
+#[derive(Drop)]
+pub struct Channel<T> {
+    queue: Mutex<Queue<T>>,
+}
+
+/// What is in it.
+#[derive(Drop)]
+struct Queue<T> {
+    values: VecDeque<T>,
+    room: usize,
+    is_closed: bool,
+}
+
+/// What a send answers.
+#[derive(Drop)]
+pub enum Sent<T> {
+    /// The value is in the channel.
+    Done,
+    /// The channel is closed; the value comes back.
+    Closed(T),
+    /// A cancel or a deadline came before there was room; the value comes back.
+    Cancelled(T),
+}
+
+/// What a receive answers.
+#[derive(Drop)]
+pub enum Received<T> {
+    /// The value that was sent first of those in the channel.
+    Value(T),
+    /// The channel is closed, and nothing is left in it.
+    Closed,
+    /// A cancel or a deadline came before there was a value.
+    Cancelled,
+}
+
+/// What one try to send answers.
+enum Put<T> {
+    Done,
+    Full(T),
+    Closed(T),
+}
+
+/// The values need not be `Drop` here: so none of them can be lost.
+impl<T> Channel<T> {
+    /// A channel that holds so many values at most, and one at least.
+    pub fn bounded(alloc: Global, room: usize) -> Result<Channel<T>, AllocError> {
+        let room = room.max(1);
+        let queue = Queue {
+            values: VecDeque::with_capacity(alloc, room)?,
+            room,
+            is_closed: false,
+        };
+        Ok(Channel {
+            queue: Mutex::new(queue),
+        })
+    }
+
+    /// Closes it: nothing more can be sent, and what is in it can still be received.
+    pub fn close<R: Wait>(&self, rt: &R) {
+        self.queue.lock(rt).is_closed = true;
+    }
+
+    /// Puts the value behind the others, if there is room.
+    fn put<R: Wait>(&self, rt: &R, value: T) -> Put<T>
+        ensures { HandsBack value result }
+    {
+        let mut queue = self.queue.lock(rt);
+        if queue.is_closed {
+            return Put::Closed(value);
+        }
+        if queue.values.len() >= queue.room {
+            return Put::Full(value);
+        }
+        match queue.values.push_back(value) {
+            Ok(()) => Put::Done,
+            Err(AllocFailed { value }) => Put::Full(value),
+        }
+    }
+
+    /// The first of the values; none if the channel is closed and empty.
+    fn take<R: Wait>(&self, rt: &R) -> Option<Option<T>> {
+        let mut queue = self.queue.lock(rt);
+        match queue.values.pop_front() {
+            Some(value) => Some(Some(value)),
+            None if queue.is_closed => Some(None),
+            None => None,
+        }
+    }
+}
+
+/// Who waits for a value.
+#[derive(Drop)]
+struct Receiving<'a, T> {
+    channel: &'a Channel<T>,
+}
+
+impl<T> Looks<Option<T>> for Receiving<'_, T> {
+    fn look<R: Wait>(&mut self, rt: &R) -> Option<Option<T>> {
+        self.channel.take(rt)
+    }
+}
+
+/// Receives the value that was sent first, once there is one. It looks each millisecond.
+///
+/// # Errors
+/// The refusal of the wait.
+pub fn receive<T: Drop, W, X: Acts<W>>(
+    cx: &mut X,
+    channel: &Channel<T>,
+) -> Result<Received<T>, Refusal>
+    ensures { Receives X.token (λ old new slept. Sleeps X.reads X.reading X.time X.token X.seat 1 old new slept) cx.old cx.new result }
+{
+    let mut receiving = Receiving { channel };
+    let taken: Option<Option<T>> = awaited(cx, 1, &mut receiving)?;
+    match taken {
+        Some(Some(value)) => Ok(Received::Value(value)),
+        Some(None) => Ok(Received::Closed),
+        None => Ok(Received::Cancelled),
+    }
+}
+
+/// Sends the value, once there is room for it. It looks each millisecond.
+///
+/// # Errors
+/// The refusal of the wait. The value is dropped.
+pub fn send<T: Drop, W, X: Acts<W>>(
+    cx: &mut X,
+    channel: &Channel<T>,
+    value: T,
+) -> Result<Sent<T>, Refusal>
+    ensures { MatchResult result (Sends X.token (λ old new slept. Sleeps X.reads X.reading X.time X.token X.seat 1 old new slept) value cx.old cx.new) (λ refusal. SleptLast X.token (λ old new slept. Sleeps X.reads X.reading X.time X.token X.seat 1 old new slept) cx.old cx.new (Err refusal)) }
+{
+    match offer(cx, channel, value) {
+        Ok(sent) => Ok(sent),
+        Err((refusal, _value)) => Err(refusal),
+    }
+}
+
+/// The same, of a value that can't be dropped: with the refusal of the wait it comes back.
+fn offer<T, W, X: Acts<W>>(
+    cx: &mut X,
+    channel: &Channel<T>,
+    mut value: T,
+) -> Result<Sent<T>, (Refusal, T)>
+    ensures { MatchResult result (Sends X.token (λ old new slept. Sleeps X.reads X.reading X.time X.token X.seat 1 old new slept) value cx.old cx.new) (λ failed. SleptLast X.token (λ old new slept. Sleeps X.reads X.reading X.time X.token X.seat 1 old new slept) cx.old cx.new (Err failed.0)) }
+{
+    for _ in 0..u64::MAX {
+        value = match channel.put(cx, value) {
+            Put::Done => return Ok(Sent::Done),
+            Put::Closed(back) => return Ok(Sent::Closed(back)),
+            Put::Full(back) => back,
+        };
+        match cx.sleep(1) {
+            Ok(None) => {}
+            Ok(Some(_mark)) => return Ok(Sent::Cancelled(value)),
+            Err(refusal) => return Err((refusal, value)),
+        }
+    }
+    for _ in cx.forever() {}
+    unreachable!()
+}

@@ -1,0 +1,103 @@
+//! A watch: a job that notes when events happen, and writes tree and journal to files if the service hangs.
+
+use crate::act::contexts::Acts;
+use crate::times::Times;
+use scope_rules::{End, Fault, Name, Refusal, Value};
+use std::fs;
+use std::rt::HostRuntime;
+
+/// A job that watches its realm: it looks every so many milliseconds, and writes the tree and the journal with times to
+/// two files if nothing has happened for too long, once a stop, or if somebody asks. Fork it in a scope around what it
+/// watches; the close of that scope ends it. Its value is how often it wrote. A file that can't be written is passed over.
+#[derive(Clone, Copy)]
+pub struct Watch {
+    /// By which it reaches its files.
+    pub io: HostRuntime,
+    /// The file of the tree.
+    pub tree: &'static str,
+    /// The file of the journal, a script with times that `scopectl` reads.
+    pub journal: &'static str,
+    /// If this file is there, both are written, and it is removed.
+    pub ask: &'static str,
+    /// How many milliseconds lie between two looks: so exact are the times.
+    pub every: u64,
+    /// For how many milliseconds nothing may happen.
+    pub late: u64,
+}
+
+/// A watch at work.
+#[derive(Drop)]
+struct Watching {
+    watch: Watch,
+    times: Times,
+    /// The time of the event at which it found the service hanging.
+    told: Option<u64>,
+    written: u32,
+}
+
+impl Watch {
+    /// Watches until its scope is cancelled.
+    pub fn act<W, X: Acts<W>>(self, cx: &mut X) -> End {
+        let mut watching = Watching {
+            watch: self,
+            times: Times::new(cx.alloc()),
+            told: None,
+            written: 0,
+        };
+        for _ in 0..u64::MAX {
+            match cx.sleep(self.every) {
+                Ok(None) => watching.look(cx),
+                _ => break,
+            }
+        }
+        Ok(Value::Num(i64::from(watching.written)))
+    }
+}
+
+impl Watching {
+    /// Looks, and writes if that is due. Without memory it goes on at the next look.
+    fn look<W, X: Acts<W>>(&mut self, cx: &mut X) {
+        if cx.note(&mut self.times).is_err() {
+            return;
+        }
+        if self.is_late() || self.is_asked() {
+            if self.write(cx).is_ok() {
+                self.written = self.written.saturating_add(1);
+            }
+        }
+    }
+
+    /// Whether nothing has happened for too long, and that was not written yet.
+    fn is_late(&mut self) -> bool {
+        let latest = self.times.latest();
+        let is_late = self
+            .times
+            .quiet()
+            .is_some_and(|quiet| quiet >= self.watch.late);
+        if !is_late || self.told == latest {
+            return false;
+        }
+        self.told = latest;
+        true
+    }
+
+    /// Whether somebody asks; the file that asks is removed.
+    fn is_asked(&self) -> bool {
+        let Watch { io, ask, .. } = self.watch;
+        fs::exists(&io, ask).is_ok_and(|there| there) && fs::remove_file(&io, ask).is_ok()
+    }
+
+    /// Writes both files.
+    fn write<W, X: Acts<W>>(&self, cx: &mut X) -> Result<(), Refusal> {
+        let Watch {
+            io,
+            tree,
+            journal,
+            ..
+        } = self.watch;
+        let (shown, script) = (cx.tree()?, cx.timed_journal(&self.times)?);
+        let _shown = fs::write(&io, tree, shown.as_str());
+        let _script = fs::write(&io, journal, script.as_str());
+        Ok(())
+    }
+}
