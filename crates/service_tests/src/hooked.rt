@@ -93,14 +93,20 @@ impl Serves<Lasts> for Three {
         self,
         cx: &mut X,
     ) -> Result<(Option<Refusal>, Option<Refusal>, Option<Refusal>), ServiceError> {
-        scope(cx, Joiner::AwaitAll, Options::PLAIN, |cx, scope| {
-            let first = cx.fork(scope, named(b"lasts"), Lasts).err();
-            let second = cx.fork(scope, named(b"lasts"), Lasts).err();
-            let third = cx.fork(scope, named(b"lasts"), Lasts).err();
-            cx.sleep(50)?;
-            cx.cancel(scope)?;
-            Ok((first, second, third))
-        })
+        let found: Result<(Option<Refusal>, Option<Refusal>, Option<Refusal>), Refusal> = scope(
+            cx,
+            Joiner::AwaitAll,
+            Options::PLAIN,
+            |cx, scope| {
+                let first = cx.fork(scope, named(b"lasts"), Lasts).err();
+                let second = cx.fork(scope, named(b"lasts"), Lasts).err();
+                let third = cx.fork(scope, named(b"lasts"), Lasts).err();
+                cx.sleep(50)?;
+                cx.cancel(scope)?;
+                Ok((first, second, third))
+            },
+        );
+        Ok(found?)
     }
 }
 
