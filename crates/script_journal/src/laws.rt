@@ -15,7 +15,7 @@ pub fn journal_is_a_script()
 
 /// A journal counts from its base. The script of any history is that of the same history from a fresh realm on: the time
 /// and main's bindings first, then the events, with scopes and tasks counted behind those of the base. So it brings a
-/// fresh realm there, within limits that allow this: a base's time costs no load, but the tick to it does.
+/// fresh realm there, if that history is legal: a base's time costs no load, but the tick to it does.
 pub fn journal_counts_from_its_base()
     ensures counts { JournalCountsAnew }
     ensures brings { JournalBringsAnew }
