@@ -31,62 +31,10 @@ use Rattle.scope_script.specs.Sessions.{line_reply, realm_after_line}
 use Rattle.balkreyn_c.specs.Asking.{text_in}
 use Rattle.balkreyn_c.specs.declared.line.Performed.{Performed}
 use Rattle.balkreyn_c.specs.declared.line.Performed.TheVariants as performed
-use Rattle.balkreyn_c.specs.Doors.{DidPerform, DoesLine, Lines, Stopped, not_done, reply_of}
+use Rattle.balkreyn_c.specs.Doors.{DidPerform, DoesLine, Lines, Stopped, not_done}
 use Rattle.balkreyn_c.specs.Joining.{AnswersBare}
 use Rattle.balkreyn_c.specs.Numbers.{untold, refused as refused_number}
 use Rattle.balkreyn_c.specs.Texts.{WritesReply, reply_line}
-
--- what was told of a cancel or a close, as a reply
-noted_reply : (e : Event) (said : Reply) (already : Bool) → reply_of e told.Recorded ≡ said → reply_of e (noted already) ≡ (if already then reply.Already else said)
-noted_reply e said true is = refl
-noted_reply e said false is = is
-
--- what is told, as a reply, is what scripts say of it
-replies : (h : History) (e : Event) → is_join (Do e) ≡ false → reply_of e (told_here h e) ≡ passed_reply h e
-replies h (event.Open actor policy options) no_join = refl
-replies h (event.Fork actor scope label) no_join = refl
-replies h (event.Reject task) no_join = refl
-replies h (event.Start task) no_join = refl
-replies h (event.Finish task end) no_join = refl
-replies h (event.Cancel scope) no_join = noted_reply (event.Cancel scope) reply.Cancelled (is_already h (event.Cancel scope)) refl
-replies h (event.Move scope deadline) no_join = refl
-replies h (event.Tick now) no_join = refl
-replies h (event.Bind actor pair) no_join = refl
-replies h (event.Unbind actor) no_join = refl
-replies h (event.Join actor scope) no_join = absurd cc
-replies h (event.BeginClose actor scope) no_join = noted_reply (event.BeginClose actor scope) reply.Closing (is_already h (event.BeginClose actor scope)) refl
-replies h (event.EndClose actor scope) no_join = refl
-
-noted_leaves : (old : Realm) (e : Event) (already : Bool) → after_telling old e (Ok (noted already)) ≡ (if not already then with_event old e else old)
-noted_leaves old e true = refl
-noted_leaves old e false = refl
-
--- so is what is left
-leaves : (old : Realm) (h : History) (e : Event) → after_telling old e (Ok (told_here h e)) ≡ (if not (is_already h e) then with_event old e else old)
-leaves old h (event.Open actor policy options) = refl
-leaves old h (event.Fork actor scope label) = refl
-leaves old h (event.Reject task) = refl
-leaves old h (event.Start task) = refl
-leaves old h (event.Finish task end) = refl
-leaves old h (event.Cancel scope) = noted_leaves old (event.Cancel scope) (is_already h (event.Cancel scope))
-leaves old h (event.Move scope deadline) = refl
-leaves old h (event.Tick now) = refl
-leaves old h (event.Bind actor pair) = refl
-leaves old h (event.Unbind actor) = refl
-leaves old h (event.Join actor scope) = refl
-leaves old h (event.BeginClose actor scope) = noted_leaves old (event.BeginClose actor scope) (is_already h (event.BeginClose actor scope))
-leaves old h (event.EndClose actor scope) = refl
-
--- an event that was accepted has the reply of scripts
-pub accepted : (old new : Realm) (e : Event) (told : Told) → is_join (Do e) ≡ false → Tells old e (Ok told) new → Performs old (Do e) new (reply_of e told)
-unfolding reply_to realm_after
-accepted old new e told no_join is =
-    let check = is.0.0 in
-    let there = is.0.1 in
-    record {
-      reply = ap (reply_of e) there ∙ replies old.history e no_join ∙ rw check refl;
-      realm = is.1 ∙ ap (λ t. after_telling old e (Ok t)) there ∙ leaves old old.history e ∙ rw check refl;
-    }
 
 -- a refusal is want of memory, or it is a reply
 abbrev OtherThanMemory : Refusal → Type 0

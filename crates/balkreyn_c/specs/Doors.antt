@@ -1,19 +1,14 @@
 -- What a line of a script does to the realm of a book, and what is told of it. What a line is answered and what it
 -- leaves are those of scripts.
 use Rattle.std.specs.Prelude.{◌≡◌, ◌⊎◌, ℤ, pos, ℕ, List, length, Option, None, Some, Err}
-use Rattle.scope_rules.specs.declared.types.events.Event.{Event}
-use Rattle.scope_rules.specs.declared.types.events.Event.TheVariants as event
 use Rattle.scope_rules.specs.declared.types.refusals.Refusal.{Refusal}
 use Rattle.scope_rules.specs.declared.types.refusals.Refusal.TheVariants.{Memory}
 use Rattle.scope_rules.specs.Replies.{Realm}
-use Rattle.scope_checks.specs.declared.told.Told.{Told}
-use Rattle.scope_checks.specs.declared.told.Told.TheVariants as told
 use Rattle.scope_checks.specs.Entering.{Retires, Tells}
 use Rattle.script_words.specs.declared.commands.Command.{Command}
 use Rattle.script_words.specs.declared.commands.Command.TheVariants.{Do, Retire, Ask}
 use Rattle.script_words.specs.declared.commands.Line.{Line}
 use Rattle.script_words.specs.declared.commands.Line.TheVariants.{Command as command}
-use Rattle.script_words.specs.declared.reply.Reply.{Reply}
 use Rattle.script_words.specs.declared.reply.Reply.TheVariants as reply
 use Rattle.script_words.specs.Lines.{line_said}
 use Rattle.scope_script.specs.Replying.{Performs, realm_after}
@@ -22,28 +17,6 @@ use Rattle.balkreyn_c.specs.declared.line.Performed.{Performed}
 use Rattle.balkreyn_c.specs.declared.line.Performed.TheVariants as performed
 use Rattle.balkreyn_c.specs.Asking.{text_in}
 use Rattle.balkreyn_c.specs.Numbers.{no_realm, refused, untold}
-
--- the reply to an event that was recorded and tells no more
-abbrev pub done_reply : Event → Reply
-done_reply (event.Reject task) = reply.Rejected
-done_reply (event.Start task) = reply.Started
-done_reply (event.Finish task end) = reply.Finished
-done_reply (event.Cancel scope) = reply.Cancelled
-done_reply (event.Move scope deadline) = reply.Moved
-done_reply (event.Tick now) = reply.Moment now
-done_reply (event.Bind actor pair) = reply.Bound
-done_reply (event.Unbind actor) = reply.Unbound
-done_reply (event.BeginClose actor scope) = reply.Closing
-done_reply other = reply.Already
-
--- the reply to an event that was told so
-abbrev pub reply_of : Event → Told → Reply
-reply_of e (told.Scope scope) = reply.Scope scope
-reply_of e (told.Task task) = reply.Task task
-reply_of e told.Recorded = done_reply e
-reply_of e told.Already = reply.Already
-reply_of e (told.Closed verdict) = reply.Closed verdict
-reply_of e told.Done = done_reply e
 
 -- what came of a command that was refused so
 abbrev pub not_done : Refusal → Performed

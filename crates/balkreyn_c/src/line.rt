@@ -4,7 +4,7 @@
 ghost use Rattle.std.specs.Prelude.{◌≡◌, MatchResult, false};
 ghost use Rattle.scope_script.specs.Replying.{answer_to, is_join};
 ghost use Rattle.script_words.specs.Lines.{line_said};
-ghost use Rattle.balkreyn_c.specs.Doors.{DidPerform, DoesLine, Lines, done_reply, not_done, reply_of};
+ghost use Rattle.balkreyn_c.specs.Doors.{DidPerform, DoesLine, Lines, not_done};
 ghost use Rattle.balkreyn_c.specs.Texts.{WritesReply, reply_line};
 
 use crate::book::{Book, put, taken};
@@ -12,8 +12,9 @@ use crate::numbers::{NO_REALM, UNTOLD, refused};
 use crate::outcomes::join_in;
 use crate::text::{write_line, write_text};
 use kept_realm::KeptRealm;
-use scope_checks::{Told, questions};
+use scope_checks::questions;
 use scope_rules::{Actor, Event, Refusal, ScopeId};
+use scope_script::reply_of;
 use script_words::{Command, Line, Question, Reply, read_line};
 use std::alloc::Global;
 
@@ -104,37 +105,6 @@ fn not_done(refusal: Refusal) -> Performed
     match refusal {
         Refusal::Memory => Performed::Memory,
         other => Performed::Told(Reply::Refused(other)),
-    }
-}
-
-/// The reply to the event that was told so.
-fn reply_of(event: &Event, told: Told) -> Reply
-    ensures { result ≡ reply_of event.now told }
-{
-    match told {
-        Told::Scope(scope) => Reply::Scope(scope),
-        Told::Task(task) => Reply::Task(task),
-        Told::Already => Reply::Already,
-        Told::Closed(verdict) => Reply::Closed(verdict),
-        Told::Recorded | Told::Done => done_reply(event),
-    }
-}
-
-/// The reply to the event that was recorded and tells no more.
-fn done_reply(event: &Event) -> Reply
-    ensures { result ≡ done_reply event.now }
-{
-    match *event {
-        Event::Reject { .. } => Reply::Rejected,
-        Event::Start { .. } => Reply::Started,
-        Event::Finish { .. } => Reply::Finished,
-        Event::Cancel { .. } => Reply::Cancelled,
-        Event::Move { .. } => Reply::Moved,
-        Event::Tick { now } => Reply::Moment(now),
-        Event::Bind { .. } => Reply::Bound,
-        Event::Unbind { .. } => Reply::Unbound,
-        Event::BeginClose { .. } => Reply::Closing,
-        _ => Reply::Already,
     }
 }
 

@@ -171,10 +171,10 @@ pub fn on_a_book<R: Print>(
             }
             Read::Nothing => {}
             Read::Command(command) => {
-                let mut reply = perform(&mut book, command);
+                let mut reply = perform(&mut book, &command);
                 if reply.is_err() {
                     refusals.note(call_of(command));
-                    reply = perform(&mut book, command);
+                    reply = perform(&mut book, &command);
                 }
                 is_played = say_reply(&book, command, &reply, &mut said) && is_played;
                 look(&book, is_used_up, refusals, &mut said);

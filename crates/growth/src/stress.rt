@@ -38,10 +38,10 @@ fn is_accepted(alloc: Global, history: &[Event]) -> bool {
     let mut book = BookState::<AnyEnd>::new(alloc, Limits::GREATEST);
     let mut are_accepted = true;
     for event in history {
-        let mut said = perform(&mut book, Command::Do(*event));
+        let mut said = perform(&mut book, &Command::Do(*event));
         for _ in 0..100u32 {
             if said.is_err() {
-                said = perform(&mut book, Command::Do(*event));
+                said = perform(&mut book, &Command::Do(*event));
             }
         }
         are_accepted = is_done(event, &said) && are_accepted;

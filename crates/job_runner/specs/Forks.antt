@@ -1,11 +1,11 @@
 -- What a fork of a job does, and answers.
-use Rattle.std.specs.Prelude.{◌≡◌, ℕ, None, Result, Ok, Err}
+use Rattle.std.specs.Prelude.{◌≡◌, ◌∷◌, ◌++◌, [], ℕ, None, Result, Ok, Err}
 use Rattle.scope_rules.specs.declared.types.answers.ForkReply.{ForkReply}
 use Rattle.scope_rules.specs.declared.types.answers.ForkReply.TheVariants.{Thread, Never}
 use Rattle.scope_rules.specs.declared.types.events.Event.TheVariants.{Fork, Reject}
 use Rattle.scope_rules.specs.declared.types.refusals.Refusal.{Refusal}
 use Rattle.scope_rules.specs.declared.types.refusals.Refusal.TheVariants as refusal
-use Rattle.scope_rules.specs.Ends.{LabelValue}
+use Rattle.scope_rules.specs.Ends.{EndValue, LabelValue}
 use Rattle.scope_rules.specs.History.{History}
 use Rattle.scope_rules.specs.Replies.{fork_reply}
 use Rattle.share_ledger.specs.declared.steps.RealmStep.TheVariants.{Happened}
@@ -17,6 +17,8 @@ use Rattle.share_ledger.specs.Values.{OwnerValue, TicketValue, IsWaiting}
 use Rattle.realm_core.specs.Calls.{Accepted, Added, SeesMore}
 use Rattle.job_runner.specs.declared.forking.ForkRefusal.{ForkRefusal}
 use Rattle.job_runner.specs.declared.forking.ForkRefusal.TheVariants as refused
+use Rattle.thread_crew.specs.Returns.{Returns}
+use Rattle.job_runner.specs.Endings.{EndsAsMay}
 use Rattle.job_runner.specs.Rooms.{DoesInRoom}
 
 -- the ticket is of the realm of this name, and of a task with this label that waits for its thread
@@ -60,6 +62,13 @@ ticket_of token s label task = record { table = token.table; limits = token.limi
 abbrev pub KeepsThread : OwnerValue → ℕ → LabelValue → ForkReply → TeamValue → TeamValue → Type 0
 KeepsThread token s label (Thread task) old new = HasThreadMore (ticket_of token s label task) old new
 KeepsThread token s label (Never task) old new = IsSameTeam old new
+
+-- what a fork in scope s with this label that was answered so makes of the team if the job ran here: the task's
+-- ticket is the last of those that came back, and shows that the job ended as it may
+abbrev pub RanHere : TableId → (EndValue → Type 0) → OwnerValue → ℕ → LabelValue → ForkReply → TeamValue → TeamValue → Type 0
+RanHere name may_end token s label (Thread task) old new =
+    (last : TicketValue) × Returns name (ticket_of token s label task) last × EndsAsMay may_end last × (new.running ≡ old.running) × (new.returned ≡ old.returned ++ last ∷ [])
+RanHere name may_end token s label (Never task) old new = IsSameTeam old new
 
 abbrev pub reply_there : ℕ → History → ForkReply
 reply_there scope h = fork_reply h scope

@@ -17,6 +17,7 @@ mod markers;
 mod opening;
 mod queries;
 mod reporting;
+mod running;
 mod timed;
 mod works;
 

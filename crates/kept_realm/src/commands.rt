@@ -1,13 +1,9 @@
-ghost use Rattle.std.specs.Prelude.{◌≡◌, Ok};
-ghost use Rattle.scope_rules.specs.Table.{check_of};
 ghost use Rattle.scope_checks.specs.Entering.{Retires, Tells};
-ghost use Rattle.scope_checks.specs.Telling.{noted, told_of};
 
 use crate::realm::KeptRealm;
 use join_rules::StoredTest;
-use scope_checks::{Readings, Told, table};
+use scope_checks::{Told, table};
 use scope_journal::weight;
-use scope_rules::types::answers::ForkReply;
 use scope_rules::types::bases::Base;
 use scope_rules::types::events::Event;
 use scope_rules::types::refusals::Refusal;
@@ -29,8 +25,7 @@ impl KeptRealm {
     ) -> Result<Told, Refusal>
         ensures { Tells self.old event.now result self.new }
     {
-        table::row(self, &self.limits(), event)?;
-        let told = self.told(event);
+        let told = table::tell(self, &self.limits(), event)?;
         if matches!(told, Told::Already) {
             return Ok(told);
         }
@@ -40,28 +35,6 @@ impl KeptRealm {
             self.try_append(event, listed)?;
         }
         Ok(told)
-    }
-
-    /// What is told of the event, which no check refuses.
-    fn told(&self, event: &Event) -> Told
-        requires { check_of self.now.limits self.now.history event.now ≡ Ok tt }
-        ensures { result ≡ told_of self.now.history event.now }
-    {
-        match *event {
-            Event::Open { .. } => Told::Scope(self.scopes() + 1),
-            Event::Fork { scope, .. } => {
-                let task = self.tasks() + 1;
-                if self.is_cancelled(scope) {
-                    Told::Task(ForkReply::Never(task))
-                } else {
-                    Told::Task(ForkReply::Thread(task))
-                }
-            }
-            Event::Cancel { scope } => noted(self.is_cancelled(scope)),
-            Event::BeginClose { scope, .. } => noted(self.closing(scope)),
-            Event::EndClose { scope, .. } => Told::Closed(self.verdict(scope)),
-            _ => Told::Done,
-        }
     }
 
     /// Takes the events out and leaves a base, once main's outermost scope is closed; what is left goes
@@ -78,16 +51,5 @@ impl KeptRealm {
         };
         self.restart(base);
         Ok(answered)
-    }
-}
-
-/// Whether all was so already.
-fn noted(already: bool) -> Told
-    ensures { result ≡ noted already }
-{
-    if already {
-        Told::Already
-    } else {
-        Told::Recorded
     }
 }

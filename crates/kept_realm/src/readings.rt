@@ -104,16 +104,16 @@ impl KeptRealm {
     {
         match self.rows().innermost(actor) {
             Some(scope) => Some(scope),
-            None => self.forked_in(actor),
+            None => self.scope_of_task(actor),
         }
     }
 
-    /// The scope that the actor was forked in, if it is a task.
+    /// The scope that the task was forked in, if it was since the base. It reads no event.
     #[tactic(auto, unfolding(scope_rules::specs::Scopes::forked_in))]
-    fn forked_in(&self, actor: Actor) -> Option<ScopeId>
-        ensures { result ≡ forked_in self.now.history actor }
+    fn scope_of_task(&self, task: TaskId) -> Option<ScopeId>
+        ensures { result ≡ forked_in self.now.history task }
     {
-        match self.task_row(actor) {
+        match self.task_row(task) {
             Some(row) => Some(row.scope),
             None => None,
         }
@@ -173,6 +173,10 @@ impl Readings for KeptRealm {
         let row = self.task_row(task)?;
         let place = row.place as usize;
         Some(forking_at(&self.journal.events()[place], place, row.scope))
+    }
+
+    fn forked_in(&self, task: TaskId) -> Option<ScopeId> {
+        self.scope_of_task(task)
     }
 
     #[tactic(auto, using(scope_rows::proofs::Joinings::joined_is_some, crate::proofs::NeverOpened::unjoined))]
@@ -322,8 +326,7 @@ impl Readings for KeptRealm {
     }
 }
 
-/// The forking that the event at the place is, a fork in the scope. Who asks it for the scope alone, or
-/// whether there is one, reads no event.
+/// The forking that the event at the place is, a fork in the scope.
 fn forking_at(event: &Event, place: usize, scope: ScopeId) -> Forking
     requires { (actor : ℕ) × (label : Label) × (event.now ≡ Fork actor scope label) }
     ensures { Some result ≡ forking_of place event.now }

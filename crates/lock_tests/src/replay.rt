@@ -52,7 +52,7 @@ impl Replay {
     }
 
     fn add(&mut self, event: Event) -> Result<(), Fail> {
-        let said = perform(&mut self.book, Command::Do(event))?;
+        let said = perform(&mut self.book, &Command::Do(event))?;
         if matches!(said, Reply::Refused(_) | Reply::Already) {
             return Err("an event of the history is not accepted anew")?;
         }

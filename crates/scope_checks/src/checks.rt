@@ -37,7 +37,7 @@ pub fn task_check<R: Readings>(readings: &R, task: TaskId) -> Result<(), Refusal
     if 0 < task && task <= readings.retired_tasks() {
         return Err(Refusal::Retired);
     }
-    refuse_if(readings.forking(task).is_none(), Refusal::NoTask)
+    refuse_if(readings.forked_in(task).is_none(), Refusal::NoTask)
 }
 
 /// Whether the task runs.

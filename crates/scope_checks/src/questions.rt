@@ -85,8 +85,8 @@ fn readable<R: Readings>(readings: &R, actor: Actor, task: TaskId) -> Result<Sta
 fn owns_task<R: Readings>(readings: &R, actor: Actor, task: TaskId) -> bool
     ensures { result ≡ owns_task (R.history readings.now) actor task }
 {
-    match readings.forking(task) {
-        Some(forking) => owns(readings, actor, forking.scope),
+    match readings.forked_in(task) {
+        Some(scope) => owns(readings, actor, scope),
         None => false,
     }
 }
@@ -95,8 +95,8 @@ fn owns_task<R: Readings>(readings: &R, actor: Actor, task: TaskId) -> bool
 fn task_joined<R: Readings>(readings: &R, task: TaskId) -> bool
     ensures { result ≡ task_joined (R.history readings.now) task }
 {
-    match readings.forking(task) {
-        Some(forking) => readings.joined(forking.scope),
+    match readings.forked_in(task) {
+        Some(scope) => readings.joined(scope),
         None => false,
     }
 }

@@ -3,7 +3,7 @@
 ghost use Rattle.std.specs.Prelude.{◌≡◌, Some, IfOk, IsSome, length, slice_get};
 ghost use Rattle.scope_rules.specs.History.{moment, opening, forking, scopes, tasks};
 ghost use Rattle.scope_rules.specs.Load.{load};
-ghost use Rattle.scope_rules.specs.Scopes.{joined, closed, innermost, next_level, closing};
+ghost use Rattle.scope_rules.specs.Scopes.{joined, closed, innermost, next_level, closing, forked_in};
 ghost use Rattle.scope_rules.specs.Cancels.{is_cancelled, cut, deadline, effective};
 ghost use Rattle.scope_rules.specs.Tasks.{stage, state, settled, counts};
 ghost use Rattle.scope_rules.specs.Outcomes.{outcome};
@@ -62,6 +62,11 @@ pub trait Readings {
     /// The forking of the task, if it was forked since the base.
     fn forking(&self, task: TaskId) -> Option<Forking>
         ensures { result ≡ forking (history self.now) task };
+
+    /// The scope that the task was forked in, if it was since the base. Where a row is kept, no event is
+    /// read for it.
+    fn forked_in(&self, task: TaskId) -> Option<ScopeId>
+        ensures { result ≡ forked_in (history self.now) task };
 
     /// Whether the scope is joined.
     fn joined(&self, scope: ScopeId) -> bool

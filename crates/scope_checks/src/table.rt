@@ -1,14 +1,18 @@
-//! The table of checks: one function a row, which tries the checks in their order; and what a
-//! retirement, which is no event, is refused for.
+//! The table of checks: one function a row, which tries the checks in their order; what an event is told
+//! that passes its row; and what a retirement, which is no event, is refused for.
 
-ghost use Rattle.std.specs.Prelude.{◌≡◌, ℕ, Option};
+ghost use Rattle.std.specs.Prelude.{◌≡◌, ◌<◌, ℕ, Option};
 ghost use Rattle.scope_rules.specs.declared.types.capacity.Limits.{Limits};
 ghost use Rattle.scope_rules.specs.declared.types.values.Label.{Label};
 ghost use Rattle.scope_rules.specs.declared.types.joiners.Policy.{Policy};
 ghost use Rattle.scope_rules.specs.declared.types.events.Options.{Options};
 ghost use Rattle.scope_rules.specs.declared.types.events.Binding.{Binding};
 ghost use Rattle.scope_rules.specs.Ends.{EndValue};
-ghost use Rattle.scope_rules.specs.Table.{check_of, retire_check};
+ghost use Rattle.scope_rules.specs.History.{tasks};
+ghost use Rattle.scope_rules.specs.Replies.{fork_reply};
+ghost use Rattle.scope_rules.specs.Table.{check_of, retire_check, answering};
+ghost use Rattle.scope_rules.specs.declared.types.capacity.TheConstants.{GREATEST_NUMBER};
+ghost use Rattle.scope_checks.specs.Telling.{told_of, noted};
 
 use crate::checks::{
     actor_check, in_closing, is_innermost, owner_check, ready, refuse_closing, refuse_full,
@@ -16,29 +20,71 @@ use crate::checks::{
 };
 use crate::load::{over_scopes, over_tasks};
 use crate::readings::Readings;
-use scope_rules::types::answers::Stage;
+use crate::told::Told;
+use scope_rules::types::answers::{ForkReply, Stage};
 use scope_rules::types::capacity::{FORK_LOAD, LEVEL_LIMIT, Limits, OPEN_LOAD, STEP_LOAD};
 use scope_rules::types::events::Event;
 use scope_rules::types::refusals::Refusal;
 use scope_rules::types::values::{Actor, MAIN, ScopeId, TaskId};
 
-/// What the event is refused for: the first check of its row that doesn't pass.
-pub fn row<R: Readings>(readings: &R, limits: &Limits, event: &Event) -> Result<(), Refusal>
-    ensures { result ≡ check_of limits.now (R.history readings.now) event.now }
+/// What the event is told, in one pass over what it is: the first check of its row that doesn't pass gives
+/// the refusal, and if all pass, this is the answer.
+pub fn tell<R: Readings>(readings: &R, limits: &Limits, event: &Event) -> Result<Told, Refusal>
+    ensures { result ≡ answering (check_of limits.now (R.history readings.now) event.now) (told_of (R.history readings.now) event.now) }
 {
     match *event {
-        Event::Open { actor, .. } => open_row(readings, limits, actor),
-        Event::Fork { actor, scope, .. } => fork_row(readings, limits, actor, scope),
-        Event::Reject { task } | Event::Start { task } => waiting_row(readings, task),
-        Event::Finish { task, .. } => finish_row(readings, task),
-        Event::Cancel { scope } => cancel_row(readings, limits, scope),
-        Event::Move { scope, .. } => move_row(readings, limits, scope),
-        Event::Tick { now } => tick_row(readings, limits, now),
-        Event::Bind { actor, .. } => bind_row(readings, limits, actor),
-        Event::Unbind { actor } => unbind_row(readings, limits, actor),
-        Event::Join { actor, scope } => join_row(readings, actor, scope),
-        Event::BeginClose { actor, scope } => begin_close_row(readings, actor, scope),
-        Event::EndClose { actor, scope } => end_close_row(readings, actor, scope),
+        Event::Open { actor, .. } => {
+            open_row(readings, limits, actor)?;
+            return Ok(Told::Scope(readings.scopes() + 1));
+        }
+        Event::Fork { actor, scope, .. } => {
+            fork_row(readings, limits, actor, scope)?;
+            return Ok(Told::Task(fork_told(readings, scope)));
+        }
+        Event::Cancel { scope } => {
+            cancel_row(readings, limits, scope)?;
+            return Ok(noted(readings.is_cancelled(scope)));
+        }
+        Event::BeginClose { actor, scope } => {
+            begin_close_row(readings, actor, scope)?;
+            return Ok(noted(readings.closing(scope)));
+        }
+        Event::EndClose { actor, scope } => {
+            end_close_row(readings, actor, scope)?;
+            return Ok(Told::Closed(readings.verdict(scope)));
+        }
+        Event::Reject { task } | Event::Start { task } => waiting_row(readings, task)?,
+        Event::Finish { task, .. } => finish_row(readings, task)?,
+        Event::Move { scope, .. } => move_row(readings, limits, scope)?,
+        Event::Tick { now } => tick_row(readings, limits, now)?,
+        Event::Bind { actor, .. } => bind_row(readings, limits, actor)?,
+        Event::Unbind { actor } => unbind_row(readings, limits, actor)?,
+        Event::Join { actor, scope } => join_row(readings, actor, scope)?,
+    }
+    Ok(Told::Done)
+}
+
+/// The number of the next task, and whether it gets a thread in the scope.
+fn fork_told<R: Readings>(readings: &R, scope: ScopeId) -> ForkReply
+    requires { tasks (R.history readings.now) < GREATEST_NUMBER }
+    ensures { result ≡ fork_reply (R.history readings.now) scope }
+{
+    let task = readings.tasks() + 1;
+    if readings.is_cancelled(scope) {
+        ForkReply::Never(task)
+    } else {
+        ForkReply::Thread(task)
+    }
+}
+
+/// Whether all was so already.
+fn noted(already: bool) -> Told
+    ensures { result ≡ noted already }
+{
+    if already {
+        Told::Already
+    } else {
+        Told::Recorded
     }
 }
 

@@ -16,56 +16,74 @@ use Rattle.script_words.specs.declared.commands.Command.TheVariants.{Do, Retire}
 use Rattle.script_words.specs.declared.reply.Reply.{Reply}
 use Rattle.script_words.specs.declared.reply.Reply.TheVariants as reply
 use Rattle.scope_rules.specs.Table.{check_of, is_already, retire_check, answering}
-use Rattle.scope_script.specs.Replying.{replied, told_once, refused_or, told_of, told_base, is_join, reply_to, realm_after, PerformsOrStops}
+use Rattle.scope_checks.specs.declared.told.Told.{Told}
+use Rattle.scope_checks.specs.declared.told.Told.TheVariants as told
+use Rattle.scope_checks.specs.Entering.{Tells}
+use Rattle.scope_checks.specs.Telling.{told_of as told_of_event, noted, after_telling, wants_memory}
+use Rattle.scope_script.specs.Replying.{replied, refused_or, told_of, passed_reply, told_base, is_join, reply_of, reply_to, realm_after, Performs, PerformsOrStops}
 
--- what is answered without memory is a case of what may want it
-pub without_memory : {A : Type 0} (check : Checked) (value : A) (result : Result A Refusal) → Answers check value result → AnswersOrMemory check value result
-without_memory (Ok done) value result is = inl is
-without_memory (Err r) value result is = is
+-- what was told of a cancel or a close, as a reply
+noted_reply : (e : Event) (said : Reply) (already : Bool) → reply_of e told.Recorded ≡ said → reply_of e (noted already) ≡ (if already then reply.Already else said)
+noted_reply e said true is = refl
+noted_reply e said false is = is
 
--- what an event that was tried is told and leaves, or else memory was refused
-Tried : (old new : Realm) (e : Event) (check : Checked) (already : Bool) (told said : Reply) → Type 0
-Tried old new e check already told said =
-    ((said ≡ reply.Refused Memory) × (new ≡ old))
-    ⊎ ((said ≡ refused_or check (if already then reply.Already else told)) × (new ≡ (if is_ok check && not already then with_event old e else old)))
+-- what is told, as a reply, is what scripts say of it
+replies : (h : History) (e : Event) → is_join (Do e) ≡ false → reply_of e (told_of_event h e) ≡ passed_reply h e
+replies h (event.Open actor policy options) no_join = refl
+replies h (event.Fork actor scope label) no_join = refl
+replies h (event.Reject task) no_join = refl
+replies h (event.Start task) no_join = refl
+replies h (event.Finish task end) no_join = refl
+replies h (event.Cancel scope) no_join = noted_reply (event.Cancel scope) reply.Cancelled (is_already h (event.Cancel scope)) refl
+replies h (event.Move scope deadline) no_join = refl
+replies h (event.Tick now) no_join = refl
+replies h (event.Bind actor pair) no_join = refl
+replies h (event.Unbind actor) no_join = refl
+replies h (event.Join actor scope) no_join = absurd cc
+replies h (event.BeginClose actor scope) no_join = noted_reply (event.BeginClose actor scope) reply.Closing (is_already h (event.BeginClose actor scope)) refl
+replies h (event.EndClose actor scope) no_join = refl
 
-tried : {A : Type 0} (old new : Realm) (e : Event) (check : Checked) (tell : A → Reply) (value : A) (result : Result A Refusal) (said : Reply) → said ≡ replied tell result → AnswersOrMemory check value result → new ≡ after old e result → Tried old new e check false (tell value) said
-unfolding Tried
-tried old new e (Ok done) tell value result said says (inl is) leaves = inr (says ∙ ap (replied tell) is, leaves ∙ ap (after old e) is)
-tried old new e (Ok done) tell value result said says (inr is) leaves = inl (says ∙ ap (replied tell) is, leaves ∙ ap (after old e) is)
-tried old new e (Err r) tell value result said says is leaves = inr (says ∙ ap (replied tell) is, leaves ∙ ap (after old e) is)
+noted_leaves : (old : Realm) (e : Event) (already : Bool) → after_telling old e (Ok (noted already)) ≡ (if not already then with_event old e else old)
+noted_leaves old e true = refl
+noted_leaves old e false = refl
 
-tried_once : (old new : Realm) (e : Event) (check : Checked) (already : Bool) (told : Reply) (result : Result Cancelling Refusal) (said : Reply) → said ≡ replied (told_once told) result → AnswersOrMemory check (if already then Already else Recorded) result → new ≡ after_recording old e result → Tried old new e check already told said
-unfolding Tried
-tried_once old new e (Ok done) true told result said says (inl is) leaves = inr (says ∙ ap (replied (told_once told)) is, leaves ∙ ap (after_recording old e) is)
-tried_once old new e (Ok done) false told result said says (inl is) leaves = inr (says ∙ ap (replied (told_once told)) is, leaves ∙ ap (after_recording old e) is)
-tried_once old new e (Ok done) already told result said says (inr is) leaves = inl (says ∙ ap (replied (told_once told)) is, leaves ∙ ap (after_recording old e) is)
-tried_once old new e (Err r) already told result said says is leaves = inr (says ∙ ap (replied (told_once told)) is, leaves ∙ ap (after_recording old e) is)
+-- so is what is left
+leaves : (old : Realm) (h : History) (e : Event) → after_telling old e (Ok (told_of_event h e)) ≡ (if not (is_already h e) then with_event old e else old)
+leaves old h (event.Open actor policy options) = refl
+leaves old h (event.Fork actor scope label) = refl
+leaves old h (event.Reject task) = refl
+leaves old h (event.Start task) = refl
+leaves old h (event.Finish task end) = refl
+leaves old h (event.Cancel scope) = noted_leaves old (event.Cancel scope) (is_already h (event.Cancel scope))
+leaves old h (event.Move scope deadline) = refl
+leaves old h (event.Tick now) = refl
+leaves old h (event.Bind actor pair) = refl
+leaves old h (event.Unbind actor) = refl
+leaves old h (event.Join actor scope) = refl
+leaves old h (event.BeginClose actor scope) = noted_leaves old (event.BeginClose actor scope) (is_already h (event.BeginClose actor scope))
+leaves old h (event.EndClose actor scope) = refl
 
-told_is : {A : Type 0} (tell : A → Reply) (result : Result A Refusal) (said : Reply) → MatchResult result (λ x. said ≡ tell x) (λ r. said ≡ reply.Refused r) → said ≡ replied tell result
-told_is tell (Ok x) said is = is
-told_is tell (Err r) said is = is
+-- an event that was accepted has the reply of scripts
+pub accepted : (old new : Realm) (e : Event) (told : Told) → is_join (Do e) ≡ false → Tells old e (Ok told) new → Performs old (Do e) new (reply_of e told)
+unfolding reply_to realm_after
+accepted old new e told no_join is =
+    let check = is.0.0 in
+    let there = is.0.1 in
+    record {
+      reply = ap (reply_of e) there ∙ replies old.history e no_join ∙ rw check refl;
+      realm = is.1 ∙ ap (λ t. after_telling old e (Ok t)) there ∙ leaves old old.history e ∙ rw check refl;
+    }
 
--- so an event that is no join is performed, or memory is refused and nothing done
-done_or_stopped : (old new : Realm) (e : Event) (said : Reply) → is_join (Do e) ≡ false → Tried old new e (check_of old.limits old.history e) (is_already old.history e) (told_of old.history e) said → PerformsOrStops old (Do e) new said
-unfolding Tried reply_to realm_after
-done_or_stopped old new e said no_join (inl none) = inl (record { memory = none.0; stopped = rw no_join (none.1) })
-done_or_stopped old new e said no_join (inr done) = inr (record { reply = done.0; realm = done.1 })
+-- a refused event has its refusal, or memory was refused and nothing done
+refused_or_stopped : (old new : Realm) (e : Event) (r : Refusal) (said : Reply) → is_join (Do e) ≡ false → (check_of old.limits old.history e ≡ Err r) ⊎ ((check_of old.limits old.history e ≡ Ok tt) × (r ≡ Memory) × (wants_memory old.history e ≡ true)) → new ≡ old → said ≡ reply.Refused r → PerformsOrStops old (Do e) new said
+unfolding reply_to realm_after
+refused_or_stopped old new e r said no_join (inl by) same says = inr (record { reply = rw by says; realm = rw by same })
+refused_or_stopped old new e r said no_join (inr none) same says = inl (record { memory = says ∙ ap reply.Refused none.1.0; stopped = rw no_join same })
 
--- an event that adds itself each time
-pub adds : {A : Type 0} (old new : Realm) (e : Event) (tell : A → Reply) (value : A) (result : Result A Refusal) (said : Reply) → is_join (Do e) ≡ false → is_already old.history e ≡ false → told_of old.history e ≡ tell value → said ≡ replied tell result → AnswersOrMemory (check_of old.limits old.history e) value result → new ≡ after old e result → PerformsOrStops old (Do e) new said
-unfolding Tried
-adds old new e tell value result said no_join fresh told says is leaves =
-    done_or_stopped old new e said no_join (rw (fresh, told) (tried old new e (check_of old.limits old.history e) tell value result said says is leaves))
-
--- the same of one that a constructor tells
-pub adds_value : {A : Type 0} (old new : Realm) (e : Event) (tell : A → Reply) (value : A) (result : Result A Refusal) (said : Reply) → is_join (Do e) ≡ false → is_already old.history e ≡ false → told_of old.history e ≡ tell value → MatchResult result (λ x. said ≡ tell x) (λ r. said ≡ reply.Refused r) → AnswersOrMemory (check_of old.limits old.history e) value result → new ≡ after old e result → PerformsOrStops old (Do e) new said
-adds_value old new e tell value result said no_join fresh told says is leaves = adds old new e tell value result said no_join fresh told (told_is tell result said says) is leaves
-
--- an event that may be so already
-pub adds_once : (old new : Realm) (e : Event) (result : Result Cancelling Refusal) (said : Reply) → is_join (Do e) ≡ false → said ≡ replied (told_once (told_of old.history e)) result → AnswersOrMemory (check_of old.limits old.history e) (if is_already old.history e then Already else Recorded) result → new ≡ after_recording old e result → PerformsOrStops old (Do e) new said
-adds_once old new e result said no_join says is leaves =
-    done_or_stopped old new e said no_join (tried_once old new e (check_of old.limits old.history e) (is_already old.history e) (told_of old.history e) result said says is leaves)
+-- what is told of an event that is no join is performed, or memory is refused and nothing done
+pub tells : (old new : Realm) (e : Event) (result : Result Told Refusal) (said : Reply) → is_join (Do e) ≡ false → Tells old e result new → MatchResult result (λ told. said ≡ reply_of e told) (λ r. said ≡ reply.Refused r) → PerformsOrStops old (Do e) new said
+tells old new e (Ok told) said no_join is says = inr (rw says (accepted old new e told no_join is))
+tells old new e (Err r) said no_join is says = refused_or_stopped old new e r said no_join is.0 is.1 says
 
 -- a join takes no memory, so that it is tried in any case
 exactly : (old new : Realm) (e : Event) (check : Checked) (told : Reply) (result : Result (Unit {0}) Refusal) (said : Reply) → said ≡ replied (λ done. told) result → Answers check (tt {0}) result → new ≡ after old e result → (said ≡ refused_or check told) × (new ≡ (if is_ok check && true then with_event old e else old))

@@ -4,8 +4,6 @@ use Rattle.scope_rules.specs.declared.types.events.Event.{Event}
 use Rattle.scope_rules.specs.declared.types.events.Event.TheVariants as event
 use Rattle.scope_rules.specs.declared.types.refusals.Refusal.{Refusal}
 use Rattle.scope_rules.specs.declared.types.refusals.Refusal.TheVariants.{Memory, NotJoined}
-use Rattle.scope_rules.specs.declared.types.answers.Cancelling.{Cancelling}
-use Rattle.scope_rules.specs.declared.types.answers.Cancelling.TheVariants.{Recorded, Already}
 use Rattle.scope_rules.specs.History.{History, followed}
 use Rattle.scope_rules.specs.Origin.{Origin}
 use Rattle.scope_rules.specs.Cancels.{cause, effective}
@@ -15,6 +13,8 @@ use Rattle.scope_rules.specs.Verdicts.{verdict}
 use Rattle.scope_rules.specs.Checks.{Checked, scope_check, task_check}
 use Rattle.scope_rules.specs.Replies.{Realm, with_event, after_retiring, next_scope, fork_reply, base_of, result_reply, fault_reply, binding_reply}
 use Rattle.scope_rules.specs.Table.{check_of, is_already, retire_check, until_check, answering}
+use Rattle.scope_checks.specs.declared.told.Told.{Told}
+use Rattle.scope_checks.specs.declared.told.Told.TheVariants as told
 use Rattle.script_words.specs.declared.commands.Command.{Command}
 use Rattle.script_words.specs.declared.commands.Command.TheVariants.{Do, Retire, Ask}
 use Rattle.script_words.specs.declared.commands.Question.{Question}
@@ -48,14 +48,27 @@ told_of h (event.Join actor scope) = replied reply.Outcome (ok_or (outcome (foll
 told_of h (event.BeginClose actor scope) = reply.Closing
 told_of h (event.EndClose actor scope) = reply.Closed (verdict h scope)
 
--- the reply if nothing but success is answered
-abbrev pub always : {A : Type 0} → Reply → A → Reply
-always said x = said
+-- the reply to an event that was recorded and tells no more
+abbrev pub done_reply : Event → Reply
+done_reply (event.Reject task) = reply.Rejected
+done_reply (event.Start task) = reply.Started
+done_reply (event.Finish task end) = reply.Finished
+done_reply (event.Cancel scope) = reply.Cancelled
+done_reply (event.Move scope deadline) = reply.Moved
+done_reply (event.Tick now) = reply.Moment now
+done_reply (event.Bind actor pair) = reply.Bound
+done_reply (event.Unbind actor) = reply.Unbound
+done_reply (event.BeginClose actor scope) = reply.Closing
+done_reply other = reply.Already
 
--- what is told of a command that may find that all is so already
-abbrev pub told_once : Reply → Cancelling → Reply
-told_once said Recorded = said
-told_once said Already = reply.Already
+-- the reply to an event that was told so by its realm; the realm tells nothing of what a join gave
+abbrev pub reply_of : Event → Told → Reply
+reply_of e (told.Scope scope) = reply.Scope scope
+reply_of e (told.Task task) = reply.Task task
+reply_of e told.Recorded = done_reply e
+reply_of e told.Already = reply.Already
+reply_of e (told.Closed verdict) = reply.Closed verdict
+reply_of e told.Done = done_reply e
 
 -- what an event is told that no check refuses
 abbrev pub passed_reply : History → Event → Reply

@@ -7,6 +7,7 @@ pub mod performing;
 pub mod session;
 pub mod streams;
 
+pub use performing::answers::reply_of;
 pub use performing::commands::{perform, perform_all};
 pub use script_words as words;
 pub use script_words::{Command, LINE_LIMIT, Line, Question, Reply, append_line, read_line};

@@ -1,4 +1,4 @@
 //! How a command is performed on a book.
 
-mod answers;
+pub mod answers;
 pub mod commands;

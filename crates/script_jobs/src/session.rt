@@ -178,7 +178,7 @@ impl NotedScript {
     {
         let why = command_why(&self.book, &command);
         let before = self.book.realm().events().len();
-        let reply = perform(&mut self.book, command)?;
+        let reply = perform(&mut self.book, &command)?;
         let note = self.note_of(wanted, &reply, why)?;
         self.record_line(before)?;
         self.tally = with_reply(self.tally, &reply);

@@ -1,10 +1,12 @@
 //! The line of a reply.
-ghost use Rattle.std.specs.Prelude.{◌≡◌, ◌++◌, ◌∷◌, [], Some, IfSome, OnOk, OnErr};
+ghost use Rattle.std.specs.Prelude.{◌≡◌, ◌++◌, ◌∷◌, ◌+◌, ◌≤◌, [], Some, IfSome, OnOk, OnErr, length};
+ghost use Rattle.arrayvec.specs.ArrayString.{array_string_len};
 ghost use Rattle.script_words.specs.ReplyText.{reply_text};
 
 use crate::parts::ShownCounts;
 use crate::reply::Reply;
 use arrayvec::ArrayString;
+use itoa::{Buffer, Integer};
 use scope_rules::{Effective, ForkReply, Stage, State, Verdict};
 use std::alloc::AllocError;
 use std::fmt;
@@ -65,6 +67,9 @@ pub fn append_line(text: &mut Vec<u8>, reply: &Reply) -> Result<(), AllocError>
     if let Some(line) = fixed_line(reply) {
         return text.extend_from_slice(line);
     }
+    if let Some(line) = numbered_line(reply) {
+        return text.extend_from_slice(line.as_bytes());
+    }
     let mut line = ArrayString::<SHORT_LINE>::new();
     match writeln!(line, "{reply}") {
         Ok(()) => text.extend_from_slice(line.as_bytes()),
@@ -96,6 +101,46 @@ fn fixed_line(reply: &Reply) -> Option<&'static [u8]>
         Reply::Stage(Stage::Finished) => Some(b"stage finished\n"),
         _ => None,
     }
+}
+
+/// The line, with its line feed, of a reply that is words and numbers of its own; `None` of a rare one, and
+/// of any other. Digits are put in place, which takes a fifth of a formatter's time.
+#[tactic(auto, unfolding(crate::specs::ReplyText::reply_text))]
+fn numbered_line(reply: &Reply) -> Option<ArrayString<SHORT_LINE>>
+    ensures { IfSome result (λ line. line.bytes ≡ reply_text reply.now ++ 10 ∷ []) }
+{
+    let mut line = ArrayString::<SHORT_LINE>::new();
+    match reply {
+        Reply::Scope(scope) => push_number(&mut line, "scope ", *scope),
+        Reply::Moment(moment) => push_number(&mut line, "moment ", *moment),
+        Reply::Task(ForkReply::Thread(task)) => {
+            push_number(&mut line, "task ", *task);
+            line.push_str(" thread");
+        }
+        Reply::Task(ForkReply::Never(task)) => {
+            push_number(&mut line, "task ", *task);
+            line.push_str(" none");
+        }
+        Reply::Counts(counts) => {
+            push_number(&mut line, "counts never=", counts.never);
+            push_number(&mut line, " waiting=", counts.waiting);
+            push_number(&mut line, " running=", counts.running);
+            push_number(&mut line, " finished=", counts.finished);
+        }
+        _ => return None,
+    }
+    line.push_str("\n");
+    Some(line)
+}
+
+/// Appends the words, and then the number. There must be room for both.
+fn push_number<I: Integer>(line: &mut ArrayString<SHORT_LINE>, words: &str, number: I)
+    requires room { array_string_len line.old + length words.now + I.MAX_STR_LEN ≤ SHORT_LINE }
+    ensures bytes { line.new.bytes ≡ line.old.bytes ++ words.now ++ I.text number }
+    ensures len { array_string_len line.new ≤ array_string_len line.old + length words.now + I.MAX_STR_LEN }
+{
+    line.push_str(words);
+    line.push_str(Buffer::new().format(number));
 }
 
 /// Appends the line of the reply, of any length, and its line feed.

@@ -1,6 +1,6 @@
 //! The threads that one owner makes, and the tickets of those that it joined.
 
-ghost use Rattle.std.specs.Prelude.{◌≡◌, ◌<◌, ◌≤◌, ◌++◌, ℕ, [], OnOk, IfSome, MatchOption, length, nat_lt, slice_index_or};
+ghost use Rattle.std.specs.Prelude.{◌≡◌, ◌<◌, ◌≤◌, ◌++◌, ◌∷◌, ℕ, [], OnOk, IfSome, MatchOption, length, nat_lt, slice_index_or};
 ghost use Rattle.std.specs.List.{All, filter};
 ghost use Rattle.std.specs.List.Sorted.{IsPermutation};
 ghost use Rattle.share_ledger.specs.Values.{TicketValue};
@@ -78,6 +78,16 @@ impl<N: RealmName, S: Spawner<N>> Team<N, S> {
         ensures { HasThreadMore (S.first_of handle) self.old self.new }
     {
         self.running.push_reserved(Thread { scope, handle });
+    }
+
+    /// Adds the ticket of a work that its owner ran itself, for which there is room.
+    pub fn put(&mut self, ticket: Ticket)
+        requires named { ticket.table ≡ N.table }
+        requires room { 1 ≤ self.old.tickets }
+        ensures running { self.new.running ≡ self.old.running }
+        ensures returned { self.new.returned ≡ self.old.returned ++ ticket ∷ [] }
+    {
+        self.returned.push_reserved(OfRealm::new(ticket));
     }
 
     /// Joins the threads of the scope, and of what was opened later, the latest first. It takes no memory.

@@ -18,7 +18,7 @@ pub fn play(alloc: Global, limits: Limits, script: &str, said: &mut Said) -> boo
         match part_of(line) {
             Part::Silent => {}
             Part::BadWord => said.say(&Reply::Refused(Refusal::BadWord)),
-            Part::Command(command) => match perform(&mut book, command) {
+            Part::Command(command) => match perform(&mut book, &command) {
                 Ok(reply) => said.say(&reply),
                 Err(_) => is_played = false,
             },

@@ -1,11 +1,12 @@
 //! Jobs that main runs itself, where no thread has taken them yet.
 ghost use Rattle.std.specs.Prelude.{◌≡◌};
 
-use super::duties::{Board, Duty, Shared, TestJob, fork};
+use super::duties::{Board, Duty, Shared, TestJob, fork, named};
+use super::logs::starts_and_ends;
 use job_runner::{JobWork, TaskCtx};
 use join_rules::Joiner;
 use realm_lock::{Realm, RealmName, Seed};
-use scope_rules::{AnyEnd, Limits, Options, Value};
+use scope_rules::{AnyEnd, ForkReply, Limits, Options, State, Value};
 use std::alloc::Global;
 use std::marker::Brand;
 use std::sync::Wait;
@@ -55,11 +56,34 @@ fn help_in_each<N: RealmName, R: Wait>(
             helped = helped.saturating_add(1);
         }
     }
-    if board.calls() == u64::from(SCOPES) * u64::from(JOBS) {
+    if board.calls() == u64::from(SCOPES) * u64::from(JOBS) + 1 {
         Some(helped)
     } else {
         None
     }
+}
+
+/// Main runs a job itself, which has ended before the join, and its report has one start and one end; and one more in
+/// the scope once that is cancelled, which is not called. Whether it was so; None if a call was refused.
+fn run_two<N: RealmName, R: Wait>(rt: &R, ctx: &mut MainCtx<N>, board: &Shared) -> Option<bool> {
+    let before = board.calls();
+    let Ok(scope) = ctx.open(rt, Joiner::AwaitAll, Options::PLAIN) else {
+        return None;
+    };
+    let job = named(board, Duty::Plain(7))?;
+    let Ok(ForkReply::Thread(task)) = ctx.run_job(rt, scope, job) else {
+        return None;
+    };
+    let has_ended = ctx.state(rt, task).ok()? == State::Success(Value::Num(7));
+    ctx.cancel(rt, scope).ok()?;
+    let job = named(board, Duty::Plain(8))?;
+    let Ok(ForkReply::Never(_)) = ctx.run_job(rt, scope, job) else {
+        return None;
+    };
+    ctx.join(rt, scope).ok()?;
+    let report = ctx.close_scope(rt, scope).ok()?;
+    let is_called_once = board.calls() == before + 1;
+    Some(has_ended && is_called_once && starts_and_ends(&report.log) == (1, 1))
 }
 
 /// The same in a realm of its own, over the crew's threads.
@@ -75,7 +99,11 @@ fn in_a_realm<N: RealmName, R: Wait>(
     let threads = crew.threads().ok()?;
     let (realm, token) = Realm::<AnyEnd, N>::new(alloc, seed, Limits::GREATEST).ok()?;
     let mut ctx = TaskCtx::main(alloc, realm, token, threads);
-    let helped = help_in_each(rt, &mut ctx, &board);
+    let helped = if run_two(rt, &mut ctx, &board) == Some(true) {
+        help_in_each(rt, &mut ctx, &board)
+    } else {
+        None
+    };
     let (_token, _threads) = ctx.leave(rt);
     helped
 }
@@ -94,7 +122,8 @@ fn over_a_crew<N: RealmName + Send + Sync + 'static, R: CrewRuntime>(
     helped
 }
 
-/// Each job is called once, and main runs some, since a thread that was called comes later: all that there are.
+/// Each job is called once, and main runs some, since a thread that was called comes later: all that there are. First
+/// it forks one to run it itself.
 #[test]
 fn main_runs_jobs_that_no_thread_has_taken(rt: HostRuntime) -> Result<(), Fail> {
     let helped = over_a_crew::<Brand, _>(&rt, rt.alloc(), Seed::new(rt.alloc())?);

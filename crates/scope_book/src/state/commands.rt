@@ -1,9 +1,11 @@
-ghost use Rattle.std.specs.Prelude.{◌≡◌, OnOk, IfErr};
+ghost use Rattle.std.specs.Prelude.{◌≡◌, ◌<◌, OnOk, IfErr, Err, true, vec_len, vec_capacity};
+ghost use Rattle.scope_rules.specs.Table.{check_of};
 ghost use Rattle.scope_rules.specs.Verdicts.{verdict};
 ghost use Rattle.scope_rules.specs.ClosingLaws.{IsWhole};
 ghost use Rattle.scope_rules.specs.Replies.{next_scope, fork_reply};
 ghost use Rattle.join_rules.specs.Joiners.{policy_of};
 ghost use Rattle.scope_book.specs.Books.{realm_of, history_of, refusal_alone};
+ghost use Rattle.scope_checks.specs.Telling.{Answered};
 ghost use Rattle.scope_checks.specs.Entering.{Enters, EntersOrMemory, Notes, NotesOrMemory, Retires, Tells};
 ghost use Rattle.kept_realm.specs.Fits.{FitsTask, FitsEvent};
 
@@ -16,9 +18,10 @@ use scope_rules::{
     Refusal, ScopeId, TaskId, Value, Verdict,
 };
 
-/// The commands. Each tries its checks in their order, and answers the first refusal; an accepted one
-/// adds exactly its event to the history and answers its reply; a refused one changes nothing. Those
-/// that make room for an event may be refused it, by `Memory`, once every check has passed.
+/// The commands: one for each event, and `perform`, which takes any. Each tries its checks in their order,
+/// and answers the first refusal; an accepted one adds exactly its event to the history and answers its
+/// reply; a refused one changes nothing. Those that make room for an event may be refused it, by
+/// `Memory`, once every check has passed.
 impl<C: Catalog> BookState<C> {
     /// Opens a scope for the actor, inside what lies around it (JEP 505, `open`). Refused if the
     /// actor is no running task or main, if its innermost scope is closing (`Closed`), past level
@@ -32,13 +35,6 @@ impl<C: Catalog> BookState<C> {
         ensures entered { EntersOrMemory (realm_of self.old) (Event.Open actor (policy_of joiner) options) (next_scope (history_of self.old)) (refusal_alone result) (realm_of self.new) }
         ensures handed_back { IfErr result (λ e. e.1 ≡ joiner) }
     {
-        if self.tests.reserve(1).is_err() {
-            let refusal = match table::open_row(self.realm(), &self.limits(), actor) {
-                Ok(()) => Refusal::Memory,
-                Err(refusal) => refusal,
-            };
-            return Err((refusal, joiner));
-        }
         let listed = joiner.asks_closure();
         let policy = joiner.policy();
         let event = Event::Open {
@@ -46,6 +42,9 @@ impl<C: Catalog> BookState<C> {
             policy,
             options,
         };
+        if let Err(refusal) = self.make_room(&event) {
+            return Err((refusal, joiner));
+        }
         match self.realm.perform(&event, listed, None) {
             Ok(Told::Scope(scope)) => {
                 self.tests.push_reserved(if listed {
@@ -103,9 +102,7 @@ impl<C: Catalog> BookState<C> {
         requires { FitsTask C.fitting (history_of self.old) task end }
         ensures { Enters (realm_of self.old) (Event.Finish task end) tt result (realm_of self.new) }
     {
-        let test = test_of(&self.tests, self.realm.realm(), task);
-        self.realm
-            .perform(&Event::Finish { task, end }, false, test)?;
+        self.perform(&Event::Finish { task, end })?;
         Ok(())
     }
 
@@ -195,12 +192,41 @@ impl<C: Catalog> BookState<C> {
         }
     }
 
-    /// Performs a command to which no closure of a caller's belongs.
-    fn perform(&mut self, event: &Event) -> Result<Told, Refusal>
+    /// Performs the command of the event, whichever it is: a scope that it opens has the joiner that its
+    /// policy says, and no closure of a caller's. It is refused what the event's own call is refused.
+    pub fn perform(&mut self, event: &Event) -> Result<Told, Refusal>
         requires fits { FitsEvent C.fitting (history_of self.old) event.now }
         ensures { Tells (realm_of self.old) event.now result (realm_of self.new) }
     {
-        self.realm.perform(event, false, None)
+        match event {
+            Event::Open { .. } => {
+                self.make_room(event)?;
+                let told = self.realm.perform(event, false, None)?;
+                self.tests.push_reserved(None);
+                Ok(told)
+            }
+            Event::Finish { task, .. } => {
+                let test = test_of(&self.tests, self.realm.realm(), *task);
+                self.realm.perform(event, false, test)
+            }
+            _ => self.realm.perform(event, false, None),
+        }
+    }
+
+    /// Makes room for the closure of the scope that the event opens. Refused what the event is, or else
+    /// `Memory`.
+    fn make_room(&mut self, event: &Event) -> Result<(), Refusal>
+        ensures kept { realm_of self.new ≡ realm_of self.old }
+        ensures room { OnOk result (vec_len self.new.tests < vec_capacity self.new.tests) }
+        ensures refused { IfErr result (λ refusal. Answered (check_of (realm_of self.old).limits (realm_of self.old).history event.now) (tt {0}) true (Err refusal)) }
+    {
+        if self.tests.reserve(1).is_ok() {
+            return Ok(());
+        }
+        match table::tell(self.realm(), &self.limits(), event) {
+            Ok(_) => Err(Refusal::Memory),
+            Err(refusal) => Err(refusal),
+        }
     }
 
     /// Takes the events out and leaves a base, once main's outermost scope is closed; what is left goes
@@ -222,7 +248,7 @@ fn test_of<'a>(
     realm: &KeptRealm,
     task: TaskId,
 ) -> Option<&'a StoredTest> {
-    let scope = realm.forking(task)?.scope;
+    let scope = realm.forked_in(task)?;
     let place = scope.checked_sub(realm.retired_scopes())?.checked_sub(1)?;
     tests.get(place as usize)?.as_ref()
 }

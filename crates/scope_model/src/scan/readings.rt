@@ -43,6 +43,10 @@ impl<'a> Readings for HistoryView<'a> {
         self.forking(task)
     }
 
+    fn forked_in(&self, task: TaskId) -> Option<ScopeId> {
+        Some(self.forking(task)?.scope)
+    }
+
     fn joined(&self, scope: ScopeId) -> bool {
         self.joined(scope)
     }

@@ -1,11 +1,10 @@
 //! From what the book answers to the reply.
 
 ghost use Rattle.std.specs.Prelude.{◌≡◌, MatchResult};
-ghost use Rattle.scope_book.specs.Books.{refusal_alone};
-ghost use Rattle.scope_script.specs.Replying.{replied, always, told_once, told_base};
+ghost use Rattle.scope_script.specs.Replying.{done_reply, replied, reply_of, told_base};
 
-use join_rules::Joiner;
-use scope_rules::{Base, Cancelling, Refusal, ScopeId};
+use scope_checks::Told;
+use scope_rules::{Base, Event, Refusal};
 use script_words::Reply;
 
 /// The reply that a constructor makes of what was answered.
@@ -19,24 +18,35 @@ pub(crate) fn told<T, F: FnOnce(T) -> Reply + Drop>(answer: Result<T, Refusal>, 
     }
 }
 
-/// The reply if nothing but success is answered.
-pub(crate) fn done(answer: Result<(), Refusal>, said: Reply) -> Reply
-    ensures { result ≡ replied (always said) answer }
+/// The reply to the event that was told so by its realm, whichever it is. What a join gave is read from the
+/// realm, which tells nothing of it.
+pub fn reply_of(event: &Event, told: Told) -> Reply
+    ensures { result ≡ reply_of event.now told }
 {
-    match answer {
-        Ok(()) => said,
-        Err(refusal) => Reply::Refused(refusal),
+    match told {
+        Told::Scope(scope) => Reply::Scope(scope),
+        Told::Task(task) => Reply::Task(task),
+        Told::Already => Reply::Already,
+        Told::Closed(verdict) => Reply::Closed(verdict),
+        Told::Recorded | Told::Done => done_reply(event),
     }
 }
 
-/// The reply to a command that may find that all is so already.
-pub(crate) fn recorded(answer: Result<Cancelling, Refusal>, said: Reply) -> Reply
-    ensures { result ≡ replied (told_once said) answer }
+/// The reply to the event that was recorded and tells no more.
+fn done_reply(event: &Event) -> Reply
+    ensures { result ≡ done_reply event.now }
 {
-    match answer {
-        Ok(Cancelling::Recorded) => said,
-        Ok(Cancelling::Already) => Reply::Already,
-        Err(refusal) => Reply::Refused(refusal),
+    match *event {
+        Event::Reject { .. } => Reply::Rejected,
+        Event::Start { .. } => Reply::Started,
+        Event::Finish { .. } => Reply::Finished,
+        Event::Cancel { .. } => Reply::Cancelled,
+        Event::Move { .. } => Reply::Moved,
+        Event::Tick { now } => Reply::Moment(now),
+        Event::Bind { .. } => Reply::Bound,
+        Event::Unbind { .. } => Reply::Unbound,
+        Event::BeginClose { .. } => Reply::Closing,
+        _ => Reply::Already,
     }
 }
 
@@ -50,15 +60,5 @@ pub(crate) fn retired(answer: Result<Base, Refusal>) -> Reply
             tasks: base.tasks(),
         },
         Err(refusal) => Reply::Refused(refusal),
-    }
-}
-
-/// The reply of an open; a joiner that is handed back is dropped.
-pub(crate) fn opened(answer: Result<ScopeId, (Refusal, Joiner)>) -> Reply
-    ensures { result ≡ replied Reply.Scope (refusal_alone answer) }
-{
-    match answer {
-        Ok(scope) => Reply::Scope(scope),
-        Err((refusal, _)) => Reply::Refused(refusal),
     }
 }

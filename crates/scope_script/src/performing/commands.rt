@@ -2,72 +2,48 @@ ghost use Rattle.std.specs.Prelude.{◌≡◌, ◌≢◌, IfOk, OnOk, OnErr};
 ghost use Rattle.scope_rules.specs.Legal.{Legal};
 ghost use Rattle.scope_book.specs.Books.{realm_of, limits_of, history_of};
 ghost use Rattle.scope_script.specs.Replying.{Performs, PerformsOrStops, StopsAmong, answer_to, realm_after_all, realm_stopped};
-ghost use Rattle.join_rules.specs.Joiners.{policy_of};
 
-use crate::performing::answers::{done, opened, recorded, retired, told};
-use join_rules::{Joiner, UntilTest};
+use crate::performing::answers::{reply_of, retired, told};
 use scope_book::BookState;
-use scope_rules::{Actor, AnyEnd, Event, Options, Policy, Refusal, ScopeId};
+use scope_rules::{Actor, AnyEnd, Event, Refusal, ScopeId};
 use script_words::{Command, Question, Reply};
 use std::alloc::AllocError;
 
 /// What the book answers to the command; want of memory is `Refused(Memory)` here.
 #[inline(always)]
-pub(crate) fn answer(book: &mut BookState<AnyEnd>, command: Command) -> Reply
+pub(crate) fn answer(book: &mut BookState<AnyEnd>, command: &Command) -> Reply
     requires { Legal (limits_of book.old) (history_of book.old) }
-    ensures { PerformsOrStops (realm_of book.old) command (realm_of book.new) result }
+    ensures { PerformsOrStops (realm_of book.old) command.now (realm_of book.new) result }
 {
     match command {
         Command::Do(event) => try_event(book, event),
-        Command::Retire { actor } => retired(book.retire(actor)),
+        Command::Retire { actor } => retired(book.retire(*actor)),
         Command::Ask(question) => ask(book, question),
     }
 }
 
 /// What the book answers to the event, which it adds to its history if it accepts it.
 #[inline(always)]
-fn try_event(book: &mut BookState<AnyEnd>, event: Event) -> Reply
+fn try_event(book: &mut BookState<AnyEnd>, event: &Event) -> Reply
     requires { Legal (limits_of book.old) (history_of book.old) }
-    ensures { PerformsOrStops (realm_of book.old) (Command.Do event) (realm_of book.new) result }
+    ensures { PerformsOrStops (realm_of book.old) (Command.Do event.now) (realm_of book.new) result }
 {
-    match event {
-        Event::Open {
-            actor,
-            policy,
-            options,
-        } => open(book, actor, policy, options),
-        Event::Fork {
-            actor,
-            scope,
-            label,
-        } => told(book.fork(actor, scope, label), Reply::Task),
-        Event::Reject { task } => done(book.reject(task), Reply::Rejected),
-        Event::Start { task } => done(book.start(task), Reply::Started),
-        Event::Finish { task, end } => done(book.finish(task, end), Reply::Finished),
-        Event::Cancel { scope } => recorded(book.cancel(scope), Reply::Cancelled),
-        Event::Move { scope, deadline } => done(book.move_deadline(scope, deadline), Reply::Moved),
-        Event::Tick { now } => done(book.tick(now), Reply::Moment(now)),
-        Event::Bind { actor, binding } => done(
-            book.bind(actor, binding.key, binding.value),
-            Reply::Bound,
-        ),
-        Event::Unbind { actor } => done(book.unbind(actor), Reply::Unbound),
-        Event::Join { actor, scope } => join(book, actor, scope),
-        Event::BeginClose { actor, scope } => recorded(
-            book.begin_close(actor, scope),
-            Reply::Closing,
-        ),
-        Event::EndClose { actor, scope } => told(book.end_close(actor, scope), Reply::Closed),
+    if let Event::Join { actor, scope } = *event {
+        return join(book, actor, scope);
+    }
+    match book.perform(event) {
+        Ok(told) => reply_of(event, told),
+        Err(refusal) => Reply::Refused(refusal),
     }
 }
 
 /// What the book answers to the question.
 #[inline(always)]
 #[tactic(auto, unfolding(crate::specs::Replying::answer_to))]
-fn ask(book: &BookState<AnyEnd>, question: Question) -> Reply
-    ensures { result ≡ answer_to (history_of book.now) question }
+fn ask(book: &BookState<AnyEnd>, question: &Question) -> Reply
+    ensures { result ≡ answer_to (history_of book.now) question.now }
 {
-    match question {
+    match *question {
         Question::State { task } => told(book.state(task), Reply::State),
         Question::Stage { task } => told(book.stage(task), Reply::Stage),
         Question::Result { actor, task } => told(book.result(actor, task), Reply::Value),
@@ -77,30 +53,6 @@ fn ask(book: &BookState<AnyEnd>, question: Question) -> Reply
         Question::Counts { scope } => told(book.counts(scope), Reply::Counts),
         Question::Get { actor, key } => told(book.binding(actor, &key), Reply::Value),
     }
-}
-
-/// Opens a scope whose joiner is asked by its rule.
-fn open(book: &mut BookState<AnyEnd>, actor: Actor, policy: Policy, options: Options) -> Reply
-    requires { Legal (limits_of book.old) (history_of book.old) }
-    ensures { PerformsOrStops (realm_of book.old) (Command.Do (Event.Open actor policy options)) (realm_of book.new) result }
-{
-    match policy {
-        Policy::All => open_by(book, actor, Joiner::All, options),
-        Policy::Any => open_by(book, actor, Joiner::Any, options),
-        Policy::AwaitAll => open_by(book, actor, Joiner::AwaitAll, options),
-        Policy::AwaitOk => open_by(book, actor, Joiner::AwaitOk, options),
-        Policy::Until(rule) => {
-            open_by(book, actor, Joiner::Until(UntilTest::Plain(rule)), options)
-        }
-    }
-}
-
-/// Opens a scope with the joiner.
-fn open_by(book: &mut BookState<AnyEnd>, actor: Actor, joiner: Joiner, options: Options) -> Reply
-    requires { Legal (limits_of book.old) (history_of book.old) }
-    ensures { PerformsOrStops (realm_of book.old) (Command.Do (Event.Open actor (policy_of joiner) options)) (realm_of book.new) result }
-{
-    opened(book.open(actor, joiner, options))
 }
 
 /// Joins the scope, and reads what the join gave.
@@ -122,10 +74,10 @@ fn join(book: &mut BookState<AnyEnd>, actor: Actor, scope: ScopeId) -> Reply
 /// command adds exactly its event. `Refused(Memory)` is never a reply: if memory is refused, this
 /// is an Err, and the book is as it was, but that a join is recorded whose outcome could not be answered.
 #[inline(always)]
-pub fn perform(book: &mut BookState<AnyEnd>, command: Command) -> Result<Reply, AllocError>
-    ensures performs { IfOk result (λ said. Performs (realm_of book.old) command (realm_of book.new) said) }
+pub fn perform(book: &mut BookState<AnyEnd>, command: &Command) -> Result<Reply, AllocError>
+    ensures performs { IfOk result (λ said. Performs (realm_of book.old) command.now (realm_of book.new) said) }
     ensures told { IfOk result (λ said. said ≢ Reply.Refused Refusal.Memory) }
-    ensures stopped { OnErr result (realm_of book.new ≡ realm_stopped (realm_of book.old) command) }
+    ensures stopped { OnErr result (realm_of book.new ≡ realm_stopped (realm_of book.old) command.now) }
 {
     let _legal = book.limits();
     match answer(book, command) {
@@ -142,7 +94,7 @@ pub fn perform_all(book: &mut BookState<AnyEnd>, commands: &[Command]) -> Result
     ensures stopped { OnErr result (StopsAmong (realm_of book.old) commands.now (realm_of book.new)) }
 {
     for command in commands {
-        match perform(book, *command) {
+        match perform(book, command) {
             Ok(_) => {}
             Err(error) => return Err(error),
         }

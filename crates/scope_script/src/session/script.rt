@@ -78,7 +78,7 @@ impl Script {
                 tell(mode, &Reply::Refused(Refusal::BadWord), replies)
             }
             Line::Command(command) => {
-                let reply = perform(&mut self.book, command)?;
+                let reply = perform(&mut self.book, &command)?;
                 self.tally = self.tally.with_reply(&reply);
                 tell(mode, &reply, replies)
             }

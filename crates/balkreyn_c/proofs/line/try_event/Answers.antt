@@ -1,4 +1,5 @@
-use Rattle.balkreyn_c.proofs.Doors.{accepted, refused_as}
+use Rattle.scope_script.proofs.Answered.{accepted}
+use Rattle.balkreyn_c.proofs.Doors.{refused_as}
 use Rattle.balkreyn_c.proofs.line.try_event.Goals as goal
 
 pub returns-in-Ok : goal.returns-in-Ok

@@ -10,7 +10,7 @@ returns-in-Ok-clause-ok c =
     let old = c.args.text.now.items in
     let said = reply_text c.args.reply.now in
     let written = contents_after_writes _ (λ (l : ArrayString 96). l.bytes) (λ _ _ _ h. h) _ _ _ c.in-Ok.ensures.writes in
-    let line : c.as_bytes.result.now ≡ said ++ 10 ∷ [] =
-    c.as_bytes.ensures.value ∙ (c.deref.ensures.0 ∙ (written ∙ ap (λ front. front ++ (said ++ 10 ∷ [])) c.new-line.ensures)) in
-    let whole : old ++ c.as_bytes.result.now ≡ old ++ said ++ 10 ∷ [] = ap (λ l. old ++ l) line ∙ sym (append_assoc old said (10 ∷ [])) in
+    let line : c.as_bytes-in-Ok.result.now ≡ said ++ 10 ∷ [] =
+    c.as_bytes-in-Ok.ensures.value ∙ (c.deref-in-Ok.ensures.0 ∙ (written ∙ ap (λ front. front ++ (said ++ 10 ∷ [])) c.new-line.ensures)) in
+    let whole : old ++ c.as_bytes-in-Ok.result.now ≡ old ++ said ++ 10 ∷ [] = ap (λ l. old ++ l) line ∙ sym (append_assoc old said (10 ∷ [])) in
     rw (sym whole) (search rules)
