@@ -10,4 +10,4 @@ pub mod table;
 pub mod told;
 
 pub use readings::Readings;
-pub use told::{Told, records};
+pub use told::{Accepted, Told, records};

@@ -9,6 +9,7 @@ ghost use Rattle.scope_rules.specs.declared.types.events.Options.{Options};
 ghost use Rattle.scope_rules.specs.declared.types.events.Binding.{Binding};
 ghost use Rattle.scope_rules.specs.Ends.{EndValue};
 ghost use Rattle.scope_rules.specs.History.{tasks};
+ghost use Rattle.scope_rules.specs.Load.{weight};
 ghost use Rattle.scope_rules.specs.Replies.{fork_reply};
 ghost use Rattle.scope_rules.specs.Table.{check_of, retire_check, answering};
 ghost use Rattle.scope_rules.specs.declared.types.capacity.TheConstants.{GREATEST_NUMBER};
@@ -20,48 +21,69 @@ use crate::checks::{
 };
 use crate::load::{over_scopes, over_tasks};
 use crate::readings::Readings;
-use crate::told::Told;
+use crate::told::{Accepted, Told};
 use scope_rules::types::answers::{ForkReply, Stage};
 use scope_rules::types::capacity::{FORK_LOAD, LEVEL_LIMIT, Limits, OPEN_LOAD, STEP_LOAD};
 use scope_rules::types::events::Event;
 use scope_rules::types::refusals::Refusal;
 use scope_rules::types::values::{Actor, MAIN, ScopeId, TaskId};
 
-/// What the event is told, in one pass over what it is: the first check of its row that doesn't pass gives
-/// the refusal, and if all pass, this is the answer.
-pub fn tell<R: Readings>(readings: &R, limits: &Limits, event: &Event) -> Result<Told, Refusal>
-    ensures { result ≡ answering (check_of limits.now (R.history readings.now) event.now) (told_of (R.history readings.now) event.now) }
+/// What the event is told, and what it costs, in one pass over what it is: the first check of its row that
+/// doesn't pass gives the refusal.
+pub fn tell<R: Readings>(readings: &R, limits: &Limits, event: &Event) -> Result<Accepted, Refusal>
+    ensures { result ≡ answering (check_of limits.now (R.history readings.now) event.now) (record { told = told_of (R.history readings.now) event.now; load = weight event.now }) }
 {
-    match *event {
+    let (told, load) = match *event {
         Event::Open { actor, .. } => {
             open_row(readings, limits, actor)?;
-            return Ok(Told::Scope(readings.scopes() + 1));
+            (Told::Scope(readings.scopes() + 1), OPEN_LOAD)
         }
         Event::Fork { actor, scope, .. } => {
             fork_row(readings, limits, actor, scope)?;
-            return Ok(Told::Task(fork_told(readings, scope)));
+            (Told::Task(fork_told(readings, scope)), FORK_LOAD)
+        }
+        Event::Reject { task } | Event::Start { task } => {
+            waiting_row(readings, task)?;
+            (Told::Done, 0)
+        }
+        Event::Finish { task, .. } => {
+            finish_row(readings, task)?;
+            (Told::Done, 0)
         }
         Event::Cancel { scope } => {
             cancel_row(readings, limits, scope)?;
-            return Ok(noted(readings.is_cancelled(scope)));
+            (noted(readings.is_cancelled(scope)), STEP_LOAD)
+        }
+        Event::Move { scope, .. } => {
+            move_row(readings, limits, scope)?;
+            (Told::Done, STEP_LOAD)
+        }
+        Event::Tick { now } => {
+            tick_row(readings, limits, now)?;
+            (Told::Done, STEP_LOAD)
+        }
+        Event::Bind { actor, .. } => {
+            bind_row(readings, limits, actor)?;
+            (Told::Done, STEP_LOAD)
+        }
+        Event::Unbind { actor } => {
+            unbind_row(readings, limits, actor)?;
+            (Told::Done, STEP_LOAD)
+        }
+        Event::Join { actor, scope } => {
+            join_row(readings, actor, scope)?;
+            (Told::Done, 0)
         }
         Event::BeginClose { actor, scope } => {
             begin_close_row(readings, actor, scope)?;
-            return Ok(noted(readings.closing(scope)));
+            (noted(readings.closing(scope)), 0)
         }
         Event::EndClose { actor, scope } => {
             end_close_row(readings, actor, scope)?;
-            return Ok(Told::Closed(readings.verdict(scope)));
+            (Told::Closed(readings.verdict(scope)), 0)
         }
-        Event::Reject { task } | Event::Start { task } => waiting_row(readings, task)?,
-        Event::Finish { task, .. } => finish_row(readings, task)?,
-        Event::Move { scope, .. } => move_row(readings, limits, scope)?,
-        Event::Tick { now } => tick_row(readings, limits, now)?,
-        Event::Bind { actor, .. } => bind_row(readings, limits, actor)?,
-        Event::Unbind { actor } => unbind_row(readings, limits, actor)?,
-        Event::Join { actor, scope } => join_row(readings, actor, scope)?,
-    }
-    Ok(Told::Done)
+    };
+    Ok(Accepted { told, load })
 }
 
 /// The number of the next task, and whether it gets a thread in the scope.

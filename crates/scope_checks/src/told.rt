@@ -24,6 +24,13 @@ pub enum Told {
     Done,
 }
 
+/// What an accepted command answers, and what its event costs, in units of load, unless all was so already.
+#[derive(Clone, Copy)]
+pub struct Accepted {
+    pub told: Told,
+    pub load: u64,
+}
+
 impl Told {
     /// What a cancel, or the beginning of a close, was told.
     pub fn noting(self) -> Cancelling

@@ -6,8 +6,8 @@ use Rattle.scope_rules.proofs.Pushing.{open_number, fork_number}
 use Rattle.scope_rules.proofs.PassedRows.{end_close_passed}
 use Rattle.scope_checks.proofs.table.tell.Goals as goal
 
-pub overflow_add-result : goal.overflow_add-result
-overflow_add-result g c =
+pub overflow_add-told : goal.overflow_add-told
+overflow_add-told g c =
     let L = c.args.limits.now in
     let h = g.R.Readings.history c.args.readings.now in
     let of = c.in-Open in
