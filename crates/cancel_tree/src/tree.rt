@@ -216,6 +216,14 @@ impl Tree {
         }
     }
 
+    /// The scope's own deadline, in milliseconds, if it has one.
+    pub fn deadline(&self, scope: ScopeId) -> Option<u64>
+        requires { IsAdded self.now scope }
+        ensures { result ≡ deadline_of self.now scope }
+    {
+        self.told[(scope - 1) as usize].deadline
+    }
+
     /// Gives the scope this deadline, in place of the one that it had. Takes no memory.
     pub fn set_deadline(&mut self, scope: ScopeId, deadline: u64)
         requires { IsAdded self.old scope }

@@ -1,5 +1,5 @@
 -- What the first pair of the order says of the deadlines.
-use Rattle.std.proofs.Common.{Bor, ◌≡◌, ℕ, ◌<◌, ◌≤◌, ◌↔◌, Bool, true, false, Option, Some, None, List, refl, ap, sym, ◌∙◌, subst, arith}
+use Rattle.std.proofs.Common.{Bor, ◌≡◌, ℕ, ◌<◌, ◌≤◌, ◌↔◌, Bool, true, false, Option, Some, None, refl, ap, sym, ◌∙◌, subst, arith}
 use Rattle.std.specs.Ordering.{nat_cmp, is_gt}
 use Rattle.std.specs.Cmp.{nat_cmp_total}
 use Rattle.std.specs.Option.{option_copied, IfNone, IsSome}
@@ -8,7 +8,6 @@ use Rattle.std.proofs.lemmas.Bool.{false≢true, eqb-true, eq-eqb}
 use Rattle.std.proofs.lemmas.Bool.Decides.{nat_tests}
 use Rattle.deadline_core.specs.Ordered.{pair_cmp, is_moment}
 use Rattle.deadline_core.specs.Moments.{Moments, IsFirst}
-use Rattle.deadline_core.proofs.Views.{at, view, get_view}
 use Rattle.deadline_core.proofs.Listing.{Lists}
 
 pub moment_found : (o : Option ℕ) (d : ℕ) → is_moment o d ≡ true → o ≡ Some d
@@ -17,10 +16,6 @@ moment_found (Some b) d e = ap Some (eqb-true b d e)
 
 pub moment_found_back : (o : Option ℕ) (d : ℕ) → o ≡ Some d → is_moment o d ≡ true
 moment_found_back o d e = ap (λ x. is_moment x d) e ∙ eq-eqb d d refl
-
--- what is listed of the entries is listed of the map that they stand for
-pub lists_view : (has : ℕ → ℕ → Bool) (es : List (ℕ × ℕ)) (m : Moments) → view es ≡ m → Lists has (at es) → Lists has (map.get m)
-lists_view has es m is lists e t = lists e t ∙ ap (λ o. is_moment o e) (sym (get_view es t) ∙ ap (λ n. map.get n t) is)
 
 before : (d s e t : ℕ) → is_gt (pair_cmp (d, s) (e, t)) ≡ false → d ≤ e
 before d s e t h = grind (arith, nat_tests)

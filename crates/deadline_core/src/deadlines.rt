@@ -1,12 +1,11 @@
 ghost use Rattle.std.specs.Prelude.{◌≡◌, ℕ, false, not, IsTrue, IfOk, IfSome, IfNone, OnOk, OnErr};
 ghost use Rattle.std.specs.FinMap as map;
-ghost use Rattle.std.specs.BTreeSet.{IsOrdered};
-ghost use Rattle.deadline_core.specs.Ordered.{pair_cmp, scopes_up_to};
 ghost use Rattle.deadline_core.specs.Moments.{IsFirst, IsFirstDue, IsDueInOrder, is_due};
 
+use crate::order::DeadlineOrder;
 use scope_rules::ScopeId;
 use std::alloc::{AllocError, Global};
-use std::collections::{BTreeMap, BTreeSet};
+use std::collections::BTreeMap;
 use std::marker::Model;
 
 /// The deadlines of scopes: a finite map from scopes to moments, in milliseconds.
@@ -14,8 +13,7 @@ use std::marker::Model;
 #[derive(Drop)]
 pub struct Deadlines {
     moments: BTreeMap<ScopeId, u64>,
-    order: BTreeSet<(u64, ScopeId)>,
-    alloc: Global,
+    order: DeadlineOrder,
 }
 
 impl Model for Deadlines {
@@ -23,15 +21,15 @@ impl Model for Deadlines {
     ghost use Rattle.std.specs.Ordering.{nat_cmp};
     ghost use Rattle.std.specs.FinMap as map;
     ghost use Rattle.std.specs.Coded.{coded_ℕ};
-    ghost use Rattle.deadline_core.specs.Ordered.{IsListedInOrder};
+    ghost use Rattle.deadline_core.specs.Ordered.{IsOrderOf};
 
     ghost Value = { map.FinMap nat_cmp ℕ };
 
     ghost coded = { map.code coded_ℕ coded_ℕ };
 
-    ghost view = { λ a. map.from_entries a.moments.entries };
+    ghost view = { λ a. a.order };
 
-    ghost invariant = { λ a. IsListedInOrder a.moments a.order };
+    ghost invariant = { λ a. IsOrderOf a.moments a.order };
 }
 
 impl Deadlines {
@@ -41,8 +39,7 @@ impl Deadlines {
     {
         Deadlines {
             moments: BTreeMap::new(alloc),
-            order: BTreeSet::new(alloc),
-            alloc,
+            order: DeadlineOrder::new(alloc),
         }
     }
 
@@ -62,18 +59,12 @@ impl Deadlines {
         ensures set { OnOk result (self.new ≡ map.insert self.old scope deadline) }
         ensures unchanged { OnErr result (self.new ≡ self.old) }
     {
-        if self.get(scope) == Some(deadline) {
-            return Ok(());
-        }
-        self.order.insert((deadline, scope))?;
+        let before = self.get(scope);
+        self.order.set(scope, before, deadline)?;
         match self.moments.insert(scope, deadline) {
-            Ok(Some(before)) => {
-                self.order.remove(&(before, scope));
-                Ok(())
-            }
-            Ok(None) => Ok(()),
+            Ok(_) => Ok(()),
             Err(_) => {
-                self.order.remove(&(deadline, scope));
+                self.order.remove(scope, Some(deadline));
                 Err(AllocError)
             }
         }
@@ -83,9 +74,8 @@ impl Deadlines {
     pub fn remove(&mut self, scope: ScopeId)
         ensures { self.new ≡ map.remove self.old scope }
     {
-        if let Some(moment) = self.moments.remove(&scope) {
-            self.order.remove(&(moment, scope));
-        }
+        let before = self.moments.remove(&scope);
+        self.order.remove(scope, before);
     }
 
     /// The earliest deadline and its scope; of equal deadlines that of the scope with the least number.
@@ -93,7 +83,7 @@ impl Deadlines {
         ensures none { IfNone result (self.now ≡ map.empty) }
         ensures first { IfSome result (λ p. IsFirst self.now p.0 p.1) }
     {
-        self.order.first().copied()
+        self.order.earliest()
     }
 
     /// Takes out the earliest deadline, if it is at or before `now`, and answers its scope.
@@ -104,11 +94,8 @@ impl Deadlines {
         ensures first { IfSome result (λ scope. IsFirstDue self.old now scope) }
         ensures removed { IfSome result (λ scope. self.new ≡ map.remove self.old scope) }
     {
-        let (deadline, scope) = self.earliest()?;
-        if deadline > now {
-            return None;
-        }
-        self.remove(scope);
+        let scope = self.order.pop_expired(now)?;
+        self.moments.remove(&scope);
         Some(scope)
     }
 
@@ -123,33 +110,10 @@ impl Deadlines {
         ensures left { OnOk result (self.new ≡ map.retain_keys self.old (λ scope. not (is_due self.old now scope))) }
         ensures unchanged { OnErr result (self.new ≡ self.old) }
     {
-        let due = self.due(now)?;
+        let due = self.order.due(now)?;
         for scope in &due {
             self.remove(*scope);
         }
         Ok(due)
     }
-
-    /// The scopes whose deadlines are at or before `now`, by deadline and then by number.
-    fn due(&self, now: u64) -> Result<Vec<ScopeId>, AllocError>
-        ensures { IfOk result (λ scopes. IsDueInOrder self.now now scopes.items) }
-    {
-        scopes_up_to(&self.order, now, self.alloc)
-    }
-}
-
-/// The scopes that are listed up to the moment, in their order.
-fn scopes_up_to(
-    order: &BTreeSet<(u64, ScopeId)>,
-    now: u64,
-    alloc: Global,
-) -> Result<Vec<ScopeId>, AllocError>
-    ensures listed { IfOk result (λ scopes. scopes.items ≡ scopes_up_to now order.now.keys) }
-    ensures ordered { IsOrdered pair_cmp order.now }
-{
-    order
-        .iter()
-        .take_while(|(deadline, _)| *deadline <= now)
-        .map(|(_, scope)| *scope)
-        .collect(alloc)
 }

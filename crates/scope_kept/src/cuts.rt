@@ -8,9 +8,9 @@ ghost use Rattle.scope_rules.specs.History.{History, followed, moment};
 ghost use Rattle.scope_rules.specs.Scopes.{joined, level, surrounding};
 ghost use Rattle.scope_rules.specs.Cancels.{cut, cause, is_cancelled, effective};
 ghost use Rattle.scope_rules.specs.Legal.{Legal};
-ghost use Rattle.cancel_tree.specs.Rows.{IsAdded, IsLatest, level_in};
+ghost use Rattle.cancel_tree.specs.Rows.{IsAdded, IsLatest, deadline_of, level_in};
 ghost use Rattle.join_rules.specs.JoinerStanding.{HasRoom, StandsFor};
-ghost use Rattle.scope_kept.specs.CutTables.{CutTable, HasRow, HasReserved, HasCounted, AreOneMore, account_at, cancelled, deadlined, with_scope};
+ghost use Rattle.scope_kept.specs.CutTables.{CutTable, HasRow, HasReserved, HasCounted, AreOneMore, account_at, cancelled, deadlined, to_come, with_scope};
 ghost use Rattle.scope_kept.specs.CutsOf.{AreCutsOf, IsCancelOrderOf, IsMoved, IsOpened};
 ghost use Rattle.scope_kept.specs.Coming.{IsNextDeadline, NoDeadlineComes};
 ghost use Rattle.scope_kept.specs.CutLending.{KeepsTable};
@@ -19,7 +19,7 @@ ghost use Rattle.std.specs.Borrow.{sem};
 
 use crate::cancelled::CancelledScopes;
 use cancel_tree::Tree;
-use deadline_core::Deadlines;
+use deadline_core::DeadlineOrder;
 use join_rules::Account;
 use scope_rules::types::records::Cut;
 use scope_rules::{Cause, CauseKind, Completion, Effective, Options, Policy, ScopeId};
@@ -33,7 +33,7 @@ pub struct Cuts {
     before: u32,
     moment: u64,
     tree: Tree,
-    deadlines: Deadlines,
+    deadlines: DeadlineOrder,
     accounts: Vec<Account>,
     alloc: Global,
 }
@@ -140,7 +140,7 @@ impl Cuts {
             before,
             moment,
             tree: Tree::new(alloc),
-            deadlines: Deadlines::new(alloc),
+            deadlines: DeadlineOrder::new(alloc),
             accounts: Vec::new(alloc),
             alloc,
         }
@@ -197,8 +197,20 @@ impl Cuts {
         ensures { self.new ≡ deadlined self.old scope None }
     {
         let row = scope - self.before;
+        let before = self.deadline_to_come(row);
         self.tree.clear_deadline(row);
-        self.deadlines.remove(row);
+        self.deadlines.remove(row, before);
+    }
+
+    /// The deadline that the index has of the row: its own, while that is still to come.
+    fn deadline_to_come(&self, row: ScopeId) -> Option<u64>
+        requires { IsAdded self.now.told row }
+        ensures { result ≡ to_come self.now.moment (deadline_of self.now.told row) }
+    {
+        match self.tree.deadline(row) {
+            Some(deadline) if deadline > self.moment => Some(deadline),
+            _ => None,
+        }
     }
 
     /// Gives the scope a deadline that is still to come.
@@ -209,7 +221,8 @@ impl Cuts {
         ensures refused { OnErr result (self.new ≡ self.old) }
     {
         let row = scope - self.before;
-        self.deadlines.set(row, deadline)?;
+        let before = self.deadline_to_come(row);
+        self.deadlines.set(row, before, deadline)?;
         self.tree.set_deadline(row, deadline);
         Ok(())
     }
@@ -221,7 +234,8 @@ impl Cuts {
         ensures { self.new ≡ deadlined self.old scope (Some deadline) }
     {
         let row = scope - self.before;
-        self.deadlines.remove(row);
+        let before = self.deadline_to_come(row);
+        self.deadlines.remove(row, before);
         self.tree.set_deadline(row, deadline);
     }
 
@@ -318,7 +332,7 @@ impl Cuts {
     {
         self.accounts.reserve(1)?;
         let row = self.tree.len() as ScopeId + 1;
-        self.deadlines.set(row, deadline)?;
+        self.deadlines.set(row, None, deadline)?;
         match self.tree.add(row, inside, shield, place) {
             Ok(()) => {
                 self.tree.set_deadline(row, deadline);
@@ -326,7 +340,7 @@ impl Cuts {
                 Ok(())
             }
             Err(_) => {
-                self.deadlines.remove(row);
+                self.deadlines.remove(row, Some(deadline));
                 Err(AllocError)
             }
         }

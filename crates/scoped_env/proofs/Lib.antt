@@ -6,3 +6,4 @@ pub mod Sights
 pub mod Held
 pub mod Steps
 pub mod Beginnings
+pub mod Indexing

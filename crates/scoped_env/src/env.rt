@@ -4,6 +4,7 @@ ghost use Rattle.scoped_env.specs.LastBound.{HasNone, IsLastBound};
 
 use crate::own::OwnPairs;
 use crate::shared::SharedPairs;
+use crate::stack::PairStack;
 use scope_rules::{Binding, Name, Refusal, Value};
 use std::alloc::{AllocError, Global};
 use std::marker::Model;
@@ -55,7 +56,7 @@ impl Env {
     pub fn with_stack(alloc: Global, stack: &[Binding]) -> Result<Env, AllocError>
         ensures { IfOk result (λ env. env ≡ record { inherited = []; stack = stack.now }) }
     {
-        let stack = Vec::from_slice(alloc, stack)?;
+        let stack = PairStack::of(alloc, stack)?;
         let own = Box::new(alloc, OwnPairs::above(SharedPairs::empty(), stack))?;
         Ok(Env {
             pairs: Pairs::WithOwn(own),
@@ -83,9 +84,9 @@ impl Env {
             Pairs::WithOwn(own) => own.bind(key, value),
             Pairs::Inherited(inherited) => {
                 // All memory is taken before anything changes.
-                let nothing = OwnPairs::above(SharedPairs::empty(), Vec::new(self.alloc));
+                let nothing = OwnPairs::above(SharedPairs::empty(), PairStack::new(self.alloc));
                 let mut own = Box::new(self.alloc, nothing)?;
-                let mut stack = Vec::new(self.alloc);
+                let mut stack = PairStack::new(self.alloc);
                 stack.push(Binding { key, value })?;
                 *own = OwnPairs::above(mem::replace(inherited, SharedPairs::empty()), stack);
                 self.pairs = Pairs::WithOwn(own);
@@ -115,7 +116,17 @@ impl Env {
         ensures last { IfSome result (IsLastBound (all_pairs self.now) key) }
         ensures none { IsNone result ↔ HasNone (all_pairs self.now) key }
     {
-        last_value(self.stack(), &key).or_else(|| last_value(self.inherited(), &key))
+        self.value_of(&key)
+    }
+
+    /// The value that the key is bound to.
+    fn value_of(&self, key: &Name) -> Option<Value>
+        ensures { result ≡ bound_to key.now (all_pairs self.now) }
+    {
+        match &self.pairs {
+            Pairs::WithOwn(own) => own.value_of(key),
+            Pairs::Inherited(inherited) => inherited.value_of(key),
+        }
     }
 
     /// The environment of a task that this one's actor forks now: all pairs of this one are its
@@ -167,15 +178,4 @@ impl Env {
             Pairs::Inherited(inherited) => inherited.as_slice(),
         }
     }
-}
-
-/// The value of the last of the pairs with the key.
-fn last_value(pairs: &[Binding], key: &Name) -> Option<Value>
-    ensures { result ≡ bound_to key.now pairs.now }
-{
-    pairs
-        .iter()
-        .rev()
-        .find(|pair| pair.key.is_same(key))
-        .map(|pair| pair.value)
 }

@@ -6,8 +6,10 @@
 
 mod env;
 mod envs;
+mod keys;
 mod own;
 mod shared;
+mod stack;
 
 pub use env::Env;
 pub use envs::Envs;

@@ -1,6 +1,8 @@
 ghost use Rattle.std.specs.Prelude.{◌≡◌, ◌↔◌, [], IfOk, OnOk, OnErr, IfErr, IsErr};
+ghost use Rattle.scope_rules.specs.Bindings.{bound_to};
 
 use crate::shared::SharedPairs;
+use crate::stack::PairStack;
 use scope_rules::{Binding, Name, Refusal, Value};
 use std::alloc::AllocError;
 use std::marker::Model;
@@ -9,7 +11,7 @@ use std::marker::Model;
 #[derive(Drop)]
 pub struct OwnPairs {
     inherited: SharedPairs,
-    stack: Vec<Binding>,
+    stack: PairStack,
     // All pairs, made by the last `share_all` and kept for the next; `None` once they changed.
     snapshot: Option<SharedPairs>,
 }
@@ -20,17 +22,17 @@ impl Model for OwnPairs {
 
     ghost Value = { Layers };
 
-    ghost view = { λ e. record { inherited = e.inherited; stack = e.stack.items } };
+    ghost view = { λ e. record { inherited = e.inherited; stack = e.stack } };
 
-    ghost invariant = { λ e. IfSome e.snapshot (λ all. all ≡ e.inherited ++ e.stack.items) };
+    ghost invariant = { λ e. IfSome e.snapshot (λ all. all ≡ e.inherited ++ e.stack) };
 }
 
 impl OwnPairs {
     ghost use Rattle.scoped_env.specs.Layers.{all_pairs, with_pair, without_last_pair};
 
     /// The inherited pairs, and above them those of the stack, the latest last.
-    pub fn above(inherited: SharedPairs, stack: Vec<Binding>) -> OwnPairs
-        ensures { result ≡ record { inherited = inherited; stack = stack.items } }
+    pub fn above(inherited: SharedPairs, stack: PairStack) -> OwnPairs
+        ensures { result ≡ record { inherited = inherited; stack = stack } }
     {
         OwnPairs {
             inherited,
@@ -58,13 +60,11 @@ impl OwnPairs {
         ensures refusal { IfErr result (λ refusal. refusal ≡ Refusal.NotBound) }
         ensures err { OnErr result (self.new ≡ self.old) }
     {
-        match self.stack.pop() {
-            Some(_) => {
-                self.snapshot = None;
-                Ok(())
-            }
-            None => Err(Refusal::NotBound),
+        if !self.stack.pop() {
+            return Err(Refusal::NotBound);
         }
+        self.snapshot = None;
+        Ok(())
     }
 
     /// All pairs, in the list that the last call made if they are the same still. It is refused
@@ -73,16 +73,16 @@ impl OwnPairs {
         ensures ok { IfOk result (λ all. all ≡ all_pairs self.old) }
         ensures unchanged { self.new ≡ self.old }
     {
-        if self.stack.is_empty() {
+        if self.stack.as_slice().is_empty() {
             return self.inherited.share();
         }
         if let Some(all) = &self.snapshot {
             return all.share();
         }
         let all = SharedPairs::joined(
-            *self.stack.allocator(),
+            self.stack.allocator(),
             self.inherited.as_slice(),
-            &self.stack,
+            self.stack.as_slice(),
         )?;
         let shared = all.share()?;
         self.snapshot = Some(all);
@@ -100,6 +100,16 @@ impl OwnPairs {
     pub fn stack(&self) -> &[Binding]
         ensures { result.now ≡ self.now.stack }
     {
-        &self.stack
+        self.stack.as_slice()
+    }
+
+    /// The value of the last pair with the key, own or inherited, if there is one. It takes no memory.
+    pub fn value_of(&self, key: &Name) -> Option<Value>
+        ensures { result ≡ bound_to key.now (all_pairs self.now) }
+    {
+        match self.stack.value_of(key) {
+            Some(value) => Some(value),
+            None => self.inherited.value_of(key),
+        }
     }
 }

@@ -1,4 +1,5 @@
 use Rattle.std.proofs.Common.{◌+◌, ◌<◌, ◌^◌, length, sym, subst}
+use Rattle.deadline_core.proofs.Views.{given_back}
 use Rattle.scope_kept.specs.CutTables.{CutTable}
 use Rattle.scope_kept.proofs.CutsKept.{kept_add_before, kept_refused}
 use Rattle.scope_kept.proofs.cuts.Cuts.add_before.Goals as goal
@@ -10,6 +11,9 @@ invariant_of-self-in-Ok c =
     let coming = subst (λ (t : CutTable). t.moment < c.args.deadline) (sym c.self.view_is) c.requires.coming in
     rw c.set_deadline.ensures (rw c.in-Ok.ensures.added (rw c.push_reserved.ensures.items (rw c.reserve.ensures.items (rw c.in_ok-set.ensures.set (rw c.len.ensures
     (kept_add_before inside.before inside.moment c.args.deadline c.args.inside c.args.shield c.args.place c.args.account inside.tree inside.accounts.items inside.deadlines small coming c.self.invariant))))))
+
+pub remove-requires : goal.remove-requires
+remove-requires c = given_back c.self.inside.deadlines c.set.new.self _ c.args.deadline c.in_ok-set.ensures.set
 
 pub invariant_of-self-in-Err-1 : goal.invariant_of-self-in-Err-1
 invariant_of-self-in-Err-1 c =

@@ -8,7 +8,7 @@ use Rattle.scope_kept.proofs.Alike.{alike}
 use Rattle.scope_kept.proofs.kept.Kept.restart.Goals as goal
 
 -- main's environment is the one that the history leaves
-envs_left : (c : goal.After-drop-self-inside-9) → AreEnvsOf (record { base = c.args.base.now; events = [] }) c.restart-2.new.self
+envs_left : (c : goal.After-drop-self-inside-8) → AreEnvsOf (record { base = c.args.base.now; events = [] }) c.restart-2.new.self
 unfolding base_of
 envs_left c =
     let h = c.requires.0 in

@@ -6,11 +6,12 @@ use Rattle.std.specs.List.{list_any}
 use Rattle.std.specs.Option.{IfSome, option_copied}
 use Rattle.std.specs.BTreeMap.{is_at}
 use Rattle.deadline_core.specs.Ordered.{pair_cmp}
-use Rattle.deadline_core.proofs.First.{lists_view, first_of_order, empty_order, IfNone_copied}
+use Rattle.deadline_core.proofs.First.{first_of_order, empty_order, IfNone_copied}
 use Rattle.deadline_core.proofs.Due.{has}
+use Rattle.deadline_core.proofs.Pairs.{listed_of}
 use Rattle.deadline_core.proofs.Listing.{Lists}
 use Rattle.deadline_core.specs.Moments.{Moments, IsFirst}
-use Rattle.deadline_core.proofs.deadlines.Deadlines.earliest.Goals as goal
+use Rattle.deadline_core.proofs.order.DeadlineOrder.earliest.Goals as goal
 
 first_copied : (r : Option (Bor (ℕ × ℕ))) (o : Option (ℕ × ℕ)) (has : ℕ → ℕ → Bool) (m : Moments) → Lists has (map.get m) → o ≡ option_copied r
     → IfSome r (λ k. has k.now.0 k.now.1 ≡ true) → IfSome r (λ k. (q : ℕ × ℕ) → has q.0 q.1 ≡ true → is_gt (pair_cmp k.now q) ≡ false)
@@ -25,13 +26,13 @@ none_of (k ∷ ks) q e = absurd (omega arith)
 
 pub returns-clause-none : goal.returns-clause-none
 returns-clause-none c =
-    let order = c.self.inside.order in
-    let lists = lists_view (has order.keys) c.self.inside.moments.entries c.args.self.now c.self.view_is c.self.invariant.listed in
+    let order = c.self.inside.pairs in
+    let lists = listed_of order.keys c.args.self.now c.self.view_is c.self.invariant.one in
     IfNone_copied c.first.result _ (length order.keys) _ c.copied.ensures c.first.ensures.variant
     (λ e. empty_order _ c.args.self.now lists (λ e2 t. none_of order.keys (e2, t) e))
 
 pub returns-clause-first : goal.returns-clause-first
 returns-clause-first c =
     let m = c.args.self.now in
-    let lists = lists_view (has c.self.inside.order.keys) c.self.inside.moments.entries m c.self.view_is c.self.invariant.listed in
-    first_copied c.first.result _ (has c.self.inside.order.keys) m lists c.copied.ensures c.first.ensures.member c.first.ensures.least
+    let lists = listed_of c.self.inside.pairs.keys m c.self.view_is c.self.invariant.one in
+    first_copied c.first.result _ (has c.self.inside.pairs.keys) m lists c.copied.ensures c.first.ensures.member c.first.ensures.least

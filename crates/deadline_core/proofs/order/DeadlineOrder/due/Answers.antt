@@ -3,14 +3,14 @@ use Rattle.std.proofs.Common.{◌≡◌, subst, sym}
 use Rattle.std.proofs.lemmas.Result.{IfOk-weaker}
 use Rattle.deadline_core.specs.Ordered.{scopes_up_to}
 use Rattle.deadline_core.specs.Moments.{IsDueInOrder}
-use Rattle.deadline_core.proofs.First.{lists_view}
-use Rattle.deadline_core.proofs.Due.{has, due_in_order}
-use Rattle.deadline_core.proofs.deadlines.Deadlines.due.Goals as goal
+use Rattle.deadline_core.proofs.Pairs.{listed_of}
+use Rattle.deadline_core.proofs.Due.{due_in_order}
+use Rattle.deadline_core.proofs.order.DeadlineOrder.due.Goals as goal
 
 pub returns : goal.returns
 returns c =
-    let keys = c.self.inside.order.keys in
+    let keys = c.self.inside.pairs.keys in
     let m = c.args.self.now in
-    let lists = lists_view (has keys) c.self.inside.moments.entries m c.self.view_is c.self.invariant.listed in
+    let lists = listed_of keys m c.self.view_is c.self.invariant.one in
     let due = due_in_order c.args.now keys m lists c.scopes_up_to.ensures.ordered in
     IfOk-weaker c.scopes_up_to.result (λ scopes. scopes.items ≡ scopes_up_to c.args.now keys) (λ scopes. IsDueInOrder m c.args.now scopes.items) (λ scopes e. subst (IsDueInOrder m c.args.now) (sym e) due) c.scopes_up_to.ensures.listed

@@ -5,7 +5,7 @@ use Rattle.std.specs.Option.{option_map}
 use Rattle.std.proofs.lemmas.Iterator.Search.{find_from_yields_List}
 use Rattle.std.proofs.lemmas.Iterator.Adapters.{YieldsList-from_rev_slice}
 use Rattle.scoped_env.proofs.Lookups.{bound_to-find, has_key, value_of, told_same}
-use Rattle.scoped_env.proofs.env.last_value.Goals as goal
+use Rattle.scoped_env.proofs.keys.last_value.Goals as goal
 
 twice : (o : Option (Bor Binding)) → option_map (λ y. y.now.value) o ≡ option_map value_of (option_map (λ y. y.now) o)
 twice None = refl
