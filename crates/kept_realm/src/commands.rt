@@ -2,8 +2,7 @@ ghost use Rattle.scope_checks.specs.Entering.{Retires, Tells};
 
 use crate::realm::KeptRealm;
 use join_rules::StoredTest;
-use scope_checks::{Told, table};
-use scope_journal::weight;
+use scope_checks::{Accepted, Told, table};
 use scope_rules::types::bases::Base;
 use scope_rules::types::events::Event;
 use scope_rules::types::refusals::Refusal;
@@ -25,14 +24,14 @@ impl KeptRealm {
     ) -> Result<Told, Refusal>
         ensures { Tells self.old event.now result self.new }
     {
-        let told = table::tell(self, &self.limits(), event)?;
+        let Accepted { told, load } = table::tell(self, &self.limits(), event)?;
         if matches!(told, Told::Already) {
             return Ok(told);
         }
-        if weight(event) == 0 {
+        if load == 0 {
             self.record(event, test);
         } else {
-            self.try_append(event, listed)?;
+            self.try_append(event, load, listed)?;
         }
         Ok(told)
     }

@@ -1,4 +1,4 @@
-ghost use Rattle.std.specs.Prelude.{◌≡◌, ℕ, [], List, drop, IfOk, MatchResult};
+ghost use Rattle.std.specs.Prelude.{◌≡◌, ◌<◌, ℕ, [], Some, List, drop, length, slice_get, IfOk, MatchResult};
 ghost use Rattle.std.specs.Borrow.{sem};
 ghost use Rattle.scope_rules.specs.Legal.{Accepts, Legal};
 ghost use Rattle.scope_rules.specs.Load.{weight};
@@ -12,7 +12,7 @@ ghost use Rattle.scope_checks.specs.Ruled.{IsRuled};
 use crate::telling::{make_room, scope_of_event, tell};
 use join_rules::StoredTest;
 use scope_checks::Readings;
-use scope_journal::{Journal, Trails, weight};
+use scope_journal::{Journal, Trails};
 use scope_kept::{CancelledScopes, Kept, follow};
 use scope_rules::{Base, Event, Limits, Refusal};
 use std::alloc::{AllocError, Global};
@@ -90,11 +90,30 @@ impl KeptRealm {
         self.journal.base()
     }
 
-    /// The events since the base, in order.
-    pub fn events(&self) -> &[Event]
-        ensures { result.now ≡ self.now.history.events }
+    /// How many events there are since the base.
+    pub fn event_count(&self) -> usize
+        ensures { result ≡ length self.now.history.events }
     {
-        self.journal.events()
+        self.journal.event_count()
+    }
+
+    /// The event at the place, the first one's since the base being 0.
+    pub fn event(&self, place: usize) -> Event
+        requires { place < length self.now.history.events }
+        ensures { slice_get self.now.history.events place ≡ Some result }
+    {
+        self.journal.event(place)
+    }
+
+    /// A copy of the events since the base, in order.
+    ///
+    /// # Errors
+    ///
+    /// If `alloc` refuses the memory of the copy.
+    pub fn copied_events(&self, alloc: Global) -> Result<Vec<Event>, AllocError>
+        ensures { IfOk result (λ events. events.items ≡ self.now.history.events) }
+    {
+        self.journal.copied_events(alloc)
     }
 }
 
@@ -115,19 +134,24 @@ impl KeptRealm {
 
 /// How events are added.
 impl KeptRealm {
-    /// Appends the event, which was accepted, or is refused memory. `listed` says of a scope that it
-    /// opens whether a closure of the caller's is shown its completions.
-    pub(crate) fn try_append(&mut self, event: &Event, listed: bool) -> Result<(), Refusal>
-        requires { Accepts self.old.limits self.old.history event.now }
+    /// Appends the event, which was accepted and costs this load, or is refused memory. `listed` says of a
+    /// scope that it opens whether a closure of the caller's is shown its completions.
+    pub(crate) fn try_append(
+        &mut self,
+        event: &Event,
+        load: u64,
+        listed: bool,
+    ) -> Result<(), Refusal>
+        requires accepted { Accepts self.old.limits self.old.history event.now }
+        requires costs { load ≡ weight event.now }
         ensures answer { MatchResult result (λ _. self.new ≡ with_event self.old event.now) (λ refusal. (refusal ≡ Refusal.Memory) × (self.new ≡ self.old)) }
     {
         let _legal = self.journal.limits();
-        let place = self.journal.events().len();
-        let cost = weight(event);
-        if self.journal.reserve(cost).is_err() {
+        let place = self.journal.event_count();
+        if self.journal.reserve(load).is_err() {
             return Err(Refusal::Memory);
         }
-        if make_room(&mut self.trails, event, self.journal.load() + cost).is_err() {
+        if make_room(&mut self.trails, event, self.journal.load() + load).is_err() {
             return Err(Refusal::Memory);
         }
         let scope = scope_of_event(self.kept.rows(), event);
@@ -135,7 +159,7 @@ impl KeptRealm {
             return Err(Refusal::Memory);
         }
         tell(&mut self.trails, event, scope, place as u32);
-        self.journal.record(event);
+        self.journal.record(event, load);
         Ok(())
     }
 
@@ -148,12 +172,12 @@ impl KeptRealm {
         ensures legal { Legal self.new.limits self.new.history }
     {
         let _legal = self.journal.limits();
-        let place = self.journal.events().len();
+        let place = self.journal.event_count();
         let scope = scope_of_event(self.kept.rows(), event);
         match follow(&mut self.kept, event, false, test, place) {
             Ok(()) => {
                 tell(&mut self.trails, event, scope, place as u32);
-                self.journal.record(event);
+                self.journal.record(event, 0);
             }
             Err(_) => unreachable!(),
         }
