@@ -177,13 +177,8 @@ impl NotedScript {
         ensures err { OnErr result ((replies.new.items ≡ replies.old.items) × (notes.new.items ≡ notes.old.items)) }
     {
         let why = command_why(&self.book, &command);
-<<<<<<< ours
-        let before = self.book.realm().events().len();
-        let reply = perform(&mut self.book, &command)?;
-=======
         let before = self.book.realm().event_count();
-        let reply = perform(&mut self.book, command)?;
->>>>>>> theirs
+        let reply = perform(&mut self.book, &command)?;
         let note = self.note_of(wanted, &reply, why)?;
         self.record_line(before)?;
         self.tally = with_reply(self.tally, &reply);
