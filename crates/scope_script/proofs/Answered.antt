@@ -8,6 +8,7 @@ use Rattle.scope_rules.specs.declared.types.refusals.Refusal.TheVariants.{Memory
 use Rattle.scope_rules.specs.declared.types.answers.Cancelling.{Cancelling}
 use Rattle.scope_rules.specs.declared.types.answers.Cancelling.TheVariants.{Recorded, Already}
 use Rattle.scope_rules.specs.declared.types.outcomes.Outcome.{Outcome}
+use Rattle.scope_rules.specs.History.{History}
 use Rattle.scope_rules.specs.Origin.{Origin}
 use Rattle.scope_rules.specs.Outcomes.{outcome}
 use Rattle.scope_rules.specs.Checks.{Checked}
@@ -74,16 +75,19 @@ accepted old new e told no_join is =
       realm = is.1 ∙ ap (λ t. after_telling old e (Ok t)) there ∙ leaves old old.history e ∙ rw check refl;
     }
 
--- a refused event has its refusal, or memory was refused and nothing done
-refused_or_stopped : (old new : Realm) (e : Event) (r : Refusal) (said : Reply) → is_join (Do e) ≡ false → (check_of old.limits old.history e ≡ Err r) ⊎ ((check_of old.limits old.history e ≡ Ok tt) × (r ≡ Memory) × (wants_memory old.history e ≡ true)) → new ≡ old → said ≡ reply.Refused r → PerformsOrStops old (Do e) new said
+-- an event that was refused has that as its reply, or memory was refused and nothing done
+refused_by : (old new : Realm) (e : Event) (r : Refusal) → is_join (Do e) ≡ false → (check_of old.limits old.history e ≡ Err r) ⊎ ((check_of old.limits old.history e ≡ Ok tt) × (r ≡ Memory) × (wants_memory old.history e ≡ true)) → new ≡ old → PerformsOrStops old (Do e) new (reply.Refused r)
 unfolding reply_to realm_after
-refused_or_stopped old new e r said no_join (inl by) same says = inr (record { reply = rw by says; realm = rw by same })
-refused_or_stopped old new e r said no_join (inr none) same says = inl (record { memory = says ∙ ap reply.Refused none.1.0; stopped = rw no_join same })
+refused_by old new e r no_join (inl by) same = inr (record { reply = rw by refl; realm = rw by same })
+refused_by old new e r no_join (inr none) same = inl (record { memory = ap reply.Refused none.1; stopped = rw no_join same })
 
--- what is told of an event that is no join is performed, or memory is refused and nothing done
-pub tells : (old new : Realm) (e : Event) (result : Result Told Refusal) (said : Reply) → is_join (Do e) ≡ false → Tells old e result new → MatchResult result (λ told. said ≡ reply_of e told) (λ r. said ≡ reply.Refused r) → PerformsOrStops old (Do e) new said
-tells old new e (Ok told) said no_join is says = inr (rw says (accepted old new e told no_join is))
-tells old new e (Err r) said no_join is says = refused_or_stopped old new e r said no_join is.0 is.1 says
+pub refused : (old new : Realm) (e : Event) (r : Refusal) → is_join (Do e) ≡ false → Tells old e (Err r) new → PerformsOrStops old (Do e) new (reply.Refused r)
+refused old new e r no_join is = refused_by old new e r no_join is.0 is.1
+
+-- an event that is no join by its shape
+pub no_join : (e : Event) → ((actor scope : ℕ) → e ≡ event.Join actor scope → ⊥) → is_join (Do e) ≡ false
+no_join (event.Join actor scope) other = absurd (other actor scope refl)
+no_join _ other = refl
 
 -- a join takes no memory, so that it is tried in any case
 exactly : (old new : Realm) (e : Event) (check : Checked) (told : Reply) (result : Result (Unit {0}) Refusal) (said : Reply) → said ≡ replied (λ done. told) result → Answers check (tt {0}) result → new ≡ after old e result → (said ≡ refused_or check told) × (new ≡ (if is_ok check && true then with_event old e else old))
