@@ -4,7 +4,7 @@ use Rattle.std.specs.Borrow.{MutBor}
 use Rattle.std.specs.Fn.{CalledWithState, Mut, Once}
 use Rattle.cancel_marks.specs.declared.marks.Mark.{Mark}
 use Rattle.cancel_marks.specs.Seats.{Seen}
-use Rattle.named_jobs.specs.Clocks.{IsAfter}
+use Rattle.share_ledger.specs.Clocks.{IsAfter}
 use Rattle.scope_rules.specs.declared.types.events.Event.TheVariants.{Bind, Unbind}
 use Rattle.scope_rules.specs.declared.types.events.Expiry.{Expiry}
 use Rattle.scope_rules.specs.declared.types.events.Options.{Options}

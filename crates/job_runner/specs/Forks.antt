@@ -11,7 +11,7 @@ use Rattle.scope_rules.specs.Replies.{fork_reply}
 use Rattle.share_ledger.specs.declared.steps.RealmStep.TheVariants.{Happened}
 use Rattle.share_ledger.specs.Tickets.{end_in}
 use Rattle.atomic_table.specs.Seated.{TableId}
-use Rattle.named_jobs.specs.Named.{NamedValue}
+use Rattle.share_ledger.specs.Named.{NamedValue}
 use Rattle.thread_crew.specs.Teams.{TeamValue, HasThreadMore, IsSameTeam}
 use Rattle.share_ledger.specs.Values.{OwnerValue, TicketValue, IsWaiting}
 use Rattle.realm_core.specs.Calls.{Accepted, Added, SeesMore}

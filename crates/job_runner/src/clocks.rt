@@ -2,7 +2,7 @@ ghost use Rattle.std.specs.Prelude.{◌≡◌, IfSome, IsSome, Some};
 ghost use Rattle.realm_core.specs.Calls.{DoesOrMemory};
 
 use crate::contexts::TaskCtx;
-use named_jobs::Clock;
+use share_ledger::Clock;
 use realm_lock::RealmName;
 use scope_rules::{Catalog, Refusal};
 use share_ledger::{Ask, RealmStep};

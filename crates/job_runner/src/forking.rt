@@ -10,7 +10,7 @@ use crate::contexts::TaskCtx;
 use crate::held::HeldRealm;
 use crate::markers::Marker;
 use crate::works::JobWork;
-use named_jobs::{Answers, NamedJob};
+use share_ledger::{Answers, NamedJob};
 use realm_lock::{Forked, RealmName, Ticket};
 use scope_rules::{Catalog, ForkReply, Refusal, ScopeId, TaskId};
 use std::sync::Wait;

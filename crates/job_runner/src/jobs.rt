@@ -1,5 +1,5 @@
 use crate::contexts::TaskCtx;
-use named_jobs::Answers;
+use share_ledger::Answers;
 use realm_lock::RealmName;
 use scope_rules::{Catalog, End};
 use std::sync::Wait;

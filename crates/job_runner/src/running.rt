@@ -8,7 +8,7 @@ use crate::contexts::TaskCtx;
 use crate::forking::ForkRefusal;
 use crate::jobs::Job;
 use crate::works::JobWork;
-use named_jobs::NamedJob;
+use share_ledger::NamedJob;
 use realm_lock::{Forked, RealmName};
 use scope_rules::{Catalog, ForkReply, Refusal, ScopeId};
 use std::sync::Wait;

@@ -13,7 +13,7 @@ ghost use Rattle.thread_crew.specs.Teams.{AreGone};
 use crate::contexts::{OpenScope, TaskCtx};
 use crate::markers::Marker;
 use cancel_marks::Mark;
-use named_jobs::Clock;
+use share_ledger::Clock;
 use realm_lock::{ActorToken, CloseReport, Joined, Realm, RealmName};
 use scope_rules::{Catalog, Refusal, ScopeId, Verdict};
 use std::rt::Clock as SystemTime;

@@ -7,7 +7,7 @@ use crate::contexts::TaskCtx;
 use crate::held::HeldRealm;
 use crate::jobs::Job;
 use crate::markers::Marker;
-use named_jobs::{Answers, NamedJob};
+use share_ledger::{Answers, NamedJob};
 use realm_lock::{RealmName, Ticket};
 use scope_rules::Catalog;
 use std::alloc::Global;

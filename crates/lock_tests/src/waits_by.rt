@@ -5,7 +5,7 @@ ghost use Rattle.std.specs.Prelude.{◌≡◌, Some};
 use crate::common::{fork, open};
 use crate::waits::pause;
 use join_rules::Joiner;
-use named_jobs::Clock;
+use share_ledger::Clock;
 use realm_lock::{ActorToken, KeptRealm, Look, Realm, RealmName};
 use scope_rules::{AnyEnd, Options};
 use std::process::Abort;

@@ -11,7 +11,7 @@ ghost use Rattle.realm_lock.specs.Waits.{HasCome, HasPassed, JoinsBy, StaysUnclo
 use crate::dozers::Bed;
 use crate::realm::Realm;
 use cancel_marks::{Mark, MarkCell, Seat};
-use named_jobs::Clock;
+use share_ledger::Clock;
 use realm_core::{Joined, RealmName};
 use scope_rules::{Catalog, Refusal, ScopeId};
 use share_ledger::OwnerShare;

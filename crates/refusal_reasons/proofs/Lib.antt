@@ -4,3 +4,9 @@ mod Fits
 mod RowsFit
 mod Truth
 mod RowsTrue
+mod Ascii
+mod Tables
+mod Options
+mod FaultsFit
+mod FirstWrong
+mod PlacesFit

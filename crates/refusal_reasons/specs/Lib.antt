@@ -4,3 +4,12 @@ pub mod Rows
 pub mod Sentences
 pub mod Fits
 pub mod Truth
+pub mod Shown
+pub mod Shapes
+pub mod Faults
+pub mod Causes
+pub mod Guesses
+pub mod FaultSentences
+pub mod LinePlaces
+pub mod FaultFits
+pub mod FirstWrong

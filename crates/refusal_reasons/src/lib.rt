@@ -1,4 +1,6 @@
-//! Why a command is refused: what stood in its way, with its values, as one sentence.
+//! Why a line of a script is refused. Of a command: what stood in its way, with its values, as one sentence. Of a
+//! line that is no command: which field of which form is wrong, for what cause, and where, as one sentence and
+//! a picture of the line.
 //!
 //! A command meets the checks of its row in their order (`scope_checks`). Each check has a twin here that says
 //! what is in the way if the check refuses, and the reason of a command is that of the first such twin.
@@ -8,16 +10,31 @@
 //! caller's too.
 #![tactic(auto)]
 
+mod causes;
 mod checks;
 mod events;
+pub mod fault_laws;
+mod faults;
+mod fields;
+mod guesses;
 pub mod laws;
+mod line_places;
+mod line_shown;
 mod nesting;
 mod places;
 pub mod reasons;
 pub mod rows;
+mod sentences;
+mod shapes;
 mod shown;
+mod words;
 
 pub use events::Events;
 pub use reasons::{ActorObstacle, Reason, RoomObstacle, ScopeObstacle, TaskObstacle};
 pub use rows::{event_reason, question_reason, retire_reason};
 pub use shown::ShownReason;
+pub use faults::{WordFault, fault_of};
+pub use line_places::{Place, ShownPlace, place_of};
+pub use sentences::ShownFault;
+pub use shapes::{FieldKind, Shape};
+pub use line_shown::ShownBytes;

@@ -4,3 +4,6 @@ pub mod Counting
 pub mod LogLaws
 pub mod LogText
 pub mod Previews
+pub mod Folding
+pub mod RetiringLaws
+pub mod Dues

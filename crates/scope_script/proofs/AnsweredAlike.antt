@@ -16,9 +16,9 @@ use Rattle.scope_rules.proofs.Accepted.{or_left, or_right}
 use Rattle.script_words.specs.declared.commands.Question.{Question}
 use Rattle.script_words.specs.declared.commands.Question.TheVariants as question
 use Rattle.script_words.specs.declared.reply.Reply.TheVariants as reply
-use Rattle.scope_laws.specs.Folding.{is_let_go, names_let_go, Retirable, left, unretired, retired, NamesNone}
-use Rattle.scope_laws.specs.RetiringLaws.{AnswersAlike, ScopeAlike, TaskAlike}
-use Rattle.scope_laws.proofs.Alike.{answers_alike}
+use Rattle.scope_log.specs.Folding.{is_let_go, names_let_go, Retirable, left, unretired, retired, NamesNone}
+use Rattle.scope_log.specs.RetiringLaws.{AnswersAlike, ScopeAlike, TaskAlike}
+use Rattle.scope_log.proofs.Alike.{answers_alike}
 use Rattle.scope_rules.proofs.Pushing.{entry_of_push}
 use Rattle.scope_script.specs.Replying.{replied, told_of, passed_reply, answer_to}
 use Rattle.scope_script.specs.Retiring.{asks_let_go}

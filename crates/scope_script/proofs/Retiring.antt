@@ -20,9 +20,9 @@ use Rattle.script_words.specs.declared.commands.Command.{Command}
 use Rattle.script_words.specs.declared.commands.Question.{Question}
 use Rattle.script_words.specs.declared.commands.Command.TheVariants.{Do, Retire, Ask}
 use Rattle.script_words.specs.declared.reply.Reply.{Reply}
-use Rattle.scope_laws.specs.Folding.{names_let_go, Retirable, left, unretired, retired, NamesNone}
-use Rattle.scope_laws.proofs.Alike.{answers_alike, retired_again}
-use Rattle.scope_laws.proofs.Nested.{same_innermost}
+use Rattle.scope_log.specs.Folding.{names_let_go, Retirable, left, unretired, retired, NamesNone}
+use Rattle.scope_log.proofs.Alike.{answers_alike, retired_again}
+use Rattle.scope_log.proofs.Nested.{same_innermost}
 use Rattle.scope_script.specs.Replying.{reply_to, realm_after, realm_after_all, refused_or, passed_reply}
 use Rattle.scope_script.specs.Retiring.{tells_let_go, tell_let_go, is_retirement, asks_let_go, without_retirements, replies_in_turn, replies_aside, lines_of, is_too_many, fresh, RetiresFreely, RepliesStay, ReplyTextStays}
 use Rattle.scope_script.proofs.AnsweredAlike.{event_more, names_more, passed_alike, answers_to}

@@ -12,7 +12,7 @@ use Rattle.script_words.specs.declared.commands.Question.TheVariants as question
 use Rattle.script_words.specs.declared.reply.Reply.{Reply}
 use Rattle.script_words.specs.declared.reply.Reply.TheVariants.{Refused}
 use Rattle.script_words.specs.ReplyText.{reply_text}
-use Rattle.scope_laws.specs.Folding.{is_let_go, names_let_go}
+use Rattle.scope_log.specs.Folding.{is_let_go, names_let_go}
 use Rattle.scope_script.specs.Replying.{reply_to, realm_after}
 
 -- the question names a scope or a task that was discarded

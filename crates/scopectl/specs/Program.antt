@@ -7,7 +7,7 @@ use Rattle.scope_script.specs.Tallies.{no_refusals}
 use Rattle.script_jobs.specs.Counts.{count_of_script}
 use Rattle.script_jobs.specs.declared.counting.Count.{Count}
 use Rattle.script_jobs.specs.Notes.{notes_text}
-use Rattle.random_scripts.specs.Made.{IsScript}
+use Rattle.script_jobs.specs.Made.{IsScript}
 use Rattle.script_jobs.specs.declared.notes.Notes.{Notes}
 use Rattle.script_jobs.specs.declared.notes.Notes.TheVariants as notes
 use Rattle.scopectl.specs.Saying.{Noted, SaidNotes, status_of}

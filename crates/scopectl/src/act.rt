@@ -4,7 +4,7 @@ ghost use Rattle.std.specs.Io.KnownBytes.{Appends};
 ghost use Rattle.scope_script.specs.Streams.{AppendsPart};
 ghost use Rattle.scopectl.specs.Naming.{IsOfPlan, NamesAfter, NamesAny, NamesFault};
 ghost use Rattle.scopectl.specs.Program.{DidAsSaid, DidJob, DidPart, DidPartly, DidWhole, GaveText, GaveTextPartly, IsNotUnderstood, command_of, lenience, lines_or, notes_wanted};
-ghost use Rattle.random_scripts.specs.Made.{IsScript};
+ghost use Rattle.script_jobs.specs.Made.{IsScript};
 ghost use Rattle.scopectl.specs.Saying.{IsSaid, Noted, SaidSome, count_text, is_silent, status_of, three_if_some};
 ghost use Rattle.scopectl.specs.Texts.{line_of, not_utf8_line};
 
@@ -13,7 +13,7 @@ use crate::quoting::quoted;
 use command_line::{CommandLine, Delay, LineFault, ScriptOptions, VERSION_LINE, help_of, line};
 use job_runner::JobWork;
 use quote_gateway::LateJob;
-use random_scripts::script_by;
+use script_jobs::script_by;
 use realm_lock::{RealmName, Seed};
 use scope_rules::Due;
 use scope_script::Watched;

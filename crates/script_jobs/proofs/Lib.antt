@@ -9,3 +9,4 @@ pub mod LineLaws
 mod Walked
 mod Timed
 mod Standing
+mod Made

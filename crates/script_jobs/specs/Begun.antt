@@ -1,8 +1,8 @@
 -- What is kept of a line that comes piece by piece, so that a note on it can be made.
 use Rattle.std.specs.Prelude.{ℕ, ◌+◌, min, nat_lt, List, [], ◌∷◌, ◌++◌, length, take, Option, Some, if◌then◌else◌}
-use Rattle.bad_words.specs.Faults.{fault_of}
-use Rattle.bad_words.specs.declared.faults.WordFault.{WordFault}
-use Rattle.bad_words.specs.declared.faults.WordFault.TheVariants.{TooLong}
+use Rattle.refusal_reasons.specs.Faults.{fault_of}
+use Rattle.refusal_reasons.specs.declared.faults.WordFault.{WordFault}
+use Rattle.refusal_reasons.specs.declared.faults.WordFault.TheVariants.{TooLong}
 use Rattle.script_words.specs.declared.lines.TheConstants.{LINE_LIMIT}
 use Rattle.script_jobs.specs.declared.begun.TheConstants.{KEPT_LIMIT}
 

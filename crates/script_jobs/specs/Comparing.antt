@@ -3,7 +3,7 @@ use Rattle.std.specs.Prelude.{◌≡◌, ◌≢◌, ◌⊎◌, ℕ, ◌+◌, fal
 use Rattle.std.specs.Prelude.{codes}
 use Rattle.std.specs.Fmt.{decimal}
 use Rattle.std.specs.List.{flat_map}
-use Rattle.bad_words.specs.Shown.{shown_text}
+use Rattle.refusal_reasons.specs.Shown.{shown_text}
 use Rattle.scope_script.specs.Cutting.{has_feed, CutsLine}
 
 -- a line with its line feed

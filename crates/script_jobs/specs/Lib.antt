@@ -11,3 +11,4 @@ pub mod Fits
 pub mod NoteLaws
 pub mod LineLaws
 pub mod Times
+pub mod Made

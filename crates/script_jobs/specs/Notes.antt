@@ -12,9 +12,9 @@ use Rattle.script_words.specs.declared.reply.Reply.TheVariants.{Refused}
 use Rattle.script_words.specs.ReplyText.{reply_text}
 use Rattle.scope_script.specs.Cutting.{ended_lines, begun_line}
 use Rattle.scope_script.specs.Replying.{reply_to}
-use Rattle.bad_words.specs.Places.{picture_text, place_of}
-use Rattle.bad_words.specs.Shown.{shown_text}
-use Rattle.bad_words.specs.declared.places.Place.{Place}
+use Rattle.refusal_reasons.specs.LinePlaces.{picture_text, place_of}
+use Rattle.refusal_reasons.specs.Shown.{shown_text}
+use Rattle.refusal_reasons.specs.declared.line_places.Place.{Place}
 use Rattle.script_jobs.specs.Begun.{Begun, begun_by, fault_in, grown, no_line}
 use Rattle.script_jobs.specs.Noting.{Noting, noting_after, noting_begins}
 use Rattle.script_jobs.specs.declared.notes.Notes.{Notes}

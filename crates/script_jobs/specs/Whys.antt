@@ -6,7 +6,7 @@ use Rattle.script_words.specs.declared.commands.Command.TheVariants.{Do, Retire,
 use Rattle.refusal_reasons.specs.Obstacles.{Explained}
 use Rattle.refusal_reasons.specs.Rows.{event_reason, retire_reason, question_reason}
 use Rattle.refusal_reasons.specs.Sentences.{sentence}
-use Rattle.bad_words.specs.Sentences.{line_fault_text}
+use Rattle.refusal_reasons.specs.FaultSentences.{line_fault_text}
 use Rattle.script_jobs.specs.declared.whys.Why.{Why}
 use Rattle.script_jobs.specs.declared.whys.Why.TheVariants as why
 

@@ -3,7 +3,7 @@ ghost use Rattle.std.specs.Prelude.{◌≡◌, ◌==◌, ◌++◌, ◌≤◌, []
 ghost use Rattle.script_jobs.specs.Begun.{fault_in, grown_by, no_line};
 
 use arrayvec::ArrayVec;
-use bad_words::{WordFault, fault_of};
+use refusal_reasons::{WordFault, fault_of};
 use scope_script::LINE_LIMIT;
 use std::marker::Model;
 

@@ -2,7 +2,7 @@
 ghost use Rattle.std.specs.Prelude.{◌≡◌, IfSome, MatchOption, Some};
 ghost use Rattle.script_jobs.specs.Comparing.{BeginAlike, DiffersAt, IsFirst, difference_text};
 
-use bad_words::ShownBytes;
+use refusal_reasons::ShownBytes;
 use scope_script::first_line;
 use std::fmt;
 

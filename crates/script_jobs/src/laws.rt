@@ -7,7 +7,7 @@ ghost use Rattle.script_jobs.specs.NoteLaws.{NotedAreCounted, NotesAreNumbered, 
 use refusal_reasons::laws::reasons_fit;
 
 /// A command has a reason just if its reply is a refusal, and the reason is of that refusal. Of lines that
-/// are no command `bad_words` has the same law.
+/// are no command `refusal_reasons` has the same law.
 pub fn replies_fit()
     ensures { RepliesFit }
 {

@@ -3,7 +3,7 @@ ghost use Rattle.std.specs.Prelude.{Some};
 ghost use Rattle.script_jobs.specs.Notes.{head_text, replied_text, refused_text, below_text, why_below, note};
 
 use crate::whys::{ShownWhy, Why};
-use bad_words::{ShownBytes, ShownPlace, place_of};
+use refusal_reasons::{ShownBytes, ShownPlace, place_of};
 use scope_script::Reply;
 use std::fmt;
 

@@ -4,7 +4,7 @@ use Rattle.scope_rules.specs.declared.types.events.Event.{Event}
 use Rattle.scope_rules.specs.declared.types.events.Event.TheVariants as event
 use Rattle.scope_rules.specs.Origin.{Origin}
 use Rattle.scope_rules.specs.Replies.{Realm}
-use Rattle.scope_laws.specs.Dues.{without_due}
+use Rattle.scope_log.specs.Dues.{without_due}
 use Rattle.script_journal.specs.Script.{event_line, moment_text, binds_text, events_text}
 use Rattle.scope_script.specs.Sessions.{realm_of_script}
 use Rattle.script_journal.specs.Journals.{JournalStays, JournalTellsAll}

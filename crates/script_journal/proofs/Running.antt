@@ -8,9 +8,9 @@ use Rattle.scope_rules.specs.History.{History}
 use Rattle.scope_rules.specs.Legal.{Legal, Accepts}
 use Rattle.scope_rules.specs.Origin.{Origin, the_start}
 use Rattle.scope_rules.specs.Replies.{Realm, starting}
-use Rattle.scope_laws.specs.Dues.{without_due, without_dues}
-use Rattle.scope_laws.proofs.Events.{without_followed}
-use Rattle.scope_laws.proofs.Checks.{accepts_without}
+use Rattle.scope_log.specs.Dues.{without_due, without_dues}
+use Rattle.scope_log.proofs.Events.{without_followed}
+use Rattle.scope_log.proofs.Checks.{accepts_without}
 use Rattle.script_words.specs.declared.commands.Command.TheVariants.{Do}
 use Rattle.script_words.specs.declared.commands.Line.TheVariants.{Command}
 use Rattle.script_words.specs.Lines.{line_said}

@@ -22,7 +22,7 @@ use Rattle.script_words.specs.Lines.{line_said}
 use Rattle.script_words.specs.Spelling.{words_of, value_word, policy_word, option_words}
 use Rattle.script_words.proofs.SpelledLines.{line_says_the_command}
 use Rattle.script_journal.specs.Script.{event_line}
-use Rattle.scope_laws.specs.Dues.{without_due}
+use Rattle.scope_log.specs.Dues.{without_due}
 use Rattle.script_journal.specs.Journals.{Fits}
 
 value_spelled : (value : Value) → value_text value ≡ value_word value

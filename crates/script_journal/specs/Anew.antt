@@ -7,7 +7,7 @@ use Rattle.scope_rules.specs.declared.types.events.Event.TheVariants as event
 use Rattle.scope_rules.specs.History.{History}
 use Rattle.scope_rules.specs.Legal.{Legal}
 use Rattle.scope_rules.specs.Origin.{Origin, the_start}
-use Rattle.scope_laws.specs.Dues.{without_dues}
+use Rattle.scope_log.specs.Dues.{without_dues}
 use Rattle.script_journal.specs.Journals.{AllFit, RunsTo}
 use Rattle.script_journal.specs.Script.{script_text}
 

@@ -5,7 +5,7 @@ use Rattle.scope_rules.specs.declared.types.events.Event.{Event}
 use Rattle.scope_rules.specs.History.{History}
 use Rattle.scope_rules.specs.Legal.{Legal}
 use Rattle.scope_rules.specs.Origin.{the_start}
-use Rattle.scope_laws.specs.Dues.{without_due, without_dues}
+use Rattle.scope_log.specs.Dues.{without_due, without_dues}
 use Rattle.script_words.specs.declared.commands.Command.TheVariants.{Do}
 use Rattle.script_words.specs.Spelling.{HasWords}
 use Rattle.script_journal.specs.Script.{script_text}

@@ -1,7 +1,7 @@
 //! The journal of a realm.
 ghost use Rattle.std.specs.Prelude.{◌≡◌, IfOk, string_bytes};
 ghost use Rattle.scope_rules.specs.Origin.{the_start};
-ghost use Rattle.scope_laws.specs.Dues.{without_dues};
+ghost use Rattle.scope_log.specs.Dues.{without_dues};
 ghost use Rattle.script_journal.specs.Script.{script_text};
 ghost use Rattle.script_journal.specs.Journals.{RunsTo};
 

@@ -7,3 +7,5 @@ pub mod Steps
 pub mod Holders
 pub mod Tickets
 pub mod StepLaws
+pub mod Named
+pub mod Clocks

@@ -10,12 +10,12 @@ use Rattle.scope_rules.specs.Tasks.{stage, state}
 use Rattle.serde_json.specs.Data.{null, number, unsigned, object, member, no_members}
 use Rattle.serde_json.specs.View.{items_of}
 use Rattle.serde_json.specs.Written.{compact_text}
-use Rattle.scope_laws.specs.Folding.{Retirable, unretired, retired, NamesNone}
-use Rattle.scope_laws.proofs.Past.{IsScope, IsTask, greater}
-use Rattle.scope_laws.proofs.Numbered.{same_moment}
-use Rattle.scope_laws.proofs.Ranges.{filter_listed}
-use Rattle.scope_laws.proofs.Staged.{same_stage, same_state, same_tasks_of}
-use Rattle.scope_laws.proofs.Shown.{same_outermost, same_inner, same_label, same_info, outermost_new, inner_new}
+use Rattle.scope_log.specs.Folding.{Retirable, unretired, retired, NamesNone}
+use Rattle.scope_log.proofs.Past.{IsScope, IsTask, greater}
+use Rattle.scope_log.proofs.Numbered.{same_moment}
+use Rattle.scope_log.proofs.Ranges.{filter_listed}
+use Rattle.scope_log.proofs.Staged.{same_stage, same_state, same_tasks_of}
+use Rattle.scope_log.proofs.Shown.{same_outermost, same_inner, same_label, same_info, outermost_new, inner_new}
 use Rattle.scope_rules.specs.Replies.{Realm}
 use Rattle.scope_script.proofs.Retiring.{leaves_alike}
 use Rattle.tree_dump.specs.Objects.{scope_object, task_object}

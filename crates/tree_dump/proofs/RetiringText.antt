@@ -10,12 +10,12 @@ use Rattle.scope_rules.specs.History.{History, tasks, forked_count}
 use Rattle.scope_rules.specs.Completions.{is_task_of}
 use Rattle.scope_rules.specs.Nests.{outermost, inner, tasks_of, info, label}
 use Rattle.scope_rules.specs.Replies.{Realm}
-use Rattle.scope_laws.specs.Folding.{Retirable, unretired, retired, NamesNone}
-use Rattle.scope_laws.proofs.Past.{IsScope, IsTask, greater}
-use Rattle.scope_laws.proofs.Numbered.{same_moment}
-use Rattle.scope_laws.proofs.Ranges.{filter_listed}
-use Rattle.scope_laws.proofs.Staged.{same_stage, same_state, same_tasks_of, same_counts}
-use Rattle.scope_laws.proofs.Shown.{same_outermost, same_inner, same_label, same_info, outermost_new, inner_new}
+use Rattle.scope_log.specs.Folding.{Retirable, unretired, retired, NamesNone}
+use Rattle.scope_log.proofs.Past.{IsScope, IsTask, greater}
+use Rattle.scope_log.proofs.Numbered.{same_moment}
+use Rattle.scope_log.proofs.Ranges.{filter_listed}
+use Rattle.scope_log.proofs.Staged.{same_stage, same_state, same_tasks_of, same_counts}
+use Rattle.scope_log.proofs.Shown.{same_outermost, same_inner, same_label, same_info, outermost_new, inner_new}
 use Rattle.scope_script.proofs.Retiring.{leaves_alike}
 use Rattle.tree_dump.specs.Ages.{for_text, is_running, late_by, late_text, no_clock, reading_in, scope_age, since, task_age}
 use Rattle.tree_dump.specs.Ages as ages

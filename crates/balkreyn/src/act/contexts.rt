@@ -248,7 +248,7 @@ impl<K, O, S: Spawner<N>, N: RealmName> Scopes for Cx<'_, K, O, S, N> {
 
 impl<K: Handle, O: Observes, N: RealmName, W: Task, S: Forks<AnyEnd, N, Timed<K, W, O>>> Acts<W>
     for Cx<'_, K, O, S, N> {
-    ghost use Rattle.named_jobs.specs.declared.clocks.SystemClock.{SystemClock};
+    ghost use Rattle.share_ledger.specs.declared.clocks.SystemClock.{SystemClock};
     ghost use Rattle.job_runner.specs.Marks.{seat_here};
 
     ghost Time = { SystemClock K };

@@ -1,7 +1,7 @@
 //! Named jobs, and a clock of a test's own.
 ghost use Rattle.std.specs.Prelude.{◌≡◌, Some};
 
-use named_jobs::{Answers, Clock, NamedJob};
+use share_ledger::{Answers, Clock, NamedJob};
 use scope_rules::{Due, End, Label, Name, Value};
 use std::test::Fail;
 

@@ -2,7 +2,7 @@ use Rattle.std.proofs.Common.{◌≡◌, ◌∷◌, ◌++◌, List, Result, Ok, 
 use Rattle.std.specs.Prelude.{IfErr}
 use Rattle.std.specs.Result.{IsErrAnd}
 use Rattle.scope_rules.specs.Ends.{LabelValue}
-use Rattle.named_jobs.specs.Named.{NamedValue}
+use Rattle.share_ledger.specs.Named.{NamedValue}
 use Rattle.quote_gateway.specs.Going.{nests, HasForked, ForkTurnedDown, IsTurnedDown}
 use Rattle.quote_gateway.specs.Offers.{labels_in}
 use Rattle.quote_gateway.proofs.Going.{begins_going, sees_on, tokens_on}

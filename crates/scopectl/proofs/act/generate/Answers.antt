@@ -1,7 +1,7 @@
 use Rattle.std.proofs.Common.{subst, inl, inr, string_bytes, ℕ}
 use Rattle.std.specs.Io.KnownBytes.{Appends}
 use Rattle.scope_script.specs.Streams.{AppendsPart}
-use Rattle.random_scripts.specs.Made.{IsScript}
+use Rattle.script_jobs.specs.Made.{IsScript}
 use Rattle.scopectl.specs.declared.fault.ProgramFault.TheVariants.{Memory, Write}
 use Rattle.scopectl.proofs.act.generate.Goals as goal
 

@@ -1,6 +1,0 @@
-mod Ascii
-mod Tables
-mod Options
-mod FaultsFit
-mod FirstWrong
-mod PlacesFit

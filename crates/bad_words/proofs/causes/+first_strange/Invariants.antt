@@ -1,5 +1,0 @@
-use Rattle.std.proofs.Common.{length}
-use Rattle.bad_words.proofs.causes.+first_strange.Given as goal
-
-abbrev pub decreases-first_strange : goal.decreases-first_strange
-decreases-first_strange l = length l.bytes.now

@@ -1,4 +1,0 @@
-use Rattle.bad_words.proofs.places.+text_from.Given as goal
-
-abbrev pub decreases-text_from : goal.decreases-text_from
-decreases-text_from l = l.index

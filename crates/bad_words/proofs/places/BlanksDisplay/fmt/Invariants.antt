@@ -1,7 +1,0 @@
-use Rattle.std.proofs.Common.{replicate}
-use Rattle.std.specs.Fmt.{HasWritten, IsPlainFormatter}
-use Rattle.bad_words.proofs.places.BlanksDisplay.fmt.Given as goal
-
-abbrev pub invariant-loop-blank : goal.invariant-loop-blank
-invariant-loop-blank g l =
-    IsPlainFormatter l.fn.f → HasWritten g.W.Write.write_str_gives l.fn.f (replicate l._blank 32) l.f

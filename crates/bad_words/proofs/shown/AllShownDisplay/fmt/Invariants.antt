@@ -1,9 +1,0 @@
--- The bytes before the index were written.
-use Rattle.std.proofs.Common.{take}
-use Rattle.std.specs.Fmt.{HasWritten, IsPlainFormatter}
-use Rattle.bad_words.specs.Shown.{all_shown}
-use Rattle.bad_words.proofs.shown.AllShownDisplay.fmt.Given as goal
-
-abbrev pub invariant-loop-byte : goal.invariant-loop-byte
-invariant-loop-byte g l =
-    IsPlainFormatter l.fn.f → HasWritten g.W.Write.write_str_gives l.fn.f (all_shown (take l.byte-index l.self.0.now)) l.f

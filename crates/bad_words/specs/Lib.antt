@@ -1,9 +1,0 @@
-pub mod Shown
-pub mod Shapes
-pub mod Faults
-pub mod Causes
-pub mod Guesses
-pub mod Sentences
-pub mod Places
-pub mod Fits
-pub mod FirstWrong

@@ -1,8 +1,0 @@
-use Rattle.std.proofs.lemmas.Result.{IfOk-weaker}
-use Rattle.std.proofs.Common.{codes}
-use Rattle.random_scripts.proofs.Made.{fallback}
-use Rattle.random_scripts.proofs.making.push_next.Goals as goal
-
-pub returns : goal.returns
-returns c =
-    IfOk-weaker c.push_line-else-is_command_line.result _ _ (λ _ is. record { line = codes "tick 0"; says = fallback c.line_says_the_command.ensures.line; is = is }) c.push_line-else-is_command_line.ensures

@@ -1,7 +1,0 @@
--- So many lines were made.
-use Rattle.std.proofs.Common.{string_bytes}
-use Rattle.random_scripts.specs.Made.{IsScript}
-use Rattle.random_scripts.proofs.making.script_by.Given as goal
-
-abbrev pub invariant-loop-line : goal.invariant-loop-line
-invariant-loop-line l = IsScript l.line (string_bytes l.text)

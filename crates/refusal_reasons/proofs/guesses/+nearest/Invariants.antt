@@ -1,0 +1,5 @@
+use Rattle.std.proofs.Common.{length}
+use Rattle.refusal_reasons.proofs.guesses.+nearest.Given as goal
+
+abbrev pub decreases-nearest : goal.decreases-nearest
+decreases-nearest l = length l.known.now

@@ -1,0 +1,105 @@
+-- Why a word is not what it is to be.
+use Rattle.std.specs.Prelude.{ℕ, ◌==◌, Bool, ◌||◌, is_some, List, [], ◌∷◌, length, Option, Some, None, if◌then◌else◌}
+use Rattle.std.specs.Char.{is_ascii_digit}
+use Rattle.std.specs.List.{list_any}
+use Rattle.scope_rules.specs.NameText.{is_letter, is_inner}
+use Rattle.script_words.specs.Joiners.{after}
+use Rattle.refusal_reasons.specs.declared.causes.Alien.{Alien}
+use Rattle.refusal_reasons.specs.declared.causes.Alien.TheVariants as alien
+use Rattle.refusal_reasons.specs.declared.causes.Cause.{Cause}
+use Rattle.refusal_reasons.specs.declared.causes.Cause.TheVariants as cause
+use Rattle.refusal_reasons.specs.declared.shapes.FieldKind.{FieldKind}
+use Rattle.refusal_reasons.specs.declared.shapes.FieldKind.TheVariants as kind
+
+-- ---- bytes that no script has
+
+-- the word begins with a byte order mark
+abbrev pub has_mark : List ℕ → Bool
+has_mark word = is_some (after (239 ∷ 187 ∷ 191 ∷ []) word)
+
+-- the byte is one of the word's
+abbrev pub has_byte : ℕ → List ℕ → Bool
+has_byte b word = list_any (λ c. c == b) word
+
+-- what other systems and editors leave in a word, if anything: a byte order mark, a byte 0 of UTF-16, a carriage
+-- return, a tab
+unfoldable pub alien_in : List ℕ → Option Alien
+alien_in word =
+    if has_mark word then Some alien.ByteOrderMark
+    else if has_byte 0 word then Some alien.Utf16
+    else if has_byte 13 word then Some alien.CarriageReturn
+    else if has_byte 9 word then Some alien.Tab
+    else None
+
+-- ---- numbers and names
+
+-- the first of the bytes that is no digit
+unfoldable pub first_other : List ℕ → Option ℕ
+first_other [] = None
+first_other (b ∷ bs) = if is_ascii_digit b then first_other bs else Some b
+
+-- the first of the bytes that no name has
+unfoldable pub first_strange : List ℕ → Option ℕ
+first_strange [] = None
+first_strange (b ∷ bs) = if is_inner b then first_strange bs else Some b
+
+-- the byte is `-` or `+`
+abbrev pub is_sign : ℕ → Bool
+is_sign b = (b == 45) || (b == 43)
+
+-- why a word that begins with a digit is no such number: of the byte that is no digit, or else of its size
+abbrev pub digits_cause : ℕ → Option ℕ → Cause
+digits_cause first (Some other) = cause.NoDigit other
+digits_cause first None = if first == 48 then cause.NeedlessZero else cause.TooGreat
+
+-- why a word is no number of its kind
+abbrev pub number_cause : List ℕ → Cause
+number_cause [] = cause.Plain
+number_cause (first ∷ others) =
+    if is_sign first then cause.Signed
+    else if is_ascii_digit first then digits_cause first (first_other others)
+    else cause.Plain
+
+-- the same of a moment, which has no unit behind it
+abbrev pub timed : Cause → Cause
+timed (cause.NoDigit other) = cause.HasUnit
+timed c = c
+
+abbrev pub moment_cause : List ℕ → Cause
+moment_cause word = timed (number_cause word)
+
+-- why a word is no name: its first byte, another byte, or its length
+abbrev pub inner_cause : (bytes : ℕ) → Option ℕ → Cause
+inner_cause bytes (Some other) = cause.HasByte other
+inner_cause bytes None = cause.TooLongName bytes
+
+abbrev pub name_cause : List ℕ → Cause
+name_cause [] = cause.Plain
+name_cause (first ∷ others) =
+    if is_letter first then inner_cause (length (first ∷ others)) (first_strange others)
+    else cause.BeginsWith first
+
+-- why a word that begins with a sign or a digit is no number of 64 bits, and another no name
+abbrev pub wide : Cause → Cause
+wide cause.TooGreat = cause.TooWide
+wide c = c
+
+abbrev pub signed_cause : ℕ → List ℕ → Cause
+signed_cause sign digits = if sign == 45 then wide (number_cause digits) else cause.Signed
+
+abbrev pub value_cause : List ℕ → Cause
+value_cause [] = cause.Plain
+value_cause (first ∷ others) =
+    if is_sign first then signed_cause first others
+    else if is_ascii_digit first then wide (number_cause (first ∷ others))
+    else name_cause (first ∷ others)
+
+-- why a word is not of the kind
+unfoldable pub cause_of : FieldKind → List ℕ → Cause
+cause_of kind.Actor word = number_cause word
+cause_of kind.Scope word = number_cause word
+cause_of kind.Task word = number_cause word
+cause_of kind.Moment word = moment_cause word
+cause_of kind.Deadline word = moment_cause word
+cause_of kind.Name word = name_cause word
+cause_of kind.Value word = value_cause word

@@ -1,0 +1,50 @@
+-- Where a field stands in its line.
+use Rattle.std.specs.Prelude.{◌≡◌, ℕ, zero, suc, ◌+◌, ◌-◌, max, List, ◌++◌, length, take, drop, replicate, codes}
+use Rattle.std.specs.List.{position_or_len}
+use Rattle.script_words.specs.Fields.{is_space, fields, without_spaces}
+use Rattle.script_words.specs.declared.lines.TheConstants.{LINE_LIMIT}
+use Rattle.refusal_reasons.specs.declared.faults.WordFault.{WordFault}
+use Rattle.refusal_reasons.specs.declared.faults.WordFault.TheVariants as fault
+use Rattle.refusal_reasons.specs.declared.line_places.Place.{Place}
+use Rattle.refusal_reasons.specs.FaultSentences.{field_at}
+use Rattle.refusal_reasons.specs.Shown.{all_shown}
+
+-- what stands behind the first field of a text
+abbrev pub behind_first : List ℕ → List ℕ
+behind_first text = drop (position_or_len is_space text) text
+
+-- the text from its field of this index on; no bytes if there is none
+unfoldable pub text_from : List ℕ → ℕ → List ℕ
+text_from text zero = without_spaces text
+text_from text (suc n) = text_from (behind_first (without_spaces text)) n
+
+-- where the field of this index stands, counted from 1, and how many bytes it has; behind the line if there is none
+unfoldable pub field_place : List ℕ → ℕ → Place
+field_place line n = record {
+  column = length line - length (text_from line n) + 1;
+  width = position_or_len is_space (text_from line n);
+}
+
+-- where the line ends
+abbrev pub end_of : List ℕ → Place
+end_of line = record { column = length line + 1; width = 0 }
+
+-- if a line is wrong: at the byte behind the last that it may have, at a field, or at its end
+unfoldable pub place_of : List ℕ → WordFault → Place
+place_of line (fault.TooLong bytes) = record { column = LINE_LIMIT + 1; width = 0 }
+place_of line fault.NoForm = field_place line 0
+place_of line (fault.Wrong s n k) = field_place line (suc n)
+place_of line (fault.Missing s k) = end_of line
+place_of line (fault.Extra s n) = field_place line (suc n)
+place_of line (fault.Stray n) = field_place line (suc n)
+
+-- a field stands where it is said to
+abbrev pub PlacesFit : Type 0
+PlacesFit = (line : List ℕ) (n : ℕ) → take (field_place line n).width (drop ((field_place line n).column - 1) line) ≡ field_at (fields line) n
+
+-- ---- as it is shown
+
+-- the line, of which no more is shown than it may have, and below it a caret for each byte of the field, one at the
+-- least
+abbrev pub picture_text : List ℕ → Place → List ℕ
+picture_text line place = codes "    " ++ (all_shown (take LINE_LIMIT line) ++ (codes "\n    " ++ (replicate (place.column - 1) 32 ++ (replicate (max 1 place.width) 94 ++ codes "\n"))))

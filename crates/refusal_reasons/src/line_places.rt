@@ -1,0 +1,192 @@
+//! Where a fault is in its line.
+ghost use Rattle.std.specs.Prelude.{◌≡◌, ◌≤◌, ◌+◌, ◌-◌, max, suc, Some, length, replicate, take};
+ghost use Rattle.std.specs.List.{position_or_len};
+ghost use Rattle.script_words.specs.Fields.{is_space, without_spaces};
+ghost use Rattle.refusal_reasons.specs.LinePlaces.{behind_first, text_from, field_place, place_of, picture_text};
+
+use crate::faults::WordFault;
+use crate::line_shown::AllShown;
+use script_words::LINE_LIMIT;
+use std::fmt;
+
+/// Where a fault is in its line.
+#[derive(Clone, Copy)]
+pub struct Place {
+    /// At which byte of the line it begins, counted from 1.
+    pub column: usize,
+    /// How many bytes it has.
+    pub width: usize,
+}
+
+/// The text from its first byte that is no space.
+#[tactic(auto, unfolding(script_words::specs::Fields::without_spaces))]
+fn without_spaces(text: &[u8]) -> &[u8]
+    ensures is { result.now ≡ without_spaces text.now }
+    ensures within { length result.now ≤ length text.now }
+{
+    let mut rest = text;
+    while let [b' ', others @ ..] = rest {
+        rest = others;
+    }
+    rest
+}
+
+/// How many bytes stand before the first space.
+#[tactic(auto, using(script_words::proofs::FieldSteps::first_space))]
+fn field_len(text: &[u8]) -> usize
+    ensures value { result ≡ position_or_len is_space text.now }
+    ensures within { result ≤ length text.now }
+{
+    for (index, byte) in text.iter().enumerate() {
+        if *byte == b' ' {
+            return index;
+        }
+    }
+    text.len()
+}
+
+/// The text from its field of this index on; no bytes if there is none.
+#[tactic(auto, unfolding(crate::specs::LinePlaces::text_from))]
+fn text_from(text: &[u8], index: usize) -> &[u8]
+    ensures is { result.now ≡ text_from text.now index }
+    ensures within { length result.now ≤ length text.now }
+{
+    let begun = without_spaces(text);
+    if index == 0 {
+        return begun;
+    }
+    text_from(begun.split_at(field_len(begun)).1, index - 1)
+}
+
+/// The text behind its first field.
+fn behind_first(text: &[u8]) -> &[u8]
+    ensures is { result.now ≡ behind_first (without_spaces text.now) }
+    ensures within { length result.now ≤ length text.now }
+{
+    let begun = without_spaces(text);
+    begun.split_at(field_len(begun)).1
+}
+
+/// Where the first field of the text stands that is the end of a line.
+fn place_in(line: &[u8], text: &[u8]) -> Place
+    requires within { length text.now ≤ length line.now }
+    ensures column { result.column ≡ length line.now - length text.now + 1 }
+    ensures width { result.width ≡ position_or_len is_space text.now }
+{
+    Place {
+        column: line.len() - text.len() + 1,
+        width: field_len(text),
+    }
+}
+
+/// Where the first field of the line stands.
+#[tactic(auto, unfolding(crate::specs::LinePlaces::field_place))]
+fn first_place(line: &[u8]) -> Place
+    ensures { result ≡ field_place line.now 0 }
+{
+    place_in(line, text_from(line, 0))
+}
+
+/// Where the field of this index behind the first one stands.
+#[tactic(auto, unfolding(crate::specs::LinePlaces::field_place, crate::specs::LinePlaces::text_from))]
+fn later_place(line: &[u8], index: usize) -> Place
+    ensures { result ≡ field_place line.now (suc index) }
+{
+    place_in(line, text_from(behind_first(line), index))
+}
+
+/// A place of no byte.
+fn gap(column: usize) -> Place
+    ensures { result ≡ record { column = column; width = 0 } }
+{
+    Place { column, width: 0 }
+}
+
+/// Where the line has this fault: behind the last byte that it may have, at a field, or at its end.
+#[tactic(auto, unfolding(crate::specs::LinePlaces::place_of))]
+pub fn place_of(line: &[u8], fault: WordFault) -> Place
+    ensures { result ≡ place_of line.now fault }
+{
+    match fault {
+        WordFault::TooLong { .. } => gap(LINE_LIMIT + 1),
+        WordFault::NoForm => first_place(line),
+        WordFault::Wrong { index, .. } => later_place(line, index),
+        WordFault::Extra { index, .. } => later_place(line, index),
+        WordFault::Stray { index } => later_place(line, index),
+        WordFault::Missing { .. } => gap(line.len() + 1),
+    }
+}
+
+/// So many spaces.
+#[derive(Clone, Copy)]
+struct Blanks(usize);
+
+impl fmt::Display for Blanks {
+    ghost output = { λ b. Some (replicate b.0 32) };
+
+    fn fmt<W: fmt::Write>(&self, f: &mut fmt::Formatter<W>) -> fmt::Result {
+        for _blank in 0..self.0 {
+            f.write_str(" ")?;
+        }
+        Ok(())
+    }
+}
+
+/// So many carets.
+#[derive(Clone, Copy)]
+struct Carets(usize);
+
+impl fmt::Display for Carets {
+    ghost output = { λ c. Some (replicate c.0 94) };
+
+    fn fmt<W: fmt::Write>(&self, f: &mut fmt::Formatter<W>) -> fmt::Result {
+        for _caret in 0..self.0 {
+            f.write_str("^")?;
+        }
+        Ok(())
+    }
+}
+
+/// The line as far as one may go, with all its bytes.
+fn within_limit(line: &[u8]) -> &[u8]
+    ensures { result.now ≡ take LINE_LIMIT line.now }
+{
+    if line.len() <= LINE_LIMIT {
+        return line;
+    }
+    &line[..LINE_LIMIT]
+}
+
+/// How many carets stand below a field.
+fn caret_count(width: usize) -> usize
+    ensures { result ≡ max 1 width }
+{
+    width.max(1)
+}
+
+/// How many bytes stand before the column.
+fn before(column: usize) -> usize
+    ensures { result ≡ column - 1 }
+{
+    if column == 0 { 0 } else { column - 1 }
+}
+
+/// The line, and below it a caret for each byte at the place, one at the least. Each line is indented.
+#[derive(Clone, Copy)]
+pub struct ShownPlace<'a> {
+    /// The line, without its line feed.
+    pub line: &'a [u8],
+    /// The place in it.
+    pub place: Place,
+}
+
+impl fmt::Display for ShownPlace<'_> {
+    ghost output = { λ p. Some (picture_text p.line.now p.place) };
+
+    fn fmt<W: fmt::Write>(&self, f: &mut fmt::Formatter<W>) -> fmt::Result {
+        let line = AllShown(within_limit(self.line));
+        let blanks = Blanks(before(self.place.column));
+        let carets = Carets(caret_count(self.place.width));
+        write!(f, "    {line}\n    {blanks}{carets}\n")
+    }
+}

@@ -1,0 +1,69 @@
+//! A random script, line by line.
+ghost use Rattle.std.specs.Prelude.{◌≡◌, ◌++◌, true, IfOk, OnOk, string_bytes};
+ghost use Rattle.script_jobs.specs.Made.{IsScript, OneMore, ended, is_command_line};
+
+use crate::phrases::Phrases;
+use script_words::laws::line_says_the_command;
+use script_words::{Line, read_line};
+use std::alloc::{AllocError, Global};
+
+/// The script of this seed, of so many lines: each of them says a command.
+///
+/// # Errors
+/// If memory was refused.
+pub fn script_by(alloc: Global, seed: u32, lines: u32) -> Result<String, AllocError>
+    ensures { IfOk result (λ text. IsScript lines (string_bytes text)) }
+{
+    let mut phrases = Phrases::new(alloc, seed);
+    let mut text = String::new(alloc);
+    for line in 0..lines {
+        push_next(&mut phrases, &mut text)?;
+    }
+    Ok(text)
+}
+
+/// Appends the next command, and a line feed.
+fn push_next(phrases: &mut Phrases, text: &mut String) -> Result<(), AllocError>
+    ensures { OnOk result (OneMore (string_bytes text.old) (string_bytes text.new)) }
+{
+    let phrase = phrases.next()?;
+    if is_command_line(&phrase) {
+        push_line(text, &phrase)
+    } else {
+        line_says_the_command();
+        push_line(text, "tick 0")
+    }
+}
+
+/// Appends the line, and a line feed.
+fn push_line(text: &mut String, line: &str) -> Result<(), AllocError>
+    ensures { OnOk result (string_bytes text.new ≡ string_bytes text.old ++ ended line.now) }
+{
+    text.push_str(line)?;
+    text.push('\n')?;
+    Ok(())
+}
+
+/// Whether the text is one line, and says a command.
+fn is_command_line(line: &str) -> bool
+    ensures { result ≡ is_command_line line.now }
+{
+    let bytes = line.as_bytes();
+    !bytes.contains(&b'\n') && matches!(read_line(bytes), Line::Command(_))
+}
+
+#[cfg(test)]
+mod tests {
+    use super::script_by;
+    use std::alloc::AllocError;
+
+    #[test]
+    fn the_seed_decides_the_script(rt: HostRuntime) -> Result<(), AllocError> {
+        let one = script_by(rt.alloc(), 7, 200)?;
+        let again = script_by(rt.alloc(), 7, 200)?;
+        let other = script_by(rt.alloc(), 8, 200)?;
+        let is_so = one.as_str() == again.as_str() && one.as_str() != other.as_str();
+        assert!(rt; is_so, "the scripts of 7, 7 and 8");
+        Ok(())
+    }
+}
