@@ -2,10 +2,9 @@ ghost use Rattle.std.specs.Prelude.{◌≡◌, IfSome, IsSome, Some};
 ghost use Rattle.realm_core.specs.Calls.{DoesOrMemory};
 
 use crate::contexts::TaskCtx;
-use share_ledger::Clock;
 use realm_lock::RealmName;
 use scope_rules::{Catalog, Refusal};
-use share_ledger::{Ask, RealmStep};
+use share_ledger::{Ask, Clock, RealmStep};
 use std::sync::Wait;
 use thread_crew::Spawner;
 

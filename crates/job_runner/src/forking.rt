@@ -10,9 +10,9 @@ use crate::contexts::TaskCtx;
 use crate::held::HeldRealm;
 use crate::markers::Marker;
 use crate::works::JobWork;
-use share_ledger::{Answers, NamedJob};
 use realm_lock::{Forked, RealmName, Ticket};
 use scope_rules::{Catalog, ForkReply, Refusal, ScopeId, TaskId};
+use share_ledger::{Answers, NamedJob};
 use std::sync::Wait;
 use thread_crew::{Spawner, Spawns};
 
@@ -133,7 +133,10 @@ impl<C: Catalog, S: Spawner<N>, N: RealmName> TaskCtx<C, S, N> {
 
     /// Room for a thread of the scope: for its handle, and for its return, with what its own context
     /// begins with: the mark of the scope, as long as that is listed.
-    pub(crate) fn room_for_a_thread(&mut self, scope: ScopeId) -> Option<(HeldRealm<C, N>, Option<Marker>)>
+    pub(crate) fn room_for_a_thread(
+        &mut self,
+        scope: ScopeId,
+    ) -> Option<(HeldRealm<C, N>, Option<Marker>)>
         ensures rest { self.new ≡ record self.old { team = self.new.team } }
         ensures team { IsSameTeam self.old.team self.new.team }
         ensures room { OnSome result (HasRoom self.new.team) }

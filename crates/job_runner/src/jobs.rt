@@ -1,7 +1,7 @@
 use crate::contexts::TaskCtx;
-use share_ledger::Answers;
 use realm_lock::RealmName;
 use scope_rules::{Catalog, End};
+use share_ledger::Answers;
 use std::sync::Wait;
 use thread_crew::Spawner;
 

@@ -25,5 +25,7 @@ pub use clocks::pulse;
 pub use contexts::TaskCtx;
 pub use forking::ForkRefusal;
 pub use jobs::Job;
-pub use share_ledger::{Answers, Clock, NamedJob, SetClock, SystemClock, fail_after, move_on_after};
+pub use share_ledger::{
+    Answers, Clock, NamedJob, SetClock, SystemClock, fail_after, move_on_after,
+};
 pub use works::JobWork;

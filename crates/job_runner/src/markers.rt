@@ -6,9 +6,9 @@ ghost use Rattle.realm_core.specs.Calls.{SeesMore, history_seen};
 ghost use Rattle.realm_lock.specs.Waits.{HasCome, HasPassed, Stopped, Waited, shown_in};
 
 use cancel_marks::{Mark, MarkCell, Seat};
-use share_ledger::Clock;
 use realm_lock::{ActorToken, Realm, RealmName};
 use scope_rules::{Catalog, Refusal};
+use share_ledger::Clock;
 use std::marker::Model;
 use std::rt::Clock as SystemTime;
 use std::sync::Wait;

@@ -8,9 +8,9 @@ use crate::contexts::TaskCtx;
 use crate::forking::ForkRefusal;
 use crate::jobs::Job;
 use crate::works::JobWork;
-use share_ledger::NamedJob;
 use realm_lock::{Forked, RealmName};
 use scope_rules::{Catalog, ForkReply, Refusal, ScopeId};
+use share_ledger::NamedJob;
 use std::sync::Wait;
 use thread_crew::{Recalls, Spawner, Work};
 

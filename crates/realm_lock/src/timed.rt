@@ -11,10 +11,9 @@ ghost use Rattle.realm_lock.specs.Waits.{HasCome, HasPassed, JoinsBy, StaysUnclo
 use crate::dozers::Bed;
 use crate::realm::Realm;
 use cancel_marks::{Mark, MarkCell, Seat};
-use share_ledger::Clock;
 use realm_core::{Joined, RealmName};
 use scope_rules::{Catalog, Refusal, ScopeId};
-use share_ledger::OwnerShare;
+use share_ledger::{Clock, OwnerShare};
 use std::rt::Clock as SystemTime;
 use std::sync::Wait;
 

@@ -30,11 +30,11 @@ mod shown;
 mod words;
 
 pub use events::Events;
-pub use reasons::{ActorObstacle, Reason, RoomObstacle, ScopeObstacle, TaskObstacle};
-pub use rows::{event_reason, question_reason, retire_reason};
-pub use shown::ShownReason;
 pub use faults::{WordFault, fault_of};
 pub use line_places::{Place, ShownPlace, place_of};
+pub use line_shown::ShownBytes;
+pub use reasons::{ActorObstacle, Reason, RoomObstacle, ScopeObstacle, TaskObstacle};
+pub use rows::{event_reason, question_reason, retire_reason};
 pub use sentences::ShownFault;
 pub use shapes::{FieldKind, Shape};
-pub use line_shown::ShownBytes;
+pub use shown::ShownReason;

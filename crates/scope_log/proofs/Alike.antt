@@ -16,7 +16,7 @@ use Rattle.scope_log.proofs.Staged.{same_stage, same_state, same_counts, same_ta
 use Rattle.scope_log.proofs.Answered.{same_outcome}
 use Rattle.scope_log.proofs.Closed.{same_verdict}
 use Rattle.scope_log.proofs.Bound.{same_bindings}
-use Rattle.scope_log.proofs.Shown.{same_outermost, same_inner, same_label, same_info}
+use Rattle.scope_log.proofs.Displayed.{same_outermost, same_inner, same_label, same_info}
 use Rattle.scope_log.proofs.Checked.{same_scope_check, same_task_check, same_actor_check, same_until_check, same_reading_check, same_check, same_already}
 
 scope_alike : (r : Retirable) (es : List Event) → NamesNone r es → (s : ℕ) → IsScope r s → ScopeAlike (unretired r es) (retired r es) s

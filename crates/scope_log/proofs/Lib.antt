@@ -28,7 +28,7 @@ pub mod Staged
 pub mod Answered
 pub mod Closed
 pub mod Bound
-pub mod Shown
+pub mod Displayed
 pub mod Checked
 pub mod Alike
 pub mod Mapped

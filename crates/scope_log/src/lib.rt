@@ -17,4 +17,3 @@ pub use entries::LogEntry;
 pub use log::ScopeLog;
 pub use previews::Preview;
 pub use shown::{ShownEnd, ShownEntry, ShownJoiner, ShownOptions};
-

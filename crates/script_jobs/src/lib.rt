@@ -36,10 +36,10 @@ mod whys;
 
 pub use comparing::{Difference, first_difference};
 pub use counting::Count;
+pub use making::script_by;
 pub use notes::Notes;
 pub use noting::{NotedFault, replayed_noted};
 pub use prompting::{PROMPT, PROMPT_HELP, prompted};
 pub use replaying::replayed;
 pub use showing::{Rendering, View, shown};
 pub use times::{Times, times_of};
-pub use making::script_by;

@@ -3,9 +3,11 @@ ghost use Rattle.std.specs.Prelude.{◌≡◌, Some};
 ghost use Rattle.scope_book.specs.Books.{realm_of};
 ghost use Rattle.script_jobs.specs.Whys.{command_reason, command_why, why_if, why_text};
 
-use refusal_reasons::{ShownFault, WordFault};
 use kept_realm::KeptRealm;
-use refusal_reasons::{Events, Reason, ShownReason, event_reason, question_reason, retire_reason};
+use refusal_reasons::{
+    Events, Reason, ShownFault, ShownReason, WordFault, event_reason, question_reason,
+    retire_reason,
+};
 use scope_book::BookState;
 use scope_rules::{AnyEnd, Event};
 use scope_script::Command;

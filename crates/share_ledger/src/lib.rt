@@ -22,12 +22,12 @@ pub mod steps;
 mod tickets;
 mod views;
 
+pub use clocks::{Clock, SetClock, SystemClock, fail_after, move_on_after};
 pub use keeper::Keeper;
 pub use named::{Named, OfRealm};
 pub use names::RealmName;
+pub use naming::{Answers, NamedJob};
 pub use seed::Seed;
 pub use shares::OwnerShare;
 pub use steps::{Ask, Holder, RealmStep};
 pub use tickets::{Ticket, Totals, gather};
-pub use clocks::{Clock, SetClock, SystemClock, fail_after, move_on_after};
-pub use naming::{Answers, NamedJob};

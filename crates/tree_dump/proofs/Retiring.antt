@@ -15,7 +15,7 @@ use Rattle.scope_log.proofs.Past.{IsScope, IsTask, greater}
 use Rattle.scope_log.proofs.Numbered.{same_moment}
 use Rattle.scope_log.proofs.Ranges.{filter_listed}
 use Rattle.scope_log.proofs.Staged.{same_stage, same_state, same_tasks_of}
-use Rattle.scope_log.proofs.Shown.{same_outermost, same_inner, same_label, same_info, outermost_new, inner_new}
+use Rattle.scope_log.proofs.Displayed.{same_outermost, same_inner, same_label, same_info, outermost_new, inner_new}
 use Rattle.scope_rules.specs.Replies.{Realm}
 use Rattle.scope_script.proofs.Retiring.{leaves_alike}
 use Rattle.tree_dump.specs.Objects.{scope_object, task_object}

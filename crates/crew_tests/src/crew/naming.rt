@@ -1,8 +1,8 @@
 //! Named jobs, and a clock of a test's own.
 ghost use Rattle.std.specs.Prelude.{◌≡◌, Some};
 
-use share_ledger::{Answers, Clock, NamedJob};
 use scope_rules::{Due, End, Label, Name, Value};
+use share_ledger::{Answers, Clock, NamedJob};
 use std::test::Fail;
 
 /// A job that may answer its number alone.
