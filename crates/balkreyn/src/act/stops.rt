@@ -69,12 +69,12 @@ impl StopFile {
 
 /// Watches for a stop of what runs in a scope.
 #[derive(Drop)]
-pub struct Watch {
+pub struct StopWatch {
     pub(crate) stop: Arc<Stop, Global>,
     pub(crate) scope: ScopeId,
 }
 
-impl Looks<()> for Watch {
+impl Looks<()> for StopWatch {
     fn look<R: Wait>(&mut self, rt: &R) -> Option<()> {
         if self.stop.is_asked(rt) {
             Some(())
@@ -84,7 +84,7 @@ impl Looks<()> for Watch {
     }
 }
 
-impl Watch {
+impl StopWatch {
     /// Watches until the stop is asked for, and then cancels the scope. It looks each ten milliseconds.
     pub(crate) fn run<W, X: Acts<W>>(mut self, cx: &mut X) -> End {
         match watched(cx, &mut self) {
@@ -95,7 +95,7 @@ impl Watch {
 }
 
 /// Cancels the scope once its stop is asked for; false if a cancel or the scope's close comes first.
-fn watched<W, X: Acts<W>>(cx: &mut X, watch: &mut Watch) -> Result<bool, Refusal>
+fn watched<W, X: Acts<W>>(cx: &mut X, watch: &mut StopWatch) -> Result<bool, Refusal>
     ensures { Watches X.token (λ old new slept. Sleeps X.reads X.reading X.time X.token X.seat 10 old new slept) watch.old.scope cx.old cx.new result }
 {
     let scope = watch.scope;

@@ -3,7 +3,7 @@ ghost use Rattle.std.specs.Prelude.{◌≡◌, IfOk};
 
 use crate::act::contexts::{Acts, Cx};
 use crate::act::hooks::{AtHand, Happening, Hooks, Load, Observes};
-use crate::act::stops::{Stop, Watch};
+use crate::act::stops::{Stop, StopWatch};
 use crate::aliases::{Forks, Handle};
 use crate::errors::NoTime;
 use crate::forks::fork;
@@ -37,7 +37,7 @@ pub trait Task: Drop + Sized {
 #[derive(Drop)]
 pub enum Part<W> {
     Own(W),
-    Watch(Watch),
+    Watch(StopWatch),
 }
 
 /// Such a job on its way to a thread, with the realm's clock.
@@ -160,7 +160,7 @@ fn serve_watched<
 {
     let rt = clock.runtime();
     let scope = ctx.open_scope(&rt, Joiner::AwaitAll, Options::PLAIN)?;
-    let watch = Watch { stop, scope };
+    let watch = StopWatch { stop, scope };
     let found = match fork_watch::<K, N, W, O, S>(alloc, clock, ctx, hooks, watch) {
         Ok(_reply) => service.serve(&mut Cx::new(alloc, clock, hooks, ctx)),
         Err(refusal) => Err(refusal.into()),
@@ -176,7 +176,7 @@ fn fork_watch<K: Handle, N: RealmName, W: Task, O: Observes, S: Forks<AnyEnd, N,
     clock: SystemClock<K>,
     ctx: &mut TaskCtx<AnyEnd, S, N>,
     hooks: &Hooks<O>,
-    watch: Watch,
+    watch: StopWatch,
 ) -> Result<ForkReply, Refusal> {
     let (scope, name, hooks) = (watch.scope, named(b"stop"), hooks.share()?);
     let (one, job) = (None, Part::Watch(watch));
