@@ -1,6 +1,5 @@
 -- What is kept has a row for each scope that was opened, each task that was forked and each actor that acts.
-use Rattle.std.proofs.Common.{◌≡◌, ℕ, ◌<◌, true, is_some, Option, Some, None, IsSome, length, slice_get, slice_index_or, refl, ap, sym, subst, ◌∙◌, arith}
-use Rattle.std.proofs.lemmas.Option.{slice_get_read}
+use Rattle.std.proofs.Common.{◌≡◌, ℕ, ◌<◌, true, is_some, Option, Some, None, IsSome, length, slice_get, refl, ap, sym, subst, ◌∙◌, arith}
 use Rattle.std.specs.Option.{option_and_then}
 use Rattle.scope_rules.specs.declared.types.capacity.Limits.{Limits}
 use Rattle.scope_rules.specs.declared.types.events.Event.{Event}
@@ -97,19 +96,17 @@ task_there h k passed none =
 pub fork_within : (h : History) (k : ℕ) (r : TaskRow) → IsTaskRow h k r → r.place < length h.events
 fork_within h k r row = omega (arith, row.place, forking_within h k row.forked row.is)
 
-pub fork_read : (h : History) (k : ℕ) (r : TaskRow) (e : Event) → IsTaskRow h k r → e ≡ slice_index_or h.events r.place e → (actor : ℕ) × (label : Label) × (e ≡ Fork actor r.scope label)
+pub fork_read : (h : History) (k : ℕ) (r : TaskRow) (e : Event) → IsTaskRow h k r → slice_get h.events r.place ≡ Some e → (actor : ℕ) × (label : Label) × (e ≡ Fork actor r.scope label)
 fork_read h k r e row read =
     let f = row.forked in
     let there : slice_get h.events r.place ≡ Some (Fork f.actor f.scope f.label) = ap (slice_get h.events) (sym row.place) ∙ forking_event h k f row.is in
-    let here : Some e ≡ Some (Fork f.actor f.scope f.label) = sym (slice_get_read h.events (length h.events) r.place e refl (fork_within h k r row) read) ∙ there in
     let is : e ≡ Fork f.actor f.scope f.label = cc in
     (f.actor, f.label, is ∙ ap (λ s. Fork f.actor s f.label) row.scope)
 
-pub fork_there : (h : History) (k : ℕ) (r : TaskRow) (e : Event) → IsTaskRow h k r → e ≡ slice_index_or h.events r.place e → forking_of r.place e ≡ forking h k
+pub fork_there : (h : History) (k : ℕ) (r : TaskRow) (e : Event) → IsTaskRow h k r → slice_get h.events r.place ≡ Some e → forking_of r.place e ≡ forking h k
 fork_there h k r e row read =
     let f = row.forked in
-    let there : slice_get h.events f.place ≡ Some (Fork f.actor f.scope f.label) = forking_event h k f row.is in
-    let here : Some e ≡ Some (Fork f.actor f.scope f.label) = sym (slice_get_read h.events (length h.events) r.place e refl (fork_within h k r row) read) ∙ (ap (slice_get h.events) (sym row.place) ∙ there) in
+    let there : slice_get h.events r.place ≡ Some (Fork f.actor f.scope f.label) = ap (slice_get h.events) (sym row.place) ∙ forking_event h k f row.is in
     let is : e ≡ Fork f.actor f.scope f.label = cc in
     ap (forking_of r.place) is ∙ (ap (λ n. Some (record f { place = n })) (sym row.place) ∙ sym row.is)
 

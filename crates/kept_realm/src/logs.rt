@@ -93,12 +93,12 @@ impl KeptRealm {
         ensures { IfOk result (λ v. v.items ≡ filter_map (entry_at self.now.history scope) places.now) }
     {
         let _legal = self.limits();
-        let events = self.journal.events();
         let tasks = self.tasks_of(scope);
         let mut entries = Vec::new(self.allocator());
         let mut forked = 0;
         for place in places {
-            if let Some(entry) = said(&events[*place as usize], tasks, forked) {
+            let event = self.event(*place as usize);
+            if let Some(entry) = said(&event, tasks, forked) {
                 forked += forks(&entry);
                 entries.push(entry)?;
             }

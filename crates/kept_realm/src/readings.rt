@@ -144,12 +144,12 @@ impl Readings for KeptRealm {
     }
 
     fn scopes(&self) -> u32 {
-        let _events = self.journal.events();
+        let _small = self.journal.event_count();
         self.rows().last_scope()
     }
 
     fn tasks(&self) -> u32 {
-        let _events = self.journal.events();
+        let _small = self.journal.event_count();
         self.rows().last_task()
     }
 
@@ -172,7 +172,7 @@ impl Readings for KeptRealm {
     fn forking(&self, task: TaskId) -> Option<Forking> {
         let row = self.task_row(task)?;
         let place = row.place as usize;
-        Some(forking_at(&self.journal.events()[place], place, row.scope))
+        Some(forking_at(&self.event(place), place, row.scope))
     }
 
     #[tactic(auto, using(scope_rows::proofs::Joinings::joined_is_some, crate::proofs::NeverOpened::unjoined))]

@@ -1,4 +1,4 @@
-ghost use Rattle.std.specs.Prelude.{◌≡◌, ℕ, [], List, drop, IfOk, MatchResult};
+ghost use Rattle.std.specs.Prelude.{◌≡◌, ◌<◌, ℕ, [], Some, List, drop, length, slice_get, IfOk, MatchResult};
 ghost use Rattle.std.specs.Borrow.{sem};
 ghost use Rattle.scope_rules.specs.Legal.{Accepts, Legal};
 ghost use Rattle.scope_rules.specs.Load.{weight};
@@ -90,11 +90,30 @@ impl KeptRealm {
         self.journal.base()
     }
 
-    /// The events since the base, in order.
-    pub fn events(&self) -> &[Event]
-        ensures { result.now ≡ self.now.history.events }
+    /// How many events there are since the base.
+    pub fn event_count(&self) -> usize
+        ensures { result ≡ length self.now.history.events }
     {
-        self.journal.events()
+        self.journal.event_count()
+    }
+
+    /// The event at the place, the first one's since the base being 0.
+    pub fn event(&self, place: usize) -> Event
+        requires { place < length self.now.history.events }
+        ensures { slice_get self.now.history.events place ≡ Some result }
+    {
+        self.journal.event(place)
+    }
+
+    /// A copy of the events since the base, in order.
+    ///
+    /// # Errors
+    ///
+    /// If `alloc` refuses the memory of the copy.
+    pub fn copied_events(&self, alloc: Global) -> Result<Vec<Event>, AllocError>
+        ensures { IfOk result (λ events. events.items ≡ self.now.history.events) }
+    {
+        self.journal.copied_events(alloc)
     }
 }
 
@@ -122,7 +141,7 @@ impl KeptRealm {
         ensures answer { MatchResult result (λ _. self.new ≡ with_event self.old event.now) (λ refusal. (refusal ≡ Refusal.Memory) × (self.new ≡ self.old)) }
     {
         let _legal = self.journal.limits();
-        let place = self.journal.events().len();
+        let place = self.journal.event_count();
         let cost = weight(event);
         if self.journal.reserve(cost).is_err() {
             return Err(Refusal::Memory);
@@ -148,7 +167,7 @@ impl KeptRealm {
         ensures legal { Legal self.new.limits self.new.history }
     {
         let _legal = self.journal.limits();
-        let place = self.journal.events().len();
+        let place = self.journal.event_count();
         let scope = scope_of_event(self.kept.rows(), event);
         match follow(&mut self.kept, event, false, test, place) {
             Ok(()) => {

@@ -23,10 +23,14 @@ paid_base b = record { covered = omega arith }
 paid_more : (L : Limits) (h : History) (e : Event) → Legal L h → Accepts L h e → IsPaid h → IsPaid (followed h e)
 paid_more L h e legal ok paid = record { covered = omega (arith, paid.covered, owed_event L h e ok, load_push h e, length-append h.events (e ∷ [])) }
 
-pub events_room : EventsFindRoom
-events_room L h e t legal ok loaded are =
+-- the load with an accepted event pays for the base's pairs, the events, and that one
+pub event_paid : (L : Limits) (h : History) (e : Event) → Legal L h → Accepts L h e → length h.base.binds + (length h.events + 1) ≤ load (followed h e)
+event_paid L h e legal ok =
     let paid = along L IsPaid paid_base (λ g x lawful passed so. paid_more L g x lawful passed so) h legal in
-    omega (arith, paid.covered, owed_event L h e ok, load_push h e, loaded, are.linked)
+    omega (arith, paid.covered, owed_event L h e ok, load_push h e)
+
+pub events_room : EventsFindRoom
+events_room L h e t legal ok loaded are = omega (arith, event_paid L h e legal ok, loaded, are.linked)
 
 pub free_room : FreeEventsFindRoom
 free_room h e t free are = omega (arith, are.loaded, load_push h e, free)

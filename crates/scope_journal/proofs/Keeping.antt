@@ -56,8 +56,13 @@ kept_base L b capacity pairs scopes_small tasks_small enough = record {
   counted = omega arith;
 }
 
--- what a retirement leaves is kept, in the same room
-pub kept_restart : (L : Limits) (h : History) (capacity units : ℕ) → JournalKeeps L h capacity units → JournalKeeps L (record { base = base_of h; events = [] }) capacity (length (base_of h).binds)
+-- what a retirement leaves is kept, with room for that
+pub kept_restart : (L : Limits) (h : History) (capacity units : ℕ) → JournalKeeps L h capacity units → JournalKeeps L (record { base = base_of h; events = [] }) (length (base_of h).binds) (length (base_of h).binds)
 unfolding base_of
 kept_restart L h capacity units kept =
-    kept_base L (base_of h) capacity (omega (arith, stack_within h, kept.within.loaded)) kept.within.scopes_fit kept.within.tasks_fit (omega (arith, stack_within h, kept.room))
+    kept_base L (base_of h) (length (base_of h).binds) (omega (arith, stack_within h, kept.within.loaded)) kept.within.scopes_fit kept.within.tasks_fit (omega arith)
+
+-- and the room of what was kept is enough
+pub restart_room : (L : Limits) (h : History) (capacity units : ℕ) → JournalKeeps L h capacity units → length (base_of h).binds ≤ capacity
+unfolding base_of
+restart_room L h capacity units kept = omega (arith, stack_within h, kept.room)

@@ -1,3 +1,4 @@
+pub mod Coding
 pub mod Keeping
 pub mod TrailWalks
 pub mod PlaceSteps

@@ -1,5 +1,5 @@
 -- What a journal is: its realm, and its room. And what it keeps true of them.
-use Rattle.std.specs.Prelude.{◌≡◌, ℕ, ◌+◌, ◌≤◌, length, Result, Ok, Err}
+use Rattle.std.specs.Prelude.{◌≡◌, ℕ, ◌+◌, ◌-◌, ◌≤◌, length, Result, Ok, Err}
 use Rattle.scope_rules.specs.declared.types.capacity.Limits.{Limits}
 use Rattle.scope_rules.specs.History.{History}
 use Rattle.scope_rules.specs.Load.{load}
@@ -7,6 +7,7 @@ use Rattle.scope_rules.specs.Legal.{Legal, IsWithin}
 use Rattle.scope_rules.specs.Owed.{owed}
 use Rattle.scope_rules.specs.declared.types.refusals.Refusal.{Refusal}
 use Rattle.scope_rules.specs.Replies.{Realm}
+use Rattle.scope_journal.specs.EventTable.{EventTable}
 
 -- the realm, and how many units of load its next events may cost without memory
 pub record JournalTable : Type 0 where
@@ -26,3 +27,8 @@ pub record JournalKeeps (L : Limits) (h : History) (capacity units : ℕ) : Type
   pub covered : length h.events + owed h ≤ load h
   pub room : load h ≤ capacity
   pub counted : units ≡ load h
+
+-- the list of the events has room for so much load, of which so many units are used
+pub record HasLoadReserved (t : EventTable) (reserved units : ℕ) : Type 0 where
+  pub room : reserved ≤ t.room
+  pub spare : reserved - units ≤ t.spare

@@ -1,3 +1,5 @@
+pub mod Codes
+pub mod EventTable
 pub mod JournalKeeps
 pub mod Places
 pub mod TrailTable

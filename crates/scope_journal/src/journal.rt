@@ -1,10 +1,11 @@
-ghost use Rattle.std.specs.Prelude.{◌≡◌, ◌≤◌, ◌-◌, OnOk, OnErr, MatchResult};
+ghost use Rattle.std.specs.Prelude.{◌≡◌, ◌<◌, ◌≤◌, ◌-◌, Some, IfOk, OnOk, OnErr, MatchResult, length, slice_get};
 ghost use Rattle.scope_rules.specs.History.{HasSmallNumbers};
 ghost use Rattle.scope_rules.specs.Legal.{Accepts, Legal, IsWithin};
 ghost use Rattle.scope_rules.specs.Load.{weight, load};
 ghost use Rattle.scope_rules.specs.Replies.{with_event, starting, base_check, base_of, AnswersOrMemory};
 ghost use Rattle.scope_journal.specs.JournalKeeps.{realm_given};
 
+use crate::event_list::EventList;
 use crate::weights::weight;
 use scope_rules::{Base, Event, Limits, Refusal};
 use std::alloc::{AllocError, Global};
@@ -17,19 +18,21 @@ use std::marker::Model;
 pub struct Journal {
     limits: Limits,
     base: Base,
-    events: Vec<Event>,
+    events: EventList,
     load: u64,
+    // The load that there is room for.
+    reserved: u64,
 }
 
 impl Model for Journal {
-    ghost use Rattle.std.specs.Prelude.{◌-◌, vec_capacity};
-    ghost use Rattle.scope_journal.specs.JournalKeeps.{JournalTable, JournalKeeps};
+    ghost use Rattle.std.specs.Prelude.{◌-◌};
+    ghost use Rattle.scope_journal.specs.JournalKeeps.{JournalTable, JournalKeeps, HasLoadReserved};
 
     ghost Value = { JournalTable };
 
-    ghost view = { λ j. record { realm = record { limits = j.limits; history = record { base = j.base; events = j.events.items } }; spare = vec_capacity j.events - j.load } };
+    ghost view = { λ j. record { realm = record { limits = j.limits; history = record { base = j.base; events = j.events.events } }; spare = j.reserved - j.load } };
 
-    ghost invariant = { λ j. JournalKeeps j.limits (record { base = j.base; events = j.events.items }) (vec_capacity j.events) j.load };
+    ghost invariant = { λ j. JournalKeeps j.limits (record { base = j.base; events = j.events.events }) j.reserved j.load × HasLoadReserved j.events j.reserved j.load };
 }
 
 impl Journal {
@@ -42,8 +45,9 @@ impl Journal {
         Journal {
             limits,
             base: Base::empty(alloc),
-            events: Vec::new(alloc),
+            events: EventList::new(alloc),
             load: 0,
+            reserved: 0,
         }
     }
 
@@ -57,7 +61,8 @@ impl Journal {
         if pairs > limits.load as usize {
             return Err(Refusal::TooMany);
         }
-        let Ok(events) = Vec::with_capacity(alloc, pairs) else {
+        let mut events = EventList::new(alloc);
+        let Ok(()) = events.reserve(pairs, 0) else {
             return Err(Refusal::Memory);
         };
         Ok(Journal {
@@ -65,12 +70,13 @@ impl Journal {
             base,
             events,
             load: pairs as u64,
+            reserved: pairs as u64,
         })
     }
 
     /// The allocator that the journal grows by.
     pub fn allocator(&self) -> Global {
-        *self.events.allocator()
+        self.events.allocator()
     }
 
     /// The realm's limits. It also says of the history that it is legal, and within the limits: the
@@ -90,13 +96,32 @@ impl Journal {
         &self.base
     }
 
-    /// The events since, in order. It also says that places and numbers fit 32 bits.
+    /// How many events there are since. It also says that places and numbers fit 32 bits.
     #[tactic(auto, using(crate::proofs::Keeping::kept_small))]
-    pub fn events(&self) -> &[Event]
-        ensures events { result.now ≡ self.now.realm.history.events }
+    pub fn event_count(&self) -> usize
+        ensures count { result ≡ length self.now.realm.history.events }
         ensures small { HasSmallNumbers self.now.realm.history }
     {
-        &self.events
+        self.events.len()
+    }
+
+    /// The event at the place, the first one's being 0.
+    pub fn event(&self, place: usize) -> Event
+        requires { place < length self.now.realm.history.events }
+        ensures { slice_get self.now.realm.history.events place ≡ Some result }
+    {
+        self.events.event(place)
+    }
+
+    /// A copy of the events since, in order.
+    ///
+    /// # Errors
+    ///
+    /// If `alloc` refuses the memory of the copy.
+    pub fn copied_events(&self, alloc: Global) -> Result<Vec<Event>, AllocError>
+        ensures { IfOk result (λ events. events.items ≡ self.now.realm.history.events) }
+    {
+        self.events.copied(alloc)
     }
 
     /// The load so far: a unit for each pair of the base, and what the events cost.
@@ -117,8 +142,12 @@ impl Journal {
         ensures kept { self.new.realm ≡ self.old.realm }
         ensures err { OnErr result (self.new ≡ self.old) }
     {
-        let more = (self.load + units) as usize - self.events.len();
-        self.events.reserve(more)
+        let reserved = self.load + units;
+        if self.reserved < reserved {
+            self.events.reserve(reserved as usize, units as usize)?;
+            self.reserved = reserved;
+        }
+        Ok(())
     }
 
     /// Appends the event, which was accepted.
@@ -147,7 +176,7 @@ impl Journal {
         ensures legal { Legal self.new.realm.limits self.new.realm.history }
     {
         self.load += weight(event);
-        self.events.push_reserved(*event);
+        self.events.push(event);
     }
 
     /// Leaves the base alone, which is that of the history.
@@ -157,6 +186,7 @@ impl Journal {
     {
         self.events.clear();
         self.load = base.binds().len() as u64;
+        self.reserved = self.load;
         self.base = base;
     }
 }

@@ -3,11 +3,15 @@
 //! as they come, so that a scope's events are found in time by how many they are.
 #![tactic(auto)]
 
+mod codes;
+mod entries;
+mod event_list;
 mod journal;
 pub mod laws;
 mod trails;
 mod weights;
 
+pub use event_list::EventList;
 pub use journal::Journal;
 pub use trails::Trails;
 pub use weights::weight;

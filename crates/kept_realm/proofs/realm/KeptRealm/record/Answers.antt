@@ -1,5 +1,5 @@
 -- What is kept, and the places, are told an event that costs nothing.
-use Rattle.std.proofs.Common.{ap, length, sym, subst, refl}
+use Rattle.std.proofs.Common.{sym, subst, refl}
 use Rattle.scope_rules.specs.Replies.{Realm}
 use Rattle.scope_rules.specs.Legal.{Accepts}
 use Rattle.scope_kept.specs.KeptTables.{IsKeptOf}
@@ -13,18 +13,18 @@ use Rattle.kept_realm.proofs.realm.KeptRealm.record.Goals as goal
 pub follow-requires : goal.follow-requires
 follow-requires g c =
     let accepted = subst (λ (r : Realm). Accepts r.limits r.history c.args.event.now) (sym c.self.view_is) c.requires.accepted in
-    ready_at _ _ c.self.inside.kept c.args.event.now _ c.limits-legal.ensures.legal accepted c.self.invariant.0 (ap length c.events-place.ensures.events)
+    ready_at _ _ c.self.inside.kept c.args.event.now _ c.limits-legal.ensures.legal accepted c.self.invariant.0 c.event_count-place.ensures.count
 
 pub tell-requires : goal.tell-requires
 tell-requires g c =
     let h = c.self.inside.journal.realm.history in
     let t = c.self.inside.trails in
     let accepted = subst (λ (r : Realm). Accepts r.limits r.history c.args.event.now) (sym c.self.view_is) c.requires.accepted in
-    can_tell c.self.inside.journal.realm.limits h c.args.event.now t c.scope_of_event-scope.result (length c.events-place.result.now) c.limits-legal.ensures.legal accepted c.self.invariant.1
+    can_tell c.self.inside.journal.realm.limits h c.args.event.now t c.scope_of_event-scope.result c.event_count-place.result c.limits-legal.ensures.legal accepted c.self.invariant.1
     (free_room h c.args.event.now t c.requires.free c.self.invariant.1)
     (λ opens. absurd (free_opens_none c.args.event.now c.requires.free opens))
     (λ other. c.scope_of_event-scope.ensures h (subst (AreRowsOf h) (sym c.rows.ensures) c.self.invariant.0.rows) other)
-    (ap length c.events-place.ensures.events)
+    c.event_count-place.ensures.count
 
 pub invariant_of-self : goal.invariant_of-self
 invariant_of-self g c =
@@ -32,7 +32,7 @@ invariant_of-self g c =
     let L = c.self.inside.journal.realm.limits in
     let accepted = subst (λ (r : Realm). Accepts r.limits r.history c.args.event.now) (sym c.self.view_is) c.requires.accepted in (
       of_next (λ x. IsKeptOf x c.follow.new.kept) c.self.inside.journal.realm c.self.inside.journal.realm c.record.new.self.realm c.args.event.now c.record.ensures.added refl
-          (c.in-Ok.ensures.followed L h c.limits-legal.ensures.legal accepted c.self.invariant.0 (ap length c.events-place.ensures.events)),
+          (c.in-Ok.ensures.followed L h c.limits-legal.ensures.legal accepted c.self.invariant.0 c.event_count-place.ensures.count),
       of_next (λ x. AreTrailsOf x c.tell.new.trails) c.self.inside.journal.realm c.self.inside.journal.realm c.record.new.self.realm c.args.event.now c.record.ensures.added refl
           (c.tell.ensures L h c.limits-legal.ensures.legal (free_room h c.args.event.now c.self.inside.trails c.requires.free c.self.invariant.1) (λ other. c.scope_of_event-scope.ensures h (subst (AreRowsOf h) (sym c.rows.ensures) c.self.invariant.0.rows) other) c.self.invariant.1),
     )

@@ -1,9 +1,7 @@
 -- Each of the scope's places says its event's entry.
-use Rattle.std.proofs.Common.{◌+◌, ◌<◌, IsSome, length, get_or, slice_get, refl, ap, sym, subst, ◌∙◌, arith}
+use Rattle.std.proofs.Common.{◌+◌, IsSome, refl, ap, sym, subst, ◌∙◌, arith}
 use Rattle.std.specs.List.{filter_map}
-use Rattle.std.proofs.lemmas.Option.{slice_get_read}
 use Rattle.scope_rules.specs.Legal.{Legal}
-use Rattle.scope_rules.specs.Replies.{Realm}
 use Rattle.scope_rules.proofs.NewScopes.{scope_passed}
 use Rattle.scope_rules.proofs.Prefixes.{take_whole}
 use Rattle.scope_log.specs.Log.{entry_at}
@@ -17,10 +15,8 @@ loop-place-init c = none_said c.args.self.now.history c.args.scope c.args.places
 pub tasks_of-tasks-requires : goal.tasks_of-tasks-requires
 tasks_of-tasks-requires c = subst IsSome (sym (scope_passed c.args.self.now.history c.args.scope c.requires.check).is) refl
 
-pub bounds-events-place : goal.bounds-events-place
-bounds-events-place c =
-    let events = c.events-events.ensures.events ∙ ap (λ (r : Realm). r.history.events) c.self.view_is in
-    subst (λ es. get_or c.args.places.now c.loop-place.place-index 0 < length es) (sym events) (place_there c.args.self.now.history c.args.scope c.args.places.now c.loop-place.place-index c.requires.places c.loop-place-test.true)
+pub event-event-requires : goal.event-event-requires
+event-event-requires c = place_there c.args.self.now.history c.args.scope c.args.places.now c.loop-place.place-index c.requires.places c.loop-place-test.true
 
 pub loop-place-preserved : goal.loop-place-preserved
 loop-place-preserved c =
@@ -28,11 +24,8 @@ loop-place-preserved c =
     let ps = c.args.places.now in
     let n = c.loop-place.place-index in
     let so = c.loop-place.invariant in
-    let events = c.events-events.ensures.events ∙ ap (λ (r : Realm). r.history.events) c.self.view_is in
     let tasks = c.tasks_of-tasks.ensures in
-    let within = subst (λ es. get_or ps n 0 < length es) (sym events) (place_there h c.args.scope ps n c.requires.places c.loop-place-test.true) in
-    let at = ap (λ es. slice_get es (get_or ps n 0)) (sym events) ∙ slice_get_read c.events-events.result.now (length c.events-events.result.now) (get_or ps n 0) c.index-events-place.result refl within c.index-events-place.is in
-    let says = c.said.ensures ∙ said_next c.limits-legal.result h c.args.scope ps c.tasks_of-tasks.result.now n c.loop-place.forked c.loop-place.entries.items c.index-events-place.result (subst (λ L. Legal L h) (sym c.limits-legal.ensures.limits) c.limits-legal.ensures.legal) c.requires.places tasks c.loop-place-test.true so at in
+    let says = c.said.ensures ∙ said_next c.limits-legal.result h c.args.scope ps c.tasks_of-tasks.result.now n c.loop-place.forked c.loop-place.entries.items c.event-event.result (subst (λ L. Legal L h) (sym c.limits-legal.ensures.limits) c.limits-legal.ensures.legal) c.requires.places tasks c.loop-place-test.true so c.event-event.ensures in
     elim c.match-said.branch [
       | in-Some+in_ok-push w ↦
           subst (λ k. AreSaid h c.args.scope ps (n + 1) c.match-said.entries.items k) (sym w.forked-is)

@@ -1,5 +1,5 @@
 -- What is kept, and the places, are told an event that there is room for.
-use Rattle.std.proofs.Common.{◌≡◌, ◌+◌, ap, length, sym, subst, ◌∙◌, arith}
+use Rattle.std.proofs.Common.{◌≡◌, ◌+◌, ap, sym, subst, ◌∙◌, arith}
 use Rattle.scope_rules.specs.Replies.{Realm}
 use Rattle.scope_rules.specs.Legal.{Accepts, Legal}
 use Rattle.scope_rules.specs.Load.{load, weight}
@@ -15,7 +15,7 @@ use Rattle.kept_realm.proofs.realm.KeptRealm.try_append.Goals as goal
 pub follow-requires : goal.follow-requires
 follow-requires c =
     let accepted = subst (λ (r : Realm). Accepts r.limits r.history c.args.event.now) (sym c.self.view_is) c.requires in
-    ready_at _ _ c.self.inside.kept c.args.event.now _ c.limits-legal.ensures.legal accepted c.self.invariant.0 (ap length c.events-place.ensures.events)
+    ready_at _ _ c.self.inside.kept c.args.event.now _ c.limits-legal.ensures.legal accepted c.self.invariant.0 c.event_count-place.ensures.count
 
 pub tell-requires : goal.tell-requires
 tell-requires c =
@@ -24,14 +24,14 @@ tell-requires c =
     let n = c.load.result + c.weight-cost.result in
     let room = on_ok c.make_room.result (HasRoomFor c.make_room.new.trails c.args.event.now n) (sym c.is_err-2.ensures.value ∙ c.if-is_err-2.false) c.make_room.ensures.room in
     let size : n ≡ load h + weight c.args.event.now = omega (arith, c.load.ensures, ap (λ (r : Realm). load r.history) c.reserve.ensures.kept, c.weight-cost.ensures.cost) in
-    can_tell c.limits-legal.result h c.args.event.now c.make_room.new.trails c.scope_of_event-scope.result (length c.events-place.result.now)
+    can_tell c.limits-legal.result h c.args.event.now c.make_room.new.trails c.scope_of_event-scope.result c.event_count-place.result
     (subst (λ L. Legal L h) (sym c.limits-legal.ensures.limits) c.limits-legal.ensures.legal)
     (subst (λ L. Accepts L h c.args.event.now) (sym c.limits-legal.ensures.limits) accepted)
     (c.make_room.ensures.agrees h c.self.invariant.1)
     (made_room h c.args.event.now c.make_room.new.trails n size room)
     room.1
     (λ other. c.scope_of_event-scope.ensures h (subst (AreRowsOf h) (sym c.rows.ensures) c.self.invariant.0.rows) other)
-    (ap length c.events-place.ensures.events)
+    c.event_count-place.ensures.count
 
 pub invariant_of-self-2 : goal.invariant_of-self-2
 invariant_of-self-2 c =
@@ -41,9 +41,9 @@ invariant_of-self-2 c =
     let n = c.load.result + c.weight-cost.result in
     let room = on_ok c.make_room.result (HasRoomFor c.make_room.new.trails c.args.event.now n) (sym c.is_err-2.ensures.value ∙ c.if-is_err-2.false) c.make_room.ensures.room in
     let size : n ≡ load h + weight c.args.event.now = omega (arith, c.load.ensures, ap (λ (r : Realm). load r.history) c.reserve.ensures.kept, c.weight-cost.ensures.cost) in
-    let followed_so = on_ok c.follow.result (HasFollowedAt c.self.inside.kept c.args.event.now (length c.events-place.result.now) c.follow.new.kept) (sym c.is_err-3.ensures.value ∙ c.if-is_err-3.false) c.follow.ensures.followed in (
+    let followed_so = on_ok c.follow.result (HasFollowedAt c.self.inside.kept c.args.event.now c.event_count-place.result c.follow.new.kept) (sym c.is_err-3.ensures.value ∙ c.if-is_err-3.false) c.follow.ensures.followed in (
       of_next (λ g. IsKeptOf g c.follow.new.kept) c.self.inside.journal.realm c.reserve.new.self.realm c.record.new.self.realm c.args.event.now c.record.ensures.added c.reserve.ensures.kept
-          (followed_so L h c.limits-legal.ensures.legal accepted c.self.invariant.0 (ap length c.events-place.ensures.events)),
+          (followed_so L h c.limits-legal.ensures.legal accepted c.self.invariant.0 c.event_count-place.ensures.count),
       of_next (λ g. AreTrailsOf g c.tell.new.trails) c.self.inside.journal.realm c.reserve.new.self.realm c.record.new.self.realm c.args.event.now c.record.ensures.added c.reserve.ensures.kept
           (c.tell.ensures L h c.limits-legal.ensures.legal (made_room h c.args.event.now c.make_room.new.trails n size room) (λ other. c.scope_of_event-scope.ensures h (subst (AreRowsOf h) (sym c.rows.ensures) c.self.invariant.0.rows) other) (c.make_room.ensures.agrees h c.self.invariant.1)),
     )

@@ -4,4 +4,4 @@ use Rattle.scope_journal.proofs.Keeping.{kept_base}
 use Rattle.scope_journal.proofs.journal.Journal.new.Goals as goal
 
 pub invariant_of-result : goal.invariant_of-result
-invariant_of-result c = rw (c.empty.ensures, c.new.ensures.items) (kept_base c.args.limits the_start _ (omega arith) (omega arith) (omega arith) (omega arith))
+invariant_of-result c = rw (c.empty.ensures, c.new.ensures) (kept_base c.args.limits the_start _ (omega arith) (omega arith) (omega arith) (omega arith), record { room = omega arith; spare = omega arith })

@@ -7,20 +7,28 @@ use Rattle.scope_journal.specs.JournalKeeps.{JournalTable}
 use Rattle.scope_journal.proofs.Keeping.{kept_push, kept_room}
 use Rattle.scope_journal.proofs.journal.Journal.record.Goals as goal
 
-pub push_reserved-requires : goal.push_reserved-requires
-push_reserved-requires c =
+pub push-requires-clause-room : goal.push-requires-clause-room
+push-requires-clause-room c =
     let ok = subst (λ (t : JournalTable). Accepts t.realm.limits t.realm.history c.args.event.now) (sym c.self.view_is) c.requires.accepted in
     let spare = subst (λ (t : JournalTable). weight c.args.event.now ≤ t.spare) (sym c.self.view_is) c.requires.room in
-    omega (arith, kept_room _ _ c.args.event.now _ _ c.self.invariant ok (omega (arith, spare, c.self.invariant.room, c.self.invariant.counted)), c.self.inside.events.ok.0)
+    record {
+      events = omega (arith, kept_room _ _ c.args.event.now _ _ c.self.invariant.0 ok (omega (arith, spare, c.self.invariant.0.room, c.self.invariant.0.counted)), c.self.invariant.1.room);
+      spare = omega (arith, spare, c.self.invariant.1.spare);
+    }
 
 pub invariant_of-self : goal.invariant_of-self
 invariant_of-self c =
     let ok = subst (λ (t : JournalTable). Accepts t.realm.limits t.realm.history c.args.event.now) (sym c.self.view_is) c.requires.accepted in
-    let spare = subst (λ (t : JournalTable). weight c.args.event.now ≤ t.spare) (sym c.self.view_is) c.requires.room in
-    rw (c.push_reserved.ensures.items, c.push_reserved.ensures.capacity, c.weight.ensures.cost)
-    (kept_push _ _ c.args.event.now _ _ _ c.self.invariant ok (omega (arith, spare, c.self.invariant.room, c.self.invariant.counted)))
+    let spare = subst (λ (t : JournalTable). weight c.args.event.now ≤ t.spare) (sym c.self.view_is) c.requires.room in (
+      rw (c.push.ensures.events, c.weight.ensures.cost)
+          (kept_push _ _ c.args.event.now _ _ _ c.self.invariant.0 ok (omega (arith, spare, c.self.invariant.0.room, c.self.invariant.0.counted))),
+      record {
+        room = omega (arith, c.push.ensures.room, c.self.invariant.1.room);
+        spare = omega (arith, c.push.ensures.spare, c.weight.ensures.cost, c.self.invariant.1.spare);
+      },
+    )
 
 pub returns-clause-legal : goal.returns-clause-legal
 returns-clause-legal c =
     let ok = subst (λ (t : JournalTable). Accepts t.realm.limits t.realm.history c.args.event.now) (sym c.self.view_is) c.requires.accepted in
-    rw c.push_reserved.ensures.items (legal_push _ _ c.args.event.now c.self.invariant.legal ok)
+    rw c.push.ensures.events (legal_push _ _ c.args.event.now c.self.invariant.0.legal ok)
