@@ -63,6 +63,48 @@ pub closed_by : (h : History) (s i : ℕ) (place : Option ℕ) → place ≡ clo
 unfolding closed
 closed_by h s i place is = ap (λ o. is_before o i) is ∙ sym (any_before (ends s) h.events i)
 
+-- ---- the first place, by a walk over the places
+
+-- none of no elements passes
+pub position_none : {A : Type 0} (p : A → Bool) (xs : List A) → list_any p (take 0 xs) ≡ false
+position_none p [] = refl
+position_none p (x ∷ xs) = refl
+
+-- one more that does not pass
+pub position_passed : {A : Type 0} (p : A → Bool) (xs : List A) (i : ℕ) (x : A) → slice_get xs i ≡ Some x → list_any p (take i xs) ≡ false → p x ≡ false → list_any p (take (i + 1) xs) ≡ false
+position_passed p [] i x at none fails = absurd cc
+position_passed p (y ∷ ys) zero x at none fails = let same : y ≡ x = cc in rw same (ap (λ b. b || list_any p (take 0 ys)) fails ∙ position_none p ys)
+position_passed p (y ∷ ys) (suc i) x at none fails = let next : suc i + 1 ≡ suc (i + 1) = omega arith in rw next (by (p y) none (λ rest. position_passed p ys i x at rest fails))
+  where
+    by : (b : Bool) → (b || list_any p (take i ys)) ≡ false → (list_any p (take i ys) ≡ false → list_any p (take (i + 1) ys) ≡ false) → (b || list_any p (take (i + 1) ys)) ≡ false
+    by true none more = absurd cc
+    by false none more = more none
+
+found_from : {A : Type 0} (p : A → Bool) (xs : List A) (n i : ℕ) (x : A) → slice_get xs i ≡ Some x → list_any p (take i xs) ≡ false → p x ≡ true → position_from p n xs ≡ Some (n + i)
+found_from p [] n i x at none holds = absurd cc
+found_from p (y ∷ ys) n zero x at none holds = let same : y ≡ x = cc in rw same (ap (λ b. cond b (Some n) (position_from p (n + 1) ys)) holds ∙ ap Some (omega arith))
+found_from p (y ∷ ys) n (suc i) x at none holds = by (p y) none (λ rest. found_from p ys (n + 1) i x at rest holds ∙ ap Some (omega arith))
+  where
+    by : (b : Bool) → (b || list_any p (take i ys)) ≡ false → (list_any p (take i ys) ≡ false → position_from p (n + 1) ys ≡ Some (n + suc i)) → cond b (Some n) (position_from p (n + 1) ys) ≡ Some (n + suc i)
+    by true none more = absurd cc
+    by false none more = more none
+
+none_from : {A : Type 0} (p : A → Bool) (xs : List A) (n : ℕ) → list_any p xs ≡ false → position_from p n xs ≡ None
+none_from p [] n none = refl
+none_from p (y ∷ ys) n none = by (p y) none (none_from p ys (n + 1))
+  where
+    by : (b : Bool) → (b || list_any p ys) ≡ false → (list_any p ys ≡ false → position_from p (n + 1) ys ≡ None) → cond b (Some n) (position_from p (n + 1) ys) ≡ None
+    by true none more = absurd cc
+    by false none more = more none
+
+-- the first that passes
+pub position_found : {A : Type 0} (p : A → Bool) (xs : List A) (i : ℕ) (x : A) → slice_get xs i ≡ Some x → list_any p (take i xs) ≡ false → p x ≡ true → position p xs ≡ Some i
+position_found p xs i x at none holds = position_from-zero p xs ∙ (found_from p xs 0 i x at none holds ∙ ap Some (omega arith))
+
+-- none of all passes
+pub position_all : {A : Type 0} (p : A → Bool) (xs : List A) (i : ℕ) → length xs ≤ i → list_any p (take i xs) ≡ false → position p xs ≡ None
+position_all p xs i all none = position_from-zero p xs ∙ none_from p xs 0 (ap (list_any p) (sym (take_whole xs i all)) ∙ none)
+
 -- ---- elements
 
 find_none-append : {A : Type 0} (p : A → Bool) (xs ys : List A) → find p xs ≡ None → find p (xs ++ ys) ≡ find p ys

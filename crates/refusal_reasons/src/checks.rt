@@ -7,6 +7,7 @@ ghost use Rattle.scope_rules.specs.Table.{owns_task, task_joined};
 ghost use Rattle.scope_checks.specs.Passes.{Passes};
 ghost use Rattle.refusal_reasons.specs.Obstacles.{stopped_if, scope_known, task_known, waits, runs, acts, owner_of, scope_of, owned, task_owned, is_main, closing_reason, stands, not_closed, is_closing, not_joined, scope_joined, no_pending, may_join};
 
+use crate::events::Events;
 use crate::places::{closed_place, closing_place, joined_place, pending_task};
 use crate::reasons::{ActorObstacle, Reason, ScopeObstacle, TaskObstacle};
 use scope_checks::{Readings, checks};
@@ -183,10 +184,11 @@ pub(crate) fn is_main(actor: Actor) -> Result<(), Reason>
 // ---- joins and closes
 
 /// Since when the scope, whose close began at the place, is closing or closed.
-fn closing_reason(events: &[Event], scope: ScopeId, place: usize) -> Reason
-    requires { place < length events.now }
-    ensures { (h : History) → h.events ≡ events.now → result ≡ closing_reason h scope place }
+fn closing_reason<E: Events>(events: &E, scope: ScopeId, place: usize) -> Reason
+    requires { place < length (E.events events.now) }
+    ensures { (h : History) → h.events ≡ E.events events.now → result ≡ closing_reason h scope place }
 {
+    let _fits = events.count();
     let obstacle = match closed_place(events, scope) {
         Some(place) => ScopeObstacle::Closed { event: place + 1 },
         None => ScopeObstacle::Closing { event: place + 1 },
@@ -196,12 +198,12 @@ fn closing_reason(events: &[Event], scope: ScopeId, place: usize) -> Reason
 
 /// The scope is not closing or closed.
 #[tactic(auto, using(crate::proofs::Fits::stands_passes, crate::proofs::Found::no_closing))]
-pub(crate) fn stands<R: Readings>(
+pub(crate) fn stands<R: Readings, E: Events>(
     readings: &R,
-    events: &[Event],
+    events: &E,
     scope: ScopeId,
 ) -> Result<(), Reason>
-    requires { events.now ≡ (R.history readings.now).events }
+    requires { E.events events.now ≡ (R.history readings.now).events }
     ensures stands { result ≡ stands (R.history readings.now) scope }
     ensures passes { OnOk result (Passes (refuse_closing (R.history readings.now) scope)) }
 {
@@ -216,14 +218,15 @@ pub(crate) fn stands<R: Readings>(
 
 /// The scope is not closed.
 #[tactic(auto, using(crate::proofs::Found::no_closed))]
-pub(crate) fn not_closed<R: Readings>(
+pub(crate) fn not_closed<R: Readings, E: Events>(
     readings: &R,
-    events: &[Event],
+    events: &E,
     scope: ScopeId,
 ) -> Result<(), Reason>
-    requires { events.now ≡ (R.history readings.now).events }
+    requires { E.events events.now ≡ (R.history readings.now).events }
     ensures { result ≡ not_closed (R.history readings.now) scope }
 {
+    let _fits = events.count();
     if !readings.closed(scope) {
         return Ok(());
     }
@@ -246,14 +249,15 @@ pub(crate) fn is_closing<R: Readings>(readings: &R, scope: ScopeId) -> Result<()
 
 /// The scope is not joined.
 #[tactic(auto, using(crate::proofs::Found::no_joined))]
-pub(crate) fn not_joined<R: Readings>(
+pub(crate) fn not_joined<R: Readings, E: Events>(
     readings: &R,
-    events: &[Event],
+    events: &E,
     scope: ScopeId,
 ) -> Result<(), Reason>
-    requires { events.now ≡ (R.history readings.now).events }
+    requires { E.events events.now ≡ (R.history readings.now).events }
     ensures { result ≡ not_joined (R.history readings.now) scope }
 {
+    let _fits = events.count();
     if !readings.joined(scope) {
         return Ok(());
     }

@@ -9,6 +9,7 @@
 #![tactic(auto)]
 
 mod checks;
+mod events;
 pub mod laws;
 mod nesting;
 mod places;
@@ -16,6 +17,7 @@ pub mod reasons;
 pub mod rows;
 mod shown;
 
+pub use events::Events;
 pub use reasons::{ActorObstacle, Reason, RoomObstacle, ScopeObstacle, TaskObstacle};
 pub use rows::{event_reason, question_reason, retire_reason};
 pub use shown::ShownReason;

@@ -7,6 +7,7 @@ ghost use Rattle.scope_checks.specs.Passes.{Passes};
 ghost use Rattle.refusal_reasons.specs.Obstacles.{stands_around, innermost_stands, all_closed, innermost_is, has_level, pairs_of, bound_alike, has_pair, frees_pair, sees, load_fits, scope_fits, task_fits, is_later, shows_value, shows_fault};
 
 use crate::checks::{scope_of, stopped_if};
+use crate::events::Events;
 use crate::places::closing_place;
 use crate::reasons::{ActorObstacle, Reason, RoomObstacle, ScopeObstacle, TaskObstacle};
 use scope_checks::{Readings, checks, load};
@@ -17,15 +18,16 @@ use scope_rules::{Actor, Event, Limits, Name, ScopeId, State, TaskId};
 
 /// The actor's innermost scope, this one, is not closing.
 #[tactic(auto, using(crate::proofs::Found::no_closing))]
-fn stands_around<R: Readings>(
+fn stands_around<R: Readings, E: Events>(
     readings: &R,
-    events: &[Event],
+    events: &E,
     actor: Actor,
     scope: ScopeId,
 ) -> Result<(), Reason>
-    requires { events.now ≡ (R.history readings.now).events }
+    requires { E.events events.now ≡ (R.history readings.now).events }
     ensures { result ≡ stands_around (R.history readings.now) actor scope }
 {
+    let _fits = events.count();
     if !readings.closing(scope) {
         return Ok(());
     }
@@ -42,12 +44,12 @@ fn stands_around<R: Readings>(
 }
 
 /// The actor's innermost scope, if it has one, is not closing.
-pub(crate) fn innermost_stands<R: Readings>(
+pub(crate) fn innermost_stands<R: Readings, E: Events>(
     readings: &R,
-    events: &[Event],
+    events: &E,
     actor: Actor,
 ) -> Result<(), Reason>
-    requires { events.now ≡ (R.history readings.now).events }
+    requires { E.events events.now ≡ (R.history readings.now).events }
     ensures { result ≡ innermost_stands (R.history readings.now) actor }
 {
     match readings.innermost(actor) {

@@ -7,6 +7,7 @@ ghost use Rattle.scope_rules.specs.Scopes.{joins, ends, closed, closing_at, begi
 ghost use Rattle.scope_checks.specs.Passes.{Passes};
 ghost use Rattle.refusal_reasons.specs.Places.{closed_place, joined_place, closing_place, is_pending, pending_task};
 
+use crate::events::Events;
 use scope_checks::Readings;
 use scope_rules::types::records::Opening;
 use scope_rules::{Event, ScopeId, Stage, TaskId};
@@ -32,35 +33,47 @@ fn ends(event: &Event, scope: ScopeId) -> bool
 }
 
 /// The place of the event that joined the scope.
-pub(crate) fn joined_place(events: &[Event], scope: ScopeId) -> Option<usize>
-    ensures place { result ≡ joined_place events.now scope }
-    ensures within { IfSome result (λ place. place < length events.now) }
+#[tactic(auto, using(crate::proofs::Searched::position_passed, crate::proofs::Searched::position_none, crate::proofs::Searched::position_all))]
+pub(crate) fn joined_place<E: Events>(events: &E, scope: ScopeId) -> Option<usize>
+    ensures place { result ≡ joined_place (E.events events.now) scope }
+    ensures within { IfSome result (λ place. place < length (E.events events.now)) }
 {
-    events.iter().position(|event| joins(event, scope))
+    for place in 0..events.count() {
+        if joins(&events.event(place), scope) {
+            return Some(place);
+        }
+    }
+    None
 }
 
 /// The place of the event that closed the scope.
-pub(crate) fn closed_place(events: &[Event], scope: ScopeId) -> Option<usize>
-    ensures place { result ≡ closed_place events.now scope }
-    ensures within { IfSome result (λ place. place < length events.now) }
+#[tactic(auto, using(crate::proofs::Searched::position_passed, crate::proofs::Searched::position_none, crate::proofs::Searched::position_all))]
+pub(crate) fn closed_place<E: Events>(events: &E, scope: ScopeId) -> Option<usize>
+    ensures place { result ≡ closed_place (E.events events.now) scope }
+    ensures within { IfSome result (λ place. place < length (E.events events.now)) }
 {
-    events.iter().position(|event| ends(event, scope))
+    for place in 0..events.count() {
+        if ends(&events.event(place), scope) {
+            return Some(place);
+        }
+    }
+    None
 }
 
 /// The place of the event that began a close that covers the scope, the first such. It looks at each event at most
 /// twice.
 #[tactic(auto, using(crate::proofs::Searched::place_found, crate::proofs::Searched::place_passed, crate::proofs::Searched::place_none), unfolding(crate::specs::Places::closing_place))]
-pub(crate) fn closing_place<R: Readings>(
+pub(crate) fn closing_place<R: Readings, E: Events>(
     readings: &R,
-    events: &[Event],
+    events: &E,
     scope: ScopeId,
 ) -> Option<usize>
-    requires { events.now ≡ (R.history readings.now).events }
+    requires { E.events events.now ≡ (R.history readings.now).events }
     ensures place { result ≡ closing_place (R.history readings.now) scope }
-    ensures within { IfSome result (λ place. place < length events.now) }
+    ensures within { IfSome result (λ place. place < length (E.events events.now)) }
 {
     let close = closed_place(events, scope);
-    for place in 0..events.len() {
+    for place in 0..events.count() {
         if closing_at(readings, events, place, scope, close) {
             return Some(place);
         }
@@ -69,21 +82,19 @@ pub(crate) fn closing_place<R: Readings>(
 }
 
 /// Whether the event at the place begins a close that covers the scope.
-fn closing_at<R: Readings>(
+fn closing_at<R: Readings, E: Events>(
     readings: &R,
-    events: &[Event],
+    events: &E,
     place: usize,
     scope: ScopeId,
     close: Option<usize>,
 ) -> bool
-    requires events { events.now ≡ (R.history readings.now).events }
+    requires within { place < length (E.events events.now) }
+    requires events { E.events events.now ≡ (R.history readings.now).events }
     requires close { close ≡ closed_place (R.history readings.now).events scope }
     ensures { result ≡ closing_at (R.history readings.now) scope place }
 {
-    match events.get(place) {
-        Some(event) => begins_closing(readings, place, event, scope, close),
-        None => false,
-    }
+    begins_closing(readings, place, &events.event(place), scope, close)
 }
 
 /// Whether the event, which stands at the place, begins a close that covers the scope.

@@ -15,6 +15,7 @@ use crate::checks::{
     acts, is_closing, is_main, may_join, no_pending, not_closed, not_joined, owned, runs,
     scope_joined, scope_known, stands, task_known, task_owned, waits,
 };
+use crate::events::Events;
 use crate::nesting::{
     all_closed, bound_alike, frees_pair, has_level, has_pair, innermost_is, innermost_stands,
     is_later, load_fits, scope_fits, sees, shows_fault, shows_value, task_fits,
@@ -27,13 +28,13 @@ use scope_rules::{Actor, Event, Limits, ScopeId, TaskId};
 use script_words::Question;
 
 /// Why the event is refused after the history with these events, if it is.
-pub fn event_reason<R: Readings>(
+pub fn event_reason<R: Readings, E: Events>(
     readings: &R,
-    events: &[Event],
+    events: &E,
     limits: &Limits,
     event: &Event,
 ) -> Result<(), Reason>
-    requires { events.now ≡ (R.history readings.now).events }
+    requires { E.events events.now ≡ (R.history readings.now).events }
     ensures { result ≡ event_reason limits.now (R.history readings.now) event.now }
 {
     match *event {
@@ -54,13 +55,13 @@ pub fn event_reason<R: Readings>(
 
 /// Why an open is refused, whatever its joiner and options.
 #[tactic(auto, unfolding(crate::specs::Rows::event_reason, crate::specs::Obstacles::first_reason, crate::specs::Obstacles::then_reason))]
-fn open_row<R: Readings>(
+fn open_row<R: Readings, E: Events>(
     readings: &R,
-    events: &[Event],
+    events: &E,
     limits: &Limits,
     actor: Actor,
 ) -> Result<(), Reason>
-    requires { events.now ≡ (R.history readings.now).events }
+    requires { E.events events.now ≡ (R.history readings.now).events }
     ensures { (policy : Policy) (options : Options) → result ≡ event_reason limits.now (R.history readings.now) (Event.Open actor policy options) }
 {
     acts(readings, actor)?;
@@ -72,14 +73,14 @@ fn open_row<R: Readings>(
 
 /// Why a fork is refused, whatever its label.
 #[tactic(auto, unfolding(crate::specs::Rows::event_reason, crate::specs::Obstacles::first_reason, crate::specs::Obstacles::then_reason))]
-fn fork_row<R: Readings>(
+fn fork_row<R: Readings, E: Events>(
     readings: &R,
-    events: &[Event],
+    events: &E,
     limits: &Limits,
     actor: Actor,
     scope: ScopeId,
 ) -> Result<(), Reason>
-    requires { events.now ≡ (R.history readings.now).events }
+    requires { E.events events.now ≡ (R.history readings.now).events }
     ensures { (label : Label) → result ≡ event_reason limits.now (R.history readings.now) (Event.Fork actor scope label) }
 {
     acts(readings, actor)?;
@@ -114,13 +115,13 @@ fn finish_row<R: Readings>(readings: &R, task: TaskId) -> Result<(), Reason>
 
 /// Why a cancel is refused: a scope that is cancelled already wants no room.
 #[tactic(auto, unfolding(crate::specs::Rows::event_reason, crate::specs::Obstacles::first_reason, crate::specs::Obstacles::then_reason))]
-fn cancel_row<R: Readings>(
+fn cancel_row<R: Readings, E: Events>(
     readings: &R,
-    events: &[Event],
+    events: &E,
     limits: &Limits,
     scope: ScopeId,
 ) -> Result<(), Reason>
-    requires { events.now ≡ (R.history readings.now).events }
+    requires { E.events events.now ≡ (R.history readings.now).events }
     ensures { result ≡ event_reason limits.now (R.history readings.now) (Event.Cancel scope) }
 {
     scope_known(readings, scope)?;
@@ -133,13 +134,13 @@ fn cancel_row<R: Readings>(
 
 /// Why a move of a deadline is refused, whatever the new one.
 #[tactic(auto, unfolding(crate::specs::Rows::event_reason, crate::specs::Obstacles::first_reason, crate::specs::Obstacles::then_reason))]
-fn move_row<R: Readings>(
+fn move_row<R: Readings, E: Events>(
     readings: &R,
-    events: &[Event],
+    events: &E,
     limits: &Limits,
     scope: ScopeId,
 ) -> Result<(), Reason>
-    requires { events.now ≡ (R.history readings.now).events }
+    requires { E.events events.now ≡ (R.history readings.now).events }
     ensures { (deadline : Option ℕ) → result ≡ event_reason limits.now (R.history readings.now) (Event.Move scope deadline) }
 {
     scope_known(readings, scope)?;
@@ -179,13 +180,13 @@ fn unbind_row<R: Readings>(readings: &R, limits: &Limits, actor: Actor) -> Resul
 
 /// Why a join is refused.
 #[tactic(auto, unfolding(crate::specs::Rows::event_reason, crate::specs::Obstacles::first_reason, crate::specs::Obstacles::then_reason))]
-fn join_row<R: Readings>(
+fn join_row<R: Readings, E: Events>(
     readings: &R,
-    events: &[Event],
+    events: &E,
     actor: Actor,
     scope: ScopeId,
 ) -> Result<(), Reason>
-    requires { events.now ≡ (R.history readings.now).events }
+    requires { E.events events.now ≡ (R.history readings.now).events }
     ensures { (limits : Limits) → result ≡ event_reason limits (R.history readings.now) (Event.Join actor scope) }
 {
     acts(readings, actor)?;
@@ -208,13 +209,13 @@ fn begin_close_row<R: Readings>(readings: &R, actor: Actor, scope: ScopeId) -> R
 
 /// Why the end of a close is refused.
 #[tactic(auto, unfolding(crate::specs::Rows::event_reason, crate::specs::Obstacles::first_reason, crate::specs::Obstacles::then_reason))]
-fn end_close_row<R: Readings>(
+fn end_close_row<R: Readings, E: Events>(
     readings: &R,
-    events: &[Event],
+    events: &E,
     actor: Actor,
     scope: ScopeId,
 ) -> Result<(), Reason>
-    requires { events.now ≡ (R.history readings.now).events }
+    requires { E.events events.now ≡ (R.history readings.now).events }
     ensures { (limits : Limits) → result ≡ event_reason limits (R.history readings.now) (Event.EndClose actor scope) }
 {
     acts(readings, actor)?;
@@ -250,12 +251,12 @@ fn reading_reason<R: Readings>(readings: &R, actor: Actor, task: TaskId) -> Resu
 
 /// Why the question is refused, if it is.
 #[tactic(auto, unfolding(crate::specs::Rows::question_reason, crate::specs::Obstacles::first_reason, crate::specs::Obstacles::then_reason))]
-pub fn question_reason<R: Readings>(
+pub fn question_reason<R: Readings, E: Events>(
     readings: &R,
-    events: &[Event],
+    events: &E,
     question: &Question,
 ) -> Result<(), Reason>
-    requires { events.now ≡ (R.history readings.now).events }
+    requires { E.events events.now ≡ (R.history readings.now).events }
     ensures { result ≡ question_reason (R.history readings.now) question.now }
 {
     match *question {
