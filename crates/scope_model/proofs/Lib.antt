@@ -1,1 +1,2 @@
+mod KeptEvents
 mod TaskPlaces

@@ -1,3 +1,4 @@
+pub mod Events
 pub use Rattle.scope_rules.specs.NameText
 pub use Rattle.scope_rules.specs.Names
 pub use Rattle.scope_rules.specs.Values

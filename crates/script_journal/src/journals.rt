@@ -20,7 +20,8 @@ pub fn journal_of(alloc: Global, realm: &KeptRealm) -> Result<String, AllocError
     ensures runs { IfOk result (λ text. realm.now.history.base ≡ the_start → RunsTo realm.now.limits (string_bytes text) (without_dues realm.now.history)) }
 {
     let _legal = realm.limits();
-    let events = realm.events();
+    let copied = realm.copied_events(alloc)?;
+    let events = copied.as_slice();
     events_fit(events);
     script_of(alloc, realm.base(), events)
 }

@@ -5,7 +5,7 @@ ghost use Rattle.scope_rules.specs.Replies.{with_event, starting, base_check, ba
 ghost use Rattle.scope_checks.specs.Ruled.{IsRuled};
 
 use crate::scan::view::HistoryView;
-use scope_journal::Journal;
+use scope_journal::{Journal, weight};
 use scope_rules::types::bases::Base;
 use scope_rules::types::capacity::Limits;
 use scope_rules::types::events::Event;
@@ -13,19 +13,25 @@ use scope_rules::types::refusals::Refusal;
 use std::alloc::Global;
 use std::marker::Model;
 
-/// A realm that keeps its journal and nothing else, and answers each question by scanning the events. It
-/// is slow on purpose: it is the definitions' plain program, against which faster ones are tested.
+/// A realm that keeps its journal, and beside it the events as they are, and answers each question by
+/// scanning these. It is slow on purpose: it is the definitions' plain program, against which faster ones
+/// are tested.
 #[derive(Drop)]
 pub struct Plain {
     journal: Journal,
+    events: Vec<Event>,
 }
 
 impl Model for Plain {
+    ghost use Rattle.std.specs.Prelude.{vec_capacity};
     ghost use Rattle.scope_rules.specs.Replies.{Realm};
+    ghost use Rattle.scope_model.specs.Events.{AreEventsOf};
 
     ghost Value = { Realm };
 
     ghost view = { λ p. p.journal.realm };
+
+    ghost invariant = { λ p. AreEventsOf p.journal.realm.history p.events.items (vec_capacity p.events) };
 }
 
 impl Plain {
@@ -37,6 +43,7 @@ impl Plain {
     {
         Plain {
             journal: Journal::new(alloc, limits),
+            events: Vec::new(alloc),
         }
     }
 
@@ -46,7 +53,10 @@ impl Plain {
         ensures { AnswersOrMemory (base_check limits base) (starting limits base) result }
     {
         let journal = Journal::with_base(alloc, limits, base)?;
-        Ok(Plain { journal })
+        let Ok(events) = Vec::with_capacity(alloc, journal.base().binds().len()) else {
+            return Err(Refusal::Memory);
+        };
+        Ok(Plain { journal, events })
     }
 
     /// The allocator that the realm grows by.
@@ -66,7 +76,8 @@ impl Plain {
     pub fn view(&self) -> HistoryView<'_>
         ensures { result ≡ self.now.history }
     {
-        HistoryView::new(self.journal.base(), self.journal.events())
+        let _small = self.journal.event_count();
+        HistoryView::new(self.journal.base(), &self.events)
     }
 
     /// Appends the event, which was accepted, or is refused memory.
@@ -74,7 +85,15 @@ impl Plain {
         requires { Accepts self.old.limits self.old.history event }
         ensures answer { MatchResult result (λ _. self.new ≡ with_event self.old event) (λ refusal. (refusal ≡ Refusal.Memory) × (self.new ≡ self.old)) }
     {
-        self.journal.append(&event)
+        let load = (self.journal.load() + weight(&event)) as usize;
+        let more = load.saturating_sub(self.events.len());
+        let Ok(()) = self.events.reserve(more) else {
+            return Err(Refusal::Memory);
+        };
+        let _legal = self.journal.limits();
+        self.journal.append(&event)?;
+        self.events.push_reserved(event);
+        Ok(())
     }
 
     /// Appends the event, which was accepted and for which there is room.
@@ -84,7 +103,9 @@ impl Plain {
         ensures added { self.new ≡ with_event self.old event }
         ensures legal { Legal self.new.limits self.new.history }
     {
-        self.journal.record(&event)
+        let _legal = self.journal.limits();
+        self.journal.record(&event);
+        self.events.push_reserved(event);
     }
 
     /// Leaves the base alone, which is the history's.
@@ -92,6 +113,7 @@ impl Plain {
         requires { base ≡ base_of self.old.history }
         ensures { self.new ≡ starting self.old.limits base }
     {
-        self.journal.restart(base)
+        self.journal.restart(base);
+        self.events.clear();
     }
 }
