@@ -1,12 +1,15 @@
 -- The events that the plain evaluator keeps stay the history's.
-use Rattle.std.proofs.Common.{◌≡◌, ℕ, ◌+◌, ◌<◌, ◌≤◌, List, [], ◌∷◌, ◌++◌, length, ap, sym, subst, ◌∙◌, refl, arith}
+use Rattle.std.proofs.Common.{◌≡◌, ℕ, ◌+◌, ◌<◌, ◌≤◌, List, [], ◌∷◌, ◌++◌, length, Result, Ok, Err, inl, inr, ap, sym, subst, ◌∙◌, arith}
 use Rattle.scope_rules.specs.declared.types.capacity.Limits.{Limits}
 use Rattle.scope_rules.specs.declared.types.events.Event.{Event}
 use Rattle.scope_rules.specs.Origin.{Origin}
-use Rattle.scope_rules.specs.History.{History, followed}
+use Rattle.scope_rules.specs.History.{History}
 use Rattle.scope_rules.specs.Legal.{Accepts, Legal}
 use Rattle.scope_rules.specs.Load.{load, weight}
-use Rattle.scope_rules.specs.Replies.{Realm, base_of, starting, with_event}
+use Rattle.scope_rules.specs.Checks.{Checked}
+use Rattle.scope_rules.specs.declared.types.refusals.Refusal.{Refusal}
+use Rattle.scope_rules.specs.Replies.{Realm, AnswersOrMemory, base_check, base_of, starting, with_event}
+use Rattle.scope_journal.specs.JournalKeeps.{JournalTable, realm_given}
 use Rattle.scope_rules.proofs.Pushing.{load_push, stack_within}
 use Rattle.scope_journal.proofs.EventRoom.{event_paid}
 use Rattle.scope_model.specs.Events.{AreEventsOf}
@@ -40,3 +43,12 @@ event_fits L h e events before capacity legal ok are enough = omega (arith, even
 pub base_fits : (h : History) (events : List Event) (capacity : ℕ) → AreEventsOf h events capacity → length (base_of h).binds ≤ capacity
 unfolding base_of
 base_fits h events capacity are = omega (arith, stack_within h, are.room)
+
+answered : (check : Checked) (value r : Realm) (result : Result Realm Refusal) → AnswersOrMemory check value result → result ≡ Ok r → r ≡ value
+answered (Ok done) value r result (inl same) is = cc
+answered (Ok done) value r result (inr memory) is = absurd cc
+answered (Err refusal) value r result refused is = absurd cc
+
+-- a realm that was made of a base begins with it
+pub made_start : (L : Limits) (b : Origin) (made : Result JournalTable Refusal) (j : JournalTable) → AnswersOrMemory (base_check L b) (starting L b) (realm_given made) → made ≡ Ok j → j.realm ≡ starting L b
+made_start L b made j answers is = answered (base_check L b) (starting L b) j.realm (realm_given made) answers (ap realm_given is)

@@ -87,9 +87,9 @@ impl Plain {
     {
         let load = (self.journal.load() + weight(&event)) as usize;
         let more = load.saturating_sub(self.events.len());
-        if self.events.reserve(more).is_err() {
+        let Ok(()) = self.events.reserve(more) else {
             return Err(Refusal::Memory);
-        }
+        };
         let _legal = self.journal.limits();
         self.journal.append(&event)?;
         self.events.push_reserved(event);
