@@ -104,7 +104,7 @@ impl Plain {
         ensures legal { Legal self.new.limits self.new.history }
     {
         let _legal = self.journal.limits();
-        self.journal.record(&event);
+        self.journal.record(&event, 0);
         self.events.push_reserved(event);
     }
 

@@ -21,9 +21,9 @@ pub tell-requires : goal.tell-requires
 tell-requires c =
     let h = c.self.inside.journal.realm.history in
     let accepted = subst (λ (r : Realm). Accepts r.limits r.history c.args.event.now) (sym c.self.view_is) c.requires.accepted in
-    let n = c.load-2.result + c.args.load in
+    let n = c.load.result + c.args.load in
     let room = on_ok c.make_room.result (HasRoomFor c.make_room.new.trails c.args.event.now n) (sym c.is_err-2.ensures.value ∙ c.if-is_err-2.false) c.make_room.ensures.room in
-    let size : n ≡ load h + weight c.args.event.now = omega (arith, c.load-2.ensures, ap (λ (r : Realm). load r.history) c.reserve.ensures.kept, c.requires.costs) in
+    let size : n ≡ load h + weight c.args.event.now = omega (arith, c.load.ensures, ap (λ (r : Realm). load r.history) c.reserve.ensures.kept, c.requires.costs) in
     can_tell c.limits-legal.result h c.args.event.now c.make_room.new.trails c.scope_of_event-scope.result c.event_count-place.result
     (subst (λ L. Legal L h) (sym c.limits-legal.ensures.limits) c.limits-legal.ensures.legal)
     (subst (λ L. Accepts L h c.args.event.now) (sym c.limits-legal.ensures.limits) accepted)
@@ -38,9 +38,9 @@ invariant_of-self-2 c =
     let h = c.self.inside.journal.realm.history in
     let L = c.self.inside.journal.realm.limits in
     let accepted = subst (λ (r : Realm). Accepts r.limits r.history c.args.event.now) (sym c.self.view_is) c.requires.accepted in
-    let n = c.load-2.result + c.args.load in
+    let n = c.load.result + c.args.load in
     let room = on_ok c.make_room.result (HasRoomFor c.make_room.new.trails c.args.event.now n) (sym c.is_err-2.ensures.value ∙ c.if-is_err-2.false) c.make_room.ensures.room in
-    let size : n ≡ load h + weight c.args.event.now = omega (arith, c.load-2.ensures, ap (λ (r : Realm). load r.history) c.reserve.ensures.kept, c.requires.costs) in
+    let size : n ≡ load h + weight c.args.event.now = omega (arith, c.load.ensures, ap (λ (r : Realm). load r.history) c.reserve.ensures.kept, c.requires.costs) in
     let followed_so = on_ok c.follow.result (HasFollowedAt c.self.inside.kept c.args.event.now c.event_count-place.result c.follow.new.kept) (sym c.is_err-3.ensures.value ∙ c.if-is_err-3.false) c.follow.ensures.followed in (
       of_next (λ g. IsKeptOf g c.follow.new.kept) c.self.inside.journal.realm c.reserve.new.self.realm c.record.new.self.realm c.args.event.now c.record.ensures.added c.reserve.ensures.kept
           (followed_so L h c.limits-legal.ensures.legal accepted c.self.invariant.0 c.event_count-place.ensures.count),
