@@ -72,8 +72,7 @@ impl KeptRealm {
         ensures { Retires self.old actor result self.new }
     {
         table::retire_check(self, actor)?;
-        let alloc = self.allocator();
-        let (Ok(answered), Ok(base)) = (self.base_after(alloc), self.base_after(alloc)) else {
+        let (Ok(answered), Ok(base)) = (self.base_after(), self.base_after()) else {
             return Err(Refusal::Memory);
         };
         self.restart(base);

@@ -169,12 +169,14 @@ impl KeptRealm {
         self.journal.restart(base);
     }
 
-    /// The base that the realm's history leaves. Refused if memory is.
+    /// The base that the realm's history leaves, which shares main's bindings: called again before they
+    /// change, it copies none of them. Refused if memory is.
     #[tactic(auto, unfolding(scope_rules::specs::Replies::base_of))]
-    pub(crate) fn base_after(&self, alloc: Global) -> Result<Base, AllocError>
-        ensures { IfOk result (λ base. base ≡ base_of self.now.history) }
+    pub(crate) fn base_after(&mut self) -> Result<Base, AllocError>
+        ensures base { IfOk result (λ base. base ≡ base_of self.old.history) }
+        ensures unchanged { self.new ≡ self.old }
     {
-        let binds = Vec::from_slice(alloc, self.kept.envs().main_stack())?;
-        Ok(Base::new(self.moment(), self.scopes(), self.tasks(), binds))
+        let (moment, scopes, tasks) = (self.moment(), self.scopes(), self.tasks());
+        self.kept.base(moment, scopes, tasks)
     }
 }

@@ -2,6 +2,7 @@ ghost use Rattle.std.specs.Prelude.{◌≡◌, ℕ, [], List, drop, IfOk};
 ghost use Rattle.std.specs.Borrow.{sem};
 ghost use Rattle.scope_rules.specs.declared.types.capacity.Limits.{Limits};
 ghost use Rattle.scope_rules.specs.History.{History};
+ghost use Rattle.scope_rules.specs.Bindings.{stack};
 ghost use Rattle.scope_rules.specs.Legal.{Legal};
 ghost use Rattle.scope_rules.specs.Replies.{base_of};
 ghost use Rattle.scope_kept.specs.CutsOf.{IsCancelOrderOf};
@@ -81,6 +82,18 @@ impl Kept {
         self.cuts = Cuts::new(self.alloc, base.scopes(), base.moment());
         self.forks = Forks::new(self.alloc, base.scopes());
         self.deadlines = OwnDeadlines::new(self.alloc, base.scopes());
+    }
+}
+
+/// What a history leaves.
+impl Kept {
+    /// The base of this moment and of so many scopes and tasks, with main's own bindings, which it shares:
+    /// called again before they change, it copies none of them. Refused if memory is.
+    pub fn base(&mut self, moment: u64, scopes: u32, tasks: u32) -> Result<Base, AllocError>
+        ensures base { IfOk result (λ base. (h : History) → IsKeptOf h self.old → base ≡ record { moment = moment; scopes = scopes; tasks = tasks; binds = stack h 0 }) }
+        ensures unchanged { self.new ≡ self.old }
+    {
+        self.envs.base(moment, scopes, tasks)
     }
 }
 

@@ -4,6 +4,7 @@ pub mod Values
 pub mod Ends
 pub mod Refusals
 pub mod Capacity
+pub mod BasePairs
 pub mod Origin
 pub mod Fitting
 pub mod Joining

@@ -1,10 +1,11 @@
 -- Which environments a realm begins with, and begins anew with after a retirement.
-use Rattle.std.proofs.Common.{◌≡◌, ℕ, [], refl, ap, sym, subst, ◌∙◌}
+use Rattle.std.proofs.Common.{◌≡◌, ℕ, [], ◌++◌, refl, ap, sym, subst, ◌∙◌}
 use Rattle.scope_rules.specs.Origin.{Origin}
 use Rattle.scope_rules.specs.Search.{earliest}
 use Rattle.scope_rules.specs.History.{History, tasks, forking}
 use Rattle.scope_rules.specs.Bindings.{stack}
 use Rattle.scope_rules.specs.Replies.{base_of}
+use Rattle.scoped_env.specs.Layers.{all_pairs}
 use Rattle.scoped_env.specs.EnvTable.{EnvTable, beginning, restarted}
 use Rattle.scoped_env.specs.Agreement.{AreEnvsOf, layers_of}
 use Rattle.scoped_env.proofs.Sights.{layers_at, main_inherits_none}
@@ -45,3 +46,7 @@ restarts h t u n is number agrees =
       count = refl;
       tasks = λ i e at. absurd cc;
     })
+
+-- main inherits nothing, so all its pairs are its own
+pub main_pairs : (h : History) (t : EnvTable) → AreEnvsOf h t → all_pairs t.main ≡ stack h 0
+main_pairs h t agrees = ap all_pairs agrees.main ∙ ap (λ xs. xs ++ stack h 0) (main_inherits_none h)

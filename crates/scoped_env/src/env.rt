@@ -5,7 +5,7 @@ ghost use Rattle.scoped_env.specs.LastBound.{HasNone, IsLastBound};
 use crate::own::OwnPairs;
 use crate::shared::SharedPairs;
 use crate::stack::PairStack;
-use scope_rules::{Binding, Name, Refusal, Value};
+use scope_rules::{Base, Binding, Name, Refusal, Value};
 use std::alloc::{AllocError, Global};
 use std::marker::Model;
 use std::mem;
@@ -142,6 +142,24 @@ impl Env {
             Pairs::Inherited(inherited) => inherited.share()?,
         };
         Ok(Env::above(inherited, self.alloc))
+    }
+
+    /// A base with all pairs of this environment: it shares them. Called again before they change, it
+    /// copies none of them. It is refused for memory, or if std's count of holders is full.
+    pub fn base(&mut self, moment: u64, scopes: u32, tasks: u32) -> Result<Base, AllocError>
+        ensures ok { IfOk result (λ base. base ≡ record { moment = moment; scopes = scopes; tasks = tasks; binds = all_pairs self.old }) }
+        ensures unchanged { self.new ≡ self.old }
+    {
+        match &mut self.pairs {
+            Pairs::WithOwn(own) => {
+                let binds = own.list_all()?;
+                Ok(Base::sharing(moment, scopes, tasks, binds))
+            }
+            Pairs::Inherited(inherited) => {
+                let binds = Vec::from_slice(self.alloc, inherited.as_slice())?;
+                Ok(Base::new(moment, scopes, tasks, binds))
+            }
+        }
     }
 
     /// How many pairs there are, inherited and own.

@@ -81,12 +81,14 @@ impl Envs {
         self.env(actor).stack_len()
     }
 
-    /// Main's own pairs, the latest last.
-    pub fn main_stack(&self) -> &[Binding]
-        ensures kept { result.now ≡ self.now.main.stack }
-        ensures agrees { (h : History) → AreEnvsOf h self.now → result.now ≡ stack h 0 }
+    /// The base of main's own pairs, which it shares: called again before they change, it copies none of
+    /// them. It is refused for memory, or if std's count of holders is full.
+    pub fn base(&mut self, moment: u64, scopes: u32, tasks: u32) -> Result<Base, AllocError>
+        ensures kept { IfOk result (λ base. base ≡ record { moment = moment; scopes = scopes; tasks = tasks; binds = all_pairs self.old.main }) }
+        ensures agrees { IfOk result (λ base. (h : History) → AreEnvsOf h self.old → base ≡ record { moment = moment; scopes = scopes; tasks = tasks; binds = stack h 0 }) }
+        ensures unchanged { self.new ≡ self.old }
     {
-        self.main.stack()
+        self.main.base(moment, scopes, tasks)
     }
 
     /// Binds the key to the value, above all other pairs that the actor sees. It is refused for

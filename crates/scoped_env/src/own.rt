@@ -1,30 +1,35 @@
 ghost use Rattle.std.specs.Prelude.{◌≡◌, ◌↔◌, [], IfOk, OnOk, OnErr, IfErr, IsErr};
+ghost use Rattle.std.specs.Arc.{arc_slice_items};
 ghost use Rattle.scope_rules.specs.Bindings.{bound_to};
 
-use crate::shared::SharedPairs;
+use crate::shared::{SharedPairs, joined};
 use crate::stack::PairStack;
 use scope_rules::{Binding, Name, Refusal, Value};
 use std::alloc::AllocError;
 use std::marker::Model;
+use std::sync::ArcSlice;
 
 /// The pairs of an actor that binds some itself: those that it inherited, then its own stack.
 #[derive(Drop)]
 pub struct OwnPairs {
     inherited: SharedPairs,
     stack: PairStack,
-    // All pairs, made by the last `share_all` and kept for the next; `None` once they changed.
+    // All pairs in one list, which is kept until they change.
+    listed: Option<ArcSlice<Binding>>,
+    // The same for the tasks that are forked until then.
     snapshot: Option<SharedPairs>,
 }
 
 impl Model for OwnPairs {
     ghost use Rattle.std.specs.Prelude.{◌≡◌, ◌++◌, IfSome};
+    ghost use Rattle.std.specs.Arc.{arc_slice_items};
     ghost use Rattle.scoped_env.specs.Layers.{Layers};
 
     ghost Value = { Layers };
 
     ghost view = { λ e. record { inherited = e.inherited; stack = e.stack } };
 
-    ghost invariant = { λ e. IfSome e.snapshot (λ all. all ≡ e.inherited ++ e.stack) };
+    ghost invariant = { λ e. IfSome e.listed (λ all. arc_slice_items all ≡ e.inherited ++ e.stack) × IfSome e.snapshot (λ all. all ≡ e.inherited ++ e.stack) };
 }
 
 impl OwnPairs {
@@ -37,6 +42,7 @@ impl OwnPairs {
         OwnPairs {
             inherited,
             stack,
+            listed: None,
             snapshot: None,
         }
     }
@@ -48,6 +54,7 @@ impl OwnPairs {
         ensures err { OnErr result (self.new ≡ self.old) }
     {
         self.stack.push(Binding { key, value })?;
+        self.listed = None;
         self.snapshot = None;
         Ok(())
     }
@@ -63,12 +70,32 @@ impl OwnPairs {
         if !self.stack.pop() {
             return Err(Refusal::NotBound);
         }
+        self.listed = None;
         self.snapshot = None;
         Ok(())
     }
 
-    /// All pairs, in the list that the last call made if they are the same still. It is refused
-    /// for memory, or if std's count of holders is full.
+    /// All pairs in one list, which the last call made if they are the same still. It is refused for
+    /// memory, or if std's count of holders is full.
+    pub fn list_all(&mut self) -> Result<ArcSlice<Binding>, AllocError>
+        ensures ok { IfOk result (λ all. arc_slice_items all ≡ all_pairs self.old) }
+        ensures unchanged { self.new ≡ self.old }
+    {
+        if let Some(all) = &self.listed {
+            return all.clone();
+        }
+        let all = joined(
+            self.stack.allocator(),
+            self.inherited.as_slice(),
+            self.stack.as_slice(),
+        )?;
+        let list = all.clone()?;
+        self.listed = Some(all);
+        Ok(list)
+    }
+
+    /// All pairs for a task that is forked, as the last call made them if they are the same still. It is
+    /// refused for memory, or if std's count of holders is full.
     pub fn share_all(&mut self) -> Result<SharedPairs, AllocError>
         ensures ok { IfOk result (λ all. all ≡ all_pairs self.old) }
         ensures unchanged { self.new ≡ self.old }
@@ -79,11 +106,8 @@ impl OwnPairs {
         if let Some(all) = &self.snapshot {
             return all.share();
         }
-        let all = SharedPairs::joined(
-            self.stack.allocator(),
-            self.inherited.as_slice(),
-            self.stack.as_slice(),
-        )?;
+        let list = self.list_all()?;
+        let all = SharedPairs::of(self.stack.allocator(), list)?;
         let shared = all.share()?;
         self.snapshot = Some(all);
         Ok(shared)

@@ -91,20 +91,11 @@ impl SharedPairs {
         }
     }
 
-    /// The pairs of `front`, then those of `back`, copied into one list.
-    pub fn joined(
-        alloc: Global,
-        front: &[Binding],
-        back: &[Binding],
-    ) -> Result<SharedPairs, AllocError>
-        ensures { IfOk result (λ all. all ≡ front.now ++ back.now) }
+    /// These pairs, which several environments can hold from then on. It is refused for memory alone.
+    pub fn of(alloc: Global, pairs: ArcSlice<Binding>) -> Result<SharedPairs, AllocError>
+        ensures { IfOk result (λ shared. shared ≡ arc_slice_items pairs) }
     {
-        let mut pairs = Vec::with_capacity(alloc, front.len() + back.len())?;
-        pairs.extend_from_slice(front)?;
-        pairs.extend_from_slice(back)?;
-        let is_few = pairs.len() <= FEW;
-        let pairs = ArcSlice::from_vec(pairs)?;
-        let list = if is_few {
+        let list = if pairs.as_slice().len() <= FEW {
             PairList::Few(pairs)
         } else {
             PairList::Many(Arc::new(alloc, IndexedPairs::new(alloc, pairs)?)?)
@@ -146,4 +137,18 @@ impl SharedPairs {
             PairList::Many(pairs) => pairs.value_of(key),
         }
     }
+}
+
+/// The pairs of `front`, then those of `back`, copied into one list.
+pub(crate) fn joined(
+    alloc: Global,
+    front: &[Binding],
+    back: &[Binding],
+) -> Result<ArcSlice<Binding>, AllocError>
+    ensures { IfOk result (λ all. arc_slice_items all ≡ front.now ++ back.now) }
+{
+    let mut pairs = Vec::with_capacity(alloc, front.len() + back.len())?;
+    pairs.extend_from_slice(front)?;
+    pairs.extend_from_slice(back)?;
+    ArcSlice::from_vec(pairs)
 }

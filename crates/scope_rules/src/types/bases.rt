@@ -1,8 +1,10 @@
 ghost use Rattle.std.specs.Prelude.{◌≡◌};
+ghost use Rattle.std.specs.Arc.{arc_slice_items};
 
 use crate::types::events::Binding;
 use std::alloc::Global;
 use std::marker::Model;
+use std::sync::ArcSlice;
 
 /// What a retirement leaves of a history: the moment, how many scopes and tasks were numbered so
 /// far, and main's own bindings. A fresh realm has the base that is empty.
@@ -11,15 +13,23 @@ pub struct Base {
     moment: u64,
     scopes: u32,
     tasks: u32,
-    binds: Vec<Binding>,
+    binds: BasePairs,
+}
+
+/// The pairs of a base: of its own, or shared with the realm that it was taken of and with its other bases.
+#[derive(Drop)]
+enum BasePairs {
+    Own(Vec<Binding>),
+    Shared(ArcSlice<Binding>),
 }
 
 impl Model for Base {
     ghost use Rattle.scope_rules.specs.Origin.{Origin};
+    ghost use Rattle.scope_rules.specs.BasePairs.{pairs_of};
 
     ghost Value = { Origin };
 
-    ghost view = { λ b. record { moment = b.moment; scopes = b.scopes; tasks = b.tasks; binds = b.binds.items } };
+    ghost view = { λ b. record { moment = b.moment; scopes = b.scopes; tasks = b.tasks; binds = pairs_of b.binds } };
 }
 
 impl Base {
@@ -33,7 +43,7 @@ impl Base {
             moment: 0,
             scopes: 0,
             tasks: 0,
-            binds: Vec::new(alloc),
+            binds: BasePairs::Own(Vec::new(alloc)),
         }
     }
 
@@ -46,7 +56,19 @@ impl Base {
             moment,
             scopes,
             tasks,
-            binds,
+            binds: BasePairs::Own(binds),
+        }
+    }
+
+    /// A base of these parts, which shares main's own bindings. It copies none of them.
+    pub fn sharing(moment: u64, scopes: u32, tasks: u32, binds: ArcSlice<Binding>) -> Base
+        ensures { result ≡ record { moment = moment; scopes = scopes; tasks = tasks; binds = arc_slice_items binds } }
+    {
+        Base {
+            moment,
+            scopes,
+            tasks,
+            binds: BasePairs::Shared(binds),
         }
     }
 
@@ -75,6 +97,9 @@ impl Base {
     pub fn binds(&self) -> &[Binding]
         ensures { result.now ≡ self.now.binds }
     {
-        &self.binds
+        match &self.binds {
+            BasePairs::Own(pairs) => pairs,
+            BasePairs::Shared(pairs) => pairs.as_slice(),
+        }
     }
 }

@@ -1,0 +1,20 @@
+-- Main inherits nothing, so all its pairs are its own.
+use Rattle.std.proofs.Common.{◌≡◌, List, ap, subst, sym, ◌∙◌}
+use Rattle.std.proofs.lemmas.Result.{IfOk-weaker}
+use Rattle.scope_rules.specs.declared.types.events.Binding.{Binding}
+use Rattle.scope_rules.specs.Origin.{Origin}
+use Rattle.scope_rules.specs.History.{History}
+use Rattle.scope_rules.specs.Bindings.{stack}
+use Rattle.scoped_env.specs.EnvTable.{EnvTable}
+use Rattle.scoped_env.specs.Layers.{all_pairs}
+use Rattle.scoped_env.specs.Agreement.{AreEnvsOf}
+use Rattle.scoped_env.proofs.Beginnings.{main_pairs}
+use Rattle.scoped_env.proofs.envs.Envs.base.Goals as goal
+
+pub returns-clause-agrees : goal.returns-clause-agrees
+returns-clause-agrees c =
+    let inside = c.self.inside in
+    let table : EnvTable = record { before = inside.before; main = inside.main; tasks = inside.tasks.items } in
+    let of_pairs : List Binding → Origin = λ binds. record { moment = c.args.moment; scopes = c.args.scopes; tasks = c.args.tasks; binds = binds } in
+    IfOk-weaker c.base.result (λ base. base ≡ of_pairs (all_pairs inside.main)) (λ base. (h : History) → AreEnvsOf h c.args.self.now → base ≡ of_pairs (stack h 0))
+    (λ base is h agrees. is ∙ ap of_pairs (main_pairs h table (subst (AreEnvsOf h) (sym c.self.view_is) agrees))) c.base.ensures.ok
