@@ -52,7 +52,7 @@ impl Look for CopyOut {
             return Err(Refusal::Memory);
         };
         let base = Base::new(from.moment(), from.scopes(), from.tasks(), binds);
-        match Vec::from_slice(self.alloc, realm.events()) {
+        match realm.copied_events(self.alloc) {
             Ok(events) => Ok(Copied {
                 limits: realm.limits(),
                 base,

@@ -33,7 +33,7 @@ impl Look for Counting {
         Reached {
             scopes: base.scopes(),
             tasks: base.tasks(),
-            events: realm.events().len(),
+            events: realm.event_count(),
         }
     }
 }

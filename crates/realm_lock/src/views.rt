@@ -58,7 +58,7 @@ impl<C: Catalog, N: RealmName> Realm<C, N> {
         let alloc = locked.alloc();
         locked.look(token);
         let _fitting = locked.core().limits();
-        match Vec::from_slice(alloc, locked.core().realm().events()) {
+        match locked.core().realm().copied_events(alloc) {
             Ok(events) => Ok(events),
             Err(_) => Err(Refusal::Memory),
         }

@@ -21,7 +21,7 @@ fn is_untouched(realm: &KeptRealm) -> bool
     ensures { result ≡ is_untouched realm.now.history }
 {
     let base = realm.base();
-    realm.events().is_empty()
+    realm.event_count() == 0
         && base.moment() == 0
         && base.scopes() == 0
         && base.tasks() == 0

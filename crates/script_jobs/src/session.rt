@@ -177,7 +177,7 @@ impl NotedScript {
         ensures err { OnErr result ((replies.new.items ≡ replies.old.items) × (notes.new.items ≡ notes.old.items)) }
     {
         let why = command_why(&self.book, &command);
-        let before = self.book.realm().events().len();
+        let before = self.book.realm().event_count();
         let reply = perform(&mut self.book, command)?;
         let note = self.note_of(wanted, &reply, why)?;
         self.record_line(before)?;
@@ -206,7 +206,7 @@ impl NotedScript {
         ensures lines { OnOk result ((h : History) → before ≡ length h.events → self.new.lines.items ≡ lines_after self.old.lines.items self.old.number h (history_of self.old.book)) }
         ensures same { (self.new.book ≡ self.old.book) × (self.new.number ≡ self.old.number) × (self.new.tally ≡ self.old.tally) × (self.new.begun ≡ self.old.begun) }
     {
-        let after = self.book.realm().events().len();
+        let after = self.book.realm().event_count();
         if after == before {
             return Ok(());
         }

@@ -175,7 +175,7 @@ fn text_of(
         View::Dump => dump_line(alloc, book),
         View::Tree => tree_text(alloc, book, times),
         View::Timeline => timeline(alloc, book, times),
-        View::TraceEvents => trace_of(alloc, book.realm(), book.realm().events(), &times.events),
+        View::TraceEvents => trace_text(alloc, book, times),
     }
 }
 
@@ -186,16 +186,28 @@ fn text_of(
 fn timeline(alloc: Global, book: &BookState<AnyEnd>, times: &Times) -> Result<String, AllocError>
     ensures { IfOk result (λ text. string_bytes text ≡ shown_text View.Timeline (history_of book.now) (stamps_of times.now)) }
 {
+    let events = book.realm().copied_events(alloc)?;
     picture_with(
         alloc,
         book.realm(),
         Drawn {
-            events: book.realm().events(),
+            events: &events,
             lines: &[],
             times: &times.events,
             view: run_picture::View::whole(),
         },
     )
+}
+
+/// The trace events of the book's realm, by the times, if there are any.
+///
+/// # Errors
+/// If memory was refused.
+fn trace_text(alloc: Global, book: &BookState<AnyEnd>, times: &Times) -> Result<String, AllocError>
+    ensures { IfOk result (λ text. string_bytes text ≡ shown_text View.TraceEvents (history_of book.now) (stamps_of times.now)) }
+{
+    let events = book.realm().copied_events(alloc)?;
+    trace_of(alloc, book.realm(), &events, &times.events)
 }
 
 /// The tree of the book's realm, with ages, if there are times.
@@ -208,7 +220,8 @@ fn tree_text(alloc: Global, book: &BookState<AnyEnd>, times: &Times) -> Result<S
     if times.events.is_empty() {
         return tree_of(alloc, book.realm());
     }
-    let started = start_times(alloc, book.realm(), book.realm().events(), &times.events)?;
+    let events = book.realm().copied_events(alloc)?;
+    let started = start_times(alloc, book.realm(), &events, &times.events)?;
     let opened = open_times(alloc, book.realm(), &times.events)?;
     let ages = Ages {
         last: times.last,

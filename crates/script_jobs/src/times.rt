@@ -114,9 +114,9 @@ fn read_stamps(alloc: Global, script: &[u8], limits: Limits) -> Result<Times, Al
     let mut rest = script;
     while let Some((line, others)) = first_line(rest) {
         let _legal = book.limits();
-        let before = book.realm().events().len();
+        let before = book.realm().event_count();
         perform_line(&mut book, line)?;
-        let after = book.realm().events().len();
+        let after = book.realm().event_count();
         last = at_line(last, line);
         stamp(&mut events, before, after, last)?;
         rest = others;

@@ -4,9 +4,10 @@ ghost use Rattle.scope_book.specs.Books.{realm_of};
 ghost use Rattle.script_jobs.specs.Whys.{command_reason, command_why, why_if, why_text};
 
 use bad_words::{ShownFault, WordFault};
-use refusal_reasons::{Reason, ShownReason, event_reason, question_reason, retire_reason};
+use kept_realm::KeptRealm;
+use refusal_reasons::{Events, Reason, ShownReason, event_reason, question_reason, retire_reason};
 use scope_book::BookState;
-use scope_rules::AnyEnd;
+use scope_rules::{AnyEnd, Event};
 use scope_script::Command;
 use std::fmt;
 
@@ -19,6 +20,24 @@ pub enum Why {
     BadWord(Option<WordFault>),
     /// No line feed ends it.
     Cut,
+}
+
+/// The events of a realm since its base.
+#[derive(Drop)]
+struct RealmEvents<'a> {
+    realm: &'a KeptRealm,
+}
+
+impl Events for RealmEvents<'_> {
+    ghost events = { λ e. e.realm.now.history.events };
+
+    fn count(&self) -> usize {
+        self.realm.event_count()
+    }
+
+    fn event(&self, place: usize) -> Event {
+        self.realm.event(place)
+    }
 }
 
 /// That the reason is why, if there is one.
@@ -38,7 +57,7 @@ fn command_reason(book: &BookState<AnyEnd>, command: &Command) -> Result<(), Rea
 {
     let limits = book.limits();
     let realm = book.realm();
-    let events = realm.events();
+    let events = &RealmEvents { realm };
     match command {
         Command::Do(event) => event_reason(realm, events, &limits, event),
         Command::Retire { actor } => retire_reason(realm, *actor),

@@ -6,7 +6,7 @@ use crate::texts::lines;
 use scope_book::BookState;
 use scope_rules::{AnyEnd, Limits};
 use scope_script::{Line, Reply, perform, read_line};
-use script_journal::{journal_of, script_of};
+use script_journal::journal_of;
 use std::process::Abort;
 use std::test::Fail;
 use tree_dump::dump;
@@ -37,7 +37,7 @@ fn compare(
     book: &BookState<AnyEnd>,
     line: &str,
 ) -> Result<(), Fail> {
-    let script = script_of(rt.alloc(), book.realm().base(), book.realm().events())?;
+    let script = journal_of(rt.alloc(), book.realm())?;
     let again = told_anew(rt, script.as_str())?;
     assert!(rt; again.as_str() == script.as_str(), "{line}");
     Ok(())
@@ -47,7 +47,7 @@ fn compare(
 fn told_anew(rt: &(impl Abort + AllocGlobal), script: &str) -> Result<String, Fail> {
     let mut book = BookState::new(rt.alloc(), Limits::GREATEST);
     tell(rt, &mut book, script)?;
-    Ok(script_of(rt.alloc(), book.realm().base(), book.realm().events())?)
+    Ok(journal_of(rt.alloc(), book.realm())?)
 }
 
 /// Tells the book the commands of the script, none of which it may refuse.

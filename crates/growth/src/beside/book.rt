@@ -5,7 +5,7 @@ use crate::said::Said;
 use scope_book::BookState;
 use scope_rules::{AnyEnd, Limits, Refusal, ScopeId};
 use scope_script::{Command, Reply, perform};
-use script_journal::script_of;
+use script_journal::journal_of;
 use std::alloc::Global;
 use tree_dump::dump;
 
@@ -68,9 +68,6 @@ fn note_cancel(book: &BookState<AnyEnd>, scope: ScopeId, said: &mut Said) {
 
 /// Notes the script of the history that the book is left with.
 fn note_journal(alloc: Global, book: &BookState<AnyEnd>, said: &mut Said) {
-    said.note_lines(
-        JOURNAL_SIGN,
-        script_of(alloc, book.realm().base(), book.realm().events()),
-    );
+    said.note_lines(JOURNAL_SIGN, journal_of(alloc, book.realm()));
     said.add(JOURNAL_END);
 }
