@@ -25,6 +25,7 @@ pub enum Why {
 }
 
 /// The events of a realm since its base.
+#[derive(Drop)]
 struct RealmEvents<'a> {
     realm: &'a KeptRealm,
 }

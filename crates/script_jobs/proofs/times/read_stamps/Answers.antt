@@ -1,14 +1,14 @@
 -- One line more.
-use Rattle.std.proofs.Common.{◌≡◌, length, ap, ◌∙◌}
+use Rattle.std.proofs.Common.{◌≡◌, length}
 use Rattle.scope_book.specs.Books.{realm_of}
 use Rattle.script_jobs.proofs.Timed.{one_stamped, all_stamped}
 use Rattle.script_jobs.proofs.times.read_stamps.Goals as goal
 
 pub loop-line-preserved : goal.loop-line-preserved
 loop-line-preserved c =
-    let had : length c.events-before.result.now ≡ length (realm_of c.loop-line.book).history.events = ap length (cc) in
-    let has : length c.events-after.result.now ≡ length (realm_of c.perform_line.new.book).history.events = ap length (cc) in
-    one_stamped c.loop-line.rest.now c.in-Some.line.now c.in-Some.others.now c.loop-line.events.items c.stamp.new.times.items (realm_of c.loop-line.book) (realm_of c.perform_line.new.book) (length c.events-before.result.now) (length c.events-after.result.now) c.loop-line.last c.at_line-last.result _ c.in-Some.ensures c.loop-line.invariant c.in_ok-perform_line.ensures had has c.at_line-last.ensures c.in_ok-stamp.ensures
+    let had : c.event_count-before.result ≡ length (realm_of c.loop-line.book).history.events = cc in
+    let has : c.event_count-after.result ≡ length (realm_of c.perform_line.new.book).history.events = cc in
+    one_stamped c.loop-line.rest.now c.in-Some.line.now c.in-Some.others.now c.loop-line.events.items c.stamp.new.times.items (realm_of c.loop-line.book) (realm_of c.perform_line.new.book) c.event_count-before.result c.event_count-after.result c.loop-line.last c.at_line-last.result _ c.in-Some.ensures c.loop-line.invariant c.in_ok-perform_line.ensures had has c.at_line-last.ensures c.in_ok-stamp.ensures
 
 pub returns : goal.returns
 returns c = all_stamped c.loop-line.rest.now c.loop-line.events.items c.push.new.self.items (realm_of c.loop-line.book) c.loop-line.last _ c.in_default.ensures c.loop-line.invariant c.in_ok-push.ensures.items
