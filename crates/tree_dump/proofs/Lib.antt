@@ -9,3 +9,4 @@ mod Shows
 mod Insides
 mod Listed
 mod Once
+mod Parted
