@@ -12,12 +12,17 @@ use Rattle.clap.specs.Kinds.{Kinds}
 use Rattle.clap.specs.Simple.{entered}
 use Rattle.clap.specs.Walk.{Row, Rule, Text, Walk, finished, has_row, is_empty, nothing_held, settled, walk, walk_from, walked, with_default}
 use Rattle.command_line.specs.Application.{scopectl}
-use Rattle.command_line.specs.CommandLine.{Given, Said, ScriptSaid, command_said, command_word, generate, given_to, is_among, job_named, job_said, limit_names, quote, seed_names, text_given, time_names}
-use Rattle.command_line.specs.Settings.{NameAndMillis, Numbers, number_by, delay_by, delay_said, greatest_of, if_given, is_digit, is_plain, name_of, numbers_by, plain_number, setting_number}
+use Rattle.command_line.specs.CommandLine.{Given, Said, ScriptSaid, command_said, command_word, generate, given_to, is_among, is_given, job_named, job_said, limit_names, option_names, picture_by, quote, show_by, text_given, tree_by, tree_said}
+use Rattle.command_line.specs.Settings.{NameAndMillis, Numbers, number_by, delay_by, delay_said, flag_name, greatest_of, if_given, is_digit, is_plain, name_of, numbers_by, plain_number, setting_number}
 use Rattle.command_line.specs.declared.lines.Job.{Job}
 use Rattle.command_line.specs.declared.lines.Job.TheVariants.{Replay, Dump, Tree, Timeline, TraceEvents, Quote, Generate}
+use Rattle.command_line.specs.declared.lines.ViewOptions.{ViewOptions}
+use Rattle.command_line.specs.declared.lines.ViewOptions.TheVariants as view
+use Rattle.command_line.specs.declared.settings.Flag.TheVariants.{Awaited, Lenient, Quiet, Strict}
+use Rattle.command_line.specs.declared.settings.PictureOptions.{PictureOptions}
+use Rattle.command_line.specs.declared.settings.TreeOptions.{TreeOptions}
 use Rattle.command_line.specs.declared.settings.Setting.{Setting}
-use Rattle.command_line.specs.declared.settings.Setting.TheVariants.{Scopes, Tasks, Load, Deadline, After, Seed, Lines}
+use Rattle.command_line.specs.declared.settings.Setting.TheVariants.{Scopes, Tasks, Load, Deadline, After, Seed, Lines, Width, Rows, From, To, Scope, Depth}
 use Rattle.command_line.proofs.Built.{built_app, built_command, built_top, command_names, has_option, is_quiet, job_quiet, of_each, job_rules, top_rules, words_fault}
 use Rattle.command_line.proofs.Delays.{delay_is_no_flag}
 use Rattle.command_line.proofs.Passing.{NoFlags, is_no_flag, or_else-both, passes}
@@ -147,6 +152,9 @@ given_flagless X said each given (some o e) text is = go (said text) refl (ap (i
     go (Some x) says e = each text x says
     go None says e = absurd (cc)
 
+number_flagless : (s : Setting) (given : Option Text) → HasSome (Option ℕ) (number_by s given) → Flagless given
+number_flagless s given has = given_flagless ℕ (plain_number (greatest_of s)) (λ text n says. number_is_no_flag (greatest_of s) n text says) given has
+
 -- ---- what is said has all its parts
 
 module _ (numbers : Numbers) where
@@ -160,7 +168,38 @@ module _ (numbers : Numbers) where
   limits_have (Some n) None c e = absurd (cc)
   limits_have (Some n) (Some m) c e = (some n refl, some m refl, load_has n m c e)
 
+tree_in : (a : Option TreeOptions) → HasSome ViewOptions (option_map (λ t. view.Tree t) a) → HasSome TreeOptions a
+tree_in None (some v e) = absurd (cc)
+tree_in (Some tree) has = some tree refl
+
+picture_in : (a : Option PictureOptions) → HasSome ViewOptions (option_map (λ p. view.Timeline p) a) → HasSome PictureOptions a
+picture_in None (some v e) = absurd (cc)
+picture_in (Some picture) has = some picture refl
+
+tree_has : (awaited : Bool) (tree : TreeOptions) (a b : Option (Option ℕ)) → option_and_then (λ depth. option_and_then (λ scope. tree_said awaited depth scope) b) a ≡ Some tree
+    → HasSome (Option ℕ) a × HasSome (Option ℕ) b
+tree_has awaited tree None b e = absurd (cc)
+tree_has awaited tree (Some depth) None e = absurd (cc)
+tree_has awaited tree (Some depth) (Some scope) e = (some depth refl, some scope refl)
+
+picture_has : (picture : PictureOptions) (a b c d e : Option (Option ℕ))
+    → option_and_then (λ width. option_and_then (λ rows. option_and_then (λ from. option_and_then (λ to. option_map (λ scope. record { width = width; rows = rows; from = from; to = to; scope = scope }) e) d) c) b) a ≡ Some picture
+    → HasSome (Option ℕ) a × HasSome (Option ℕ) b × HasSome (Option ℕ) c × HasSome (Option ℕ) d × HasSome (Option ℕ) e
+picture_has picture None b c d e is = absurd (cc)
+picture_has picture (Some width) None c d e is = absurd (cc)
+picture_has picture (Some width) (Some rows) None d e is = absurd (cc)
+picture_has picture (Some width) (Some rows) (Some from) None e is = absurd (cc)
+picture_has picture (Some width) (Some rows) (Some from) (Some to) None is = absurd (cc)
+picture_has picture (Some width) (Some rows) (Some from) (Some to) (Some scope) is = (some width refl, some rows refl, some from refl, some to refl, some scope refl)
+
 module _ (said : Said) where
+  -- what is shown of a script, and the script
+  show_has : (strict quiet : Bool) (a : Option Numbers) (v : Option ViewOptions) (lenient : Bool) → show_by (option_map (λ numbers. record { numbers = numbers; strict = strict; quiet = quiet }) a) v lenient ≡ Some said
+      → HasSome Numbers a × HasSome ViewOptions v
+  show_has strict quiet None v lenient e = absurd (cc)
+  show_has strict quiet (Some numbers) None lenient e = absurd (cc)
+  show_has strict quiet (Some numbers) (Some v) lenient e = (some numbers refl, some v refl)
+
   -- a job that runs a script has its limits
   script_has : (strict quiet : Bool) (f : ScriptSaid → Said) (a : Option Numbers) → option_map f (option_map (λ numbers. record { numbers = numbers; strict = strict; quiet = quiet }) a) ≡ Some said → HasSome Numbers a
   script_has strict quiet f None e = absurd (cc)
@@ -187,27 +226,42 @@ module _ (said : Said) where
 -- ---- the options of a job have no flags for texts
 
 module _ (given : Text → Option Text) where
-  limits_flagless : HasSome Numbers (numbers_by (λ s. given (name_of s))) → (name : Text) → is_among limit_names name ≡ true → Flagless (given name)
+  abbrev of_setting : Setting → Option Text
+  of_setting s = given (name_of s)
+
+  -- the text of each option among these names is no flag
+  abbrev AreFlagless : List Text → Type 0
+  AreFlagless names = (name : Text) → is_among names name ≡ true → Flagless (given name)
+
+  limits_flagless : HasSome Numbers (numbers_by of_setting) → AreFlagless limit_names
   limits_flagless (some numbers e) =
       let have = limits_have numbers _ _ _ e in
       of_each (λ name. Flagless (given name)) limit_names
       (limit_flagless Scopes _ have.0, (limit_flagless Tasks _ have.1, (limit_flagless Load _ have.2, tt)))
 
-  times_flagless : HasSome (Option ℕ) (number_by Deadline (given (name_of Deadline))) → HasSome (Option NameAndMillis) (delay_by (given (name_of After)))
-      → (name : Text) → is_among time_names name ≡ true → Flagless (given name)
-  times_flagless deadline after =
-      of_each (λ name. Flagless (given name)) time_names (
-        given_flagless ℕ (plain_number (greatest_of Deadline)) (λ text n says. number_is_no_flag (greatest_of Deadline) n text says) _ deadline,
-        (given_flagless NameAndMillis delay_said delay_is_no_flag _ after, tt),
+  tree_flagless : (awaited : Bool) → HasSome Numbers (numbers_by of_setting) → HasSome TreeOptions (tree_by of_setting awaited) → AreFlagless (option_names Tree)
+  tree_flagless awaited (some numbers e) (some tree t) =
+      let have = limits_have numbers _ _ _ e in
+      let more = tree_has awaited tree _ _ t in
+      of_each (λ name. Flagless (given name)) (option_names Tree)
+      (limit_flagless Scopes _ have.0, (limit_flagless Tasks _ have.1, (limit_flagless Load _ have.2, (number_flagless Depth _ more.0, (number_flagless Scope _ more.1, tt)))))
+
+  picture_flagless : HasSome Numbers (numbers_by of_setting) → HasSome PictureOptions (picture_by of_setting) → AreFlagless (option_names Timeline)
+  picture_flagless (some numbers e) (some picture p) =
+      let have = limits_have numbers _ _ _ e in
+      let more = picture_has picture _ _ _ _ _ p in
+      of_each (λ name. Flagless (given name)) (option_names Timeline) (
+        limit_flagless Scopes _ have.0,
+        (limit_flagless Tasks _ have.1, (limit_flagless Load _ have.2, (number_flagless Width _ more.0, (number_flagless Rows _ more.1, (number_flagless From _ more.2, (number_flagless To _ more.3, (number_flagless Scope _ more.4, tt))))))),
       )
 
-  seed_flagless : HasSome (Option ℕ) (number_by Seed (given (name_of Seed))) → HasSome (Option ℕ) (number_by Lines (given (name_of Lines)))
-      → (name : Text) → is_among seed_names name ≡ true → Flagless (given name)
-  seed_flagless seed lines =
-      of_each (λ name. Flagless (given name)) seed_names (
-        given_flagless ℕ (plain_number (greatest_of Seed)) (λ text n says. number_is_no_flag (greatest_of Seed) n text says) _ seed,
-        (given_flagless ℕ (plain_number (greatest_of Lines)) (λ text n says. number_is_no_flag (greatest_of Lines) n text says) _ lines, tt),
-      )
+  times_flagless : HasSome (Option ℕ) (number_by Deadline (of_setting Deadline)) → HasSome (Option NameAndMillis) (delay_by (of_setting After)) → AreFlagless (option_names Quote)
+  times_flagless deadline after =
+      of_each (λ name. Flagless (given name)) (option_names Quote)
+      (number_flagless Deadline _ deadline, (given_flagless NameAndMillis delay_said delay_is_no_flag _ after, tt))
+
+  seed_flagless : HasSome (Option ℕ) (number_by Seed (of_setting Seed)) → HasSome (Option ℕ) (number_by Lines (of_setting Lines)) → AreFlagless (option_names Generate)
+  seed_flagless seed lines = of_each (λ name. Flagless (given name)) (option_names Generate) (number_flagless Seed _ seed, (number_flagless Lines _ lines, tt))
 
 no_flags : (job : Job) (final : Given) (said : Said) → job_said job final ≡ Some said → NoFlags job final
 unfolding NoFlags
@@ -218,10 +272,14 @@ no_flags job final said e name text own is = go job e own
 
     go : (job : Job) → job_said job final ≡ Some said → has_option job name ≡ true → is_no_flag text ≡ true
     go Replay e own = limits (script_has said _ _ _ _ e) own
-    go Dump e own = limits (script_has said _ _ _ _ e) own
-    go Tree e own = limits (script_has said _ _ _ _ e) own
-    go Timeline e own = limits (script_has said _ _ _ _ e) own
-    go TraceEvents e own = limits (script_has said _ _ _ _ e) own
+    go Dump e own = limits (show_has said (is_given final (flag_name Strict)) (is_given final (flag_name Quiet)) _ (Some view.Dump) true e).0 own
+    go Tree e own =
+        let have = show_has said (is_given final (flag_name Strict)) (is_given final (flag_name Quiet)) _ _ (is_given final (flag_name Lenient)) e in
+        tree_flagless (text_given final) (is_given final (flag_name Awaited)) have.0 (tree_in _ have.1) name own text is
+    go Timeline e own =
+        let have = show_has said (is_given final (flag_name Strict)) (is_given final (flag_name Quiet)) _ _ (is_given final (flag_name Lenient)) e in
+        picture_flagless (text_given final) have.0 (picture_in _ have.1) name own text is
+    go TraceEvents e own = limits (show_has said (is_given final (flag_name Strict)) (is_given final (flag_name Quiet)) _ (Some view.TraceEvents) (is_given final (flag_name Lenient)) e).0 own
     go Quote e own = let have = times_have said _ _ e in times_flagless (text_given final) have.0 have.1 name own text is
     go Generate e own = let have = seed_have said _ _ e in seed_flagless (text_given final) have.0 have.1 name own text is
 

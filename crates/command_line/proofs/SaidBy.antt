@@ -1,16 +1,20 @@
 -- What the options of a job say, by what was found of each.
-use Rattle.std.proofs.Common.{◌≡◌, ◌∙◌, ap, ap₂, sym, refl, subst, Bool, List, ℕ, Option, Some}
+use Rattle.std.proofs.Common.{◌≡◌, ◌∙◌, ap, ap₂, sym, refl, subst, Bool, true, List, ℕ, Option, Some, None}
 use Rattle.std.specs.Prelude.{option_map}
 use Rattle.clap.specs.Matches.{one_text}
 use Rattle.clap.specs.declared.parser.matches.Found.{Found}
-use Rattle.command_line.specs.CommandLine.{ScriptSaid, dump, replay, said_by, script_by, timeline, trace_events, tree}
+use Rattle.command_line.specs.CommandLine.{Said, ScriptSaid, picture_by, replay, said_by, script_by, show, show_by, tree_by}
 use Rattle.command_line.specs.Parsing.{TellsFlags}
 use Rattle.command_line.specs.Settings.{bool_text, flag_name}
 use Rattle.command_line.specs.declared.lines.Job.{Job}
 use Rattle.command_line.specs.declared.lines.Job.TheVariants.{Replay, Dump, Tree, Timeline, TraceEvents}
+use Rattle.command_line.specs.declared.lines.ViewOptions.{ViewOptions}
+use Rattle.command_line.specs.declared.lines.ViewOptions.TheVariants as view
 use Rattle.command_line.specs.declared.settings.Flag.{Flag}
-use Rattle.command_line.specs.declared.settings.Flag.TheVariants.{Strict, Explain, Trace, Quiet, Lenient}
+use Rattle.command_line.specs.declared.settings.Flag.TheVariants.{Strict, Explain, Trace, Quiet, Lenient, Awaited}
+use Rattle.command_line.specs.declared.settings.PictureOptions.{PictureOptions}
 use Rattle.command_line.specs.declared.settings.Setting.{Setting}
+use Rattle.command_line.specs.declared.settings.TreeOptions.{TreeOptions}
 
 module _ (job : Job) (found : Found) (has : Flag → Bool) (tells : TellsFlags job found has) (given : Setting → Option (List ℕ)) (script : ScriptSaid) where
   -- what is said of the script, if `--strict` and `--quiet` were found so
@@ -28,28 +32,51 @@ module _ (job : Job) (found : Found) (has : Flag → Bool) (tells : TellsFlags j
       ∙ (ap (option_map (λ s. replay s (has Explain) (has Trace))) (says (has Strict) (has Quiet) (so Strict refl) (so Quiet refl))
       ∙ ap₂ (λ a b. Some (replay script a b)) (sym (explained (has Explain) (so Explain refl))) (sym (traced (has Trace) (so Trace refl))))
 
-  pub says_dump : job ≡ Dump → SaysScript → said_by job given has ≡ Some (dump script)
+  pub says_dump : job ≡ Dump → SaysScript → said_by job given has ≡ Some (show script view.Dump true)
   says_dump is says =
       let so : TellsFlags Dump found has = subst (λ (j : Job). TellsFlags j found has) is tells in
-      ap (λ (j : Job). said_by j given has) is ∙ ap (option_map (λ s. dump s)) (says (has Strict) (has Quiet) (so Strict refl) (so Quiet refl))
+      ap (λ (j : Job). said_by j given has) is ∙ ap (λ s. show_by s (Some view.Dump) true) (says (has Strict) (has Quiet) (so Strict refl) (so Quiet refl))
 
-  pub says_tree : job ≡ Tree → SaysScript → (lenient : Bool) → IsSet Lenient lenient → said_by job given has ≡ Some (tree script lenient)
-  says_tree is says lenient set =
-      let so : TellsFlags Tree found has = subst (λ (j : Job). TellsFlags j found has) is tells in
-      ap (λ (j : Job). said_by j given has) is
-      ∙ (ap (option_map (λ s. tree s (has Lenient))) (says (has Strict) (has Quiet) (so Strict refl) (so Quiet refl))
-      ∙ ap (λ b. Some (tree script b)) (sym (set (has Lenient) (so Lenient refl))))
+no_view : (script : Option ScriptSaid) (v : Option ViewOptions) (lenient : Bool) → v ≡ None → show_by script v lenient ≡ None
+no_view None v lenient none = refl
+no_view (Some script) v lenient none = ap (λ v. show_by (Some script) v lenient) none
 
-  pub says_timeline : job ≡ Timeline → SaysScript → (lenient : Bool) → IsSet Lenient lenient → said_by job given has ≡ Some (timeline script lenient)
-  says_timeline is says lenient set =
-      let so : TellsFlags Timeline found has = subst (λ (j : Job). TellsFlags j found has) is tells in
-      ap (λ (j : Job). said_by j given has) is
-      ∙ (ap (option_map (λ s. timeline s (has Lenient))) (says (has Strict) (has Quiet) (so Strict refl) (so Quiet refl))
-      ∙ ap (λ b. Some (timeline script b)) (sym (set (has Lenient) (so Lenient refl))))
+module _ (job : Job) (has : Flag → Bool) (given : Setting → Option (List ℕ)) where
+  -- what is shown of the script
+  abbrev pub shown_by : ViewOptions → Option Said
+  shown_by v = show_by (script_by given (has Strict) (has Quiet)) (Some v) (has Lenient)
 
-  pub says_trace_events : job ≡ TraceEvents → SaysScript → (lenient : Bool) → IsSet Lenient lenient → said_by job given has ≡ Some (trace_events script lenient)
-  says_trace_events is says lenient set =
-      let so : TellsFlags TraceEvents found has = subst (λ (j : Job). TellsFlags j found has) is tells in
-      ap (λ (j : Job). said_by j given has) is
-      ∙ (ap (option_map (λ s. trace_events s (has Lenient))) (says (has Strict) (has Quiet) (so Strict refl) (so Quiet refl))
-      ∙ ap (λ b. Some (trace_events script b)) (sym (set (has Lenient) (so Lenient refl))))
+  pub tree_is : job ≡ Tree → (tree : TreeOptions) → tree_by given (has Awaited) ≡ Some tree → said_by job given has ≡ shown_by (view.Tree tree)
+  tree_is is tree some = ap (λ (j : Job). said_by j given has) is ∙ ap (λ t. show_by (script_by given (has Strict) (has Quiet)) (option_map (λ t. view.Tree t) t) (has Lenient)) some
+
+  pub picture_is : job ≡ Timeline → (picture : PictureOptions) → picture_by given ≡ Some picture → said_by job given has ≡ shown_by (view.Timeline picture)
+  picture_is is picture some = ap (λ (j : Job). said_by j given has) is ∙ ap (λ p. show_by (script_by given (has Strict) (has Quiet)) (option_map (λ p. view.Timeline p) p) (has Lenient)) some
+
+  pub trace_is : job ≡ TraceEvents → said_by job given has ≡ shown_by view.TraceEvents
+  trace_is is = ap (λ (j : Job). said_by j given has) is
+
+  -- without a view nothing is shown
+  pub no_tree : job ≡ Tree → tree_by given (has Awaited) ≡ None → said_by job given has ≡ None
+  no_tree is none = ap (λ (j : Job). said_by j given has) is ∙ no_view _ _ _ (ap (option_map (λ t. view.Tree t)) none)
+
+  pub no_picture : job ≡ Timeline → picture_by given ≡ None → said_by job given has ≡ None
+  no_picture is none = ap (λ (j : Job). said_by j given has) is ∙ no_view _ _ _ (ap (option_map (λ p. view.Timeline p)) none)
+
+-- a job of a view has these options, which were found so
+pub record TellsView (found : Found) (has : Flag → Bool) : Type 0 where
+  pub strict : one_text found (flag_name Strict) ≡ Some (bool_text (has Strict))
+  pub quiet : one_text found (flag_name Quiet) ≡ Some (bool_text (has Quiet))
+  pub lenient : one_text found (flag_name Lenient) ≡ Some (bool_text (has Lenient))
+
+module _ (job : Job) (found : Found) (has : Flag → Bool) (tells : TellsFlags job found has) where
+  pub tells_tree : job ≡ Tree → TellsView found has
+  tells_tree is = let so : TellsFlags Tree found has = subst (λ (j : Job). TellsFlags j found has) is tells in record { strict = so Strict refl; quiet = so Quiet refl; lenient = so Lenient refl }
+
+  pub tells_picture : job ≡ Timeline → TellsView found has
+  tells_picture is = let so : TellsFlags Timeline found has = subst (λ (j : Job). TellsFlags j found has) is tells in record { strict = so Strict refl; quiet = so Quiet refl; lenient = so Lenient refl }
+
+  pub tells_trace : job ≡ TraceEvents → TellsView found has
+  tells_trace is = let so : TellsFlags TraceEvents found has = subst (λ (j : Job). TellsFlags j found has) is tells in record { strict = so Strict refl; quiet = so Quiet refl; lenient = so Lenient refl }
+
+  pub awaited_tells : job ≡ Tree → one_text found (flag_name Awaited) ≡ Some (bool_text (has Awaited))
+  awaited_tells is = let so : TellsFlags Tree found has = subst (λ (j : Job). TellsFlags j found has) is tells in so Awaited refl

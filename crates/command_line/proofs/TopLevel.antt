@@ -17,7 +17,7 @@ use Rattle.command_line.specs.Parsing.{TellsFlags}
 use Rattle.command_line.specs.Settings.{flag_name, name_of}
 use Rattle.command_line.specs.declared.settings.Flag.{Flag}
 use Rattle.command_line.specs.declared.settings.Setting.{Setting}
-use Rattle.command_line.specs.declared.settings.Setting.TheVariants.{Scopes, Tasks, Load, Deadline, After, Seed, Lines}
+use Rattle.command_line.specs.declared.settings.Setting.TheVariants.{Scopes, Tasks, Load, Deadline, After, Seed, Lines, Width, Rows, From, To, Scope, Depth}
 use Rattle.command_line.proofs.Flagged.{AreFit, flag_filled, one_text-rows, rows_filled, said_fit, text_filled, text_row}
 use Rattle.command_line.specs.declared.lines.Job.{Job}
 use Rattle.command_line.specs.declared.lines.Job.TheVariants.{Replay, Dump, Tree, Timeline, TraceEvents, Quote, Generate}
@@ -236,6 +236,12 @@ setting_no_flag Deadline = each_job (λ job. has_flag job (name_of Deadline) ≡
 setting_no_flag After = each_job (λ job. has_flag job (name_of After) ≡ false) refl refl refl refl refl refl refl
 setting_no_flag Seed = each_job (λ job. has_flag job (name_of Seed) ≡ false) refl refl refl refl refl refl refl
 setting_no_flag Lines = each_job (λ job. has_flag job (name_of Lines) ≡ false) refl refl refl refl refl refl refl
+setting_no_flag Width = each_job (λ job. has_flag job (name_of Width) ≡ false) refl refl refl refl refl refl refl
+setting_no_flag Rows = each_job (λ job. has_flag job (name_of Rows) ≡ false) refl refl refl refl refl refl refl
+setting_no_flag From = each_job (λ job. has_flag job (name_of From) ≡ false) refl refl refl refl refl refl refl
+setting_no_flag To = each_job (λ job. has_flag job (name_of To) ≡ false) refl refl refl refl refl refl refl
+setting_no_flag Scope = each_job (λ job. has_flag job (name_of Scope) ≡ false) refl refl refl refl refl refl refl
+setting_no_flag Depth = each_job (λ job. has_flag job (name_of Depth) ≡ false) refl refl refl refl refl refl refl
 
 module _ (words : List Text) (found : Found) (got : IsRead words) (same : rows_of found ≡ rows_filled got.job got.given) where
   text_is : (setting : Setting) → first_value found (name_of setting) ≡ text_given got.given (name_of setting)

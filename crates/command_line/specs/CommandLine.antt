@@ -1,5 +1,5 @@
 -- What the words of a command line say.
-use Rattle.std.specs.Prelude.{◌≡◌, ℕ, Bool, List, [], ◌∷◌, ◌++◌, Option, Some, None, ◌&&◌, not, codes, find, if◌then◌else◌}
+use Rattle.std.specs.Prelude.{◌≡◌, ℕ, Bool, true, false, List, [], ◌∷◌, ◌++◌, Option, Some, None, ◌&&◌, not, codes, find, map, if◌then◌else◌}
 use Rattle.std.specs.Prelude.{option_map, option_and_then}
 use Rattle.std.specs.List.{list_any}
 use Rattle.std.specs.Str.{bytes_eq}
@@ -8,13 +8,18 @@ use Rattle.command_line.specs.HelpWord.{turned}
 use Rattle.command_line.specs.Settings.{NameAndMillis, Numbers, number_by, delay_by, delay_of, flag_name, name_of, numbers_by, numbers_of}
 use Rattle.command_line.specs.declared.lines.CommandLine.{CommandLine}
 use Rattle.command_line.specs.declared.lines.CommandLine.TheVariants as line
+use Rattle.command_line.specs.declared.lines.ViewOptions.{ViewOptions}
+use Rattle.command_line.specs.declared.lines.ViewOptions.TheVariants as view
+use Rattle.command_line.specs.declared.settings.PictureOptions.{PictureOptions}
+use Rattle.command_line.specs.declared.settings.TreeOptions.{TreeOptions}
+use Rattle.command_line.specs.declared.settings.TreeOptions.TheVariants as part
 use Rattle.command_line.specs.declared.settings.ScriptOptions.{ScriptOptions}
 use Rattle.command_line.specs.declared.settings.Flag.{Flag}
-use Rattle.command_line.specs.declared.settings.Flag.TheVariants.{Strict, Explain, Trace, Quiet, Lenient}
+use Rattle.command_line.specs.declared.settings.Flag.TheVariants.{Strict, Explain, Trace, Quiet, Lenient, Awaited}
 use Rattle.command_line.specs.declared.settings.Setting.{Setting}
 use Rattle.command_line.specs.declared.lines.Job.{Job}
 use Rattle.command_line.specs.declared.lines.Job.TheVariants.{Replay, Dump, Tree, Timeline, TraceEvents, Quote, Generate}
-use Rattle.command_line.specs.declared.settings.Setting.TheVariants.{Scopes, Tasks, Load, Deadline, After, Seed, Lines}
+use Rattle.command_line.specs.declared.settings.Setting.TheVariants.{Scopes, Tasks, Load, Deadline, After, Seed, Lines, Width, Rows, From, To, Scope, Depth}
 
 -- ---- jobs
 
@@ -38,38 +43,39 @@ job_named word = if bytes_eq (command_word Replay) word then Some Replay
     else (if bytes_eq (command_word Quote) word then Some Quote
     else (if bytes_eq (command_word Generate) word then Some Generate else None))))))
 
--- the names of the options that set the limits of a realm
+-- the options that set the limits of a realm
+abbrev pub limits_of : List Setting
+limits_of = Scopes ∷ Tasks ∷ Load ∷ []
+
 abbrev pub limit_names : List (List ℕ)
-limit_names = name_of Scopes ∷ name_of Tasks ∷ name_of Load ∷ []
+limit_names = map name_of limits_of
 
--- the names of the options that say the times of a quote
-abbrev pub time_names : List (List ℕ)
-time_names = name_of Deadline ∷ name_of After ∷ []
+-- the options with a text that a job has
+abbrev pub settings_of : Job → List Setting
+settings_of Replay = limits_of
+settings_of Dump = limits_of
+settings_of Tree = Scopes ∷ Tasks ∷ Load ∷ Depth ∷ Scope ∷ []
+settings_of Timeline = Scopes ∷ Tasks ∷ Load ∷ Width ∷ Rows ∷ From ∷ To ∷ Scope ∷ []
+settings_of TraceEvents = limits_of
+settings_of Quote = Deadline ∷ After ∷ []
+settings_of Generate = Seed ∷ Lines ∷ []
 
--- the names of the options that say which random script is made
-abbrev pub seed_names : List (List ℕ)
-seed_names = name_of Seed ∷ name_of Lines ∷ []
-
--- the names of the options with a text that a job has
 abbrev pub option_names : Job → List (List ℕ)
-option_names Replay = limit_names
-option_names Dump = limit_names
-option_names Tree = limit_names
-option_names Timeline = limit_names
-option_names TraceEvents = limit_names
-option_names Quote = time_names
-option_names Generate = seed_names
+option_names job = map name_of (settings_of job)
 
--- the names of the options without a text that a job has: each that runs a script may be strict and quiet, a replay can
--- be explained and traced, and a view for people may be lenient
+-- the options without a text that a job has: each that runs a script may be strict and quiet, a replay can
+-- be explained and traced, a view for people may be lenient, and a tree may show what is waited for alone
+abbrev pub flags_of : Job → List Flag
+flags_of Replay = Strict ∷ Quiet ∷ Explain ∷ Trace ∷ []
+flags_of Dump = Strict ∷ Quiet ∷ []
+flags_of Tree = Strict ∷ Quiet ∷ Lenient ∷ Awaited ∷ []
+flags_of Timeline = Strict ∷ Quiet ∷ Lenient ∷ []
+flags_of TraceEvents = Strict ∷ Quiet ∷ Lenient ∷ []
+flags_of Quote = []
+flags_of Generate = []
+
 abbrev pub flag_names : Job → List (List ℕ)
-flag_names Replay = flag_name Strict ∷ flag_name Quiet ∷ flag_name Explain ∷ flag_name Trace ∷ []
-flag_names Dump = flag_name Strict ∷ flag_name Quiet ∷ []
-flag_names Tree = flag_name Strict ∷ flag_name Quiet ∷ flag_name Lenient ∷ []
-flag_names Timeline = flag_name Strict ∷ flag_name Quiet ∷ flag_name Lenient ∷ []
-flag_names TraceEvents = flag_name Strict ∷ flag_name Quiet ∷ flag_name Lenient ∷ []
-flag_names Quote = []
-flag_names Generate = []
+flag_names job = map flag_name (flags_of job)
 
 -- ---- options
 
@@ -132,16 +138,39 @@ pub record ScriptSaid : Type 0 where
 -- a job, and what its options say
 pub data Said : Type 0 where
   replay : ScriptSaid → (explain trace : Bool) → Said
-  dump : ScriptSaid → Said
-  tree : ScriptSaid → (lenient : Bool) → Said
-  timeline : ScriptSaid → (lenient : Bool) → Said
-  trace_events : ScriptSaid → (lenient : Bool) → Said
+  show : ScriptSaid → ViewOptions → (lenient : Bool) → Said
   quote : (deadline : Option ℕ) (after : Option NameAndMillis) → Said
   generate : (seed lines : Option ℕ) → Said
 
 abbrev pub script_by : (Setting → Option (List ℕ)) → (strict quiet : Bool) → Option ScriptSaid
 script_by given strict quiet =
     option_map (λ numbers. record { numbers = numbers; strict = strict; quiet = quiet }) (numbers_by given)
+
+-- what of a run is drawn
+abbrev pub picture_by : (Setting → Option (List ℕ)) → Option PictureOptions
+picture_by given = option_and_then (λ width. option_and_then (λ rows. option_and_then (λ from. option_and_then (λ to. option_map (λ scope. record {
+  width = width;
+  rows = rows;
+  from = from;
+  to = to;
+  scope = scope;
+}) (number_by Scope (given Scope))) (number_by To (given To))) (number_by From (given From))) (number_by Rows (given Rows))) (number_by Width (given Width))
+
+-- what of a tree is shown: what is waited for alone can't be a part of the tree
+abbrev pub tree_said : (awaited : Bool) (depth scope : Option ℕ) → Option TreeOptions
+tree_said false None None = Some part.Whole
+tree_said false None (Some s) = Some (part.Part None (Some s))
+tree_said false (Some n) scope = Some (part.Part (Some n) scope)
+tree_said true None None = Some part.Awaited
+tree_said true None (Some s) = None
+tree_said true (Some n) scope = None
+
+abbrev pub tree_by : (Setting → Option (List ℕ)) → (awaited : Bool) → Option TreeOptions
+tree_by given awaited = option_and_then (λ depth. option_and_then (λ scope. tree_said awaited depth scope) (number_by Scope (given Scope))) (number_by Depth (given Depth))
+
+-- what is shown of what a script leaves
+abbrev pub show_by : Option ScriptSaid → Option ViewOptions → (lenient : Bool) → Option Said
+show_by script view lenient = option_and_then (λ s. option_map (λ v. show s v lenient) view) script
 
 abbrev pub quote_by : (Setting → Option (List ℕ)) → Option Said
 quote_by given = option_and_then (λ deadline. option_map (λ after. quote deadline after) (delay_by (given After))) (number_by Deadline (given Deadline))
@@ -152,10 +181,10 @@ generate_by given = option_and_then (λ seed. option_map (λ lines. generate see
 -- what is said of a job by the texts of its options, and by those options without a text that were given
 abbrev pub said_by : Job → (Setting → Option (List ℕ)) → (Flag → Bool) → Option Said
 said_by Replay given has = option_map (λ script. replay script (has Explain) (has Trace)) (script_by given (has Strict) (has Quiet))
-said_by Dump given has = option_map (λ script. dump script) (script_by given (has Strict) (has Quiet))
-said_by Tree given has = option_map (λ script. tree script (has Lenient)) (script_by given (has Strict) (has Quiet))
-said_by Timeline given has = option_map (λ script. timeline script (has Lenient)) (script_by given (has Strict) (has Quiet))
-said_by TraceEvents given has = option_map (λ script. trace_events script (has Lenient)) (script_by given (has Strict) (has Quiet))
+said_by Dump given has = show_by (script_by given (has Strict) (has Quiet)) (Some view.Dump) true
+said_by Tree given has = show_by (script_by given (has Strict) (has Quiet)) (option_map (λ t. view.Tree t) (tree_by given (has Awaited))) (has Lenient)
+said_by Timeline given has = show_by (script_by given (has Strict) (has Quiet)) (option_map (λ p. view.Timeline p) (picture_by given)) (has Lenient)
+said_by TraceEvents given has = show_by (script_by given (has Strict) (has Quiet)) (Some view.TraceEvents) (has Lenient)
 said_by Quote given has = quote_by given
 said_by Generate given has = generate_by given
 
@@ -174,10 +203,7 @@ script_of options = record { numbers = numbers_of options.limits; strict = optio
 
 abbrev pub said_of : CommandLine → Said
 said_of (line.Replay script explain trace) = replay (script_of script) explain trace
-said_of (line.Dump script) = dump (script_of script)
-said_of (line.Tree script lenient) = tree (script_of script) lenient
-said_of (line.Timeline script lenient) = timeline (script_of script) lenient
-said_of (line.TraceEvents script lenient) = trace_events (script_of script) lenient
+said_of (line.Show script view lenient) = show (script_of script) view lenient
 said_of (line.Quote deadline after) = quote deadline (option_map delay_of after)
 said_of (line.Generate seed lines) = generate seed lines
 

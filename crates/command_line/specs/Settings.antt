@@ -7,13 +7,13 @@ use Rattle.std.specs.Str.Parse.{digits_value}
 use Rattle.scope_rules.specs.NameText.{is_name}
 use Rattle.scope_rules.specs.Names.{text_of}
 use Rattle.scope_rules.specs.declared.types.capacity.Limits.{Limits}
-use Rattle.scope_rules.specs.declared.types.capacity.TheConstants.{SCOPE_LIMIT, TASK_LIMIT, LOAD_LIMIT}
+use Rattle.scope_rules.specs.declared.types.capacity.TheConstants.{SCOPE_LIMIT, TASK_LIMIT, LEVEL_LIMIT, LOAD_LIMIT}
 use Rattle.command_line.specs.declared.settings.Delay.{Delay}
 use Rattle.command_line.specs.declared.settings.Flag.{Flag}
-use Rattle.command_line.specs.declared.settings.Flag.TheVariants.{Strict, Explain, Trace, Quiet, Lenient}
+use Rattle.command_line.specs.declared.settings.Flag.TheVariants.{Strict, Explain, Trace, Quiet, Lenient, Awaited}
 use Rattle.command_line.specs.declared.settings.Setting.{Setting}
-use Rattle.command_line.specs.declared.settings.Setting.TheVariants.{Scopes, Tasks, Load, Deadline, After, Seed, Lines}
-use Rattle.command_line.specs.declared.settings.TheConstants.{DAY_MILLIS, SEED_LIMIT, LINES_LIMIT}
+use Rattle.command_line.specs.declared.settings.Setting.TheVariants.{Scopes, Tasks, Load, Deadline, After, Seed, Lines, Width, Rows, From, To, Scope, Depth}
+use Rattle.command_line.specs.declared.settings.TheConstants.{DAY_MILLIS, SEED_LIMIT, LINES_LIMIT, ROWS_LIMIT, SCOPE_NUMBER_LIMIT, WIDTH_LIMIT}
 
 -- an option's name, without its hyphens
 abbrev pub name_of : Setting → List ℕ
@@ -24,6 +24,12 @@ name_of Deadline = codes "deadline"
 name_of After = codes "after"
 name_of Seed = codes "seed"
 name_of Lines = codes "lines"
+name_of Width = codes "width"
+name_of Rows = codes "rows"
+name_of From = codes "from"
+name_of To = codes "to"
+name_of Scope = codes "scope"
+name_of Depth = codes "depth"
 
 -- the name of an option that has no text, without its hyphens
 abbrev pub flag_name : Flag → List ℕ
@@ -32,6 +38,7 @@ flag_name Explain = codes "explain"
 flag_name Trace = codes "trace"
 flag_name Quiet = codes "quiet"
 flag_name Lenient = codes "lenient"
+flag_name Awaited = codes "awaited"
 
 -- the text by which `clap` says whether such an option was given
 abbrev pub bool_text : Bool → List ℕ
@@ -47,6 +54,12 @@ greatest_of Deadline = DAY_MILLIS
 greatest_of After = DAY_MILLIS
 greatest_of Seed = SEED_LIMIT
 greatest_of Lines = LINES_LIMIT
+greatest_of Width = WIDTH_LIMIT
+greatest_of Rows = ROWS_LIMIT
+greatest_of From = LOAD_LIMIT
+greatest_of To = LOAD_LIMIT
+greatest_of Scope = SCOPE_NUMBER_LIMIT
+greatest_of Depth = LEVEL_LIMIT
 
 abbrev pub is_digit : ℕ → Bool
 is_digit byte = nat_le 48 byte && nat_le byte 57

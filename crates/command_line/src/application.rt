@@ -1,10 +1,9 @@
 //! The application as `clap` knows it: its commands and their options. Help and the version are texts of
 //! our own (`help`).
-ghost use Rattle.std.specs.Prelude.{◌≡◌, ◌∷◌, [], IfOk, false};
+ghost use Rattle.std.specs.Prelude.{◌≡◌, IfOk, false, map};
 ghost use Rattle.clap.specs.Words.{app_of, rule_of, with_subcommand};
 ghost use Rattle.clap.specs.declared.builder.command.Command.TheViews.{out-Command as fields_of};
 ghost use Rattle.command_line.specs.Application.{command_of, flag_rule, option_rule, scopectl, with_flags, with_options};
-ghost use Rattle.command_line.specs.CommandLine.{limit_names, seed_names, time_names};
 ghost use Rattle.command_line.specs.Settings.{flag_name, name_of};
 
 use crate::help;
@@ -48,62 +47,46 @@ fn command<'a>(alloc: Global, job: Job) -> Result<Command<'a>, AllocError>
 {
     let word: &'a str = job.word();
     let bare = Command::new(alloc, word);
-    match job {
-        Job::Replay => with_notes(alloc, with_limits(alloc, bare)?),
-        Job::Dump => with_limits(alloc, bare),
-        Job::Tree => with_lenience(alloc, with_limits(alloc, bare)?),
-        Job::Timeline => with_lenience(alloc, with_limits(alloc, bare)?),
-        Job::TraceEvents => with_lenience(alloc, with_limits(alloc, bare)?),
-        Job::Quote => with_times(alloc, bare),
-        Job::Generate => with_seed(alloc, bare),
+    let with_texts = with_options(alloc, bare, job.settings())?;
+    with_flags(alloc, with_texts, job.flags())
+}
+
+// The command with these options, each of which has a text.
+#[tactic(auto, unfolding(crate::specs::Application::with_options))]
+fn with_options<'a>(
+    alloc: Global,
+    bare: Command<'a>,
+    settings: &[Setting],
+) -> Result<Command<'a>, AllocError>
+    ensures app { IfOk result (λ command. app_of command ≡ with_options (app_of bare.entry) (map name_of settings.now)) }
+    ensures local { IfOk result (λ command. (fields_of command).has_globals ≡ (fields_of bare.entry).has_globals) }
+{
+    match settings {
+        [] => Ok(bare),
+        [setting, others @ ..] => {
+            let with_one = bare.arg(option(alloc, *setting))?;
+            with_options(alloc, with_one, others)
+        }
     }
 }
 
-// The command with the options of a script: those that set the limits of its realm, `--strict` and `--quiet`.
-fn with_limits<'a>(alloc: Global, bare: Command<'a>) -> Result<Command<'a>, AllocError>
-    ensures app { IfOk result (λ command. app_of command ≡ with_flags (with_options (app_of bare.entry) limit_names) (flag_name Flag.Strict ∷ flag_name Flag.Quiet ∷ [])) }
+// The command with these options, none of which has a text.
+#[tactic(auto, unfolding(crate::specs::Application::with_flags))]
+fn with_flags<'a>(
+    alloc: Global,
+    bare: Command<'a>,
+    flags: &[Flag],
+) -> Result<Command<'a>, AllocError>
+    ensures app { IfOk result (λ command. app_of command ≡ with_flags (app_of bare.entry) (map flag_name flags.now)) }
     ensures local { IfOk result (λ command. (fields_of command).has_globals ≡ (fields_of bare.entry).has_globals) }
 {
-    bare.arg(option(alloc, Setting::Scopes))?
-        .arg(option(alloc, Setting::Tasks))?
-        .arg(option(alloc, Setting::Load))?
-        .arg(flag(alloc, Flag::Strict))?
-        .arg(flag(alloc, Flag::Quiet))
-}
-
-// The command with the option that lets lines pass that are no commands.
-fn with_lenience<'a>(alloc: Global, bare: Command<'a>) -> Result<Command<'a>, AllocError>
-    ensures app { IfOk result (λ command. app_of command ≡ with_flags (app_of bare.entry) (flag_name Flag.Lenient ∷ [])) }
-    ensures local { IfOk result (λ command. (fields_of command).has_globals ≡ (fields_of bare.entry).has_globals) }
-{
-    bare.arg(flag(alloc, Flag::Lenient))
-}
-
-// The command with the options that ask for notes on the lines of a script.
-fn with_notes<'a>(alloc: Global, bare: Command<'a>) -> Result<Command<'a>, AllocError>
-    ensures app { IfOk result (λ command. app_of command ≡ with_flags (app_of bare.entry) (flag_name Flag.Explain ∷ flag_name Flag.Trace ∷ [])) }
-    ensures local { IfOk result (λ command. (fields_of command).has_globals ≡ (fields_of bare.entry).has_globals) }
-{
-    bare.arg(flag(alloc, Flag::Explain))?
-        .arg(flag(alloc, Flag::Trace))
-}
-
-// The command with the options that say the times of a quote.
-fn with_times<'a>(alloc: Global, bare: Command<'a>) -> Result<Command<'a>, AllocError>
-    ensures app { IfOk result (λ command. app_of command ≡ with_options (app_of bare.entry) time_names) }
-    ensures local { IfOk result (λ command. (fields_of command).has_globals ≡ (fields_of bare.entry).has_globals) }
-{
-    bare.arg(option(alloc, Setting::Deadline))?
-        .arg(option(alloc, Setting::After))
-}
-
-// The command with the options that say which random script is made.
-fn with_seed<'a>(alloc: Global, bare: Command<'a>) -> Result<Command<'a>, AllocError>
-    ensures app { IfOk result (λ command. app_of command ≡ with_options (app_of bare.entry) seed_names) }
-    ensures local { IfOk result (λ command. (fields_of command).has_globals ≡ (fields_of bare.entry).has_globals) }
-{
-    bare.arg(option(alloc, Setting::Seed))?
-        .arg(option(alloc, Setting::Lines))
+    match flags {
+        [] => Ok(bare),
+        [one, others @ ..] => {
+            let with_one = bare.arg(flag(alloc, *one))?;
+            with_flags(alloc, with_one, others)
+        }
+    }
 }
 
 // The option `--NAME VALUE`.

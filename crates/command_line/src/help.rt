@@ -135,6 +135,9 @@ writes the tree of the scopes that are not closed, as text: one indented line pe
 Usage: scopectl tree [OPTIONS] [FILE]
 ",
     "      --lenient     End with status 0 even if lines are not commands
+      --awaited     Show the scopes that wait for tasks, the oldest first, and these tasks alone
+      --depth <N>   Show N levels of scopes, from 1 to 16
+      --scope <S>   Show scope S alone, with what is inside it
 ",
     "
 Example: the script
@@ -147,6 +150,8 @@ has this tree
   moment 0
   scope 1 open, of main, joins all, deadline 100, awaits 1 of 1
     task 1 a: waiting
+
+With --awaited, --depth or --scope a last line sums up all that is open.
 ",
     "  3  the script was read to its end, and lines are not commands, unless with --lenient; or lines
      were refused, with --strict
@@ -161,6 +166,11 @@ draws the run as an SVG picture: a band per scope, a lane per task, and events f
 Usage: scopectl timeline [OPTIONS] [FILE]
 ",
     "      --lenient     End with status 0 even if lines are not commands
+      --width <PX>  How many pixels wide, up to 100000; at least 320 are drawn [default: 1200]
+      --rows <N>    Fold closed scopes if there are more than N rows [default: 300]
+      --from <N>    Begin at event N; the first event is 1
+      --to <N>      End at event N
+      --scope <S>   Draw scope S alone, with what is inside it
 ",
     "
 Example: the journal of a service is a script too.

@@ -1,5 +1,5 @@
 //! What is hinted at behind a usage error.
-ghost use Rattle.std.specs.Prelude.{◌≡◌, ◌∷◌, [], option_map, map};
+ghost use Rattle.std.specs.Prelude.{◌≡◌, option_map, map};
 ghost use Rattle.std.specs.List.{before_first};
 ghost use Rattle.clap.specs.Lexer.{strip_byte};
 ghost use Rattle.command_line.specs.Hints.{hint_at, hint_behind, hint_for, input_hint, is_dashed, is_flag, is_stray, long_name, may_take, option_hint, sets_limit};
@@ -137,28 +137,17 @@ fn is_flag(job: Job, word: &str) -> bool
 fn has_flag(job: Job, name: &str) -> bool
     ensures { result ≡ is_among (flag_names job) name.now }
 {
-    match job {
-        Job::Replay => is_script_flag(name) || is_note_flag(name),
-        Job::Dump => is_script_flag(name),
-        Job::Tree => is_script_flag(name) || name == Flag::Lenient.name(),
-        Job::Timeline => is_script_flag(name) || name == Flag::Lenient.name(),
-        Job::TraceEvents => is_script_flag(name) || name == Flag::Lenient.name(),
-        Job::Quote | Job::Generate => false,
+    is_among_flags(job.flags(), name)
+}
+
+// Whether one of these options has the name.
+fn is_among_flags(flags: &[Flag], name: &str) -> bool
+    ensures { result ≡ is_among (map flag_name flags.now) name.now }
+{
+    match flags {
+        [] => false,
+        [flag, others @ ..] => flag.name() == name || is_among_flags(others, name),
     }
-}
-
-// Whether each job on a script has an option of this name that has no text.
-fn is_script_flag(name: &str) -> bool
-    ensures { result ≡ is_among (flag_name Flag.Strict ∷ flag_name Flag.Quiet ∷ []) name.now }
-{
-    name == Flag::Strict.name() || name == Flag::Quiet.name()
-}
-
-// Whether a replay alone has an option of this name that has no text.
-fn is_note_flag(name: &str) -> bool
-    ensures { result ≡ is_among (flag_name Flag.Explain ∷ flag_name Flag.Trace ∷ []) name.now }
-{
-    name == Flag::Explain.name() || name == Flag::Trace.name()
 }
 
 // Whether the word is an option that sets a limit.

@@ -5,8 +5,10 @@
 //! scopectl replay [--scopes N] [--tasks N] [--load N] [--strict] [--quiet] [--explain] [--trace] [--expect FILE]
 //!     [FILE]
 //! scopectl dump [--scopes N] [--tasks N] [--load N] [--strict] [--quiet] [FILE]
-//! scopectl tree [--scopes N] [--tasks N] [--load N] [--strict] [--quiet] [--lenient] [FILE]
-//! scopectl timeline [--scopes N] [--tasks N] [--load N] [--strict] [--quiet] [--lenient] [FILE]
+//! scopectl tree [--scopes N] [--tasks N] [--load N] [--strict] [--quiet] [--lenient] [--awaited] [--depth N]
+//!     [--scope S] [FILE]
+//! scopectl timeline [--scopes N] [--tasks N] [--load N] [--strict] [--quiet] [--lenient] [--width PX] [--rows N]
+//!     [--from N] [--to N] [--scope S] [FILE]
 //! scopectl trace    [--scopes N] [--tasks N] [--load N] [--strict] [--quiet] [--lenient] [FILE]
 //! scopectl quote [--deadline MS] [--after NAME=MS] [FILE]
 //! scopectl generate [--seed N] [--lines N]
@@ -35,5 +37,5 @@ mod settings;
 pub use faults::LineFault;
 pub use files::{Compared, Parted, part_expected, part_words};
 pub use help::{VERSION_LINE, help_of};
-pub use lines::{CommandLine, Job, line};
-pub use settings::{Delay, ScriptOptions};
+pub use lines::{CommandLine, Job, ViewOptions, line};
+pub use settings::{Delay, PictureOptions, ScriptOptions, TreeOptions};

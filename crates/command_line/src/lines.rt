@@ -1,16 +1,16 @@
 //! From the program's words to the command that they say.
 ghost use Rattle.std.specs.Prelude.{◌≡◌, ◌⊎◌, Bool, IfOk, IfErr, Some, None, map};
-ghost use Rattle.clap.specs.Words.{first_value, found_of};
-ghost use Rattle.command_line.specs.CommandLine.{Says, SaysNone, command_word, job_named, said_by, said_of};
+ghost use Rattle.clap.specs.Words.{first_value, found_of, one_text};
+ghost use Rattle.command_line.specs.CommandLine.{Says, SaysNone, command_word, flags_of, job_named, said_by, said_of, script_by, settings_of, show_by};
 ghost use Rattle.command_line.specs.Faults.{Answers, IsUsageOrMemory};
 ghost use Rattle.command_line.specs.HelpWord.{turned};
 ghost use Rattle.command_line.specs.Parsing.{TellsFlags};
-ghost use Rattle.command_line.specs.Settings.{name_of};
+ghost use Rattle.command_line.specs.Settings.{bool_text, flag_name, name_of};
 
 use crate::faults::LineFault;
 use crate::help_word::{has_help_word, turned};
 use crate::hints::hint_for;
-use crate::settings::{Delay, Flag, ScriptOptions, Setting};
+use crate::settings::{Delay, Flag, PictureOptions, ScriptOptions, Setting, TreeOptions};
 use crate::{application, settings};
 use clap::ArgMatches;
 use std::alloc::Global;
@@ -26,23 +26,10 @@ pub enum CommandLine {
         /// Whether each line is to be said with its reply.
         trace: bool,
     },
-    /// Runs the script on standard input without replies, and writes the tree of what it leaves as JSON.
-    Dump(ScriptOptions),
-    /// Does the same, and writes the tree as text for a terminal.
-    Tree {
+    /// Runs the script on standard input without replies, and shows what it leaves.
+    Show {
         script: ScriptOptions,
-        /// Whether the status is 0 though lines are no commands.
-        lenient: bool,
-    },
-    /// Does the same, and writes a picture of the run.
-    Timeline {
-        script: ScriptOptions,
-        /// Whether the status is 0 though lines are no commands.
-        lenient: bool,
-    },
-    /// Does the same, and writes the run as Chrome trace events.
-    TraceEvents {
-        script: ScriptOptions,
+        view: ViewOptions,
         /// Whether the status is 0 though lines are no commands.
         lenient: bool,
     },
@@ -60,6 +47,19 @@ pub enum CommandLine {
         /// How many lines it has, if that is given.
         lines: Option<u32>,
     },
+}
+
+/// What is shown of what a script leaves.
+#[derive(Clone, Copy)]
+pub enum ViewOptions {
+    /// The tree of the scopes that are not closed, as JSON.
+    Dump,
+    /// The same tree, as text for a terminal.
+    Tree(TreeOptions),
+    /// A picture of the run.
+    Timeline(PictureOptions),
+    /// The run as Chrome trace events.
+    TraceEvents,
 }
 
 /// The jobs, each of which has a word.
@@ -87,6 +87,49 @@ impl Job {
             Job::TraceEvents => "trace",
             Job::Quote => "quote",
             Job::Generate => "generate",
+        }
+    }
+
+    /// The options with a text that the job has.
+    pub fn settings(self) -> &'static [Setting]
+        ensures { result.now ≡ settings_of self }
+    {
+        match self {
+            Job::Replay | Job::Dump | Job::TraceEvents => {
+                &[Setting::Scopes, Setting::Tasks, Setting::Load]
+            }
+            Job::Tree => &[
+                Setting::Scopes,
+                Setting::Tasks,
+                Setting::Load,
+                Setting::Depth,
+                Setting::Scope,
+            ],
+            Job::Timeline => &[
+                Setting::Scopes,
+                Setting::Tasks,
+                Setting::Load,
+                Setting::Width,
+                Setting::Rows,
+                Setting::From,
+                Setting::To,
+                Setting::Scope,
+            ],
+            Job::Quote => &[Setting::Deadline, Setting::After],
+            Job::Generate => &[Setting::Seed, Setting::Lines],
+        }
+    }
+
+    /// The options without a text that the job has.
+    pub fn flags(self) -> &'static [Flag]
+        ensures { result.now ≡ flags_of self }
+    {
+        match self {
+            Job::Replay => &[Flag::Strict, Flag::Quiet, Flag::Explain, Flag::Trace],
+            Job::Dump => &[Flag::Strict, Flag::Quiet],
+            Job::Tree => &[Flag::Strict, Flag::Quiet, Flag::Lenient, Flag::Awaited],
+            Job::Timeline | Job::TraceEvents => &[Flag::Strict, Flag::Quiet, Flag::Lenient],
+            Job::Quote | Job::Generate => &[],
         }
     }
 
@@ -164,7 +207,7 @@ fn command<'a>(
 fn said(alloc: Global, job: Job, options: &ArgMatches<'_>) -> Result<CommandLine, LineFault>
     ensures said { (has : Flag → Bool) → TellsFlags job (found_of options.now) has → IfOk result (λ command.
         said_by job (λ setting. first_value (found_of options.now) (name_of setting)) has ≡ Some (said_of command)) }
-    ensures refused { (has : Flag → Bool) → IfErr result (λ fault. (fault ≡ LineFault.Memory)
+    ensures refused { (has : Flag → Bool) → TellsFlags job (found_of options.now) has → IfErr result (λ fault. (fault ≡ LineFault.Memory)
         ⊎ (said_by job (λ setting. first_value (found_of options.now) (name_of setting)) has ≡ None)) }
     ensures told { IfErr result IsUsageOrMemory }
 {
@@ -179,22 +222,23 @@ fn said(alloc: Global, job: Job, options: &ArgMatches<'_>) -> Result<CommandLine
                 trace,
             })
         }
-        Job::Dump => Ok(CommandLine::Dump(settings::script(alloc, options)?)),
-        Job::Tree => {
+        Job::Dump => {
             let script = settings::script(alloc, options)?;
-            let lenient = settings::is_set(options, Flag::Lenient);
-            Ok(CommandLine::Tree { script, lenient })
+            Ok(CommandLine::Show {
+                script,
+                view: ViewOptions::Dump,
+                lenient: true,
+            })
         }
-        Job::Timeline => {
-            let script = settings::script(alloc, options)?;
-            let lenient = settings::is_set(options, Flag::Lenient);
-            Ok(CommandLine::Timeline { script, lenient })
-        }
-        Job::TraceEvents => {
-            let script = settings::script(alloc, options)?;
-            let lenient = settings::is_set(options, Flag::Lenient);
-            Ok(CommandLine::TraceEvents { script, lenient })
-        }
+        Job::Tree => match settings::tree(alloc, options) {
+            Ok(tree) => shown(alloc, options, ViewOptions::Tree(tree)),
+            Err(fault) => Err(fault),
+        },
+        Job::Timeline => match settings::picture(alloc, options) {
+            Ok(picture) => shown(alloc, options, ViewOptions::Timeline(picture)),
+            Err(fault) => Err(fault),
+        },
+        Job::TraceEvents => shown(alloc, options, ViewOptions::TraceEvents),
         Job::Quote => {
             let deadline = settings::number_if_given(alloc, options, Setting::Deadline)?;
             let after = settings::after(alloc, options)?;
@@ -206,4 +250,26 @@ fn said(alloc: Global, job: Job, options: &ArgMatches<'_>) -> Result<CommandLine
             Ok(CommandLine::Generate { seed, lines })
         }
     }
+}
+
+// What the options of a view say, if `--strict`, `--quiet` and `--lenient` are such options.
+fn shown(
+    alloc: Global,
+    options: &ArgMatches<'_>,
+    view: ViewOptions,
+) -> Result<CommandLine, LineFault>
+    ensures said { (strict quiet lenient : Bool) → one_text (found_of options.now) (flag_name Flag.Strict) ≡ Some (bool_text strict) → one_text (found_of options.now) (flag_name Flag.Quiet) ≡ Some (bool_text quiet)
+        → one_text (found_of options.now) (flag_name Flag.Lenient) ≡ Some (bool_text lenient) → IfOk result (λ command.
+        show_by (script_by (λ setting. first_value (found_of options.now) (name_of setting)) strict quiet) (Some view) lenient ≡ Some (said_of command)) }
+    ensures refused { (strict quiet lenient : Bool) → IfErr result (λ fault. (fault ≡ LineFault.Memory)
+        ⊎ (show_by (script_by (λ setting. first_value (found_of options.now) (name_of setting)) strict quiet) (Some view) lenient ≡ None)) }
+    ensures told { IfErr result IsUsageOrMemory }
+{
+    let script = settings::script(alloc, options)?;
+    let lenient = settings::is_set(options, Flag::Lenient);
+    Ok(CommandLine::Show {
+        script,
+        view,
+        lenient,
+    })
 }

@@ -2,14 +2,14 @@
 ghost use Rattle.std.specs.Prelude.{◌≡◌, ◌≤◌, ◌⊎◌, Bool, IfOk, IfErr, IfSome, Some, None, option_map};
 ghost use Rattle.std.specs.List.{list_all};
 ghost use Rattle.clap.specs.Words.{first_value, found_of, one_text};
-ghost use Rattle.command_line.specs.CommandLine.{script_by, script_of};
+ghost use Rattle.command_line.specs.CommandLine.{picture_by, script_by, script_of, tree_by, tree_said};
 ghost use Rattle.command_line.specs.Faults.{IsUsageOrMemory};
 ghost use Rattle.command_line.specs.Settings.{bool_text, flag_name, greatest_of, is_digit, is_plain, name_of, setting_number, numbers_by, numbers_of, plain_number, number_by, delay_by, delay_of, delay_said};
 
 use crate::faults::LineFault;
 use clap::ArgMatches;
-use scope_rules::types::capacity::{LOAD_LIMIT, SCOPE_LIMIT, TASK_LIMIT};
-use scope_rules::{Limits, Name};
+use scope_rules::types::capacity::{LEVEL_LIMIT, LOAD_LIMIT, SCOPE_LIMIT, TASK_LIMIT};
+use scope_rules::{Limits, Name, ScopeId};
 use std::alloc::Global;
 
 /// How many milliseconds a day has.
@@ -20,6 +20,19 @@ pub const SEED_LIMIT: u32 = 4_294_967_295;
 
 /// How many lines a random script may have.
 pub const LINES_LIMIT: u32 = 1_000_000;
+
+/// How many pixels wide a picture may be.
+pub const WIDTH_LIMIT: u32 = 100_000;
+
+/// How many rows a picture has at most: one for each scope and task.
+pub const ROWS_LIMIT: u32 = 69_632;
+
+/// The greatest number that a scope can have: numbers go on when a realm is compacted.
+pub const SCOPE_NUMBER_LIMIT: u32 = 4_294_967_295;
+
+/// What is said where `--awaited` stands beside an option that selects a part of the tree.
+const AWAITED_ALONE: &str =
+    "error: the argument '--awaited' cannot be used with '--depth <N>' or '--scope <S>'\n\nFor more information, try '--help'.\n";
 
 /// An option of a job.
 #[derive(Clone, Copy)]
@@ -38,6 +51,18 @@ pub enum Setting {
     Seed,
     /// How many lines a random script has.
     Lines,
+    /// How many pixels wide a picture is.
+    Width,
+    /// How many rows a picture has before closed scopes are folded.
+    Rows,
+    /// The number of the first event that is shown, from 1.
+    From,
+    /// The number of the last event that is shown, from 1.
+    To,
+    /// Which scope alone is shown.
+    Scope,
+    /// How many levels of scopes are shown.
+    Depth,
 }
 
 impl Setting {
@@ -68,16 +93,31 @@ impl Setting {
             Setting::After => ("after", DAY_MILLIS),
             Setting::Seed => ("seed", SEED_LIMIT),
             Setting::Lines => ("lines", LINES_LIMIT),
+            Setting::Width => ("width", WIDTH_LIMIT),
+            Setting::Rows => ("rows", ROWS_LIMIT),
+            Setting::From => ("from", LOAD_LIMIT),
+            Setting::To => ("to", LOAD_LIMIT),
+            Setting::Scope => ("scope", SCOPE_NUMBER_LIMIT),
+            Setting::Depth => ("depth", LEVEL_LIMIT),
         }
     }
 
     /// How help and errors write what the option says.
     pub fn value_name(self) -> &'static str {
         match self {
-            Setting::Scopes | Setting::Tasks | Setting::Load | Setting::Seed | Setting::Lines =>
-                "N",
             Setting::Deadline => "MS",
             Setting::After => "NAME=MS",
+            Setting::Width => "PX",
+            Setting::Scope => "S",
+            Setting::Scopes
+            | Setting::Tasks
+            | Setting::Load
+            | Setting::Seed
+            | Setting::Lines
+            | Setting::Rows
+            | Setting::From
+            | Setting::To
+            | Setting::Depth => "N",
         }
     }
 
@@ -89,7 +129,13 @@ impl Setting {
             | Setting::Load
             | Setting::Deadline
             | Setting::Seed
-            | Setting::Lines => "a decimal number",
+            | Setting::Lines
+            | Setting::Width
+            | Setting::Rows
+            | Setting::From
+            | Setting::To
+            | Setting::Scope
+            | Setting::Depth => "a decimal number",
             Setting::After => "the name of an offer, '=' and a decimal number",
         }
     }
@@ -108,6 +154,8 @@ pub enum Flag {
     Quiet,
     /// The status is to be 0 though lines are no commands.
     Lenient,
+    /// Only what is waited for is to be shown.
+    Awaited,
 }
 
 impl Flag {
@@ -121,6 +169,7 @@ impl Flag {
             Flag::Trace => "trace",
             Flag::Quiet => "quiet",
             Flag::Lenient => "lenient",
+            Flag::Awaited => "awaited",
         }
     }
 }
@@ -134,6 +183,37 @@ pub struct ScriptOptions {
     pub strict: bool,
     /// Whether nothing is to be said of how many lines were refused.
     pub quiet: bool,
+}
+
+/// What of a run is drawn, and how large, where options say it.
+#[derive(Clone, Copy)]
+pub struct PictureOptions {
+    /// How many pixels wide the picture is.
+    pub width: Option<u32>,
+    /// With more rows than these, closed scopes are folded.
+    pub rows: Option<u32>,
+    /// The number of the first event that is drawn, from 1.
+    pub from: Option<u32>,
+    /// The number of the last one.
+    pub to: Option<u32>,
+    /// The one scope that is drawn, with what lies in it.
+    pub scope: Option<ScopeId>,
+}
+
+/// What of a tree is shown.
+#[derive(Clone, Copy)]
+pub enum TreeOptions {
+    /// All of it.
+    Whole,
+    /// What is waited for alone.
+    Awaited,
+    /// A part of it.
+    Part {
+        /// How many levels of scopes are shown, if not all.
+        depth: Option<u32>,
+        /// The one scope that is shown, with what lies in it, if not all.
+        scope: Option<ScopeId>,
+    },
 }
 
 /// A job of a plan's offer that is to take time.
@@ -236,6 +316,62 @@ pub fn number_if_given(
     }
 }
 
+/// What of a run is drawn by the options of a job.
+///
+/// # Errors
+/// `Usage` if a number is none or too great, `Memory` if memory was refused.
+pub fn picture(alloc: Global, matches: &ArgMatches<'_>) -> Result<PictureOptions, LineFault>
+    ensures said { IfOk result (λ picture. picture_by (λ setting.
+        first_value (found_of matches.now) (name_of setting)) ≡ Some picture) }
+    ensures refused { IfErr result (λ fault. (fault ≡ LineFault.Memory) ⊎ (picture_by (λ setting.
+        first_value (found_of matches.now) (name_of setting)) ≡ None)) }
+    ensures told { IfErr result IsUsageOrMemory }
+{
+    let width = number_if_given(alloc, matches, Setting::Width)?;
+    let rows = number_if_given(alloc, matches, Setting::Rows)?;
+    let from = number_if_given(alloc, matches, Setting::From)?;
+    let to = number_if_given(alloc, matches, Setting::To)?;
+    let scope = number_if_given(alloc, matches, Setting::Scope)?;
+    Ok(PictureOptions {
+        width,
+        rows,
+        from,
+        to,
+        scope,
+    })
+}
+
+/// What of a tree is shown by the options of a job, if `--awaited` is such an option.
+///
+/// # Errors
+/// `Usage` if a number is none or too great, `Memory` if memory was refused.
+pub fn tree(alloc: Global, matches: &ArgMatches<'_>) -> Result<TreeOptions, LineFault>
+    ensures said { (awaited : Bool) → one_text (found_of matches.now) (flag_name Flag.Awaited) ≡ Some (bool_text awaited) → IfOk result (λ tree.
+        tree_by (λ setting. first_value (found_of matches.now) (name_of setting)) awaited ≡ Some tree) }
+    ensures refused { (awaited : Bool) → one_text (found_of matches.now) (flag_name Flag.Awaited) ≡ Some (bool_text awaited) → IfErr result (λ fault. (fault ≡ LineFault.Memory)
+        ⊎ (tree_by (λ setting. first_value (found_of matches.now) (name_of setting)) awaited ≡ None)) }
+    ensures told { IfErr result IsUsageOrMemory }
+{
+    let depth = number_if_given(alloc, matches, Setting::Depth)?;
+    let scope = number_if_given(alloc, matches, Setting::Scope)?;
+    match tree_said(is_set(matches, Flag::Awaited), depth, scope) {
+        Some(tree) => Ok(tree),
+        None => Err(refused_words(alloc, AWAITED_ALONE)),
+    }
+}
+
+// What of a tree these options say, if they may stand together.
+fn tree_said(awaited: bool, depth: Option<u32>, scope: Option<ScopeId>) -> Option<TreeOptions>
+    ensures { result ≡ tree_said awaited depth scope }
+{
+    match (awaited, depth, scope) {
+        (false, None, None) => Some(TreeOptions::Whole),
+        (true, None, None) => Some(TreeOptions::Awaited),
+        (false, depth, scope) => Some(TreeOptions::Part { depth, scope }),
+        (true, _, _) => None,
+    }
+}
+
 /// The delay that the options of a job say, if they say one.
 ///
 /// # Errors
@@ -312,6 +448,16 @@ fn refused_value(alloc: Global, setting: Setting, text: &str) -> LineFault
     );
     match message {
         Ok(message) => LineFault::Usage(message),
+        Err(_) => LineFault::Memory,
+    }
+}
+
+// What to say of options that can not stand together.
+fn refused_words(alloc: Global, text: &str) -> LineFault
+    ensures { IsUsageOrMemory result }
+{
+    match String::from_str(alloc, text) {
+        Ok(text) => LineFault::Usage(text),
         Err(_) => LineFault::Memory,
     }
 }

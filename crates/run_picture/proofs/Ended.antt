@@ -1,5 +1,5 @@
 -- The marks of the ends of tasks.
-use Rattle.std.proofs.Common.{◌≡◌, ℕ, ◌+◌, ◌==◌, ◌||◌, Bool, true, false, cond, is_some, Option, Some, None, List, [], ◌∷◌, length, count_by, sum_by, refl, ap, sym, ◌∙◌, arith}
+use Rattle.std.proofs.Common.{◌≡◌, ℕ, ◌+◌, ◌==◌, ◌||◌, ◌&&◌, unwrap_or, Bool, true, false, cond, is_some, Option, Some, None, List, [], ◌∷◌, length, count_by, sum_by, refl, ap, sym, ◌∙◌, arith}
 use Rattle.std.proofs.lemmas.Bool.{eq-eqb}
 use Rattle.std.proofs.lemmas.List.{take_all}
 use Rattle.std.specs.List.{list_any}
@@ -19,11 +19,13 @@ use Rattle.run_picture.specs.Drawing.{all, count_in}
 use Rattle.run_picture.specs.Landmarks.{first_place, is_named}
 use Rattle.run_picture.specs.Lanes.{ended, row_drawn, task_lane}
 use Rattle.run_picture.specs.Laws.{lanes_of}
-use Rattle.run_picture.specs.Marked.{EachEndHasOneMark, is_end_of, is_number, no_number, no_subject}
+use Rattle.run_picture.specs.Marked.{EachEndHasOneMark, end_place, is_end_of, is_number, no_number, no_subject}
 use Rattle.run_picture.specs.Nodes.{task_node}
 use Rattle.run_picture.specs.Picture.{indexes, row_at}
 use Rattle.run_picture.specs.Sheet.{Sheet}
-use Rattle.run_picture.proofs.Figured.{IsKind, TaskKind, band_none, cancels_none, figure_kind, events_none, lane_counts, moments_none, shields_none}
+use Rattle.run_picture.specs.View.{shows}
+use Rattle.run_picture.specs.declared.view.View.{View}
+use Rattle.run_picture.proofs.Figured.{IsKind, TaskKind, band_none, cancels_none, end_shown, figure_kind, events_none, lane_counts, moments_none, shields_none}
 use Rattle.run_picture.proofs.Rowed.{rows_drawn, sum_zero, task_rows}
 use Rattle.run_picture.proofs.Searched.{any_alike, any_take}
 
@@ -84,15 +86,22 @@ settled_is false false true s = refl
 settled_is false false false true = refl
 settled_is false false false false = refl
 
-end_here : (h : History) (d : Sheet) (k row depth : ℕ) (f : Forking) → forking h k ≡ Some f → count_in (is_end_of k) (task_lane h d row depth k) ≡ cond (is_settled (stage h k)) 1 0
+-- the end is in view, if there is one and its place is in view
+shown_by : (v : View) (place : ℕ) (c : Bool) (o : Option ℕ) → cond c (shows v place) (option_map_or (shows v) o false) ≡ ((c || is_some o) && shows v (unwrap_or (cond c (Some place) o) place))
+shown_by v place true o = refl
+shown_by v place false (Some at) = refl
+shown_by v place false None = refl
+
+end_here : (h : History) (d : Sheet) (k row depth : ℕ) (f : Forking) → forking h k ≡ Some f → count_in (is_end_of k) (task_lane h d row depth k) ≡ cond (is_settled (stage h k) && shows d.view (end_place h k f)) 1 0
 end_here h d k row depth f is =
     let c = cancelled_before h f.scope f.place in
     lane_counts (is_end_of k) k false (k == k) (end_kind k) (end_task k k) h d row depth
-    ∙ (ap (λ (o : Option Forking). option_map_or (λ (g : Forking). 0 + cond (k == k) (cond (cancelled_before h g.scope g.place || is_some (ended h k)) 1 0) 0) o 0) is
-    ∙ (ap (λ b. 0 + cond b (cond (c || is_some (ended h k)) 1 0) 0) (same_task k)
-    ∙ (zero_first (cond (c || is_some (ended h k)) 1 0)
-    ∙ (ap (λ b. cond (c || b) 1 0) (ended_is h k)
-    ∙ ap (λ b. cond b 1 0) (sym (ap is_settled (stage_is h k f is) ∙ settled_is c (rejected h k) (finished h k) (tasks.started h k)))))))
+    ∙ (ap (λ (o : Option Forking). option_map_or (λ (g : Forking). 0 + cond (k == k) (cond (end_shown h d.view k g) 1 0) 0) o 0) is
+    ∙ (ap (λ b. 0 + cond b (cond (end_shown h d.view k f) 1 0) 0) (same_task k)
+    ∙ (zero_first (cond (end_shown h d.view k f) 1 0)
+    ∙ (ap (λ b. cond b 1 0) (shown_by d.view f.place c (ended h k))
+    ∙ (ap (λ b. cond ((c || b) && shows d.view (end_place h k f)) 1 0) (ended_is h k)
+    ∙ ap (λ b. cond (b && shows d.view (end_place h k f)) 1 0) (sym (ap is_settled (stage_is h k f is) ∙ settled_is c (rejected h k) (finished h k) (tasks.started h k))))))))
   where
     zero_first : (n : ℕ) → 0 + n ≡ n
     zero_first n = omega arith
@@ -102,15 +111,19 @@ end_elsewhere h d k x row depth other =
     lane_counts (is_end_of k) x false (x == k) (end_kind k) (end_task k x) h d row depth
     ∙ by (forking h x)
   where
-    by : (o : Option Forking) → option_map_or (λ (g : Forking). 0 + cond (x == k) (cond (cancelled_before h g.scope g.place || is_some (ended h x)) 1 0) 0) o 0 ≡ 0
+    by : (o : Option Forking) → option_map_or (λ (g : Forking). 0 + cond (x == k) (cond (end_shown h d.view x g) 1 0) 0) o 0 ≡ 0
     by None = refl
-    by (Some g) = ap (λ b. 0 + cond b (cond (cancelled_before h g.scope g.place || is_some (ended h x)) 1 0) 0) other
+    by (Some g) = ap (λ b. 0 + cond b (cond (end_shown h d.view x g) 1 0) 0) other
 
 -- ---- the rows
 
-row_ends : (h : History) (d : Sheet) (k : ℕ) (f : Forking) → forking h k ≡ Some f → (i : ℕ) (r : Row) → count_in (is_end_of k) (row_drawn h d i r) ≡ cond (r.node == task_node h k) (cond (is_settled (stage h k)) 1 0) 0
+-- task k, which was forked so, came to its end in view
+abbrev ends_in_view : History → Sheet → ℕ → Forking → Bool
+ends_in_view h d k f = is_settled (stage h k) && shows d.view (end_place h k f)
+
+row_ends : (h : History) (d : Sheet) (k : ℕ) (f : Forking) → forking h k ≡ Some f → (i : ℕ) (r : Row) → count_in (is_end_of k) (row_drawn h d i r) ≡ cond (r.node == task_node h k) (cond (ends_in_view h d k f) 1 0) 0
 row_ends h d k f is i r =
-    task_rows h d (is_end_of k) k (cond (is_settled (stage h k)) 1 0) f is
+    task_rows h d (is_end_of k) k (cond (ends_in_view h d k f) 1 0) f is
     (λ row depth. end_here h d k row depth f is)
     (λ x row depth other. end_elsewhere h d k x row depth other)
     (λ row depth s folded. band_none (is_end_of k) s (end_kind k) (λ at y x is e. refl) h d row depth folded) i r
@@ -129,9 +142,9 @@ sum_cond rows n false = sum_zero (λ (r : Row). cond (r.node == n) 0 0) rows (λ
 pub each_end : EachEndHasOneMark
 each_end h d k f is =
     let kind = end_kind k in
-    let rows : count_in (is_end_of k) (all (row_at h d) (indexes h d)) ≡ cond (is_settled (stage h k)) (lanes_of h d k) 0 =
-    rows_drawn (is_end_of k) h d (λ r. cond (r.node == task_node h k) (cond (is_settled (stage h k)) 1 0) 0) (row_ends h d k f is)
-    ∙ sum_cond (drawn_rows h d) (task_node h k) (is_settled (stage h k)) in
+    let rows : count_in (is_end_of k) (all (row_at h d) (indexes h d)) ≡ cond (ends_in_view h d k f) (lanes_of h d k) 0 =
+    rows_drawn (is_end_of k) h d (λ r. cond (r.node == task_node h k) (cond (ends_in_view h d k f) 1 0) 0) (row_ends h d k f is)
+    ∙ sum_cond (drawn_rows h d) (task_node h k) (ends_in_view h d k f) in
     let moments = moments_none (is_end_of k) kind h d in
     let events = events_none (is_end_of k) kind h d in
     let shields = shields_none (is_end_of k) kind h d in

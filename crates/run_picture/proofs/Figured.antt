@@ -26,7 +26,7 @@ use Rattle.run_picture.specs.declared.strokes.Reach.{Reach}
 use Rattle.run_picture.specs.declared.strokes.Shade.TheVariants as shade
 use Rattle.run_picture.specs.declared.strokes.Tick.{Tick}
 use Rattle.run_picture.specs.Cancels.{cancel_drawn, cancel_figures, is_accident, source_y}
-use Rattle.run_picture.specs.Drawing.{Drawing, Figure, ALabel, ABar, AMark, AReach, ATick, Blank, One, all, count_in}
+use Rattle.run_picture.specs.Drawing.{Drawing, Figure, ALabel, ABar, AMark, AReach, ATick, Blank, One, all, count_in, in_view}
 use Rattle.run_picture.specs.Events.{drawn, event_figures, marked, moment_line}
 use Rattle.run_picture.specs.Chart.{drawn_rows}
 use Rattle.run_picture.specs.declared.landmarks.Landmark.TheVariants as landmark
@@ -40,6 +40,8 @@ use Rattle.run_picture.specs.Picture.{figures, indexes, places, row_at}
 use Rattle.run_picture.specs.Sheet.{Sheet}
 use Rattle.run_picture.specs.Sites.{closed_place, mark_at, scope_row, x_in}
 use Rattle.run_picture.specs.Spots.{row_y}
+use Rattle.run_picture.specs.View.{shows}
+use Rattle.run_picture.specs.declared.view.View.{View}
 use Rattle.run_picture.specs.Shields.{held_mark, held_off, opened_shield, shield_figures}
 use Rattle.run_picture.proofs.Drawings.{none_in_all}
 
@@ -76,6 +78,24 @@ none_or : {A : Type 0} (test : Figure → Bool) (draw : A → Drawing) (o : Opti
 none_or test draw None none = refl
 none_or test draw (Some x) none = none x
 
+-- out of view nothing is drawn
+none_in_view : (test : Figure → Bool) (v : View) (i : ℕ) (drawn : Drawing) → count_in test drawn ≡ 0 → count_in test (in_view v i drawn) ≡ 0
+none_in_view test v i drawn none = by (shows v i)
+  where
+    by : (b : Bool) → count_in test (cond b drawn Blank) ≡ 0
+    by true = none
+    by false = refl
+
+-- and in view all of it
+counts_in_view : (test : Figure → Bool) (v : View) (i : ℕ) (mark_is : Bool) (drawn : Drawing) → count_in test drawn ≡ cond mark_is 1 0 → count_in test (in_view v i drawn) ≡ cond mark_is (cond (shows v i) 1 0) 0
+counts_in_view test v i mark_is drawn is = by mark_is (shows v i) is
+  where
+    by : (m b : Bool) → count_in test drawn ≡ cond m 1 0 → count_in test (cond b drawn Blank) ≡ cond m (cond b 1 0) 0
+    by true true is = is
+    by true false is = refl
+    by false true is = is
+    by false false is = refl
+
 -- 1, if it is so
 abbrev unit : Bool → ℕ
 unit b = cond b 1 0
@@ -95,7 +115,8 @@ moment_none : (test : Figure → Bool) → IsKind test → (h : History) (d : Sh
 unfolding moment_line
 moment_none test kind h d i =
     let tick : ℕ → Tick = λ moment. record { x = x_in h d i; foot = row_y (length (drawn_rows h d)); moment = moment; told = nat_le (length h.events) 120 } in
-    none_or test (λ moment. One (ATick (tick moment))) (option_and_then tick_of (slice_get h.events i)) (λ moment. zero_of (test (ATick (tick moment))) (kind.ticks (tick moment)))
+    none_in_view test d.view i (option_map_or (λ moment. One (ATick (tick moment))) (option_and_then tick_of (slice_get h.events i)) Blank)
+    (none_or test (λ moment. One (ATick (tick moment))) (option_and_then tick_of (slice_get h.events i)) (λ moment. zero_of (test (ATick (tick moment))) (kind.ticks (tick moment))))
 
 pub moments_none : (test : Figure → Bool) → IsKind test → (h : History) (d : Sheet) → count_in test (all (moment_line h d) (places h)) ≡ 0
 moments_none test kind h d = none_in_all test (moment_line h d) (places h) (moment_none test kind h d)
@@ -109,7 +130,7 @@ event_none test kind h d i _ = refl
 
 pub events_none : (test : Figure → Bool) → IsKind test → (h : History) (d : Sheet) → count_in test (all (event_figures h d) (places h)) ≡ 0
 unfolding event_figures
-events_none test kind h d = none_in_all test (event_figures h d) (places h) (λ i. none_or test (drawn h d i) (slice_get h.events i) (event_none test kind h d i))
+events_none test kind h d = none_in_all test (event_figures h d) (places h) (λ i. none_in_view test d.view i (option_map_or (drawn h d i) (slice_get h.events i) Blank) (none_or test (drawn h d i) (slice_get h.events i) (event_none test kind h d i)))
 
 shield_none : (test : Figure → Bool) → IsKind test → (h : History) (d : Sheet) (s : ℕ) (o : Opening) → count_in test (opened_shield h d s o) ≡ 0
 shield_none test kind h d s o = by o.options.shield
@@ -117,9 +138,9 @@ shield_none test kind h d s o = by o.options.shield
     held : (c : ℕ × Cause) → count_in test (held_mark h d s c.0 c.1.scope) ≡ 0
     held c = marked_none test h d c.0 s (mark.Held s c.1.scope) (λ p b n. kind.held p b n s c.1.scope)
 
-    by : (b : Bool) → count_in test (cond b (option_map_or (λ c. held_mark h d s c.0 c.1.scope) (held_off h s o) Blank) Blank) ≡ 0
+    by : (b : Bool) → count_in test (cond b (option_map_or (λ c. in_view d.view c.0 (held_mark h d s c.0 c.1.scope)) (held_off h s o) Blank) Blank) ≡ 0
     by false = refl
-    by true = none_or test (λ (c : ℕ × Cause). held_mark h d s c.0 c.1.scope) (held_off h s o) held
+    by true = none_or test (λ (c : ℕ × Cause). in_view d.view c.0 (held_mark h d s c.0 c.1.scope)) (held_off h s o) (λ c. none_in_view test d.view c.0 (held_mark h d s c.0 c.1.scope) (held c))
 
 pub shields_none : (test : Figure → Bool) → IsKind test → (h : History) (d : Sheet) → count_in test (all (shield_figures h d) (scope_numbers h)) ≡ 0
 unfolding shield_figures
@@ -128,7 +149,7 @@ shields_none test kind h d = none_in_all test (shield_figures h d) (scope_number
 -- a kind that no mark of a cancel is of has none among the cancels
 pub cancels_none : (test : Figure → Bool) → IsKind test → ((p : Spot) (b : Bool) (n s : ℕ) (c : Cause) (a : Bool) → test (AMark (record { spot = p; lined = b; number = n; mark = mark.Cancelled s c a })) ≡ false) → (h : History) (d : Sheet) → count_in test (all (cancel_figures h d) (scope_numbers h)) ≡ 0
 unfolding cancel_figures
-cancels_none test kind marks h d = none_in_all test (cancel_figures h d) (scope_numbers h) (λ s. none_or test (λ row. option_map_or (λ c. cancel_drawn h d s row c.0 c.1) (cancellation h s) Blank) (scope_row h d s) (λ row. none_or test (λ (c : ℕ × Cause). cancel_drawn h d s row c.0 c.1) (cancellation h s) (two row s)))
+cancels_none test kind marks h d = none_in_all test (cancel_figures h d) (scope_numbers h) (λ s. none_or test (λ row. option_map_or (λ c. in_view d.view c.0 (cancel_drawn h d s row c.0 c.1)) (cancellation h s) Blank) (scope_row h d s) (λ row. none_or test (λ (c : ℕ × Cause). in_view d.view c.0 (cancel_drawn h d s row c.0 c.1)) (cancellation h s) (λ c. none_in_view test d.view c.0 (cancel_drawn h d s row c.0 c.1) (two row s c))))
   where
     two : (row s : ℕ) (c : ℕ × Cause) → count_in test (cancel_drawn h d s row c.0 c.1) ≡ 0
     two row s c =
@@ -144,35 +165,39 @@ end_counts : (test : Figure → Bool) (x : ℕ) (label mark_is : Bool) → TaskK
 end_counts test x label mark_is kind p b n (Some at) st = ap unit (kind.ends p b n st)
 end_counts test x label mark_is kind p b n None st = ap unit (kind.nevers p b n)
 
-either_counts : (test : Figure → Bool) (mark_is : Bool) (draw : ℕ → Drawing) (o : Option ℕ) → ((i : ℕ) → count_in test (draw i) ≡ cond mark_is 1 0) → count_in test (option_map_or draw o Blank) ≡ cond mark_is (cond (is_some o) 1 0) 0
-either_counts test true draw None each = refl
-either_counts test false draw None each = refl
-either_counts test true draw (Some i) each = each i
-either_counts test false draw (Some i) each = each i
+either_counts : (test : Figure → Bool) (v : View) (mark_is : Bool) (draw : ℕ → Drawing) (o : Option ℕ) → ((i : ℕ) → count_in test (draw i) ≡ cond mark_is 1 0)
+    → count_in test (option_map_or (λ i. in_view v i (draw i)) o Blank) ≡ cond mark_is (cond (option_map_or (shows v) o false) 1 0) 0
+either_counts test v true draw None each = refl
+either_counts test v false draw None each = refl
+either_counts test v mark_is draw (Some i) each = counts_in_view test v i mark_is (draw i) (each i)
+
+-- the end of task x is in view
+abbrev pub end_shown : History → View → ℕ → Forking → Bool
+end_shown h v x f = cond (cancelled_before h f.scope f.place) (shows v f.place) (option_map_or (shows v) (ended h x) false)
 
 fork_counts : (test : Figure → Bool) (x : ℕ) (label mark_is : Bool) → IsKind test → TaskKind test x label mark_is → (h : History) (d : Sheet) (y : ℕ) (f : Forking) →
-    count_in test (fork_drawn h d y x f) ≡ cond mark_is (cond (cancelled_before h f.scope f.place || is_some (ended h x)) 1 0) 0
+    count_in test (fork_drawn h d y x f) ≡ cond mark_is (cond (end_shown h d.view x f) 1 0) 0
 unfolding fork_drawn
 fork_counts test x label mark_is kind task h d y f = by (cancelled_before h f.scope f.place)
   where
-    by : (c : Bool) → count_in test (cond c (drawing.mark (mark_at h d f.place y (mark.Never x))) (life_drawn h d y x f)) ≡ cond mark_is (cond (c || is_some (ended h x)) 1 0) 0
-    by true = let m : ShownMark = mark_at h d f.place y (mark.Never x) in ap unit (task.nevers m.spot m.lined m.number)
+    by : (c : Bool) → count_in test (cond c (in_view d.view f.place (drawing.mark (mark_at h d f.place y (mark.Never x)))) (life_drawn h d y x f)) ≡ cond mark_is (cond (cond c (shows d.view f.place) (option_map_or (shows d.view) (ended h x) false)) 1 0) 0
+    by true = let m : ShownMark = mark_at h d f.place y (mark.Never x) in counts_in_view test d.view f.place mark_is (drawing.mark m) (ap unit (task.nevers m.spot m.lined m.number))
     by false =
         let b : Bar = bar_in h d y (fork_of x f) f.place (option_or (started h x) (ended h x)) shade.Waiting fate.Waits in
         let r : ℕ → Bar = λ at. bar_in h d y (fork_of x f) at (ended h x) (running_shade (ended h x) (state h x)) (running_fate (ended h x) (state h x)) in
         let e : ℕ → ShownMark = λ at. mark_at h d at y (end_mark x (started h x) (state h x)) in
         let waits = zero_of (test (ABar b)) (kind.bars b) in
         let runs : count_in test (running_bar h d y x f) ≡ 0 = none_or test (λ at. drawing.bar (r at)) (started h x) (λ at. zero_of (test (ABar (r at))) (kind.bars (r at))) in
-        let ends : count_in test (end_figure h d y x) ≡ cond mark_is (cond (is_some (ended h x)) 1 0) 0 = either_counts test mark_is (λ at. drawing.mark (e at)) (ended h x) (λ at. end_counts test x label mark_is task (e at).spot (e at).lined (e at).number (started h x) (state h x)) in
+        let ends : count_in test (end_figure h d y x) ≡ cond mark_is (cond (option_map_or (shows d.view) (ended h x) false) 1 0) 0 = either_counts test d.view mark_is (λ at. drawing.mark (e at)) (ended h x) (λ at. end_counts test x label mark_is task (e at).spot (e at).lined (e at).number (started h x) (state h x)) in
         omega (arith, waits, runs, ends)
 
 -- its label, if it was forked, and the mark of its end, if it has one
 pub lane_counts : (test : Figure → Bool) (x : ℕ) (label mark_is : Bool) → IsKind test → TaskKind test x label mark_is → (h : History) (d : Sheet) (row depth : ℕ) →
-    count_in test (task_lane h d row depth x) ≡ option_map_or (λ (f : Forking). cond label 1 0 + cond mark_is (cond (cancelled_before h f.scope f.place || is_some (ended h x)) 1 0) 0) (forking h x) 0
+    count_in test (task_lane h d row depth x) ≡ option_map_or (λ (f : Forking). cond label 1 0 + cond mark_is (cond (end_shown h d.view x f) 1 0) 0) (forking h x) 0
 unfolding task_lane
 lane_counts test x label mark_is kind task h d row depth = by (forking h x)
   where
-    by : (o : Option Forking) → count_in test (option_map_or (forked_lane h d row depth x) o Blank) ≡ option_map_or (λ (f : Forking). cond label 1 0 + cond mark_is (cond (cancelled_before h f.scope f.place || is_some (ended h x)) 1 0) 0) o 0
+    by : (o : Option Forking) → count_in test (option_map_or (forked_lane h d row depth x) o Blank) ≡ option_map_or (λ (f : Forking). cond label 1 0 + cond mark_is (cond (end_shown h d.view x f) 1 0) 0) o 0
     by None = refl
     by (Some f) =
         let named = ap unit (task.labels (8 + 10 * min depth 12) (min (row_y row + 4) 18446744073709551615) (record { task = x; name = f.label.name; scope = f.scope }) refl fate.Open) in

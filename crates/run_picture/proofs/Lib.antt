@@ -3,6 +3,7 @@ mod Befores
 mod Lossless
 mod Showing
 mod Folding
+mod Seeing
 mod Noded
 mod Planted
 mod Searched

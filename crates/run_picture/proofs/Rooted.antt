@@ -3,7 +3,7 @@ use Rattle.std.proofs.Common.{◌≡◌, ◌⊎◌, inl, inr, ℕ, ◌+◌, ◌-
 use Rattle.std.proofs.lemmas.Bool.{cases_lt, lt-ltb, le-ltb}
 use Rattle.std.proofs.lemmas.List.{length-take}
 use Rattle.std.proofs.lemmas.List.FromFn.{get_or-map-range_with_len}
-use Rattle.std.proofs.lemmas.List.Sums.{sum_by-cons}
+use Rattle.std.proofs.lemmas.List.Sums.{count_by-le-length, length-filter, sum_by-cons}
 use Rattle.std.specs.Option.{option_and_then, option_map_or}
 use Rattle.scope_rules.specs.declared.types.capacity.Limits.{Limits}
 use Rattle.scope_rules.specs.declared.types.records.Forking.{Forking}
@@ -26,10 +26,15 @@ use Rattle.run_picture.specs.Forest.{first_from, rows_from}
 use Rattle.run_picture.specs.Laws.{EachIsPlacedOnce, EachScopeHasOneBand, EachTaskHasOneLane, bands_of, lanes_of, times_placed}
 use Rattle.run_picture.specs.Nodes.{keys, node_count, scope_key, scope_node, task_key, task_node}
 use Rattle.run_picture.specs.Rows.{folded_from, node_of, plain, rows_of}
+use Rattle.run_picture.specs.Seen.{is_seen, scope_seen, seen_by, seen_rows, task_end, task_seen}
 use Rattle.run_picture.specs.Sheet.{Sheet}
+use Rattle.run_picture.specs.Sites.{closed_place}
+use Rattle.run_picture.specs.View.{meets}
+use Rattle.run_picture.specs.declared.view.View.{View}
 use Rattle.run_picture.proofs.Forested.{IsRanked, once}
 use Rattle.run_picture.proofs.Noded.{keys_long, keys_small, scope_key_at, task_key_at}
 use Rattle.run_picture.proofs.Rowed.{scope_at, scope_node_is, task_at, task_node_is}
+use Rattle.run_picture.proofs.Seeing.{times_seen}
 
 -- where a node stands in the history
 abbrev place_of : History → Option Node → ℕ
@@ -177,18 +182,42 @@ plain_times (p ∷ ps) n =
     let b = sum_by-cons (λ (q : Placed). cond (q.node == n) 1 0) p ps in
     omega (arith, rest, a, b)
 
-drawn_times : (h : History) (d : Sheet) (n : ℕ) → d.view.scope ≡ None → length (placed_rows h None) ≤ d.view.rows → count_by (λ (r : Row). r.node == n) (drawn_rows h d) ≡ times_placed h n
+drawn_times : (h : History) (d : Sheet) (n : ℕ) → d.view.scope ≡ None → length (placed_rows h None) ≤ d.view.rows → count_by (λ (r : Row). r.node == n) (drawn_rows h d) ≡ cond (is_seen h d.view n) (times_placed h n) 0
 drawn_times h d n whole few =
-    ap (λ o. count_by (λ (r : Row). r.node == n) (rows_of h d.view.rows (placed_rows h o))) whole
-    ∙ (ap (λ b. count_by (λ (r : Row). r.node == n) (cond b (folded_from h [] (placed_rows h None)) (map plain (placed_rows h None)))) (le-ltb d.view.rows (length (placed_rows h None)) few)
-    ∙ plain_times (placed_rows h None) n)
+    let seen = seen_rows h d.view (placed_rows h None) in
+    let fewer : length seen ≤ d.view.rows = omega (arith, few, length-filter (λ (p : Placed). is_seen h d.view p.node) (placed_rows h None), count_by-le-length (λ (p : Placed). is_seen h d.view p.node) (placed_rows h None)) in
+    ap (λ o. count_by (λ (r : Row). r.node == n) (rows_of h d.view.rows (seen_rows h d.view (placed_rows h o)))) whole
+    ∙ (ap (λ b. count_by (λ (r : Row). r.node == n) (cond b (folded_from h [] seen) (map plain seen))) (le-ltb d.view.rows (length seen) fewer)
+    ∙ (plain_times seen n ∙ times_seen h d.view (placed_rows h None) n))
+
+-- the node of a task is in view if the task is
+task_in_view : (h : History) (v : View) (k : ℕ) (f : Forking) → forking h k ≡ Some f → is_seen h v (task_node h k) ≡ meets v f.place (task_end h k f)
+unfolding task_seen
+task_in_view h v k f is =
+    let it = task_node_is h k f is in
+    ap (is_seen h v) it.3 ∙ (ap (seen_by h v) (task_at h it.0 it.1) ∙ (ap (task_seen h v) it.2 ∙ ap (λ (o : Option Forking). option_map_or (λ (g : Forking). meets v g.place (task_end h k g)) o false) is))
+
+-- and that of a scope
+scope_in_view : (h : History) (v : View) (s : ℕ) (o : Opening) → opening h s ≡ Some o → is_seen h v (scope_node h s) ≡ meets v o.place (closed_place h s)
+unfolding scope_seen
+scope_in_view h v s o is =
+    let it = scope_node_is h s o is in
+    let node : node_of h (scope_node h s) ≡ Some (node.Scope s) =
+    ap (node_of h) it.3 ∙ (scope_at h (forked_count h + it.0) (omega arith)
+    ∙ (ap (λ (i : ℕ). cond (nat_lt i (opened_count h)) (Some (node.Scope (h.base.scopes + 1 + i))) None) (omega arith)
+    ∙ (ap (λ b. cond b (Some (node.Scope (h.base.scopes + 1 + it.0))) None) (lt-ltb it.0 (opened_count h) it.1) ∙ ap (λ x. Some (node.Scope x)) it.2))) in
+    ap (seen_by h v) node ∙ ap (λ (p : Option Opening). option_map_or (λ (q : Opening). meets v q.place (closed_place h s)) p false) is
 
 pub each_task : EachTaskHasOneLane
 each_task L h d k f legal whole few is =
     let it = task_node_is h k f is in
-    drawn_times h d (task_node h k) whole few ∙ placed_once L h legal (task_node h k) (omega (arith, it.1, it.3))
+    drawn_times h d (task_node h k) whole few
+    ∙ (ap (λ n. cond (is_seen h d.view (task_node h k)) n 0) (placed_once L h legal (task_node h k) (omega (arith, it.1, it.3)))
+    ∙ ap (λ b. cond b 1 0) (task_in_view h d.view k f is))
 
 pub each_scope : EachScopeHasOneBand
 each_scope L h d s o legal whole few is =
     let it = scope_node_is h s o is in
-    drawn_times h d (scope_node h s) whole few ∙ placed_once L h legal (scope_node h s) (omega (arith, it.1, it.3))
+    drawn_times h d (scope_node h s) whole few
+    ∙ (ap (λ n. cond (is_seen h d.view (scope_node h s)) n 0) (placed_once L h legal (scope_node h s) (omega (arith, it.1, it.3)))
+    ∙ ap (λ b. cond b 1 0) (scope_in_view h d.view s o is))

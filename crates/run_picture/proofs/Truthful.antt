@@ -29,7 +29,7 @@ use Rattle.run_picture.specs.declared.rows.Row.{Row}
 use Rattle.run_picture.specs.Cancels.{cancel_drawn, cancel_figures}
 use Rattle.run_picture.specs.Chart.{drawn_rows}
 use Rattle.run_picture.specs.Drawing as drawing
-use Rattle.run_picture.specs.Drawing.{Drawing, Everywhere, Figure, Blank, all}
+use Rattle.run_picture.specs.Drawing.{Drawing, Everywhere, Figure, Blank, all, in_view}
 use Rattle.run_picture.specs.Events.{drawn, event_figures, marked, moment_line}
 use Rattle.run_picture.specs.Lanes.{bar_in, covering_place, earlier, end_mark, ended, fork_drawn, forked_lane, lane_by, life_drawn, node_lane, row_drawn, scope_lane, scope_of, started, task_lane}
 use Rattle.run_picture.specs.Marked.{ComesTo, there, inwards, EachMarkIsSo, HoldsAgainst, IsCancelledAt, IsReachOf, IsSo, StandsAt, TellsTruth}
@@ -44,6 +44,8 @@ use Rattle.run_picture.specs.declared.landmarks.Landmark.TheVariants as landmark
 use Rattle.run_picture.specs.declared.strokes.Shade.TheVariants as shade
 use Rattle.run_picture.specs.Sites.{closed_place, mark_at, scope_row}
 use Rattle.run_picture.specs.Spots.{row_y}
+use Rattle.run_picture.specs.View.{shows}
+use Rattle.run_picture.specs.declared.view.View.{View}
 use Rattle.run_picture.proofs.Drawings.{everywhere_all}
 use Rattle.run_picture.proofs.Ended.{ended_is, started_is}
 use Rattle.run_picture.proofs.Staged.{ended_started, ended_unstarted, under_cancel}
@@ -55,6 +57,9 @@ everywhere_or P draw (Some x) each = each x refl
 everywhere_if : (P : Figure → Type 0) (b : Bool) (one other : Drawing) → (b ≡ true → Everywhere P one) → (b ≡ false → Everywhere P other) → Everywhere P (cond b one other)
 everywhere_if P true one other yes_so no_so = yes_so refl
 everywhere_if P false one other yes_so no_so = no_so refl
+
+everywhere_in_view : (P : Figure → Type 0) (v : View) (i : ℕ) (drawn : Drawing) → Everywhere P drawn → Everywhere P (in_view v i drawn)
+everywhere_in_view P v i drawn so = everywhere_if P (shows v i) drawn Blank (λ yes. so) (λ no. tt)
 
 -- ---- from where a cancel comes
 
@@ -132,7 +137,7 @@ module _ (h : History) (d : Sheet) where
 
   moments_so : (i : ℕ) → Everywhere (TellsTruth h d) (moment_line h d i)
   unfolding moment_line
-  moments_so i = everywhere_or (TellsTruth h d) _ (option_and_then tick_of (slice_get h.events i)) (λ moment is. tt)
+  moments_so i = everywhere_in_view (TellsTruth h d) d.view i _ (everywhere_or (TellsTruth h d) _ (option_and_then tick_of (slice_get h.events i)) (λ moment is. tt))
 
   marked_so : (i s : ℕ) (m : Mark) → ((row : ℕ) → scope_row h d s ≡ Some row → IsSo h d (mark_at h d i (row_y row) m) m) → Everywhere (TellsTruth h d) (marked h d i s m)
   marked_so i s m so = everywhere_or (TellsTruth h d) (λ row. drawing.mark (mark_at h d i (row_y row) m)) (scope_row h d s) so
@@ -146,7 +151,7 @@ module _ (h : History) (d : Sheet) where
 
   events_so : (i : ℕ) → Everywhere (TellsTruth h d) (event_figures h d i)
   unfolding event_figures
-  events_so i = everywhere_or (TellsTruth h d) (drawn h d i) (slice_get h.events i) (event_so i)
+  events_so i = everywhere_in_view (TellsTruth h d) d.view i _ (everywhere_or (TellsTruth h d) (drawn h d i) (slice_get h.events i) (event_so i))
 
   cancel_so : (s row : ℕ) (c : ℕ × Cause) → scope_row h d s ≡ Some row → cancellation h s ≡ Some c → Everywhere (TellsTruth h d) (cancel_drawn h d s row c.0 c.1)
   cancel_so s row c has is =
@@ -167,7 +172,8 @@ module _ (h : History) (d : Sheet) where
 
   cancels_so : (s : ℕ) → Everywhere (TellsTruth h d) (cancel_figures h d s)
   unfolding cancel_figures
-  cancels_so s = everywhere_or (TellsTruth h d) (λ row. option_map_or (λ (c : ℕ × Cause). cancel_drawn h d s row c.0 c.1) (cancellation h s) Blank) (scope_row h d s) (λ row has. everywhere_or (TellsTruth h d) (λ (c : ℕ × Cause). cancel_drawn h d s row c.0 c.1) (cancellation h s) (λ c is. cancel_so s row c has is))
+  cancels_so s = everywhere_or (TellsTruth h d) (λ row. option_map_or (λ (c : ℕ × Cause). in_view d.view c.0 (cancel_drawn h d s row c.0 c.1)) (cancellation h s) Blank) (scope_row h d s)
+      (λ row has. everywhere_or (TellsTruth h d) (λ (c : ℕ × Cause). in_view d.view c.0 (cancel_drawn h d s row c.0 c.1)) (cancellation h s) (λ c is. everywhere_in_view (TellsTruth h d) d.view c.0 _ (cancel_so s row c has is)))
 
   both_true : (a b : Bool) → (a && b) ≡ true → (a ≡ true) × (b ≡ true)
   both_true true b so = (refl, so)
@@ -203,9 +209,9 @@ module _ (h : History) (d : Sheet) where
 
   shield_so : (s : ℕ) (o : Opening) → opening h s ≡ Some o → Everywhere (TellsTruth h d) (opened_shield h d s o)
   shield_so s o is =
-      everywhere_if (TellsTruth h d) o.options.shield (option_map_or (λ (c : ℕ × Cause). held_mark h d s c.0 c.1.scope) (held_off h s o) Blank) Blank
-      (λ shield. everywhere_or (TellsTruth h d) (λ (c : ℕ × Cause). held_mark h d s c.0 c.1.scope) (held_off h s o)
-      (λ c held. marked_so c.0 s (mark.Held s c.1.scope) (λ row has. (c.0, holds s o c is shield held, stands s c.0 row (mark.Held s c.1.scope) has))))
+      everywhere_if (TellsTruth h d) o.options.shield (option_map_or (λ (c : ℕ × Cause). in_view d.view c.0 (held_mark h d s c.0 c.1.scope)) (held_off h s o) Blank) Blank
+      (λ shield. everywhere_or (TellsTruth h d) (λ (c : ℕ × Cause). in_view d.view c.0 (held_mark h d s c.0 c.1.scope)) (held_off h s o)
+      (λ c held. everywhere_in_view (TellsTruth h d) d.view c.0 _ (marked_so c.0 s (mark.Held s c.1.scope) (λ row has. (c.0, holds s o c is shield held, stands s c.0 row (mark.Held s c.1.scope) has)))))
       (λ none. tt)
 
   shields_so : (s : ℕ) → Everywhere (TellsTruth h d) (shield_figures h d s)
@@ -228,8 +234,8 @@ module _ (h : History) (d : Sheet) where
     fork_so : (y k : ℕ) (f : Forking) → forking h k ≡ Some f → Everywhere (TellsTruth h d) (fork_drawn h d y k f)
     unfolding fork_drawn
     fork_so y k f is =
-        everywhere_if (TellsTruth h d) (cancelled_before h f.scope f.place) (drawing.mark (mark_at h d f.place y (mark.Never k))) (life_drawn h d y k f) (λ under. under_cancel L h legal k f is under)
-        (λ lives. (tt, (everywhere_or (TellsTruth h d) _ (started h k) (λ at ran. tt), everywhere_or (TellsTruth h d) (λ at. drawing.mark (mark_at h d at y (end_mark k (started h k) (state h k)))) (ended h k) (λ at ends. end_so k at y f is lives ends))))
+        everywhere_if (TellsTruth h d) (cancelled_before h f.scope f.place) (in_view d.view f.place (drawing.mark (mark_at h d f.place y (mark.Never k)))) (life_drawn h d y k f) (λ under. everywhere_in_view (TellsTruth h d) d.view f.place _ (under_cancel L h legal k f is under))
+        (λ lives. (tt, (everywhere_or (TellsTruth h d) _ (started h k) (λ at ran. tt), everywhere_or (TellsTruth h d) (λ at. in_view d.view at (drawing.mark (mark_at h d at y (end_mark k (started h k) (state h k))))) (ended h k) (λ at ends. everywhere_in_view (TellsTruth h d) d.view at _ (end_so k at y f is lives ends)))))
 
     task_so : (row depth k : ℕ) → Everywhere (TellsTruth h d) (task_lane h d row depth k)
     unfolding task_lane

@@ -13,7 +13,7 @@ use Rattle.run_picture.specs.Sheet.{Sheet}
 use Rattle.run_picture.specs.declared.landmarks.Landmark.TheVariants as landmark
 use Rattle.run_picture.specs.declared.marks.Mark.TheVariants.{Cancelled}
 use Rattle.run_picture.specs.Landmarks.{first_place}
-use Rattle.run_picture.specs.Drawing.{Drawing, Blank, One, Both, AReach, mark}
+use Rattle.run_picture.specs.Drawing.{Drawing, Blank, One, Both, AReach, in_view, mark}
 use Rattle.run_picture.specs.Sites.{mark_at, scope_row, x_in}
 use Rattle.run_picture.specs.Spots.{row_y}
 
@@ -47,6 +47,6 @@ source_y h d s reached = option_map_or row_y (scope_row h d s) reached
 abbrev pub cancel_drawn : History → Sheet → ℕ → ℕ → ℕ → Cause → Drawing
 cancel_drawn h d s row place cause = Both (One (AReach (record { x = x_in h d place; source = source_y h d cause.scope (row_y row); reached = row_y row }))) (mark (mark_at h d place (row_y row) (Cancelled s cause (is_accident h place cause))))
 
--- the cancel that reached scope s, if one did and it has a row
+-- the cancel that reached scope s, if one did in view and it has a row
 unfoldable pub cancel_figures : History → Sheet → ℕ → Drawing
-cancel_figures h d s = option_map_or (λ row. option_map_or (λ c. cancel_drawn h d s row c.0 c.1) (cancellation h s) Blank) (scope_row h d s) Blank
+cancel_figures h d s = option_map_or (λ row. option_map_or (λ c. in_view d.view c.0 (cancel_drawn h d s row c.0 c.1)) (cancellation h s) Blank) (scope_row h d s) Blank

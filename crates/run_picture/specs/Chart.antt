@@ -14,6 +14,7 @@ use Rattle.run_picture.specs.Forest.{first_from, rows_from}
 use Rattle.run_picture.specs.Landmarks.{HasFirsts}
 use Rattle.run_picture.specs.Nodes.{keys, node_count, scope_node}
 use Rattle.run_picture.specs.Rows.{rows_of}
+use Rattle.run_picture.specs.Seen.{seen_rows}
 use Rattle.run_picture.specs.Sheet.{Sheet, sheet_of}
 
 -- the first node below each node, and behind the nodes the first root; and by node, the next one below its parent
@@ -53,9 +54,9 @@ pub record AreShown (shown : List (Option ℕ)) (rows : List Row) (count i : ℕ
   pub long : length shown ≡ count
   pub each : (k : ℕ) → k < count → get_or shown k None ≡ earliest (row_at rows k) i
 
--- the rows of the picture
+-- the rows of the picture: of the nodes that are in view
 abbrev pub drawn_rows : History → Sheet → List Row
-drawn_rows h d = rows_of h d.view.rows (placed_rows h d.view.scope)
+drawn_rows h d = rows_of h d.view.rows (seen_rows h d.view (placed_rows h d.view.scope))
 
 -- the chart is that of the history
 pub record IsChartOf (chart : Chart) (drawn : Drawn) (h : History) : Type 0 where

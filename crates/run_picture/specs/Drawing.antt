@@ -1,5 +1,5 @@
 -- What is drawn, as data: the text of a picture is what its figures are written as, one after the other.
-use Rattle.std.specs.Prelude.{ℕ, List}
+use Rattle.std.specs.Prelude.{ℕ, List, if◌then◌else◌}
 use Rattle.run_picture.specs.declared.captions.Label.{Label}
 use Rattle.run_picture.specs.declared.marks.ShownMark.{ShownMark}
 use Rattle.run_picture.specs.declared.strokes.Bar.{Bar}
@@ -10,6 +10,8 @@ use Rattle.run_picture.specs.Marks.{mark_text}
 pub use Rattle.run_picture.specs.Parts.{Parts, Blank, One, Both, Everywhere, all, count_in}
 use Rattle.run_picture.specs.Parts.{written}
 use Rattle.run_picture.specs.Strokes.{bar_text, reach_text, tick_text}
+use Rattle.run_picture.specs.View.{shows}
+use Rattle.run_picture.specs.declared.view.View.{View}
 
 pub data Figure : Type 0 where
   ALabel : Label → Figure
@@ -29,6 +31,10 @@ bar b = One (ABar b)
 
 abbrev pub mark : ShownMark → Drawing
 mark m = One (AMark m)
+
+-- what stands at the event at the place, if that is in view
+abbrev pub in_view : View → ℕ → Drawing → Drawing
+in_view v i drawing = if shows v i then drawing else Blank
 
 abbrev pub figure_text : Figure → List ℕ
 figure_text (ALabel label) = label_text label

@@ -8,7 +8,7 @@ use Rattle.run_picture.specs.Sheet.{Sheet}
 use Rattle.run_picture.specs.declared.marks.Mark.{Mark}
 use Rattle.run_picture.specs.declared.marks.Mark.TheVariants.{Joined, Closing, Closed, Moved}
 use Rattle.run_picture.specs.Chart.{drawn_rows}
-use Rattle.run_picture.specs.Drawing.{Drawing, Blank, One, ATick, mark}
+use Rattle.run_picture.specs.Drawing.{Drawing, Blank, One, ATick, in_view, mark}
 use Rattle.run_picture.specs.Sites.{mark_at, scope_row, x_in}
 use Rattle.run_picture.specs.Spots.{row_y}
 
@@ -35,10 +35,10 @@ marked h d i s m = option_map_or (λ row. mark (mark_at h d i (row_y row) m)) (s
 abbrev pub drawn : History → Sheet → ℕ → Event → Drawing
 drawn h d i e = option_map_or (λ s. option_map_or (marked h d i s) (event_mark e) Blank) (event_scope e) Blank
 
--- what the event at place i draws
+-- what the event at place i draws, if that is in view
 unfoldable pub event_figures : History → Sheet → ℕ → Drawing
-event_figures h d i = option_map_or (drawn h d i) (slice_get h.events i) Blank
+event_figures h d i = in_view d.view i (option_map_or (drawn h d i) (slice_get h.events i) Blank)
 
--- the line of the tick at place i, if it is one
+-- the line of the tick at place i, if it is one in view
 unfoldable pub moment_line : History → Sheet → ℕ → Drawing
-moment_line h d i = option_map_or (λ moment. One (ATick (record { x = x_in h d i; foot = row_y (length (drawn_rows h d)); moment = moment; told = nat_le (length h.events) 120 }))) (option_and_then tick_of (slice_get h.events i)) Blank
+moment_line h d i = in_view d.view i (option_map_or (λ moment. One (ATick (record { x = x_in h d i; foot = row_y (length (drawn_rows h d)); moment = moment; told = nat_le (length h.events) 120 }))) (option_and_then tick_of (slice_get h.events i)) Blank)

@@ -28,7 +28,7 @@ use Rattle.run_picture.specs.declared.strokes.Bar.{Bar}
 use Rattle.run_picture.specs.declared.strokes.Shade.{Shade}
 use Rattle.run_picture.specs.declared.strokes.Shade.TheVariants as shade
 use Rattle.run_picture.specs.Cancels.{is_accident}
-use Rattle.run_picture.specs.Drawing.{Drawing, Blank, Both, bar, label, mark}
+use Rattle.run_picture.specs.Drawing.{Drawing, Blank, Both, bar, in_view, label, mark}
 use Rattle.run_picture.specs.Landmarks.{first_place}
 use Rattle.run_picture.specs.Rows.{node_of}
 use Rattle.run_picture.specs.Sites.{closed_place, end_x, mark_at, span_in, x_in}
@@ -77,17 +77,17 @@ end_mark k None state = Never k
 abbrev pub running_bar : History → Sheet → ℕ → ℕ → Forking → Drawing
 running_bar h d y k f = option_map_or (λ at. bar (bar_in h d y (fork_of k f) at (ended h k) (running_shade (ended h k) (state h k)) (running_fate (ended h k) (state h k)))) (started h k) Blank
 
--- the mark at its end, if it ended
+-- the mark at its end, if it ended in view
 abbrev pub end_figure : History → Sheet → ℕ → ℕ → Drawing
-end_figure h d y k = option_map_or (λ at. mark (mark_at h d at y (end_mark k (started h k) (state h k)))) (ended h k) Blank
+end_figure h d y k = option_map_or (λ at. in_view d.view at (mark (mark_at h d at y (end_mark k (started h k) (state h k))))) (ended h k) Blank
 
 -- it waits for its thread until it starts, or ends; and what comes then
 abbrev pub life_drawn : History → Sheet → ℕ → ℕ → Forking → Drawing
 life_drawn h d y k f = Both (bar (bar_in h d y (fork_of k f) f.place (option_or (started h k) (ended h k)) shade.Waiting fate.Waits)) (Both (running_bar h d y k f) (end_figure h d y k))
 
--- task k never starts if its scope was cancelled before the fork
+-- task k never starts if its scope was cancelled before the fork, where its mark stands
 unfoldable pub fork_drawn : History → Sheet → ℕ → ℕ → Forking → Drawing
-fork_drawn h d y k f = if cancelled_before h f.scope f.place then mark (mark_at h d f.place y (Never k)) else life_drawn h d y k f
+fork_drawn h d y k f = if cancelled_before h f.scope f.place then in_view d.view f.place (mark (mark_at h d f.place y (Never k))) else life_drawn h d y k f
 
 -- the row of task k
 abbrev pub forked_lane : History → Sheet → ℕ → ℕ → ℕ → Forking → Drawing

@@ -14,7 +14,10 @@ use Rattle.run_picture.specs.declared.rows.Row.{Row}
 use Rattle.run_picture.specs.Chart.{drawn_rows, placed_rows}
 use Rattle.run_picture.specs.Nodes.{node_count, scope_node, task_node}
 use Rattle.run_picture.specs.Rows.{class_of, rows_of}
+use Rattle.run_picture.specs.Seen.{task_end}
 use Rattle.run_picture.specs.Sheet.{Sheet}
+use Rattle.run_picture.specs.Sites.{closed_place}
+use Rattle.run_picture.specs.View.{meets}
 
 -- the node is a task, and one that failed
 abbrev pub is_task : Class → Bool
@@ -46,13 +49,13 @@ pub record LosesNothing (h : History) (rows : List Row) (placed : List Placed) :
   pub tasks : sum_by (row_tasks h) rows ≡ count_by (λ p. is_task (class_of h p.node)) placed
   pub failures : sum_by (row_failures h) rows ≡ count_by (λ p. is_failure (class_of h p.node)) placed
 
--- if nothing is folded, each task has exactly one row
+-- if nothing is folded, each task that is in view has exactly one row, and no other has one
 abbrev pub EachTaskHasOneLane : Type 0
-EachTaskHasOneLane = (L : Limits) (h : History) (d : Sheet) (k : ℕ) (f : Forking) → Legal L h → d.view.scope ≡ None → length (placed_rows h None) ≤ d.view.rows → forking h k ≡ Some f → lanes_of h d k ≡ 1
+EachTaskHasOneLane = (L : Limits) (h : History) (d : Sheet) (k : ℕ) (f : Forking) → Legal L h → d.view.scope ≡ None → length (placed_rows h None) ≤ d.view.rows → forking h k ≡ Some f → lanes_of h d k ≡ cond (meets d.view f.place (task_end h k f)) 1 0
 
 -- and so has each scope, in a row of its own
 abbrev pub EachScopeHasOneBand : Type 0
-EachScopeHasOneBand = (L : Limits) (h : History) (d : Sheet) (s : ℕ) (o : Opening) → Legal L h → d.view.scope ≡ None → length (placed_rows h None) ≤ d.view.rows → opening h s ≡ Some o → bands_of h d s ≡ 1
+EachScopeHasOneBand = (L : Limits) (h : History) (d : Sheet) (s : ℕ) (o : Opening) → Legal L h → d.view.scope ≡ None → length (placed_rows h None) ≤ d.view.rows → opening h s ≡ Some o → bands_of h d s ≡ cond (meets d.view o.place (closed_place h s)) 1 0
 
 -- how often node n stands among those that are placed
 abbrev pub times_placed : History → ℕ → ℕ

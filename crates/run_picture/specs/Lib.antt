@@ -1,4 +1,5 @@
 pub mod Rows
+pub mod Seen
 pub mod Cancels
 pub mod Shields
 pub mod Events

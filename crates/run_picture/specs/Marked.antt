@@ -1,5 +1,5 @@
 -- Laws of the marks of a picture, in the words of the rules.
-use Rattle.std.specs.Prelude.{◌≡◌, ℕ, ◌+◌, ◌<◌, ◌==◌, Bool, true, false, cond, Option, Some, slice_get}
+use Rattle.std.specs.Prelude.{◌≡◌, ℕ, ◌+◌, ◌<◌, ◌==◌, ◌&&◌, Bool, true, false, cond, Option, Some, slice_get, unwrap_or}
 use Rattle.scope_rules.specs.declared.types.answers.Cause.{Cause}
 use Rattle.scope_rules.specs.declared.types.answers.Stage.TheVariants.{Finished, Never}
 use Rattle.scope_rules.specs.declared.types.capacity.Limits.{Limits}
@@ -21,9 +21,11 @@ use Rattle.run_picture.specs.declared.strokes.Reach.{Reach}
 use Rattle.run_picture.specs.Drawing.{Everywhere, Figure, ALabel, ABar, AMark, AReach, ATick, count_in}
 use Rattle.run_picture.specs.Laws.{lanes_of, bands_of}
 use Rattle.run_picture.specs.Picture.{figures}
+use Rattle.run_picture.specs.Seen.{task_end}
 use Rattle.run_picture.specs.Sheet.{Sheet}
 use Rattle.run_picture.specs.Sites.{number_in, scope_row, x_in}
 use Rattle.run_picture.specs.Spots.{row_y}
+use Rattle.run_picture.specs.View.{shows}
 
 -- ---- which figures there are
 
@@ -73,14 +75,22 @@ is_label_of k f = figure_of (is_task_subject k) no_number no_number f
 abbrev pub is_band_of : ℕ → Figure → Bool
 is_band_of s f = figure_of (is_scope_subject s) no_number no_number f
 
--- each lane of a task has one mark of its end, if the task ended or never starts, and else none; and no such mark
--- stands anywhere else
-abbrev pub EachEndHasOneMark : Type 0
-EachEndHasOneMark = (h : History) (d : Sheet) (k : ℕ) (f : Forking) → forking h k ≡ Some f → count_in (is_end_of k) (figures h d) ≡ cond (is_settled (stage h k)) (lanes_of h d k) 0
+-- where task k, which was forked so, ended or never started, if it did
+abbrev pub end_place : History → ℕ → Forking → ℕ
+end_place h k f = unwrap_or (task_end h k f) f.place
 
--- each scope with a row of its own has one mark of its cancel, if it is cancelled, and else none
+-- each lane of a task has one mark of its end, if the task ended or never starts in view, and else none; and no such
+-- mark stands anywhere else
+abbrev pub EachEndHasOneMark : Type 0
+EachEndHasOneMark = (h : History) (d : Sheet) (k : ℕ) (f : Forking) → forking h k ≡ Some f → count_in (is_end_of k) (figures h d) ≡ cond (is_settled (stage h k) && shows d.view (end_place h k f)) (lanes_of h d k) 0
+
+-- where scope s became cancelled, if it did
+abbrev pub cancel_place : History → ℕ → ℕ
+cancel_place h s = unwrap_or (cancelled_at h s) 0
+
+-- each scope with a row of its own has one mark of its cancel, if it became cancelled in view, and else none
 abbrev pub EachCancelHasOneMark : Type 0
-EachCancelHasOneMark = (h : History) (d : Sheet) (s row : ℕ) → scope_row h d s ≡ Some row → count_in (is_cancel_of s) (figures h d) ≡ cond (is_cancelled h s) 1 0
+EachCancelHasOneMark = (h : History) (d : Sheet) (s row : ℕ) → scope_row h d s ≡ Some row → count_in (is_cancel_of s) (figures h d) ≡ cond (is_cancelled h s && shows d.view (cancel_place h s)) 1 0
 
 -- each row that a task begins has the task's label, and each that a scope begins the scope's; no label stands
 -- anywhere else

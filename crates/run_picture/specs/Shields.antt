@@ -9,7 +9,7 @@ use Rattle.scope_rules.specs.History.{History, before, opening}
 use Rattle.scope_rules.specs.Scopes.{around, closed}
 use Rattle.run_picture.specs.Sheet.{Sheet}
 use Rattle.run_picture.specs.declared.marks.Mark.TheVariants.{Held}
-use Rattle.run_picture.specs.Drawing.{Drawing, Blank, mark}
+use Rattle.run_picture.specs.Drawing.{Drawing, Blank, in_view, mark}
 use Rattle.run_picture.specs.Sites.{mark_at, scope_row}
 use Rattle.run_picture.specs.Spots.{row_y}
 
@@ -27,8 +27,8 @@ abbrev pub held_mark : History → Sheet → ℕ → ℕ → ℕ → Drawing
 held_mark h d s place source = option_map_or (λ row. mark (mark_at h d place (row_y row) (Held s source))) (scope_row h d s) Blank
 
 abbrev pub opened_shield : History → Sheet → ℕ → Opening → Drawing
-opened_shield h d s o = if o.options.shield then option_map_or (λ c. held_mark h d s c.0 c.1.scope) (held_off h s o) Blank else Blank
+opened_shield h d s o = if o.options.shield then option_map_or (λ c. in_view d.view c.0 (held_mark h d s c.0 c.1.scope)) (held_off h s o) Blank else Blank
 
--- the shield of scope s, if it has one that held
+-- the shield of scope s, if it has one that held in view
 unfoldable pub shield_figures : History → Sheet → ℕ → Drawing
 shield_figures h d s = option_map_or (opened_shield h d s) (opening h s) Blank

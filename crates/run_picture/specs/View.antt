@@ -1,10 +1,19 @@
 -- How large a picture is, and how far from the left its events stand.
-use Rattle.std.specs.Prelude.{ℕ, ◌+◌, ◌-◌, ◌*◌, ◌/◌, max, min, None, List, [], ◌∷◌, length, get_or}
+use Rattle.std.specs.Prelude.{ℕ, ◌+◌, ◌-◌, ◌*◌, ◌/◌, ◌&&◌, max, min, nat_le, Bool, true, None, Option, List, [], ◌∷◌, length, get_or}
+use Rattle.std.specs.Option.{option_map_or}
 use Rattle.run_picture.specs.declared.view.View.{View}
 
 -- the whole run, on a page 1,200 pixels wide
 abbrev pub whole : View
 whole = record { width = 1200; rows = 300; from = 0; to = 4294967295; scope = None }
+
+-- the event at the place is in view
+abbrev pub shows : View → ℕ → Bool
+shows v i = nat_le v.from i && nat_le i v.to
+
+-- what lasts from the one place to the other, if it ends, is in view for a part of it
+abbrev pub meets : View → ℕ → Option ℕ → Bool
+meets v from to = nat_le from v.to && option_map_or (nat_le v.from) to true
 
 -- how high so many rows are, of those heights that a page is drawn for
 abbrev pub high : ℕ → ℕ

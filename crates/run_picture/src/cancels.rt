@@ -118,7 +118,7 @@ fn append_reached<R: Readings>(
     write!(text, "{line}{mark}")
 }
 
-/// Appends the cancel that reached the scope, if one did and the scope has a row. It is refused for memory alone.
+/// Appends the cancel that reached the scope, if one did in view and the scope has a row. It is refused for memory alone.
 #[tactic(auto, unfolding(crate::specs::Cancels::cancel_figures))]
 pub(crate) fn append_cancel<R: Readings>(
     readings: &R,
@@ -135,5 +135,8 @@ pub(crate) fn append_cancel<R: Readings>(
     let Some((place, cause)) = cancellation(readings, scope) else {
         return Ok(());
     };
+    if !chart.drawn.view.shows(place) {
+        return Ok(());
+    }
     append_reached(readings, chart, text, scope, row, place, cause)
 }

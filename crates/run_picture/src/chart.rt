@@ -9,6 +9,7 @@ use crate::forest::{Forest, Placed, append_rows, below, forest_of, nothings};
 use crate::landmarks::{Firsts, Landmark, firsts_of};
 use crate::nodes::{keys_of, node_count, scope_node};
 use crate::rows::{Row, rows_of};
+use crate::seen::seen_of;
 use crate::view::View;
 use scope_checks::Readings;
 use scope_rules::{Event, ScopeId};
@@ -140,8 +141,10 @@ pub(crate) fn chart_of<'a, R: Readings>(
     let scopes_before = readings.retired_scopes();
     let scopes = readings.scopes() - scopes_before;
     let nest = nest_of(alloc, readings, events)?;
+    let ends = firsts_of(alloc, events, Landmark::Ended, tasks_before, tasks)?;
     let placed = placed_of(alloc, readings, &nest, drawn.view.scope)?;
-    let rows = rows_of(alloc, readings, &placed, drawn.view.rows)?;
+    let seen = seen_of(alloc, readings, &nest, &ends, &placed, drawn.view)?;
+    let rows = rows_of(alloc, readings, &seen, drawn.view.rows)?;
     let Ok(height) = u32::try_from(rows.len()) else {
         return Err(AllocError);
     };
@@ -153,7 +156,7 @@ pub(crate) fn chart_of<'a, R: Readings>(
         drawn,
         nest,
         starts: firsts_of(alloc, events, Landmark::Started, tasks_before, tasks)?,
-        ends: firsts_of(alloc, events, Landmark::Ended, tasks_before, tasks)?,
+        ends,
         joins: firsts_of(alloc, events, Landmark::Joined, scopes_before, scopes)?,
         begins: firsts_of(alloc, events, Landmark::Began, scopes_before, scopes)?,
         rows,

@@ -60,7 +60,7 @@ fn append_marked<R: Readings>(
     write!(text, "{mark}")
 }
 
-/// Appends what the event at the place draws, if one stands there. It is refused for memory alone.
+/// Appends what the event at the place draws, if one stands there in view. It is refused for memory alone.
 #[tactic(auto, unfolding(crate::specs::Events::event_figures))]
 pub(crate) fn append_event<R: Readings>(
     readings: &R,
@@ -71,6 +71,9 @@ pub(crate) fn append_event<R: Readings>(
     requires { IsChartOf chart.now chart.now.drawn (R.history readings.now) }
     ensures { OnOk result (string_bytes text.new ≡ string_bytes text.old ++ shown (event_figures (R.history readings.now) (sheet_of chart.now.drawn) place)) }
 {
+    if !chart.drawn.view.shows(place as usize) {
+        return Ok(());
+    }
     let Some(event) = chart.drawn.events.get(place as usize) else {
         return Ok(());
     };
@@ -93,7 +96,7 @@ fn tick_of(event: &Event) -> Option<u64>
     }
 }
 
-/// Appends the line of the tick at the place, if one stands there. It is refused for memory alone.
+/// Appends the line of the tick at the place, if one stands there in view. It is refused for memory alone.
 #[tactic(auto, unfolding(crate::specs::Events::moment_line))]
 pub(crate) fn append_moment<R: Readings>(
     readings: &R,
@@ -104,6 +107,9 @@ pub(crate) fn append_moment<R: Readings>(
     requires { IsChartOf chart.now chart.now.drawn (R.history readings.now) }
     ensures { OnOk result (string_bytes text.new ≡ string_bytes text.old ++ shown (moment_line (R.history readings.now) (sheet_of chart.now.drawn) place)) }
 {
+    if !chart.drawn.view.shows(place as usize) {
+        return Ok(());
+    }
     let Some(event) = chart.drawn.events.get(place as usize) else {
         return Ok(());
     };

@@ -153,7 +153,7 @@ fn append_running<R: Readings>(
     write!(text, "{bar}")
 }
 
-/// Appends the mark at the end of the task, if it ended. It is refused for memory alone.
+/// Appends the mark at the end of the task, if it ended in view. It is refused for memory alone.
 fn append_end<R: Readings>(
     readings: &R,
     chart: &Chart<'_>,
@@ -168,6 +168,9 @@ fn append_end<R: Readings>(
     let Some(ended) = end_of(readings, chart, task) else {
         return Ok(());
     };
+    if !chart.drawn.view.shows(ended) {
+        return Ok(());
+    }
     let started = start_of(readings, chart, task);
     let mark = end_mark(task, started, state_of(readings, task));
     let mark = mark_at(readings, chart, ended, y, mark);
@@ -219,6 +222,9 @@ fn append_fork_line<R: Readings>(
     ensures { OnOk result (string_bytes text.new ≡ string_bytes text.old ++ shown (fork_drawn (R.history readings.now) (sheet_of chart.now.drawn) y task forked)) }
 {
     if is_cancelled_before(readings, forked.scope, forked.place) {
+        if !chart.drawn.view.shows(forked.place) {
+            return Ok(());
+        }
         let mark = Mark::Never { task };
         let mark = mark_at(readings, chart, forked.place, y, mark);
         write!(text, "{mark}")

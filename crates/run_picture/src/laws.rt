@@ -3,8 +3,8 @@ ghost use Rattle.run_picture.specs.Laws.{EachIsPlacedOnce, EachRowCountsItsOwn, 
 ghost use Rattle.run_picture.specs.Marked.{EachBandHasOneLabel, EachCancelHasOneMark, EachEndHasOneMark, EachLaneHasOneLabel, EachMarkIsSo};
 ghost use Rattle.run_picture.specs.Traced.{EachCancelHasOneInstant, EachOpenTimeIsItsOwn, EachRecordIsSo, EachScopeHasOneSlice, EachStartTimeIsItsOwn, EachTaskHasOneSlice};
 
-/// In a picture of the whole run each task and each scope is placed exactly once. If nothing is folded, each task has one
-/// lane and each scope one band, in rows of their own.
+/// In a picture of the whole run each task and each scope is placed exactly once. If nothing is folded, each task in view
+/// has one lane and each scope in view one band, in rows of their own; what has no part in view has none.
 pub fn each_has_one_row()
     ensures placed { EachIsPlacedOnce }
     ensures tasks { EachTaskHasOneLane }
@@ -24,15 +24,15 @@ pub fn rows_are_labelled_once()
     ensures bands { EachBandHasOneLabel }
 {}
 
-/// Each lane of a task has one mark of its end, if the task ended, was rejected or never starts, and else none. No such
-/// mark stands anywhere else.
+/// Each lane of a task has one mark of its end, if the task ended, was rejected or never started in view, and else none.
+/// No such mark stands anywhere else.
 #[tactic(auto, using(crate::proofs::Ended::each_end))]
 pub fn ends_are_marked_once()
     ensures { EachEndHasOneMark }
 {}
 
-/// Each scope with a row of its own has one mark of its cancel, if the rules say that it is cancelled, and else none.
-#[tactic(auto, using(crate::proofs::Cancelled::each_cancel))]
+/// Each scope with a row of its own has one mark of its cancel, if the rules say that it was cancelled in view, and else
+/// none.
 pub fn cancels_are_marked_once()
     ensures { EachCancelHasOneMark }
 {}

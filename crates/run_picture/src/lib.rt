@@ -3,7 +3,8 @@
 //! Each scope and each task that was numbered since the last retirement has a row, in the order of the tree: a scope,
 //! its tasks below it, a task's own scopes below the task, and then the scopes that its owner opened in it. Rows are
 //! indented by depth. If they are more than the view allows, a closed scope is one row with all that lies in it, and
-//! says how many tasks these are and how many of them failed. A view may show one scope alone.
+//! says how many tasks these are and how many of them failed. A view may show one scope alone, and from one event to
+//! another: then only what lasts in between has a row, and only what happened there has a mark.
 //!
 //! The way to the right is time if the caller hands the times of the events, and else their order; the picture says
 //! which. It fits the page that the view asks for, and is scaled down as a whole up to a fifth, so that some 200 rows
@@ -46,6 +47,7 @@ mod nodes;
 mod picture;
 mod pieces;
 mod rows;
+mod seen;
 mod shields;
 mod sites;
 mod slices;

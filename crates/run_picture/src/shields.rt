@@ -80,7 +80,7 @@ fn append_held<R: Readings>(
     )
 }
 
-/// Appends the shield of the scope, if it has one that held. It is refused for memory alone.
+/// Appends the shield of the scope, if it has one that held in view. It is refused for memory alone.
 #[tactic(auto, unfolding(crate::specs::Shields::shield_figures))]
 pub(crate) fn append_shield<R: Readings>(
     readings: &R,
@@ -100,5 +100,8 @@ pub(crate) fn append_shield<R: Readings>(
     let Some((place, cause)) = held_off(readings, chart, scope, opening) else {
         return Ok(());
     };
+    if !chart.drawn.view.shows(place) {
+        return Ok(());
+    }
     append_held(readings, chart, text, scope, place, cause.scope)
 }

@@ -1,6 +1,6 @@
 //! What of a run is drawn, and how large.
 ghost use Rattle.std.specs.Prelude.{◌≡◌, ◌<◌, ◌≤◌};
-ghost use Rattle.run_picture.specs.View.{high, natural_width, page_width, time_at, whole, x_at};
+ghost use Rattle.run_picture.specs.View.{high, meets, natural_width, page_width, shows, time_at, whole, x_at};
 
 use scope_rules::ScopeId;
 
@@ -11,9 +11,9 @@ pub struct View {
     pub width: u32,
     /// With more rows than these, each closed scope is one row, with all that lies in it.
     pub rows: u32,
-    /// The place of the first event that is drawn apart from those before it.
+    /// The place of the first event in view: what came before it leaves no mark, and what ended before no row.
     pub from: u32,
-    /// The place of the last one.
+    /// The place of the last one: what came or began behind it is not drawn.
     pub to: u32,
     /// The one scope that is drawn with what lies in it, if not all.
     pub scope: Option<ScopeId>,
@@ -31,6 +31,24 @@ impl View {
             to: u32::MAX,
             scope: None,
         }
+    }
+
+    /// Whether the event at the place is in view.
+    pub(crate) fn shows(self, place: usize) -> bool
+        ensures { result ≡ shows self place }
+    {
+        self.from as usize <= place && place <= self.to as usize
+    }
+
+    /// Whether what lasts from the one place to the other, if it ends, is in view for a part of it.
+    pub(crate) fn meets(self, from: usize, to: Option<usize>) -> bool
+        ensures { result ≡ meets self from to }
+    {
+        let ends_later = match to {
+            Some(place) => self.from as usize <= place,
+            None => true,
+        };
+        from <= self.to as usize && ends_later
     }
 }
 

@@ -10,10 +10,8 @@ use Rattle.scope_script.specs.declared.session.run.ScriptFault.TheVariants as en
 use Rattle.script_jobs.specs.Jobs.{ReadSome, Replayed, ReplayedNoted, ReplayedPartly, Showed}
 use Rattle.script_jobs.specs.declared.noting.NotedFault.{NotedFault}
 use Rattle.script_jobs.specs.declared.noting.NotedFault.TheVariants as noted
-use Rattle.script_jobs.specs.declared.showing.View.{View}
-use Rattle.script_jobs.specs.declared.showing.View.TheVariants as view
 use Rattle.scopectl.specs.Naming.{CameFrom, NamesFault, OfNotes}
-use Rattle.scopectl.specs.Program.{AnswersPlan, DidJob, DidPart, DidWhole, FailedAtEnd, Made, Makes, Shows, Told, ToldNotes, WroteLate, WrotePart, command_of, count_of, is_lenient, is_strict, lenience, noted_text, notes_on, notes_wanted}
+use Rattle.scopectl.specs.Program.{AnswersPlan, DidJob, DidPart, DidWhole, FailedAtEnd, Made, Makes, ToldNotes, WroteLate, noted_text, notes_on, notes_wanted, view_of}
 use Rattle.script_jobs.specs.Notes.{notes_text}
 use Rattle.script_jobs.specs.declared.notes.Notes.{Notes}
 use Rattle.scopectl.specs.Saying.{EitherBy, IsSaid, Noted, SaidNotes, count_text, is_silent, status_of}
@@ -22,6 +20,7 @@ use Rattle.script_jobs.specs.Counts.{count_of_script}
 use Rattle.script_jobs.specs.declared.counting.Count.{Count}
 use Rattle.command_line.specs.declared.lines.CommandLine.{CommandLine}
 use Rattle.command_line.specs.declared.lines.CommandLine.TheVariants as line
+use Rattle.command_line.specs.declared.lines.ViewOptions.{ViewOptions}
 use Rattle.command_line.specs.declared.settings.Delay.{Delay}
 use Rattle.command_line.specs.declared.settings.ScriptOptions.{ScriptOptions}
 use Rattle.scopectl.specs.declared.fault.ProgramFault.{ProgramFault}
@@ -158,39 +157,13 @@ module _ (script : ScriptOptions) (explain trace : Bool) (unread unread_new writ
     wrote = record { part = _; rest = []; whole = sym (append-nil _); appended = it.wrote };
   }
 
--- ---- the command of a view
+-- ---- a view
 
-makes_view : (v : View) (script : ScriptOptions) (lenient : Bool) (bytes text : List ℕ) → Shows v script.limits bytes text → Makes (command_of v script lenient) bytes text
-makes_view view.Dump script lenient bytes text is = is
-makes_view view.Tree script lenient bytes text is = is
-makes_view view.Timeline script lenient bytes text is = is
-makes_view view.TraceEvents script lenient bytes text is = is
-
-status_view : (v : View) (script : ScriptOptions) (lenient : Bool) (bytes : List ℕ) → status_of script.strict (lenience v lenient) (count_of_script script.limits bytes) ≡ status_of (is_strict (command_of v script lenient)) (is_lenient (command_of v script lenient)) (count_of (command_of v script lenient) bytes)
-status_view view.Dump script lenient bytes = refl
-status_view view.Tree script lenient bytes = refl
-status_view view.Timeline script lenient bytes = refl
-status_view view.TraceEvents script lenient bytes = refl
-
-told_view : (v : View) (script : ScriptOptions) (lenient : Bool) (bytes : List ℕ) (Kept : Type 0) (said said_new : Option (List ℕ)) (failed : Bool) → Noted script.quiet (count_of_script script.limits bytes) Kept said said_new failed
-    → Told (command_of v script lenient) bytes Kept said said_new failed
-told_view view.Dump script lenient bytes Kept said said_new failed it = it
-told_view view.Tree script lenient bytes Kept said said_new failed it = it
-told_view view.Timeline script lenient bytes Kept said said_new failed it = it
-told_view view.TraceEvents script lenient bytes Kept said said_new failed it = it
-
-wrote_view : (v : View) (script : ScriptOptions) (lenient : Bool) (bytes : List ℕ) (unread_new written written_new : Option (List ℕ)) (failed : Bool)
-    → WroteLate (command_of v script lenient) bytes unread_new written written_new failed → WrotePart (command_of v script lenient) bytes unread_new written written_new failed
-wrote_view view.Dump script lenient bytes unread_new written written_new failed it = it
-wrote_view view.Tree script lenient bytes unread_new written written_new failed it = it
-wrote_view view.Timeline script lenient bytes unread_new written written_new failed it = it
-wrote_view view.TraceEvents script lenient bytes unread_new written written_new failed it = it
-
-pub made : (v : View) (script : ScriptOptions) (lenient : Bool) (unread unread_new : Option (List ℕ)) (text : List ℕ) (count : Count) → Showed unread unread_new script.limits v text count → Made (Makes (command_of v script lenient)) unread unread_new text
+pub made : (v : ViewOptions) (script : ScriptOptions) (lenient : Bool) (unread unread_new : Option (List ℕ)) (text : List ℕ) (count : Count) → Showed unread unread_new script.limits (view_of v) text count → Made (Makes (line.Show script v lenient)) unread unread_new text
 made v script lenient unread unread_new text count shown = record {
   bytes = shown.script;
   whole = record { read = shown.read; all = shown.all };
-  makes = makes_view v script lenient shown.script text shown.is;
+  makes = shown.is;
 }
 
 -- ---- a text that is made of all that is read, and then written
@@ -223,19 +196,19 @@ module _ (command : CommandLine) (unread unread_new written mid written_new : Op
   pub late : (failed : Bool) → AppendsPart mid written_new text → failed ≡ true → WroteLate command made.bytes unread_new written written_new failed
   late failed wrote fails = inr (failed_at_end failed wrote fails)
 
-module _ (v : View) (script : ScriptOptions) (lenient : Bool) (unread unread_new written mid written_new : Option (List ℕ)) (failed : Bool) where
-  pub view_told_part : (text : List ℕ) → Made (Makes (command_of v script lenient)) unread unread_new text → Appends written mid [] → AppendsPart mid written_new text → failed ≡ true
-      → DidPart (command_of v script lenient) unread unread_new written written_new failed
+module _ (v : ViewOptions) (script : ScriptOptions) (lenient : Bool) (unread unread_new written mid written_new : Option (List ℕ)) (failed : Bool) where
+  pub view_told_part : (text : List ℕ) → Made (Makes (line.Show script v lenient)) unread unread_new text → Appends written mid [] → AppendsPart mid written_new text → failed ≡ true
+      → DidPart (line.Show script v lenient) unread unread_new written written_new failed
   view_told_part text made unwritten wrote fails = record {
     bytes = made.bytes;
     read = made.whole.read;
-    wrote = wrote_view v script lenient made.bytes unread_new written written_new failed (late (command_of v script lenient) unread unread_new written mid written_new text made unwritten failed wrote fails);
+    wrote = late (line.Show script v lenient) unread unread_new written mid written_new text made unwritten failed wrote fails;
   }
 
-pub view_stopped : (v : View) (script : ScriptOptions) (lenient : Bool) (unread unread_new written written_new : Option (List ℕ)) (failed : Bool) → ReadSome unread unread_new → Appends written written_new []
-    → DidPart (command_of v script lenient) unread unread_new written written_new failed
+pub view_stopped : (v : ViewOptions) (script : ScriptOptions) (lenient : Bool) (unread unread_new written written_new : Option (List ℕ)) (failed : Bool) → ReadSome unread unread_new → Appends written written_new []
+    → DidPart (line.Show script v lenient) unread unread_new written written_new failed
 view_stopped v script lenient unread unread_new written written_new failed some unwritten =
-    record { bytes = some.bytes; read = some.read; wrote = wrote_view v script lenient some.bytes unread_new written written_new failed (inl unwritten) }
+    record { bytes = some.bytes; read = some.read; wrote = inl unwritten }
 
 module _ (deadline : Option ℕ) (after : Option Delay) (unread unread_new written written_new : Option (List ℕ)) where
   pub quote_told : (text : List ℕ) → Made (AnswersPlan deadline after) unread unread_new text → Appends written written_new text → DidJob (line.Quote deadline after) unread unread_new written written_new
@@ -278,12 +251,12 @@ module _ (Kept : Type 0) (unread unread_new written written_new said said_new : 
         status = status ∙ ap (status_of script.strict true) it.counted;
       }
 
-    pub view_whole : (v : View) (lenient : Bool) → result ≡ status_of script.strict (lenience v lenient) count → Noted script.quiet count Kept said said_new failed → (mid : Option (List ℕ)) (text : List ℕ) → Showed unread unread_new script.limits v text count → Appends written mid [] → Appends mid written_new text
-        → DidWhole (command_of v script lenient) Kept unread unread_new written written_new said said_new failed result
+    pub view_whole : (v : ViewOptions) (lenient : Bool) → result ≡ status_of script.strict lenient count → Noted script.quiet count Kept said said_new failed → (mid : Option (List ℕ)) (text : List ℕ) → Showed unread unread_new script.limits (view_of v) text count → Appends written mid [] → Appends mid written_new text
+        → DidWhole (line.Show script v lenient) Kept unread unread_new written written_new said said_new failed result
     view_whole v lenient status noted mid text it unwritten wrote = record {
-      did = record { bytes = it.script; read = it.read; all = it.all; text = text; makes = makes_view v script lenient it.script text it.is; wrote = Appends-trans written mid written_new [] text unwritten wrote };
-      noted = told_view v script lenient it.script Kept said said_new failed (subst (λ (t : Count). Noted script.quiet t Kept said said_new failed) it.counted noted);
-      status = status ∙ (ap (status_of script.strict (lenience v lenient)) it.counted ∙ status_view v script lenient it.script);
+      did = record { bytes = it.script; read = it.read; all = it.all; text = text; makes = it.is; wrote = Appends-trans written mid written_new [] text unwritten wrote };
+      noted = subst (λ (t : Count). Noted script.quiet t Kept said said_new failed) it.counted noted;
+      status = status ∙ ap (status_of script.strict lenient) it.counted;
     }
 
   pub quote_whole : (deadline : Option ℕ) (after : Option Delay) → DidJob (line.Quote deadline after) unread unread_new written written_new → Kept → result ≡ 0

@@ -1,5 +1,5 @@
 -- What the program has done.
-use Rattle.std.specs.Prelude.{◌≡◌, ◌⊎◌, ◌++◌, ℕ, Bool, true, false, Option, None, Some, List, [], ◌∷◌, unwrap_or}
+use Rattle.std.specs.Prelude.{◌≡◌, ◌⊎◌, ◌++◌, ◌-◌, ℕ, Bool, true, false, Option, None, Some, List, [], ◌∷◌, unwrap_or}
 use Rattle.std.specs.Io.KnownBytes.{Appends, Consumes, IsAtEnd}
 use Rattle.scope_rules.specs.declared.types.capacity.Limits.{Limits}
 use Rattle.scope_script.specs.Sessions.{replies_of, realm_of_script}
@@ -21,7 +21,17 @@ use Rattle.quote_plan.specs.PlanReading.{SayPlan, lines_of}
 use Rattle.quote_plan.specs.Plans.{PlanValue}
 use Rattle.command_line.specs.declared.lines.CommandLine.{CommandLine}
 use Rattle.command_line.specs.declared.lines.CommandLine.TheVariants as line
+use Rattle.command_line.specs.declared.lines.ViewOptions.{ViewOptions}
+use Rattle.command_line.specs.declared.lines.ViewOptions.TheVariants as asked
 use Rattle.command_line.specs.declared.settings.Delay.{Delay}
+use Rattle.command_line.specs.declared.settings.PictureOptions.{PictureOptions}
+use Rattle.command_line.specs.declared.settings.TreeOptions.{TreeOptions}
+use Rattle.command_line.specs.declared.settings.TreeOptions.TheVariants as tree
+use Rattle.run_picture.specs.View.{whole}
+use Rattle.run_picture.specs.declared.view.View.{View as Seen}
+use Rattle.scope_rules.specs.declared.types.capacity.TheConstants.{LEVEL_LIMIT}
+use Rattle.tree_dump.specs.declared.parts.TreePart.{TreePart}
+use Rattle.tree_dump.specs.declared.parts.TreePart.TheVariants as part
 use Rattle.scope_rules.specs.Names.{same_name}
 use Rattle.scope_rules.specs.declared.types.names.Name.{Name}
 use Rattle.std.specs.List.{list_any}
@@ -94,19 +104,33 @@ pub record AnswersPlan (deadline : Option ℕ) (after : Option Delay) (bytes tex
   pub late : has_late after plan ≡ true
   pub says : SaysAllowed deadline plan text
 
--- the command that shows a view of what a script leaves
-abbrev pub command_of : View → ScriptOptions → (lenient : Bool) → CommandLine
-command_of view.Dump script lenient = line.Dump script
-command_of view.Tree script lenient = line.Tree script lenient
-command_of view.Timeline script lenient = line.Timeline script lenient
-command_of view.TraceEvents script lenient = line.TraceEvents script lenient
+-- the part of the tree that the words ask for: all levels, if they don't say how many
+abbrev pub tree_part : TreeOptions → TreePart
+tree_part tree.Whole = part.Whole
+tree_part tree.Awaited = part.Awaited
+tree_part (tree.Part depth scope) = part.Levels (unwrap_or depth LEVEL_LIMIT) scope
 
--- whether lines may be no commands: in a dump they may
-abbrev pub lenience : View → (lenient : Bool) → Bool
-lenience view.Dump lenient = true
-lenience view.Tree lenient = lenient
-lenience view.Timeline lenient = lenient
-lenience view.TraceEvents lenient = lenient
+-- the place of the event with this number, or else the other place: places are counted from 0
+abbrev pub place_or : Option ℕ → ℕ → ℕ
+place_or (Some number) other = number - 1
+place_or None other = other
+
+-- what of a run the words ask for: what they don't say is as in the picture of the whole run
+abbrev pub seen_of : PictureOptions → Seen
+seen_of p = record {
+  width = unwrap_or p.width whole.width;
+  rows = unwrap_or p.rows whole.rows;
+  from = place_or p.from whole.from;
+  to = place_or p.to whole.to;
+  scope = p.scope;
+}
+
+-- the view that the words ask for
+abbrev pub view_of : ViewOptions → View
+view_of asked.Dump = view.Dump
+view_of (asked.Tree tree) = view.Tree (tree_part tree)
+view_of (asked.Timeline picture) = view.Timeline (seen_of picture)
+view_of asked.TraceEvents = view.TraceEvents
 
 -- the text is the view of the realm of these limits that the script leaves
 abbrev pub Shows : View → Limits → (bytes text : List ℕ) → Type 0
@@ -116,10 +140,7 @@ Shows view limits bytes text = text ≡ shown_text view (realm_of_script limits 
 -- realm that the script leaves; or an answer to a plan by the deadline
 abbrev pub Makes : CommandLine → (bytes text : List ℕ) → Type 0
 Makes (line.Replay script explain trace) bytes text = text ≡ replies_of script.limits bytes
-Makes (line.Dump script) bytes text = Shows view.Dump script.limits bytes text
-Makes (line.Tree script lenient) bytes text = Shows view.Tree script.limits bytes text
-Makes (line.Timeline script lenient) bytes text = Shows view.Timeline script.limits bytes text
-Makes (line.TraceEvents script lenient) bytes text = Shows view.TraceEvents script.limits bytes text
+Makes (line.Show script view lenient) bytes text = Shows (view_of view) script.limits bytes text
 Makes (line.Quote deadline after) bytes text = AnswersPlan deadline after bytes text
 Makes (line.Generate seed lines) bytes text = IsScript (lines_or lines) text
 
@@ -138,37 +159,26 @@ no_count = record { tally = no_refusals; is_foreign = false }
 
 abbrev pub count_of : CommandLine → List ℕ → Count
 count_of (line.Replay script explain trace) bytes = count_of_script script.limits bytes
-count_of (line.Dump script) bytes = count_of_script script.limits bytes
-count_of (line.Tree script lenient) bytes = count_of_script script.limits bytes
-count_of (line.Timeline script lenient) bytes = count_of_script script.limits bytes
-count_of (line.TraceEvents script lenient) bytes = count_of_script script.limits bytes
+count_of (line.Show script view lenient) bytes = count_of_script script.limits bytes
 count_of (line.Quote deadline after) bytes = no_count
 count_of (line.Generate seed lines) bytes = no_count
 
 -- the status is to tell that lines were refused
 abbrev pub is_strict : CommandLine → Bool
 is_strict (line.Replay script explain trace) = script.strict
-is_strict (line.Dump script) = script.strict
-is_strict (line.Tree script lenient) = script.strict
-is_strict (line.Timeline script lenient) = script.strict
-is_strict (line.TraceEvents script lenient) = script.strict
+is_strict (line.Show script view lenient) = script.strict
 is_strict (line.Quote deadline after) = false
 is_strict (line.Generate seed lines) = false
 
 -- the status is 0 though lines are no commands
 abbrev pub is_lenient : CommandLine → Bool
-is_lenient (line.Tree script lenient) = lenient
-is_lenient (line.Timeline script lenient) = lenient
-is_lenient (line.TraceEvents script lenient) = lenient
+is_lenient (line.Show script view lenient) = lenient
 is_lenient _ = true
 
 -- nothing is to be said of how many lines were refused
 abbrev pub is_quiet : CommandLine → Bool
 is_quiet (line.Replay script explain trace) = script.quiet
-is_quiet (line.Dump script) = script.quiet
-is_quiet (line.Tree script lenient) = script.quiet
-is_quiet (line.Timeline script lenient) = script.quiet
-is_quiet (line.TraceEvents script lenient) = script.quiet
+is_quiet (line.Show script view lenient) = script.quiet
 is_quiet (line.Quote deadline after) = true
 is_quiet (line.Generate seed lines) = true
 

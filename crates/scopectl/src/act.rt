@@ -3,18 +3,23 @@ ghost use Rattle.std.specs.Prelude.{◌≡◌, ◌≢◌, ◌≤◌, ◌⊎◌, 
 ghost use Rattle.std.specs.Io.KnownBytes.{Appends};
 ghost use Rattle.scope_script.specs.Streams.{AppendsPart};
 ghost use Rattle.scopectl.specs.Naming.{IsOfPlan, NamesAfter, NamesAny, NamesFault};
-ghost use Rattle.scopectl.specs.Program.{DidAsSaid, DidJob, DidPart, DidPartly, DidWhole, GaveText, GaveTextPartly, IsNotUnderstood, command_of, lenience, lines_or, notes_wanted};
+ghost use Rattle.scopectl.specs.Program.{DidAsSaid, DidJob, DidPart, DidPartly, DidWhole, GaveText, GaveTextPartly, IsNotUnderstood, lines_or, notes_wanted, place_or, seen_of, tree_part, view_of};
 ghost use Rattle.script_jobs.specs.Made.{IsScript};
 ghost use Rattle.scopectl.specs.Saying.{IsSaid, Noted, SaidSome, count_text, is_silent, status_of, three_if_some};
 ghost use Rattle.scopectl.specs.Texts.{line_of, not_utf8_line};
 
 use crate::fault::{ProgramFault, count_text};
 use crate::quoting::quoted;
-use command_line::{CommandLine, Delay, LineFault, ScriptOptions, VERSION_LINE, help_of, line};
+use command_line::{
+    CommandLine, Delay, LineFault, PictureOptions, ScriptOptions, TreeOptions, VERSION_LINE,
+    ViewOptions, help_of, line,
+};
 use job_runner::JobWork;
 use quote_gateway::LateJob;
 use realm_lock::{RealmName, Seed};
+use run_picture::View as Seen;
 use scope_rules::Due;
+use scope_rules::types::capacity::LEVEL_LIMIT;
 use scope_script::Watched;
 use script_jobs::{Count, Notes, Rendering, View, replayed, replayed_noted, script_by, shown};
 use std::alloc::Global;
@@ -22,6 +27,7 @@ use std::io::{ErrorKind, Read, Write};
 use std::rt::Clock as SystemTime;
 use std::sync::Wait;
 use thread_crew::Spawns;
+use tree_dump::TreePart;
 
 /// By which number a random script is made if none is given.
 const SEED: u32 = 1;
@@ -114,34 +120,13 @@ pub fn act<
                 trace,
             },
         ) => replay(alloc, script, explain, trace, reader, writer, errors),
-        Ok(CommandLine::Dump(script)) => {
-            show(alloc, script, View::Dump, true, reader, writer, errors)
-        }
-        Ok(CommandLine::Tree { script, lenient }) => {
-            show(alloc, script, View::Tree, lenient, reader, writer, errors)
-        }
-        Ok(CommandLine::Timeline { script, lenient }) => {
-            show(
-                alloc,
+        Ok(
+            CommandLine::Show {
                 script,
-                View::Timeline,
+                view,
                 lenient,
-                reader,
-                writer,
-                errors,
-            )
-        }
-        Ok(CommandLine::TraceEvents { script, lenient }) => {
-            show(
-                alloc,
-                script,
-                View::TraceEvents,
-                lenient,
-                reader,
-                writer,
-                errors,
-            )
-        }
+            },
+        ) => show(alloc, script, view, lenient, reader, writer, errors),
         Ok(CommandLine::Quote { deadline, after }) => quote::<N, S, T, R, W, E>(
             rt, alloc, seed, spawner, deadline, after, reader, writer, errors,
         ),
@@ -286,7 +271,7 @@ fn generate<W: Write + Drop, E: Write + Drop>(
 fn show<R: Read + Drop, W: Write + Drop, E: Write + Drop>(
     alloc: Global,
     script: ScriptOptions,
-    view: View,
+    view: ViewOptions,
     lenient: bool,
     reader: &mut Watched<R>,
     writer: &mut Watched<W>,
@@ -295,12 +280,12 @@ fn show<R: Read + Drop, W: Write + Drop, E: Write + Drop>(
     requires reader { reader.old.failed ≡ false }
     requires writer { writer.old.failed ≡ false }
     ensures status { (result ≤ 3) × (result ≢ 2) }
-    ensures done { result ≢ 1 → DidWhole (command_of view script lenient) (errors.new ≡ errors.old) (R.remaining reader.old.inner) (R.remaining reader.new.inner) (W.contents writer.old.inner) (W.contents writer.new.inner) (E.contents errors.old.inner) (E.contents errors.new.inner) errors.new.failed result }
-    ensures fault { result ≡ 1 → DidPart (command_of view script lenient) (R.remaining reader.old.inner) (R.remaining reader.new.inner) (W.contents writer.old.inner) (W.contents writer.new.inner) writer.new.failed }
+    ensures done { result ≢ 1 → DidWhole (CommandLine.Show script view lenient) (errors.new ≡ errors.old) (R.remaining reader.old.inner) (R.remaining reader.new.inner) (W.contents writer.old.inner) (W.contents writer.new.inner) (E.contents errors.old.inner) (E.contents errors.new.inner) errors.new.failed result }
+    ensures fault { result ≡ 1 → DidPart (CommandLine.Show script view lenient) (R.remaining reader.old.inner) (R.remaining reader.new.inner) (W.contents writer.old.inner) (W.contents writer.new.inner) writer.new.failed }
     ensures named { result ≡ 1 → NamesFault (E.contents errors.old.inner) (E.contents errors.new.inner) errors.new.failed ((reader.new.failed ≡ true) ⊎ (reader.new.reads ≡ u64.MAX)) (writer.new.failed ≡ true) ((reader.new.failed ≡ false) × (writer.new.failed ≡ false)) (λ _. ⊥) }
 {
-    match shown(alloc, script.limits, view, reader, writer) {
-        Ok(shown) => tell_shown(script, lenience(view, lenient), &shown, writer, errors),
+    match shown(alloc, script.limits, view_of(view), reader, writer) {
+        Ok(shown) => tell_shown(script, lenient, &shown, writer, errors),
         Err(cause) => fail(ProgramFault::of_run(cause), errors),
     }
 }
@@ -327,13 +312,53 @@ fn tell_shown<W: Write + Drop, E: Write + Drop>(
     note(script, lenient, shown.count, errors)
 }
 
-/// Whether lines may be no commands.
-fn lenience(view: View, lenient: bool) -> bool
-    ensures { result ≡ lenience view lenient }
+/// The view that the words ask for.
+fn view_of(view: ViewOptions) -> View
+    ensures { result ≡ view_of view }
 {
     match view {
-        View::Dump => true,
-        View::Tree | View::Timeline | View::TraceEvents => lenient,
+        ViewOptions::Dump => View::Dump,
+        ViewOptions::Tree(tree) => View::Tree(tree_part(tree)),
+        ViewOptions::Timeline(picture) => View::Timeline(seen_of(picture)),
+        ViewOptions::TraceEvents => View::TraceEvents,
+    }
+}
+
+/// The part of the tree that the words ask for.
+fn tree_part(tree: TreeOptions) -> TreePart
+    ensures { result ≡ tree_part tree }
+{
+    match tree {
+        TreeOptions::Whole => TreePart::Whole,
+        TreeOptions::Awaited => TreePart::Awaited,
+        TreeOptions::Part { depth, scope } => TreePart::Levels {
+            depth: depth.unwrap_or(LEVEL_LIMIT),
+            scope,
+        },
+    }
+}
+
+/// What of a run the words ask for. Places are counted from 0, where people count events from 1.
+fn seen_of(picture: PictureOptions) -> Seen
+    ensures { result ≡ seen_of picture }
+{
+    let whole = Seen::whole();
+    Seen {
+        width: picture.width.unwrap_or(whole.width),
+        rows: picture.rows.unwrap_or(whole.rows),
+        from: place_or(picture.from, whole.from),
+        to: place_or(picture.to, whole.to),
+        scope: picture.scope,
+    }
+}
+
+/// The place of the event with this number, or else the other place.
+fn place_or(number: Option<u32>, other: u32) -> u32
+    ensures { result ≡ place_or number other }
+{
+    match number {
+        Some(number) => number.saturating_sub(1),
+        None => other,
     }
 }
 

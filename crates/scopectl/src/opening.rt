@@ -207,11 +207,7 @@ pub fn act_compared<'a, T: CrewRuntime + SystemTime, R: Read + Drop, E: Write + 
 /// Whether the words want nothing said but what they ask for.
 fn is_quiet(command: &CommandLine) -> bool {
     match command {
-        CommandLine::Replay { script, .. }
-        | CommandLine::Dump(script)
-        | CommandLine::Tree { script, .. }
-        | CommandLine::Timeline { script, .. }
-        | CommandLine::TraceEvents { script, .. } => script.quiet,
+        CommandLine::Replay { script, .. } | CommandLine::Show { script, .. } => script.quiet,
         CommandLine::Quote { .. } => false,
         CommandLine::Generate { .. } => true,
     }

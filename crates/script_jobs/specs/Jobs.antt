@@ -9,10 +9,9 @@ use Rattle.script_jobs.specs.declared.counting.Count.{Count}
 use Rattle.scope_rules.specs.History.{History}
 use Rattle.tree_dump.specs.Tree.{dump_text}
 use Rattle.tree_dump.specs.Ages.{Clock, no_clock}
-use Rattle.tree_dump.specs.TextTree.{tree_by}
+use Rattle.tree_dump.specs.TreeParts.{part_text}
 use Rattle.run_picture.specs.Picture.{drawn_text}
 use Rattle.run_picture.specs.Stamps.{open_times, start_times}
-use Rattle.run_picture.specs.View.{whole}
 use Rattle.run_picture.specs.Trace.{trace_text}
 use Rattle.script_jobs.specs.Notes.{notes_text}
 use Rattle.script_jobs.specs.Times.{Stamps, stamps_of_script}
@@ -52,8 +51,8 @@ clock_in h s = clock_by h s s.events
 -- the text of a view of a history, by the times of its events
 abbrev pub shown_text : View → History → Stamps → List ℕ
 shown_text Dump h s = dump_text h ++ 10 ∷ []
-shown_text Tree h s = tree_by (clock_in h s) h
-shown_text Timeline h s = drawn_text h (record { view = whole; lines = []; times = s.events })
+shown_text (Tree part) h s = part_text (clock_in h s) h part
+shown_text (Timeline seen) h s = drawn_text h (record { view = seen; lines = []; times = s.events })
 shown_text TraceEvents h s = trace_text h s.events
 
 -- all bytes were read, and the text is the view of the realm that they leave, which refused so many lines, by the

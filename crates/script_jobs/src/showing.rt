@@ -16,17 +16,17 @@ use scope_rules::{AnyEnd, Limits};
 use scope_script::{Mode, Ran, ScriptFault, Watched, run_tallied, run_text};
 use std::alloc::{AllocError, Global};
 use std::io::{Read, Write};
-use tree_dump::{Ages, dump, tree_of, tree_with};
+use tree_dump::{Ages, TreePart, dump, tree_part};
 
 /// How what a script leaves is shown.
 #[derive(Clone, Copy)]
 pub enum View {
     /// The tree of the scopes that are not closed, as one line of JSON.
     Dump,
-    /// The same tree, as text for a terminal.
-    Tree,
-    /// A picture of the run, as SVG.
-    Timeline,
+    /// The same tree, or a part of it, as text for a terminal.
+    Tree(TreePart),
+    /// A picture of the run, or of a part of it, as SVG.
+    Timeline(run_picture::View),
     /// The run as Chrome trace events, as JSON.
     TraceEvents,
 }
@@ -65,7 +65,7 @@ pub fn shown<R: Read + Drop, W: Write + Drop>(
 {
     match view {
         View::Dump => dumped(alloc, limits, reader, writer),
-        View::Tree | View::Timeline | View::TraceEvents => {
+        View::Tree(_) | View::Timeline(_) | View::TraceEvents => {
             shown_by_times(alloc, limits, view, reader, writer)
         }
     }
@@ -173,18 +173,23 @@ fn text_of(
 {
     match view {
         View::Dump => dump_line(alloc, book),
-        View::Tree => tree_text(alloc, book, times),
-        View::Timeline => timeline(alloc, book, times),
+        View::Tree(part) => tree_text(alloc, book, times, part),
+        View::Timeline(seen) => timeline(alloc, book, times, seen),
         View::TraceEvents => trace_text(alloc, book, times),
     }
 }
 
-/// The picture of the book's realm, with the way to the right as time, if there are times.
+/// The picture of the book's realm, as much as is to be seen, with the way to the right as time, if there are times.
 ///
 /// # Errors
 /// If memory was refused.
-fn timeline(alloc: Global, book: &BookState<AnyEnd>, times: &Times) -> Result<String, AllocError>
-    ensures { IfOk result (λ text. string_bytes text ≡ shown_text View.Timeline (history_of book.now) (stamps_of times.now)) }
+fn timeline(
+    alloc: Global,
+    book: &BookState<AnyEnd>,
+    times: &Times,
+    seen: run_picture::View,
+) -> Result<String, AllocError>
+    ensures { IfOk result (λ text. string_bytes text ≡ shown_text (View.Timeline seen) (history_of book.now) (stamps_of times.now)) }
 {
     let events = book.realm().copied_events(alloc)?;
     picture_with(
@@ -194,7 +199,7 @@ fn timeline(alloc: Global, book: &BookState<AnyEnd>, times: &Times) -> Result<St
             events: &events,
             lines: &[],
             times: &times.events,
-            view: run_picture::View::whole(),
+            view: seen,
         },
     )
 }
@@ -210,15 +215,20 @@ fn trace_text(alloc: Global, book: &BookState<AnyEnd>, times: &Times) -> Result<
     trace_of(alloc, book.realm(), &events, &times.events)
 }
 
-/// The tree of the book's realm, with ages, if there are times.
+/// The part of the tree of the book's realm, with ages, if there are times.
 ///
 /// # Errors
 /// If memory was refused.
-fn tree_text(alloc: Global, book: &BookState<AnyEnd>, times: &Times) -> Result<String, AllocError>
-    ensures { IfOk result (λ text. string_bytes text ≡ shown_text View.Tree (history_of book.now) (stamps_of times.now)) }
+fn tree_text(
+    alloc: Global,
+    book: &BookState<AnyEnd>,
+    times: &Times,
+    part: TreePart,
+) -> Result<String, AllocError>
+    ensures { IfOk result (λ text. string_bytes text ≡ shown_text (View.Tree part) (history_of book.now) (stamps_of times.now)) }
 {
     if times.events.is_empty() {
-        return tree_of(alloc, book.realm());
+        return tree_part(alloc, book.realm(), &Ages::none(), part);
     }
     let events = book.realm().copied_events(alloc)?;
     let started = start_times(alloc, book.realm(), &events, &times.events)?;
@@ -228,7 +238,7 @@ fn tree_text(alloc: Global, book: &BookState<AnyEnd>, times: &Times) -> Result<S
         started: &started,
         opened: &opened,
     };
-    tree_with(alloc, book.realm(), &ages)
+    tree_part(alloc, book.realm(), &ages, part)
 }
 
 /// The dump of the book's realm, and a line feed.

@@ -9,3 +9,5 @@ mod Shows
 mod Insides
 mod Listed
 mod Once
+mod Parted
+pub mod Awaits

@@ -1,6 +1,7 @@
 pub mod Ages
 pub mod Objects
 pub mod Tree
+pub mod TreeParts
 pub mod Words
 pub mod Retiring
 pub mod TextLines
@@ -9,3 +10,4 @@ pub mod Sent
 pub mod RetiringText
 pub mod Shows
 pub mod Once
+pub mod Awaits

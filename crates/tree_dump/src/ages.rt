@@ -1,6 +1,6 @@
 //! How long tasks run and scopes are open, by a clock.
 ghost use Rattle.std.specs.Prelude.{◌≡◌, Some, option_map};
-ghost use Rattle.tree_dump.specs.Ages.{aged_text, clock_of, duration_text, for_text, late_by, late_text, open_text, reading_in, scope_age, scope_late, since, task_age};
+ghost use Rattle.tree_dump.specs.Ages.{aged_text, clock_of, duration_text, for_text, late_by, late_text, no_clock, open_text, reading_in, scope_age, scope_late, since, task_age};
 
 use scope_checks::Readings;
 use scope_rules::types::infos::ScopeInfo;
@@ -16,6 +16,19 @@ pub struct Ages<'a> {
     pub started: &'a [u32],
     /// By scope since the last retirement, the reading as it was opened.
     pub opened: &'a [u32],
+}
+
+impl<'a> Ages<'a> {
+    /// Without readings.
+    pub fn none() -> Ages<'a>
+        ensures { clock_of result ≡ no_clock }
+    {
+        Ages {
+            last: 0,
+            started: &[],
+            opened: &[],
+        }
+    }
 }
 
 /// The reading for the number, of those behind `before`.

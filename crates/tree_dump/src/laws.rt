@@ -1,5 +1,6 @@
 //! Laws of dumps and trees. The functions do nothing: their contracts are the laws.
 
+ghost use Rattle.tree_dump.specs.Awaits.{TreeAwaits};
 ghost use Rattle.tree_dump.specs.Retiring.{DumpStays};
 ghost use Rattle.tree_dump.specs.RetiringText.{TreeStays};
 ghost use Rattle.tree_dump.specs.Once.{TreeShowsEachOnce};
@@ -24,4 +25,9 @@ pub fn tree_shows_each()
 /// tasks. No closed scope has one, and no task of a closed scope.
 pub fn tree_shows_each_once()
     ensures { TreeShowsEachOnce }
+{}
+
+/// The line of a scope in a tree says how many of its tasks wait or run, and how many were forked in it.
+pub fn tree_awaits()
+    ensures { TreeAwaits }
 {}

@@ -39,12 +39,21 @@
 //! The first scope is main's outermost one. Under a scope stand its tasks, in fork order; under a task its own
 //! outermost scope; and behind a scope's tasks, as deep as they, the next scope that its owner opened and has not
 //! closed. Where main has no scope that is not closed, the second line is `nothing is open`.
+//!
+//! A part of the tree (`tree_part`) is some of its levels, from main's outermost scope or from another, or what is waited
+//! for alone: each scope that waits for tasks, the oldest first, with its tasks that wait or run. Behind a part stands
+//! what all that is open sums up to:
+//!
+//! ```text
+//! open in all: scopes N, tasks waiting N, running N, finished N, never started N
+//! ```
 #![tactic(auto)]
 
 mod ages;
 mod book;
 pub mod laws;
 mod members;
+mod parts;
 mod text_lines;
 mod text_walk;
 pub mod told;
@@ -53,5 +62,6 @@ mod words;
 
 pub use ages::Ages;
 pub use book::dump;
+pub use parts::{Sums, TreePart, tree_part};
 pub use text_walk::{tree_of, tree_with};
 pub use walk::dump_of;

@@ -16,7 +16,7 @@ use scope_rules::{ScopeId, TaskId};
 use std::alloc::{AllocError, Global};
 
 /// Appends the line of the scope at this depth. It is refused for memory alone.
-fn append_scope_line<R: Readings>(
+pub(crate) fn append_scope_line<R: Readings>(
     readings: &R,
     ages: &Ages<'_>,
     text: &mut String,
@@ -38,7 +38,7 @@ fn append_scope_line<R: Readings>(
 
 /// Appends the line of the task at this depth, if it was forked since the base. It is refused for memory alone.
 #[tactic(auto, using(scope_checks::proofs::Checked::task_passes), unfolding(crate::specs::TextTree::task_line, scope_rules::specs::Nests::label))]
-fn append_task_line<R: Readings>(
+pub(crate) fn append_task_line<R: Readings>(
     readings: &R,
     ages: &Ages<'_>,
     text: &mut String,
@@ -63,7 +63,7 @@ fn append_task_line<R: Readings>(
 
 /// Appends the lines of what stands where the scope may lie, at this depth: the scope with its tasks and what
 /// lies inside, down to so many levels. It is refused for memory alone, and may then have appended some of them.
-fn append_scope<R: Readings>(
+pub(crate) fn append_scope<R: Readings>(
     readings: &R,
     ages: &Ages<'_>,
     text: &mut String,
@@ -110,12 +110,7 @@ fn append_scope<R: Readings>(
 pub fn tree_of<R: Readings>(alloc: Global, readings: &R) -> Result<String, AllocError>
     ensures { IfOk result (λ text. string_bytes text ≡ tree_text (R.history readings.now)) }
 {
-    let none = Ages {
-        last: 0,
-        started: &[],
-        opened: &[],
-    };
-    tree_with(alloc, readings, &none)
+    tree_with(alloc, readings, &Ages::none())
 }
 
 /// The tree of what was read, as text, with ages: how long each task runs, how long each scope is open, and how late

@@ -54,7 +54,7 @@ returns-clause-refused c =
     let has = has_said words c.in-Ok.matches p options c.in-Some.ensures.rows in
     let same = ap (λ o. unwrap_or o c.in-Some-named.job) (c.in-Some-named.ensures ∙ job_is words c.in-Ok.matches p c.in-Some.word.now c.in-Some.ensures.name) in
     let said = ap (λ job. said_by job (λ setting. first_value (found_of options) (name_of setting)) has) same ∙ said_is words c.in-Ok.matches p options c.in-Some.ensures.rows in
-    IfErr-weaker c.said.result _ _ (λ fault refused. elim refused [ inl memory ↦ inl memory | inr none ↦ inr (sym said ∙ none) ]) (c.said.ensures.refused has)
+    IfErr-weaker c.said.result _ _ (λ fault refused. elim refused [ inl memory ↦ inl memory | inr none ↦ inr (sym said ∙ none) ]) (c.said.ensures.refused has (subst (λ job. TellsFlags job (found_of options) has) (sym same) (flags_said words c.in-Ok.matches p options c.in-Some.ensures.rows)))
 
 pub returns-clause-answers : goal.returns-clause-answers
 returns-clause-answers c =

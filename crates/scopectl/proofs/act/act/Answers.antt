@@ -17,41 +17,14 @@ returns-in-Ok-Replay-clause-named g c = λ e. elim (c.replay.ensures.named e) [
   | inr after ↦ inr (record { command = _; says = subst (Says _) c.in-Ok-Replay.field-0-is c.in-Ok-Replay.ensures.said; names = after })
 ]
 
-pub returns-in-Ok-Dump-clause-done : goal.returns-in-Ok-Dump-clause-done
-returns-in-Ok-Dump-clause-done g c = λ e f. inr (record { command = _; says = subst (Says _) c.in-Ok-Dump.field-0-is c.in-Ok-Dump.ensures.said; did = c.show.ensures.done e })
+pub returns-in-Ok-Show-clause-done : goal.returns-in-Ok-Show-clause-done
+returns-in-Ok-Show-clause-done g c = λ e f. inr (record { command = _; says = subst (Says _) c.in-Ok-Show.field-0-is c.in-Ok-Show.ensures.said; did = c.show.ensures.done e })
 
-pub returns-in-Ok-Dump-clause-fault : goal.returns-in-Ok-Dump-clause-fault
-returns-in-Ok-Dump-clause-fault g c = λ e. inr (inr (record { command = _; said = subst (Says _) c.in-Ok-Dump.field-0-is c.in-Ok-Dump.ensures.said; did = c.show.ensures.fault e }))
+pub returns-in-Ok-Show-clause-fault : goal.returns-in-Ok-Show-clause-fault
+returns-in-Ok-Show-clause-fault g c = λ e. inr (inr (record { command = _; said = subst (Says _) c.in-Ok-Show.field-0-is c.in-Ok-Show.ensures.said; did = c.show.ensures.fault e }))
 
-pub returns-in-Ok-Dump-clause-named : goal.returns-in-Ok-Dump-clause-named
-returns-in-Ok-Dump-clause-named g c = λ e. inl (names_weaker _ _ _ _ _ _ _ _ (λ f none. absurd none) (c.show.ensures.named e))
-
-pub returns-in-Ok-Tree-clause-done : goal.returns-in-Ok-Tree-clause-done
-returns-in-Ok-Tree-clause-done g c = λ e f. inr (record { command = _; says = subst (Says _) c.in-Ok-Tree.field-0-is c.in-Ok-Tree.ensures.said; did = c.show-in-Ok-Tree.ensures.done e })
-
-pub returns-in-Ok-Tree-clause-fault : goal.returns-in-Ok-Tree-clause-fault
-returns-in-Ok-Tree-clause-fault g c = λ e. inr (inr (record { command = _; said = subst (Says _) c.in-Ok-Tree.field-0-is c.in-Ok-Tree.ensures.said; did = c.show-in-Ok-Tree.ensures.fault e }))
-
-pub returns-in-Ok-Tree-clause-named : goal.returns-in-Ok-Tree-clause-named
-returns-in-Ok-Tree-clause-named g c = λ e. inl (names_weaker _ _ _ _ _ _ _ _ (λ f none. absurd none) (c.show-in-Ok-Tree.ensures.named e))
-
-pub returns-in-Ok-Timeline-clause-done : goal.returns-in-Ok-Timeline-clause-done
-returns-in-Ok-Timeline-clause-done g c = λ e f. inr (record { command = _; says = subst (Says _) c.in-Ok-Timeline.field-0-is c.in-Ok-Timeline.ensures.said; did = c.show-in-Ok-Timeline.ensures.done e })
-
-pub returns-in-Ok-Timeline-clause-fault : goal.returns-in-Ok-Timeline-clause-fault
-returns-in-Ok-Timeline-clause-fault g c = λ e. inr (inr (record { command = _; said = subst (Says _) c.in-Ok-Timeline.field-0-is c.in-Ok-Timeline.ensures.said; did = c.show-in-Ok-Timeline.ensures.fault e }))
-
-pub returns-in-Ok-Timeline-clause-named : goal.returns-in-Ok-Timeline-clause-named
-returns-in-Ok-Timeline-clause-named g c = λ e. inl (names_weaker _ _ _ _ _ _ _ _ (λ f none. absurd none) (c.show-in-Ok-Timeline.ensures.named e))
-
-pub returns-in-Ok-TraceEvents-clause-done : goal.returns-in-Ok-TraceEvents-clause-done
-returns-in-Ok-TraceEvents-clause-done g c = λ e f. inr (record { command = _; says = subst (Says _) c.in-Ok-TraceEvents.field-0-is c.in-Ok-TraceEvents.ensures.said; did = c.show-in-Ok-TraceEvents.ensures.done e })
-
-pub returns-in-Ok-TraceEvents-clause-fault : goal.returns-in-Ok-TraceEvents-clause-fault
-returns-in-Ok-TraceEvents-clause-fault g c = λ e. inr (inr (record { command = _; said = subst (Says _) c.in-Ok-TraceEvents.field-0-is c.in-Ok-TraceEvents.ensures.said; did = c.show-in-Ok-TraceEvents.ensures.fault e }))
-
-pub returns-in-Ok-TraceEvents-clause-named : goal.returns-in-Ok-TraceEvents-clause-named
-returns-in-Ok-TraceEvents-clause-named g c = λ e. inl (names_weaker _ _ _ _ _ _ _ _ (λ f none. absurd none) (c.show-in-Ok-TraceEvents.ensures.named e))
+pub returns-in-Ok-Show-clause-named : goal.returns-in-Ok-Show-clause-named
+returns-in-Ok-Show-clause-named g c = λ e. inl (names_weaker _ _ _ _ _ _ _ _ (λ f none. absurd none) (c.show.ensures.named e))
 
 pub returns-in-Ok-Quote-clause-done : goal.returns-in-Ok-Quote-clause-done
 returns-in-Ok-Quote-clause-done g c =

@@ -1,23 +1,25 @@
-use Rattle.std.proofs.Common.{◌≡◌, ◌∙◌, ◌⊎◌, ℕ, Bool, true, false, sym, ap, subst, Err}
+use Rattle.std.proofs.Common.{◌≡◌, ◌∙◌, ◌⊎◌, ℕ, List, Option, true, false, sym, ap, subst, Err}
 use Rattle.scopectl.specs.Naming.{CameFrom}
 use Rattle.scopectl.specs.declared.fault.ProgramFault.{ProgramFault}
 use Rattle.scopectl.specs.declared.fault.ProgramFault.TheVariants.{Write}
+use Rattle.scope_rules.specs.declared.types.capacity.Limits.{Limits}
+use Rattle.script_jobs.specs.Jobs.{Showed}
 use Rattle.script_jobs.specs.declared.counting.Count.{Count}
-use Rattle.scopectl.specs.Program.{lenience}
-use Rattle.scopectl.specs.Saying.{status_of}
+use Rattle.script_jobs.specs.declared.showing.View.{View}
 use Rattle.scopectl.proofs.Jobs.{came_of, made, read_is_other, sound_at, view_stopped, view_told_part, view_whole, write_is_other}
 use Rattle.scopectl.proofs.act.show.Goals as goal
 
-told_as : (status : ℕ) (strict a b : Bool) (count : Count) → a ≡ b → status ≡ status_of strict a count → status ≡ status_of strict b count
-told_as status strict a b count same told = told ∙ ap (λ (lenient : Bool). status_of strict lenient count) same
+-- the view that was shown is the one that the words ask for
+shown_as : (a b : View) (unread unread_new : Option (List ℕ)) (limits : Limits) (text : List ℕ) (count : Count) → a ≡ b → Showed unread unread_new limits a text count → Showed unread unread_new limits b text count
+shown_as a b unread unread_new limits text count same it = subst (λ (v : View). Showed unread unread_new limits v text count) same it
 
 pub returns-in-Ok-clause-done : goal.returns-in-Ok-clause-done
 returns-in-Ok-clause-done g c =
-    λ e. view_whole _ _ _ _ _ _ _ _ _ _ _ c.args.view c.args.lenient (told_as c.tell_shown.result c.args.script.strict c.lenience.result (lenience c.args.view c.args.lenient) c.in-Ok.shown.count c.lenience.ensures (c.tell_shown.ensures.told e)) (c.tell_shown.ensures.noted e) _ _ c.in-Ok.ensures.ok c.shown.ensures.unwritten (c.tell_shown.ensures.done e)
+    λ e. view_whole _ _ _ _ _ _ _ _ _ _ _ c.args.view c.args.lenient (c.tell_shown.ensures.told e) (c.tell_shown.ensures.noted e) _ _ (shown_as _ _ _ _ _ _ _ c.view_of.ensures c.in-Ok.ensures.ok) c.shown.ensures.unwritten (c.tell_shown.ensures.done e)
 
 pub returns-in-Ok-clause-fault : goal.returns-in-Ok-clause-fault
 returns-in-Ok-clause-fault g c =
-    λ e. view_told_part c.args.view _ c.args.lenient _ _ _ _ _ _ _ (made c.args.view _ c.args.lenient _ _ _ _ c.in-Ok.ensures.ok) c.shown.ensures.unwritten (c.tell_shown.ensures.fault e) (c.tell_shown.ensures.failed e)
+    λ e. view_told_part c.args.view _ c.args.lenient _ _ _ _ _ _ _ (made c.args.view _ c.args.lenient _ _ _ _ (shown_as _ _ _ _ _ _ _ c.view_of.ensures c.in-Ok.ensures.ok)) c.shown.ensures.unwritten (c.tell_shown.ensures.fault e) (c.tell_shown.ensures.failed e)
 
 pub returns-in-Err-clause-fault : goal.returns-in-Err-clause-fault
 returns-in-Err-clause-fault g c = λ e. view_stopped c.args.view _ c.args.lenient _ _ _ _ _ c.in-Err.ensures.part c.shown.ensures.unwritten

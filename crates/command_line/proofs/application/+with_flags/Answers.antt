@@ -1,0 +1,8 @@
+use Rattle.std.proofs.Common.{◌∙◌}
+use Rattle.std.proofs.lemmas.Result.{IfOk-weaker}
+use Rattle.command_line.proofs.Built.{still}
+use Rattle.command_line.proofs.application.+with_flags.Goals as goal
+
+pub returns-in_ok-with_one-in-len1-up-clause-local : goal.returns-in_ok-with_one-in-len1-up-clause-local
+returns-in_ok-with_one-in-len1-up-clause-local t c =
+    IfOk-weaker c.with_flags.result _ _ (λ m h. h ∙ c.in_ok-with_one-in-len1-up.ensures.globals ∙ still _ _ c.flag.ensures.local) c.with_flags.ensures.local

@@ -1,0 +1,25 @@
+-- What a part of the tree has, one number after the other.
+use Rattle.std.proofs.Common.{◌≡◌, ℕ, ◌+◌, List, [], ◌∷◌, ◌++◌, Some, take, slice_get, refl, ap, sym, ◌∙◌, append_assoc, append-nil}
+use Rattle.std.proofs.lemmas.List.{flat_map_more}
+use Rattle.std.proofs.lemmas.List.Concat.{flat_map-append}
+use Rattle.std.specs.Prelude.{fold}
+use Rattle.std.specs.List.{flat_map, range_with_len}
+use Rattle.scope_rules.proofs.Numbers.{range_push}
+use Rattle.scope_rules.proofs.Prefixes.{take_at}
+
+fold_push : {A : Type 0} (f : A → ℕ → A) (x : A) (ns : List ℕ) (n : ℕ) → fold f x (ns ++ n ∷ []) ≡ f (fold f x ns) n
+fold_push f x [] n = refl
+fold_push f x (m ∷ ns) n = fold_push f (f x m) ns n
+
+-- one number more of a range
+pub sums_more : {A : Type 0} (f : A → ℕ → A) (x : A) (a n : ℕ) → fold f x (range_with_len a (n + 1)) ≡ f (fold f x (range_with_len a n)) (a + n)
+sums_more f x a n = ap (fold f x) (range_push a n) ∙ fold_push f x (range_with_len a n) (a + n)
+
+pub lines_more : (f : ℕ → List ℕ) (a n : ℕ) → flat_map f (range_with_len a (n + 1)) ≡ flat_map f (range_with_len a n) ++ f (a + n)
+lines_more f a n =
+    ap (flat_map f) (range_push a n) ∙ (flat_map-append f (range_with_len a n) ((a + n) ∷ []) ∙ ap (λ l. flat_map f (range_with_len a n) ++ l) (append-nil (f (a + n))))
+
+-- one task more has its line
+pub task_more : (f : ℕ → List ℕ) (ks : List ℕ) (i k : ℕ) (start old new : List ℕ) → slice_get ks i ≡ Some k → old ≡ start ++ flat_map f (take i ks) → new ≡ old ++ f k → new ≡ start ++ flat_map f (take (i + 1) ks)
+task_more f ks i k start old new at before lined =
+    lined ∙ (ap (λ t. t ++ f k) before ∙ (flat_map_more f start (take i ks) k ∙ ap (λ ts. start ++ flat_map f ts) (sym (take_at ks i k at))))

@@ -1,0 +1,100 @@
+-- Parts of the tree, as text, and what all that is open sums up to.
+use Rattle.std.specs.Prelude.{ℕ, ◌+◌, ◌&&◌, min, nat_lt, Bool, true, false, not, is_some, List, [], ◌++◌, Option, None, Some, codes, fold, if◌then◌else◌}
+use Rattle.std.specs.List.{flat_map}
+use Rattle.std.specs.Option.{option_map_or}
+use Rattle.std.specs.Fmt.{decimal}
+use Rattle.scope_rules.specs.declared.types.answers.Counts.{Counts}
+use Rattle.scope_rules.specs.declared.types.answers.Stage.{Stage}
+use Rattle.scope_rules.specs.declared.types.answers.Stage.TheVariants.{Waiting, Running}
+use Rattle.scope_rules.specs.declared.types.capacity.TheConstants.{LEVEL_LIMIT}
+use Rattle.scope_rules.specs.declared.types.infos.ScopeInfo.{ScopeInfo}
+use Rattle.scope_rules.specs.History.{History, moment, opening, scope_numbers}
+use Rattle.scope_rules.specs.Nests.{info, outermost, tasks_of}
+use Rattle.scope_rules.specs.Scopes.{closed}
+use Rattle.scope_rules.specs.Tasks.{counts, stage}
+use Rattle.tree_dump.specs.declared.parts.Sums.{Sums}
+use Rattle.tree_dump.specs.declared.parts.TreePart.{TreePart}
+use Rattle.tree_dump.specs.declared.parts.TreePart.TheVariants as part
+use Rattle.tree_dump.specs.Ages.{Clock}
+use Rattle.tree_dump.specs.TextTree.{nested, open_text, scope_line, task_line, tree_by}
+
+-- ---- all that is open
+
+abbrev pub no_sums : Sums
+no_sums = record { scopes = 0; waiting = 0; running = 0; finished = 0; never = 0 }
+
+-- it counts no further than 2^64 - 1, which are more than there can be
+abbrev pub added : ℕ → ℕ → ℕ
+added some others = min (some + others) 18446744073709551615
+
+-- one scope more, with its tasks
+abbrev pub with_counts : Sums → Counts → Sums
+with_counts u c = record {
+  scopes = added u.scopes 1;
+  waiting = added u.waiting c.waiting;
+  running = added u.running c.running;
+  finished = added u.finished c.finished;
+  never = added u.never c.never;
+}
+
+-- scope s more, if it is not closed
+unfoldable pub with_scope : History → Sums → ℕ → Sums
+with_scope h u s = if closed h s then u else option_map_or (λ i. with_counts u (counts h i.scope)) (info h s) u
+
+-- how many scopes are not closed, and how many of their tasks are at each stage
+abbrev pub sums : History → Sums
+sums h = fold (with_scope h) no_sums (scope_numbers h)
+
+abbrev pub awaited_sums : Sums → List ℕ
+awaited_sums u = codes "open in all: scopes " ++ decimal u.scopes ++ codes ", tasks waiting " ++ decimal u.waiting ++ codes ", running " ++ decimal u.running
+
+abbrev pub ended_sums : Sums → List ℕ
+ended_sums u = codes "finished " ++ (decimal u.finished ++ (codes ", never started " ++ decimal u.never))
+
+abbrev pub sums_text : Sums → List ℕ
+sums_text u = awaited_sums u ++ (codes ", " ++ (ended_sums u ++ codes "\n"))
+
+-- ---- what is waited for
+
+abbrev pub waits : Stage → Bool
+waits Waiting = true
+waits Running = true
+waits _ = false
+
+-- task k, if it waits or runs
+unfoldable pub awaited_task : Clock → History → ℕ → List ℕ
+awaited_task c h k = if waits (stage h k) then task_line c h 1 k else []
+
+-- a scope with those of its tasks, if there are such
+abbrev pub awaited_lines : Clock → History → ScopeInfo → List ℕ
+awaited_lines c h i = if nat_lt 0 ((counts h i.scope).waiting + (counts h i.scope).running) then scope_line c h 0 i ++ flat_map (awaited_task c h) (tasks_of h i.scope) else []
+
+-- scope s, if it is not closed and waits for tasks
+unfoldable pub awaited_scope : Clock → History → ℕ → List ℕ
+awaited_scope c h s = if closed h s then [] else option_map_or (awaited_lines c h) (info h s) []
+
+-- all of them, in the order of their openings: the oldest first
+abbrev pub awaited : Clock → History → List ℕ
+awaited c h = flat_map (awaited_scope c h) (scope_numbers h)
+
+-- ---- some levels
+
+-- scope s was opened since the base, and is not closed
+abbrev pub stands : History → ℕ → Bool
+stands h s = is_some (opening h s) && not (closed h s)
+
+-- so many levels of scopes: from scope s on, if it stands, or from main's outermost scope
+abbrev pub levels_from : Clock → History → ℕ → Option ℕ → List ℕ
+levels_from c h depth None = option_map_or (λ root. nested c h (min depth LEVEL_LIMIT) 0 (Some root)) (outermost h 0) (codes "nothing is open\n")
+levels_from c h depth (Some s) = if stands h s then nested c h (min depth LEVEL_LIMIT) 0 (Some s) else codes "scope " ++ decimal s ++ codes " is not open\n"
+
+-- ---- parts
+
+-- the moment, a part, and the sums
+abbrev pub with_sums : History → List ℕ → List ℕ
+with_sums h text = codes "moment " ++ decimal (moment h) ++ codes "\n" ++ (text ++ sums_text (sums h))
+
+abbrev pub part_text : Clock → History → TreePart → List ℕ
+part_text c h part.Whole = tree_by c h
+part_text c h part.Awaited = with_sums h (awaited c h)
+part_text c h (part.Levels depth scope) = with_sums h (levels_from c h depth scope)

@@ -1,0 +1,298 @@
+//! Parts of the tree as text: what is waited for alone, or some levels. A last line sums up all that is open.
+ghost use Rattle.std.specs.Prelude.{◌≡◌, ◌++◌, IfOk, OnOk, Some, string_bytes};
+ghost use Rattle.std.specs.List.{flat_map};
+ghost use Rattle.scope_checks.specs.Passes.{Passes};
+ghost use Rattle.scope_rules.specs.Checks.{scope_check};
+ghost use Rattle.scope_rules.specs.Nests.{tasks_of};
+ghost use Rattle.tree_dump.specs.Ages.{clock_of};
+ghost use Rattle.tree_dump.specs.TreeParts.{added, awaited, awaited_lines, awaited_scope, awaited_sums, awaited_task, ended_sums, levels_from, part_text, stands, sums, sums_text, waits, with_counts, with_scope};
+
+use crate::ages::Ages;
+use crate::text_walk::{append_scope, append_scope_line, append_task_line, tree_with};
+use crate::told::info_at;
+use scope_checks::Readings;
+use scope_rules::types::capacity::LEVEL_LIMIT;
+use scope_rules::types::infos::ScopeInfo;
+use scope_rules::types::values::MAIN;
+use scope_rules::{Counts, ScopeId, Stage, TaskId};
+use std::alloc::{AllocError, Global};
+use std::fmt;
+
+/// What of a tree is shown.
+#[derive(Clone, Copy)]
+pub enum TreePart {
+    /// All of it, without the line of sums.
+    Whole,
+    /// The scopes that wait for tasks, the oldest first, each with its tasks that wait or run.
+    Awaited,
+    /// A part of the tree.
+    Levels {
+        /// How many levels of scopes are shown.
+        depth: u32,
+        /// The scope that is shown with what is inside it, or else main's outermost one.
+        scope: Option<ScopeId>,
+    },
+}
+
+/// How many scopes are not closed, and how many of their tasks are at each stage.
+#[derive(Clone, Copy)]
+pub struct Sums {
+    pub scopes: u64,
+    pub waiting: u64,
+    pub running: u64,
+    pub finished: u64,
+    pub never: u64,
+}
+
+/// So many together. It counts no further than 2^64 - 1, which are more than there can be.
+fn added(some: u64, others: u32) -> u64
+    ensures { result ≡ added some others }
+{
+    some.saturating_add(u64::from(others))
+}
+
+impl Sums {
+    /// One scope more, with its tasks.
+    fn with(self, counts: Counts) -> Sums
+        ensures { result ≡ with_counts self counts }
+    {
+        Sums {
+            scopes: added(self.scopes, 1),
+            waiting: added(self.waiting, counts.waiting),
+            running: added(self.running, counts.running),
+            finished: added(self.finished, counts.finished),
+            never: added(self.never, counts.never),
+        }
+    }
+}
+
+/// The sums with this scope, if it is not closed.
+#[tactic(auto, unfolding(crate::specs::TreeParts::with_scope))]
+fn with_scope<R: Readings>(readings: &R, sums: Sums, scope: ScopeId) -> Sums
+    ensures { result ≡ with_scope (R.history readings.now) sums scope }
+{
+    if readings.closed(scope) {
+        return sums;
+    }
+    match info_at(readings, Some(scope)) {
+        Some(info) => sums.with(readings.counts(info.scope)),
+        None => sums,
+    }
+}
+
+/// What all that is open sums up to.
+#[tactic(auto, using(std::proofs::lemmas::Grind::common_steps, crate::proofs::Parted::sums_more))]
+fn sums_of<R: Readings>(readings: &R) -> Sums
+    ensures { result ≡ sums (R.history readings.now) }
+{
+    let mut sums = Sums {
+        scopes: 0,
+        waiting: 0,
+        running: 0,
+        finished: 0,
+        never: 0,
+    };
+    let before = readings.retired_scopes();
+    let last = readings.scopes();
+    for index in 0..last - before {
+        sums = with_scope(readings, sums, before + 1 + index);
+    }
+    sums
+}
+
+/// Appends what all that is open sums up to. It is refused for memory alone.
+fn append_sums<R: Readings>(readings: &R, text: &mut String) -> Result<(), AllocError>
+    ensures { OnOk result (string_bytes text.new ≡ string_bytes text.old ++ sums_text (sums (R.history readings.now))) }
+{
+    let sums = sums_of(readings);
+    let awaited = ShownAwaited(sums);
+    let ended = ShownEnded(sums);
+    write!(text, "{awaited}, {ended}\n")
+}
+
+/// How many scopes are not closed, and how many of their tasks wait or run.
+#[derive(Clone, Copy)]
+struct ShownAwaited(Sums);
+
+impl fmt::Display for ShownAwaited {
+    ghost output = { λ s. Some (awaited_sums s.0) };
+
+    fn fmt<W: fmt::Write>(&self, f: &mut fmt::Formatter<W>) -> fmt::Result {
+        let scopes = self.0.scopes;
+        let waiting = self.0.waiting;
+        let running = self.0.running;
+        write!(
+            f,
+            "open in all: scopes {scopes}, tasks waiting {waiting}, running {running}"
+        )
+    }
+}
+
+/// How many of their tasks have come to an end.
+#[derive(Clone, Copy)]
+struct ShownEnded(Sums);
+
+impl fmt::Display for ShownEnded {
+    ghost output = { λ s. Some (ended_sums s.0) };
+
+    fn fmt<W: fmt::Write>(&self, f: &mut fmt::Formatter<W>) -> fmt::Result {
+        let finished = self.0.finished;
+        let never = self.0.never;
+        write!(f, "finished {finished}, never started {never}")
+    }
+}
+
+/// Whether a task at this stage waits or runs.
+fn waits(stage: Stage) -> bool
+    ensures { result ≡ waits stage }
+{
+    matches!(stage, Stage::Waiting | Stage::Running)
+}
+
+/// Appends the line of the task, if it waits or runs. It is refused for memory alone.
+#[tactic(auto, unfolding(crate::specs::TreeParts::awaited_task))]
+fn append_awaited_task<R: Readings>(
+    readings: &R,
+    ages: &Ages<'_>,
+    text: &mut String,
+    task: TaskId,
+) -> Result<(), AllocError>
+    ensures { OnOk result (string_bytes text.new ≡ string_bytes text.old ++ awaited_task (clock_of ages.now) (R.history readings.now) task) }
+{
+    if waits(readings.stage(task)) {
+        append_task_line(readings, ages, text, 1, task)
+    } else {
+        Ok(())
+    }
+}
+
+/// Appends the lines of the scope's tasks that wait or run. It is refused for memory alone.
+fn append_awaited_tasks<R: Readings>(
+    readings: &R,
+    ages: &Ages<'_>,
+    text: &mut String,
+    scope: ScopeId,
+) -> Result<(), AllocError>
+    requires { Passes (scope_check (R.history readings.now) scope) }
+    ensures { OnOk result (string_bytes text.new ≡ string_bytes text.old ++ flat_map (awaited_task (clock_of ages.now) (R.history readings.now)) (tasks_of (R.history readings.now) scope)) }
+{
+    for index in 0..readings.tasks() as usize {
+        let Some(task) = readings.task_at(scope, index) else {
+            break;
+        };
+        append_awaited_task(readings, ages, text, task)?;
+    }
+    Ok(())
+}
+
+/// Appends the lines of the scope and of its tasks that wait or run, if there are such tasks. It is refused for memory
+/// alone.
+fn append_awaited_lines<R: Readings>(
+    readings: &R,
+    ages: &Ages<'_>,
+    text: &mut String,
+    info: ScopeInfo,
+) -> Result<(), AllocError>
+    requires { Passes (scope_check (R.history readings.now) info.scope) }
+    ensures { OnOk result (string_bytes text.new ≡ string_bytes text.old ++ awaited_lines (clock_of ages.now) (R.history readings.now) info) }
+{
+    let counts = readings.counts(info.scope);
+    if counts.waiting == 0 && counts.running == 0 {
+        return Ok(());
+    }
+    append_scope_line(readings, ages, text, 0, info)?;
+    append_awaited_tasks(readings, ages, text, info.scope)
+}
+
+/// Appends what is waited for of the scope, if it is not closed. It is refused for memory alone.
+#[tactic(auto, unfolding(crate::specs::TreeParts::awaited_scope))]
+fn append_awaited_scope<R: Readings>(
+    readings: &R,
+    ages: &Ages<'_>,
+    text: &mut String,
+    scope: ScopeId,
+) -> Result<(), AllocError>
+    ensures { OnOk result (string_bytes text.new ≡ string_bytes text.old ++ awaited_scope (clock_of ages.now) (R.history readings.now) scope) }
+{
+    if readings.closed(scope) {
+        return Ok(());
+    }
+    match info_at(readings, Some(scope)) {
+        Some(info) => append_awaited_lines(readings, ages, text, info),
+        None => Ok(()),
+    }
+}
+
+/// Appends all that is waited for. It is refused for memory alone.
+#[tactic(auto, using(std::proofs::lemmas::Grind::common_steps, crate::proofs::Parted::lines_more))]
+fn append_awaited<R: Readings>(
+    readings: &R,
+    ages: &Ages<'_>,
+    text: &mut String,
+) -> Result<(), AllocError>
+    ensures { OnOk result (string_bytes text.new ≡ string_bytes text.old ++ awaited (clock_of ages.now) (R.history readings.now)) }
+{
+    let before = readings.retired_scopes();
+    let last = readings.scopes();
+    for index in 0..last - before {
+        append_awaited_scope(readings, ages, text, before + 1 + index)?;
+    }
+    Ok(())
+}
+
+/// Whether the scope was opened since the base, and is not closed.
+fn stands<R: Readings>(readings: &R, scope: ScopeId) -> bool
+    ensures { result ≡ stands (R.history readings.now) scope }
+{
+    readings.opening(scope).is_some() && !readings.closed(scope)
+}
+
+/// Appends so many levels of scopes, from the scope on, or from main's outermost one. It is refused for memory alone.
+fn append_levels<R: Readings>(
+    readings: &R,
+    ages: &Ages<'_>,
+    text: &mut String,
+    depth: u32,
+    scope: Option<ScopeId>,
+) -> Result<(), AllocError>
+    ensures { OnOk result (string_bytes text.new ≡ string_bytes text.old ++ levels_from (clock_of ages.now) (R.history readings.now) depth scope) }
+{
+    let levels = depth.min(LEVEL_LIMIT);
+    match scope {
+        Some(scope) if stands(readings, scope) => {
+            append_scope(readings, ages, text, levels, 0, Some(scope))
+        }
+        Some(scope) => write!(text, "scope {scope} is not open\n"),
+        None => match readings.outermost(MAIN) {
+            Some(root) => append_scope(readings, ages, text, levels, 0, Some(root)),
+            None => text.push_str("nothing is open\n"),
+        },
+    }
+}
+
+/// The part of the tree of what was read, as text, with ages: all of it as `tree_with` has it, or a part between a line
+/// with the moment and one that sums up all that is open. It is refused for memory alone.
+pub fn tree_part<R: Readings>(
+    alloc: Global,
+    readings: &R,
+    ages: &Ages<'_>,
+    part: TreePart,
+) -> Result<String, AllocError>
+    ensures { IfOk result (λ text. string_bytes text ≡ part_text (clock_of ages.now) (R.history readings.now) part) }
+{
+    match part {
+        TreePart::Whole => tree_with(alloc, readings, ages),
+        TreePart::Awaited => {
+            let mut text = format!(in alloc; "moment {}\n", readings.moment())?;
+            append_awaited(readings, ages, &mut text)?;
+            append_sums(readings, &mut text)?;
+            Ok(text)
+        }
+        TreePart::Levels { depth, scope } => {
+            let mut text = format!(in alloc; "moment {}\n", readings.moment())?;
+            append_levels(readings, ages, &mut text, depth, scope)?;
+            append_sums(readings, &mut text)?;
+            Ok(text)
+        }
+    }
+}
