@@ -84,7 +84,7 @@ fn perform_line(book: &mut BookState<AnyEnd>, line: &[u8]) -> Result<(), AllocEr
 {
     match read_line(line) {
         Line::Command(command) => {
-            let _reply = perform(book, command)?;
+            let _reply = perform(book, &command)?;
             Ok(())
         },
         _ => Ok(()),
