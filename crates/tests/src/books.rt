@@ -17,7 +17,7 @@ pub fn command_of(line: &str) -> Result<Command, Fail> {
 /// Tells the book the lines that ` / ` parts, none of which it may refuse.
 pub fn tell_lines(rt: &impl Abort, book: &mut BookState<AnyEnd>, script: &str) -> Result<(), Fail> {
     for line in script.split(" / ") {
-        let reply = perform(book, command_of(line)?)?;
+        let reply = perform(book, &command_of(line)?)?;
         assert!(rt; !matches!(reply, Reply::Refused(_)), "{line}");
     }
     Ok(())

@@ -20,7 +20,7 @@ fn commands(rt: &impl AllocGlobal, text: &str) -> Result<Vec<Command>, Fail> {
 fn check_list(rt: &impl Abort, book: &mut BookState<AnyEnd>, all: &[Command]) -> Result<(), Fail> {
     perform_all(book, all)?;
     assert_eq!(rt; book.moment(), 6);
-    let reply = perform(book, Command::Do(Event::Tick { now: 7 }))?;
+    let reply = perform(book, &Command::Do(Event::Tick { now: 7 }))?;
     assert!(rt; matches!(reply, Reply::Refused(Refusal::TooMany)));
     Ok(())
 }

@@ -54,7 +54,7 @@ fn told_anew(rt: &(impl Abort + AllocGlobal), script: &str) -> Result<String, Fa
 fn tell(rt: &impl Abort, book: &mut BookState<AnyEnd>, script: &str) -> Result<(), Fail> {
     for line in script.split("\n") {
         if let Line::Command(command) = read_line(line.as_bytes()) {
-            let reply = perform(book, command)?;
+            let reply = perform(book, &command)?;
             assert!(rt; !matches!(reply, Reply::Refused(_)), "{line}");
         } else {
             assert!(rt; line.is_empty(), "{line}");

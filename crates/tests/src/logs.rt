@@ -207,12 +207,12 @@ const SCRIPTS: [&str; 6] = [
 fn tell_line(rt: &(impl Abort + AllocGlobal), book: &mut Book, line: &str) -> Result<(), Fail> {
     let command = command_of(line)?;
     let Command::Do(Event::Join { actor, scope }) = command else {
-        let _reply = perform(book, command)?;
+        let _reply = perform(book, &command)?;
         return Ok(());
     };
     let seen = book.join_preview(actor, scope);
     let mut answered = Vec::new(rt.alloc());
-    append_line(&mut answered, &perform(book, command)?)?;
+    append_line(&mut answered, &perform(book, &command)?)?;
     compare_join(rt, seen, book.project(scope), answered.as_slice(), line)
 }
 
