@@ -14,7 +14,7 @@ use crate::services::{Promises, Service, realm_clock, serve_on_crew};
 use job_runner::{Answers, Clock, Job, JobWork, SystemClock, TaskCtx};
 use join_rules::Joiner;
 use realm_lock::{RealmName, Seed};
-use scope_rules::{AnyEnd, End, ForkReply, Name, Options, Refusal, ScopeId};
+use scope_rules::{AnyEnd, End, ForkReply, Name, Options, Refusal};
 use std::alloc::{AllocError, Global};
 use std::marker::{Brand, PhantomData};
 use std::rt::Clock as SystemTime;
