@@ -24,6 +24,6 @@ pub use limits::{Limiter, limited};
 pub use periods::every;
 pub use progress::next_done;
 pub use stops::Stop;
-pub use tasks::{Serves, Task, Timed, serve, serve_until, serve_watched, serve_with};
+pub use tasks::{Serves, Task, Timed, serve, serve_until, serve_with};
 pub use valued::{TypedTask, all_of, fork_value, race};
 pub use watches::Watch;

@@ -121,7 +121,6 @@ fn hooked<R: CrewRuntime + SystemTime>(
         stop: None,
         load: Arc::try_clone(&load)?,
         observer: Arc::try_clone(&observer)?,
-        watch: None,
     };
     let served = serve_with::<Lasts, Counts, Three, R>(rt, alloc, 2, hooks, Three);
     let wanted = matches!(served, Ok((None, None, Some(Refusal::Memory))));

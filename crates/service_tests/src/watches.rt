@@ -1,27 +1,33 @@
 //! A service that hangs, under a watch.
 
-use balkreyn::act::{Acts, Serves, Task, Watch, scope, serve_watched};
+use balkreyn::act::{Acts, Serves, Task, Watch, scope, serve};
 use balkreyn::{End, Fault, Joiner, Options, Promises, Refusal, ServiceError, Value, named};
 use std::fs;
 use std::process::Abort;
 use std::test::Fail;
 
-/// A job that hangs for so many milliseconds.
-#[derive(Clone, Copy)]
-struct Hangs(u64);
+/// What the service forks: a job that hangs for so many milliseconds, and the watch.
+#[derive(Drop)]
+enum Work {
+    Hangs(u64),
+    Watch(Watch),
+}
 
-impl Task for Hangs {
-    fn run<X: Acts<Hangs>>(self, cx: &mut X) -> End {
-        match cx.sleep(self.0) {
-            Ok(None) => Ok(Value::Num(1)),
-            _ => Err(Fault(named(b"cut-off"))),
+impl Task for Work {
+    fn run<X: Acts<Work>>(self, cx: &mut X) -> End {
+        match self {
+            Work::Watch(watch) => watch.act(cx),
+            Work::Hangs(millis) => match cx.sleep(millis) {
+                Ok(None) => Ok(Value::Num(1)),
+                _ => Err(Fault(named(b"cut-off"))),
+            },
         }
     }
 }
 
-/// A service that hangs for a fifth of a second.
+/// A service that hangs for a fifth of a second, and is watched.
 #[derive(Clone, Copy)]
-struct Hanging;
+struct Hanging(HostRuntime);
 
 impl Promises for Hanging {
     type Answer = ();
@@ -29,34 +35,41 @@ impl Promises for Hanging {
     type Error = ServiceError;
 }
 
-impl Serves<Hangs> for Hanging {
-    fn serve<X: Acts<Hangs>>(self, cx: &mut X) -> Result<(), ServiceError> {
-        let hung: Result<(), Refusal> = scope(cx, Joiner::AwaitAll, Options::PLAIN, |cx, scope| {
-            cx.fork(scope, named(b"stuck"), Hangs(200))?;
-            cx.join(scope)?;
-            Ok(())
-        });
-        Ok(hung?)
+impl Serves<Work> for Hanging {
+    fn serve<X: Acts<Work>>(self, cx: &mut X) -> Result<(), ServiceError> {
+        let watch = Watch {
+            io: self.0,
+            tree: "tree",
+            journal: "journal",
+            ask: "ask",
+            every: 2,
+            late: 60,
+        };
+        let watched: Result<(), Refusal> = scope(
+            cx,
+            Joiner::AwaitAll,
+            Options::PLAIN,
+            |cx, scope| {
+                cx.fork(scope, named(b"watch"), Work::Watch(watch))?;
+                hang(cx)
+            },
+        );
+        Ok(watched?)
     }
 }
 
-/// The watch of the service, which looks each two milliseconds, and writes if nothing has happened for 60.
-fn watch(io: HostRuntime) -> Watch {
-    Watch {
-        io,
-        tree: "tree",
-        journal: "journal",
-        ask: "ask",
-        every: 2,
-        late: 60,
-    }
+/// Hangs in a scope of its own.
+fn hang<X: Acts<Work>>(cx: &mut X) -> Result<(), Refusal> {
+    scope(cx, Joiner::AwaitAll, Options::PLAIN, |cx, scope| {
+        cx.fork(scope, named(b"stuck"), Work::Hangs(200))?;
+        cx.join(scope)?;
+        Ok(())
+    })
 }
 
 #[test]
 fn a_watch_shows_what_hangs_and_since_when(rt: HostRuntime) -> Result<(), Fail> {
-    serve_watched::<Hangs, Hanging, _>(&rt, rt.alloc(), 2, watch(rt), Hanging).map_err(
-        |_| "a refusal",
-    )?;
+    serve::<Work, Hanging, _>(&rt, rt.alloc(), 2, Hanging(rt)).map_err(|_| "a refusal")?;
     let tree = fs::read_to_string(&rt, "tree").map_err(|_| "no tree")?;
     let journal = fs::read_to_string(&rt, "journal").map_err(|_| "no journal")?;
     assert!(rt;

@@ -4,7 +4,6 @@ ghost use Rattle.std.specs.Prelude.{◌≡◌, IfErr};
 ghost use Rattle.scope_rules.specs.declared.types.refusals.Refusal.TheVariants.{Memory};
 
 use crate::act::stops::Stop;
-use crate::act::watches::Watch;
 use scope_rules::{Fault, Name, Refusal, ScopeId};
 use std::alloc::{AllocError, Global};
 use std::sync::atomic::{AtomicU64, Ordering};
@@ -42,8 +41,7 @@ pub enum Happening {
 /// Who is called about what happens, by the thread on which it happens, with the time in milliseconds of the realm's
 /// time. The realm's lock is free then, so it may wait; while it does, so does who forks, or ends (Trio, an `Instrument`).
 pub trait Observes: Drop {
-    /// Takes note of it. The start of a job may be seen before its fork. The watch of a stop is a job named `stop`, and one that
-    /// writes looks is named `watch`.
+    /// Takes note of it. The start of a job may be seen before its fork. The watch of a stop is a job named `stop`.
     fn saw<R: Wait>(&self, rt: &R, moment: u64, what: Happening);
 }
 
@@ -131,8 +129,6 @@ pub struct Hooks<O> {
     pub load: Arc<Load, Global>,
     /// Who observes it.
     pub observer: Arc<O, Global>,
-    /// What writes its tree and journal if it hangs, if anything does.
-    pub watch: Option<Watch>,
 }
 
 impl<O: Drop> Hooks<O> {
@@ -142,7 +138,6 @@ impl<O: Drop> Hooks<O> {
             stop: None,
             load: Arc::try_clone(&self.load)?,
             observer: Arc::try_clone(&self.observer)?,
-            watch: None,
         })
     }
 

@@ -4,7 +4,6 @@ ghost use Rattle.std.specs.Prelude.{◌≡◌, IfOk};
 use crate::act::contexts::{Acts, Cx};
 use crate::act::hooks::{AtHand, Happening, Hooks, Load, Observes};
 use crate::act::stops::{Stop, StopWatch};
-use crate::act::watches::Watch;
 use crate::aliases::{Forks, Handle};
 use crate::errors::NoTime;
 use crate::forks::fork;
@@ -34,12 +33,11 @@ pub trait Task: Drop + Sized {
         ensures { Self.may_end self result };
 }
 
-/// What is run for a service: a job of its own, the watch for its stop, or the watch that writes looks at it.
+/// What is run for a service: a job of its own, or the watch for its stop.
 #[derive(Drop)]
 pub enum Part<W> {
     Own(W),
-    Stop(StopWatch),
-    Look(Watch),
+    Watch(StopWatch),
 }
 
 /// Such a job on its way to a thread, with the realm's clock.
@@ -77,8 +75,7 @@ impl<K: Handle, N: RealmName, W: Task, O: Observes, S: Forks<AnyEnd, N, Timed<K,
         observer.saw(&last.runtime(), last.now(), Happening::Started { name });
         let end = match job {
             Part::Own(job) => job.run(&mut Cx::new(alloc, clock, &hooks, ctx)),
-            Part::Stop(watch) => watch.run(&mut Cx::new(alloc, clock, &hooks, ctx)),
-            Part::Look(watch) => watch.act(&mut Cx::new(alloc, clock, &hooks, ctx)),
+            Part::Watch(watch) => watch.run(&mut Cx::new(alloc, clock, &hooks, ctx)),
         };
         let fault = end.err();
         observer.saw(
@@ -134,18 +131,17 @@ where
             ..
         } = self;
         let clock = realm_clock(rt)?;
-        match (hooks.stop.take(), hooks.watch.take()) {
-            (None, None) => service.serve(&mut Cx::new(alloc, clock, &hooks, ctx)),
-            (stop, watch) => serve_in_scope::<K, N, W, O, V, S>(
-                alloc, clock, ctx, stop, watch, &hooks, service,
-            ),
+        match hooks.stop.take() {
+            None => service.serve(&mut Cx::new(alloc, clock, &hooks, ctx)),
+            Some(stop) => {
+                serve_watched::<K, N, W, O, V, S>(alloc, clock, ctx, stop, &hooks, service)
+            }
         }
     }
 }
 
-/// Serves in a scope, which the first watch cancels once the stop is asked for, and of which the second writes
-/// looks.
-fn serve_in_scope<
+/// Serves in a scope, which a watch cancels once the stop is asked for.
+fn serve_watched<
     K: Handle,
     N: RealmName,
     W: Task,
@@ -156,8 +152,7 @@ fn serve_in_scope<
     alloc: Global,
     clock: SystemClock<K>,
     ctx: &mut TaskCtx<AnyEnd, S, N>,
-    stop: Option<Arc<Stop, Global>>,
-    watch: Option<Watch>,
+    stop: Arc<Stop, Global>,
     hooks: &Hooks<O>,
     service: V,
 ) -> Result<V::Answer, V::Error>
@@ -165,8 +160,9 @@ fn serve_in_scope<
 {
     let rt = clock.runtime();
     let scope = ctx.open_scope(&rt, Joiner::AwaitAll, Options::PLAIN)?;
-    let found = match fork_watches::<K, N, W, O, S>(alloc, clock, ctx, hooks, scope, stop, watch) {
-        Ok(()) => service.serve(&mut Cx::new(alloc, clock, hooks, ctx)),
+    let watch = StopWatch { stop, scope };
+    let found = match fork_watch::<K, N, W, O, S>(alloc, clock, ctx, hooks, watch) {
+        Ok(_reply) => service.serve(&mut Cx::new(alloc, clock, hooks, ctx)),
         Err(refusal) => Err(refusal.into()),
     };
     let mut last = clock;
@@ -174,38 +170,16 @@ fn serve_in_scope<
     found
 }
 
-/// Forks the watches in the scope that they watch, as far as there are any.
-fn fork_watches<K: Handle, N: RealmName, W: Task, O: Observes, S: Forks<AnyEnd, N, Timed<K, W, O>>>(
+/// Forks the watch in the scope that it watches. It is none of the service's jobs at hand.
+fn fork_watch<K: Handle, N: RealmName, W: Task, O: Observes, S: Forks<AnyEnd, N, Timed<K, W, O>>>(
     alloc: Global,
     clock: SystemClock<K>,
     ctx: &mut TaskCtx<AnyEnd, S, N>,
     hooks: &Hooks<O>,
-    scope: ScopeId,
-    stop: Option<Arc<Stop, Global>>,
-    watch: Option<Watch>,
-) -> Result<(), Refusal> {
-    if let Some(stop) = stop {
-        let job = Part::Stop(StopWatch { stop, scope });
-        fork_part::<K, N, W, O, S>(alloc, clock, ctx, hooks, scope, named(b"stop"), job)?;
-    }
-    if let Some(watch) = watch {
-        let job = Part::Look(watch);
-        fork_part::<K, N, W, O, S>(alloc, clock, ctx, hooks, scope, named(b"watch"), job)?;
-    }
-    Ok(())
-}
-
-/// Forks the part in the scope under the name. It is none of the service's jobs at hand.
-fn fork_part<K: Handle, N: RealmName, W: Task, O: Observes, S: Forks<AnyEnd, N, Timed<K, W, O>>>(
-    alloc: Global,
-    clock: SystemClock<K>,
-    ctx: &mut TaskCtx<AnyEnd, S, N>,
-    hooks: &Hooks<O>,
-    scope: ScopeId,
-    name: Name,
-    job: Part<W>,
+    watch: StopWatch,
 ) -> Result<ForkReply, Refusal> {
-    let (one, hooks) = (None, hooks.share()?);
+    let (scope, name, hooks) = (watch.scope, named(b"stop"), hooks.share()?);
+    let (one, job) = (None, Part::Watch(watch));
     let timed = Timed {
         alloc,
         clock,
@@ -233,47 +207,19 @@ where
     V::Error: From<NoTime>,
     ensures { IfOk result (λ answer. V.may_answer service answer) }
 {
-    match plain(alloc, None, None) {
+    match plain(alloc, None) {
         Ok(hooks) => serve_with::<W, (), V, R>(rt, alloc, keep, hooks, service),
         Err(_) => Err(Refusal::Memory.into()),
     }
 }
 
-/// Hooks with no observer and no cap, and this stop and this watch.
-fn plain(
-    alloc: Global,
-    stop: Option<Arc<Stop, Global>>,
-    watch: Option<Watch>,
-) -> Result<Hooks<()>, AllocError> {
+/// Hooks with no observer and no cap, and this stop.
+fn plain(alloc: Global, stop: Option<Arc<Stop, Global>>) -> Result<Hooks<()>, AllocError> {
     Ok(Hooks {
         stop,
         load: Arc::new(alloc, Load::at_most(u64::MAX))?,
         observer: Arc::new(alloc, ())?,
-        watch,
     })
-}
-
-/// Runs the service as `serve` does, beside a watch, which writes the realm's tree and its journal with times if nothing
-/// happens for too long, or if somebody asks. It has a scope around it all, so `retire` is refused; the watch has a
-/// thread, and takes note of the times at which events are found.
-///
-/// # Errors
-/// Those of `serve`, and the refusal of the scope, of its watch, or of its close.
-pub fn serve_watched<W: Task + Send + 'static, V: Serves<W> + Drop, R: CrewRuntime + SystemTime>(
-    rt: &R,
-    alloc: Global,
-    keep: usize,
-    watch: Watch,
-    service: V,
-) -> Result<V::Answer, V::Error>
-where
-    V::Error: From<NoTime>,
-    ensures { IfOk result (λ answer. V.may_answer service answer) }
-{
-    match plain(alloc, None, Some(watch)) {
-        Ok(hooks) => serve_with::<W, (), V, R>(rt, alloc, keep, hooks, service),
-        Err(_) => Err(Refusal::Memory.into()),
-    }
 }
 
 /// Runs the service as `serve` does, until the stop is asked for: then all that it does is cancelled, but what is behind
@@ -293,14 +239,14 @@ where
     V::Error: From<NoTime>,
     ensures { IfOk result (λ answer. V.may_answer service answer) }
 {
-    match plain(alloc, Some(stop), None) {
+    match plain(alloc, Some(stop)) {
         Ok(hooks) => serve_with::<W, (), V, R>(rt, alloc, keep, hooks, service),
         Err(_) => Err(Refusal::Memory.into()),
     }
 }
 
-/// Runs the service as `serve` does, with hooks: an observer, counters with a cap on the jobs at hand, a stop and a watch,
-/// if there are any.
+/// Runs the service as `serve` does, with hooks: an observer, counters with a cap on the jobs at hand, and a stop, if there
+/// is one.
 ///
 /// # Errors
 /// Those of `serve_until`.
