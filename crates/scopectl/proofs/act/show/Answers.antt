@@ -19,7 +19,7 @@ returns-in-Ok-clause-done g c =
 
 pub returns-in-Ok-clause-fault : goal.returns-in-Ok-clause-fault
 returns-in-Ok-clause-fault g c =
-    λ e. view_told_part c.args.view _ c.args.lenient _ _ _ _ _ _ _ (made c.args.view _ c.args.lenient _ _ _ _ (shown_as _ _ _ _ _ _ _ c.view_of.ensures c.in-Ok.ensures.ok)) c.shown.ensures.unwritten (c.tell_shown.ensures.fault e) (c.tell_shown.ensures.failed e)
+    λ e. view_told_part c.args.view _ c.args.lenient _ _ _ _ _ _ _ (made c.args.view c.args.script c.args.lenient _ _ _ _ (shown_as _ _ _ _ _ _ _ c.view_of.ensures c.in-Ok.ensures.ok)) c.shown.ensures.unwritten (c.tell_shown.ensures.fault e) (c.tell_shown.ensures.failed e)
 
 pub returns-in-Err-clause-fault : goal.returns-in-Err-clause-fault
 returns-in-Err-clause-fault g c = λ e. view_stopped c.args.view _ c.args.lenient _ _ _ _ _ c.in-Err.ensures.part c.shown.ensures.unwritten
