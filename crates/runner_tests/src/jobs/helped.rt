@@ -82,7 +82,7 @@ fn run_two<N: RealmName, R: Wait>(rt: &R, ctx: &mut MainCtx<N>, board: &Shared) 
     };
     ctx.join(rt, scope).ok()?;
     let report = ctx.close_scope(rt, scope).ok()?;
-    let is_called_once = board.calls() == before + 1;
+    let is_called_once = before.checked_add(1) == Some(board.calls());
     Some(has_ended && is_called_once && starts_and_ends(&report.log) == (1, 1))
 }
 
