@@ -16,14 +16,14 @@ use thread_crew::{Recalls, Spawner, Work};
 
 impl<C: Catalog, S: Spawner<N>, N: RealmName> TaskCtx<C, S, N> {
     /// Forks the job in the actor's scope as `fork_job` does, and runs it in the caller's own thread, as a
-    /// task of the scope. Once this returns, the task has ended. No thread is asked for one, and none is
-    /// woken: that is for the job that the caller would only wait for. In a scope that is cancelled the job
-    /// is dropped, uncalled. A job that waits for what the caller does next waits for ever.
+    /// task of the scope. Once this returns, the task has ended. No thread is started or woken. Use it for a
+    /// job that the caller would only wait for. In a scope that is cancelled the job is dropped, uncalled.
+    /// A job that waits for what the caller does next waits for ever.
     ///
     /// # Errors
     ///
-    /// As `fork_job` is refused before its fork, with the job, which is handed back: no thread can be
-    /// refused it.
+    /// Those of `fork_job` before its fork; the job is returned. There is no `Rejected`, since no thread
+    /// is wanted.
     pub fn run_job<J, R>(
         &mut self,
         rt: &R,

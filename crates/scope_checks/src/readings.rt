@@ -63,8 +63,8 @@ pub trait Readings {
     fn forking(&self, task: TaskId) -> Option<Forking>
         ensures { result ≡ forking (history self.now) task };
 
-    /// The scope that the task was forked in, if it was since the base. Where a row is kept, no event is
-    /// read for it.
+    /// The scope that the task was forked in, if it was since the base. An index answers it without
+    /// reading an event.
     fn forked_in(&self, task: TaskId) -> Option<ScopeId>
         ensures { result ≡ forked_in (history self.now) task };
 

@@ -104,7 +104,7 @@ fn fixed_line(reply: &Reply) -> Option<&'static [u8]>
 }
 
 /// The line, with its line feed, of a reply that is words and numbers of its own; `None` of a rare one, and
-/// of any other. Digits are put in place, which takes a fifth of a formatter's time.
+/// of any other. Digits are appended without a formatter.
 #[tactic(auto, unfolding(crate::specs::ReplyText::reply_text))]
 fn numbered_line(reply: &Reply) -> Option<ArrayString<SHORT_LINE>>
     ensures { IfSome result (λ line. line.bytes ≡ reply_text reply.now ++ 10 ∷ []) }

@@ -193,7 +193,7 @@ impl<C: Catalog> BookState<C> {
     }
 
     /// Performs the command of the event, whichever it is: a scope that it opens has the joiner that its
-    /// policy says, and no closure of a caller's. It is refused what the event's own call is refused.
+    /// policy says, and no closure. It is refused as the event's own call is.
     pub fn perform(&mut self, event: &Event) -> Result<Told, Refusal>
         requires fits { FitsEvent C.fitting (history_of self.old) event.now }
         ensures { Tells (realm_of self.old) event.now result (realm_of self.new) }
