@@ -1,4 +1,5 @@
 pub mod Allowing
+pub mod Standing
 pub mod Best
 pub mod Causes
 pub mod Cuts

@@ -1,10 +1,11 @@
 -- How the reading of a plan goes on that comes piece by piece.
 use Rattle.std.proofs.Common.{◌≡◌, ℕ, ◌+◌, ◌<◌, ◌==◌, true, false, List, [], ◌∷◌, ◌++◌, length, map, refl, sym, ◌∙◌, ap, arith, subst, suc, below_more}
 use Rattle.std.specs.List.{slice_split}
-use Rattle.std.proofs.lemmas.Bool.{eqb-true}
+use Rattle.std.proofs.lemmas.Bool.{eqb-true, ne_eqb}
 use Rattle.std.proofs.lemmas.List.{append-nil, append_assoc, length-append, length-map, map-append}
 use Rattle.std.proofs.lemmas.List.Elements.{All-append, All-nil}
 use Rattle.std.proofs.lemmas.List.Splits.{length-slice_split, slice_split_at, slice_split_none}
+use Rattle.quote_plan.specs.Begun.{StandsFor, same, long}
 use Rattle.quote_plan.specs.Cutting.{CutsLine, HasNoFeed, is_feed}
 use Rattle.quote_plan.specs.Passing.{HasTaken, NamesLine, Passed, PlanSoFar}
 use Rattle.quote_plan.specs.PlanLines.{line_said}
@@ -116,52 +117,74 @@ nothing_passed reading modes offers = record {
 pub nothing_taken : (plan : PlanSoFar) → plan.reading.modes ≡ [] → plan.reading.offers ≡ [] → plan.number ≡ 1 → plan.begun ≡ [] → HasTaken plan []
 nothing_taken plan modes offers first none = record {
   front = [];
-  whole = sym none;
+  line = [];
+  whole = refl;
   passed = subst (λ n. Passed [] n plan.reading) (sym first) (nothing_passed plan.reading modes offers);
-  unended = subst HasNoFeed (sym none) (All-nil (λ b. is_feed b ≡ false));
+  unended = All-nil (λ b. is_feed b ≡ false);
+  kept = same none;
 }
 
 module _ (before : PlanSoFar) (bytes : List ℕ) (taken : HasTaken before bytes) where
   -- the line that ends with the text
-  ends_with : (text line more : List ℕ) → line ≡ before.begun ++ text → taken.front ++ line ++ more ≡ bytes ++ text ++ more
-  ends_with text line more is = ap (λ b. b ++ more) (ap (λ l. taken.front ++ l) is ∙ (sym (append_assoc taken.front before.begun text) ∙ ap (λ b. b ++ text) (sym taken.whole)))
+  ends_with : (text more : List ℕ) → taken.front ++ (taken.line ++ text) ++ more ≡ bytes ++ text ++ more
+  ends_with text more = ap (λ b. b ++ more) (sym (append_assoc taken.front taken.line text) ∙ ap (λ b. b ++ text) (sym taken.whole))
 
   -- which is plain, as its parts are
-  pub line_is_plain : (text line : List ℕ) → line ≡ before.begun ++ text → HasNoFeed text → HasNoFeed line
-  line_is_plain text line is plain = subst HasNoFeed (sym is) (All-append (λ b. is_feed b ≡ false) before.begun text taken.unended plain)
+  pub line_is_plain : (text : List ℕ) → HasNoFeed text → HasNoFeed (taken.line ++ text)
+  line_is_plain text plain = All-append (λ b. is_feed b ≡ false) taken.line text taken.unended plain
 
-  pub line_ends : (after : PlanSoFar) (text line : List ℕ) → line ≡ before.begun ++ text → Passed (taken.front ++ line ++ 10 ∷ []) after.number after.reading → after.begun ≡ [] → HasTaken after (bytes ++ text ++ 10 ∷ [])
-  line_ends after text line is passed none = record {
+  pub line_ends : (after : PlanSoFar) (text : List ℕ) → Passed (taken.front ++ (taken.line ++ text) ++ 10 ∷ []) after.number after.reading → after.begun ≡ [] → HasTaken after (bytes ++ text ++ 10 ∷ [])
+  line_ends after text passed none = record {
     front = bytes ++ text ++ 10 ∷ [];
-    whole = sym (ap (λ b. (bytes ++ text ++ 10 ∷ []) ++ b) none ∙ append-nil (bytes ++ text ++ 10 ∷ []));
-    passed = subst (λ f. Passed f after.number after.reading) (ends_with text line (10 ∷ []) is) passed;
-    unended = subst HasNoFeed (sym none) (All-nil (λ b. is_feed b ≡ false));
+    line = [];
+    whole = sym (append-nil (bytes ++ text ++ 10 ∷ []));
+    passed = subst (λ f. Passed f after.number after.reading) (ends_with text (10 ∷ [])) passed;
+    unended = All-nil (λ b. is_feed b ≡ false);
+    kept = same none;
   }
 
-  pub line_is_bad : (text more line : List ℕ) → line ≡ before.begun ++ text → (fault : PlanFault) → NamesLine (taken.front ++ line ++ 10 ∷ more) fault → NamesLine (bytes ++ text ++ 10 ∷ more) fault
-  line_is_bad text more line is fault names = subst (λ b. NamesLine b fault) (ends_with text line (10 ∷ more) is) names
+  pub line_is_bad : (text more : List ℕ) (fault : PlanFault) → NamesLine (taken.front ++ (taken.line ++ text) ++ 10 ∷ more) fault → NamesLine (bytes ++ text ++ 10 ∷ more) fault
+  line_is_bad text more fault names = subst (λ b. NamesLine b fault) (ends_with text (10 ∷ more)) names
 
-  pub line_goes_on : (after : PlanSoFar) (text : List ℕ) → HasNoFeed text → after.number ≡ before.number → after.reading ≡ before.reading → after.begun ≡ before.begun ++ text → HasTaken after (bytes ++ text)
-  line_goes_on after text plain number reading begun = record {
+  pub line_goes_on : (after : PlanSoFar) (text : List ℕ) → HasNoFeed text → after.number ≡ before.number → after.reading ≡ before.reading → StandsFor after.begun (taken.line ++ text) → HasTaken after (bytes ++ text)
+  line_goes_on after text plain number reading stands = record {
     front = taken.front;
-    whole = ap (λ b. b ++ text) taken.whole ∙ (append_assoc taken.front before.begun text ∙ ap (λ r. taken.front ++ r) (sym begun));
+    line = taken.line ++ text;
+    whole = ap (λ b. b ++ text) taken.whole ∙ append_assoc taken.front taken.line text;
     passed = subst (λ n. Passed taken.front n after.reading) (sym number) (subst (Passed taken.front before.number) (sym reading) taken.passed);
-    unended = subst HasNoFeed (sym begun) (All-append (λ b. is_feed b ≡ false) before.begun text taken.unended plain);
+    unended = line_is_plain text plain;
+    kept = stands;
   }
+
+  -- no byte is kept just of a line without bytes
+  pub line_is_none : before.begun ≡ [] → taken.line ≡ []
+  line_is_none none = by taken.line (subst (λ k. StandsFor k taken.line) none taken.kept)
+    where
+      by : (line : List ℕ) → StandsFor [] line → line ≡ []
+      by line (same is) = sym is
+      by line (long one other returns tabs) = absurd (omega (arith, one))
+
+  line_is_some : (length before.begun == 0) ≡ false → (length taken.line == 0) ≡ false
+  line_is_some some = by before.begun taken.line taken.kept some
+    where
+      by : (kept line : List ℕ) → StandsFor kept line → (length kept == 0) ≡ false → (length line == 0) ≡ false
+      by kept line (same is) some = subst (λ l. (length l == 0) ≡ false) is some
+      by kept [] (long one other returns tabs) some = absurd (omega (arith, other))
+      by kept (b ∷ line) (long one other returns tabs) some = ne_eqb (length (b ∷ line)) 0 (λ e. absurd (omega (arith, e)))
 
   -- ---- at the end
 
   pub ends_well : (plan : PlanValue) → before.begun ≡ [] → before.reading.modes ≡ plan.mode ∷ [] → before.reading.offers ≡ plan.offers → SayPlan (lines_of bytes) plan
   ends_well plan none mode offers =
-      subst (λ b. SayPlan (lines_of b) plan) (sym (taken.whole ∙ ap (λ b. taken.front ++ b) none)) (said_all taken.front before.number before.reading taken.passed plan mode offers)
+      subst (λ b. SayPlan (lines_of b) plan) (sym (taken.whole ∙ ap (λ b. taken.front ++ b) (line_is_none none))) (said_all taken.front before.number before.reading taken.passed plan mode offers)
 
   pub ends_without_mode : before.begun ≡ [] → before.reading.modes ≡ [] → NamesLine bytes (fault.Word before.number why.NoMode)
   ends_without_mode none modes =
-      subst (λ b. NamesLine b (fault.Word before.number why.NoMode)) (sym (taken.whole ∙ ap (λ b. taken.front ++ b) none)) (said_no_mode taken.front before.number before.reading taken.passed modes)
+      subst (λ b. NamesLine b (fault.Word before.number why.NoMode)) (sym (taken.whole ∙ ap (λ b. taken.front ++ b) (line_is_none none))) (said_no_mode taken.front before.number before.reading taken.passed modes)
 
   pub ends_cut : (length before.begun == 0) ≡ false → NamesLine bytes (fault.Word before.number why.NoLineFeed)
   ends_cut some =
-      subst (λ b. NamesLine b (fault.Word before.number why.NoLineFeed)) (sym taken.whole) (said_cut taken.front before.number before.reading taken.passed before.begun taken.unended some)
+      subst (λ b. NamesLine b (fault.Word before.number why.NoLineFeed)) (sym taken.whole) (said_cut taken.front before.number before.reading taken.passed taken.line taken.unended (line_is_some some))
 
 -- ---- a piece
 
@@ -190,10 +213,11 @@ module _ (before now : PlanSoFar) (piece rest text others : List ℕ) (so_far : 
       ∙ (sym (append_assoc (bytes ++ so_far.done) rest more) ∙ ap (λ b. b ++ more) (append_assoc bytes so_far.done rest ∙ ap (λ p. bytes ++ p) (sym so_far.whole)))) in
       subst (λ b. NamesLine b fault) whole names
 
-pub rest_begun : (before now after : PlanSoFar) (piece rest : List ℕ) → SoFar before now piece rest → HasNoFeed rest → after.number ≡ now.number → after.reading ≡ now.reading → after.begun ≡ now.begun ++ rest
+pub rest_begun : (before now after : PlanSoFar) (piece rest : List ℕ) → SoFar before now piece rest → HasNoFeed rest → after.number ≡ now.number → after.reading ≡ now.reading → ((line : List ℕ) → StandsFor now.begun line → StandsFor after.begun (line ++ rest))
     → (bytes : List ℕ) → HasTaken before bytes → HasTaken after (bytes ++ piece)
-rest_begun before now after piece rest so_far plain number reading begun bytes t =
-    subst (HasTaken after) (append_assoc bytes so_far.done rest ∙ ap (λ p. bytes ++ p) (sym so_far.whole)) (line_goes_on now (bytes ++ so_far.done) (so_far.taken bytes t) after rest plain number reading begun)
+rest_begun before now after piece rest so_far plain number reading stands bytes t =
+    let so = so_far.taken bytes t in
+    subst (HasTaken after) (append_assoc bytes so_far.done rest ∙ ap (λ p. bytes ++ p) (sym so_far.whole)) (line_goes_on now (bytes ++ so_far.done) so after rest plain number reading (stands so.line so.kept))
 
 pub no_bytes : (bytes : List ℕ) → (length bytes == 0) ≡ true → bytes ≡ []
 no_bytes [] none = refl

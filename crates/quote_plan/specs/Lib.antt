@@ -9,3 +9,4 @@ pub mod Passing
 pub mod AnswerText
 pub mod Allowed
 pub mod Answering
+pub mod Begun

@@ -1,6 +1,7 @@
 -- How far a plan has been read that comes piece by piece.
 use Rattle.std.specs.Prelude.{◌≡◌, ℕ, ◌+◌, List, ◌++◌, length, map}
 use Rattle.std.specs.List.{slice_split}
+use Rattle.quote_plan.specs.Begun.{StandsFor}
 use Rattle.quote_plan.specs.Cutting.{HasNoFeed, is_feed}
 use Rattle.quote_plan.specs.PlanLines.{line_said}
 use Rattle.quote_plan.specs.PlanReading.{AreGood, FirstBad, lines_of, modes_in, offers_in}
@@ -9,8 +10,8 @@ use Rattle.quote_plan.specs.ReadSoFar.{ReadingValue}
 use Rattle.quote_plan.specs.declared.reading.PlanFault.{PlanFault}
 use Rattle.quote_plan.specs.declared.reading.PlanFault.TheVariants.{Word, Memory}
 
--- what is known of a plan under way: the number of the line that is begun, what the lines before it said, and the
--- begun line
+-- what is known of a plan under way: the number of the line that is begun, what the lines before it said, and what is
+-- kept of the begun line
 pub record PlanSoFar : Type 0 where
   pub number : ℕ
   pub reading : ReadingValue
@@ -28,9 +29,11 @@ pub record Passed (front : List ℕ) (number : ℕ) (reading : ReadingValue) : T
 -- just these bytes were taken: whole lines that were passed, and the begun one
 pub record HasTaken (plan : PlanSoFar) (bytes : List ℕ) : Type 0 where
   pub front : List ℕ
-  pub whole : bytes ≡ front ++ plan.begun
+  pub line : List ℕ
+  pub whole : bytes ≡ front ++ line
   pub passed : Passed front plan.number plan.reading
-  pub unended : HasNoFeed plan.begun
+  pub unended : HasNoFeed line
+  pub kept : StandsFor plan.begun line
 
 -- the fault names the first bad line of the bytes and its cause, or memory was refused
 abbrev pub NamesLine : List ℕ → PlanFault → Type 0

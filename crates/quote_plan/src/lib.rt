@@ -21,6 +21,7 @@
 
 pub mod answering;
 pub mod answers;
+mod begun;
 mod choosing;
 mod cutting;
 mod ends;

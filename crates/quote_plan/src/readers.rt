@@ -1,10 +1,12 @@
 //! A plan that comes piece by piece.
 
 ghost use Rattle.std.specs.Prelude.{◌≡◌, ◌++◌, ◌∷◌, [], ℕ, List, MatchResult, IfErr, OnOk};
+ghost use Rattle.quote_plan.specs.Begun.{StandsFor};
 ghost use Rattle.quote_plan.specs.Passing.{HasTaken, NamesLine, Passed};
 ghost use Rattle.quote_plan.specs.Cutting.{HasNoFeed};
 ghost use Rattle.quote_plan.specs.PlanReading.{SayPlan, lines_of};
 
+use crate::begun::go_on;
 use crate::cutting::first_line;
 use crate::lines::plan_line;
 use crate::plans::Plan;
@@ -13,8 +15,9 @@ use crate::whys::PlanWhy;
 use std::alloc::Global;
 use std::marker::Model;
 
-/// A plan under way: what its lines said so far, and the line that is begun. It takes memory for the offers and for
-/// that one line alone, and names the first bad line as soon as it has ended, whatever comes after it.
+/// A plan under way: what its lines said so far, and what is kept of the line that is begun. It takes memory for the
+/// offers and for at most 203 bytes of that line, and names the first bad line as soon as it has ended, whatever comes
+/// after it.
 #[derive(Drop)]
 pub struct PlanReader {
     reading: Reading,
@@ -58,7 +61,7 @@ impl PlanReader {
                 Err(fault) => return Err(fault),
             }
         }
-        let Ok(()) = self.begun.extend_from_slice(rest) else {
+        let Ok(()) = go_on(&mut self.begun, rest) else {
             return Err(PlanFault::Memory);
         };
         Ok(())
@@ -73,7 +76,7 @@ impl PlanReader {
         if self.begun.as_slice().is_empty() {
             return pass(&mut self.reading, &mut self.number, text);
         }
-        match self.begun.extend_from_slice(text) {
+        match go_on(&mut self.begun, text) {
             Ok(()) => {}
             Err(_) => return Err(PlanFault::Memory),
         }
@@ -106,10 +109,10 @@ impl PlanReader {
     }
 }
 
-/// Passes the line of this number and text, if it may come next.
+/// Passes the line of this number, for which the text stands, if it may come next.
 fn pass(reading: &mut Reading, number: &mut usize, text: &[u8]) -> Result<(), PlanFault>
-    ensures passed { (front : List ℕ) → Passed front number.old reading.old → HasNoFeed text.now → OnOk result (Passed (front ++ text.now ++ 10 ∷ []) number.new reading.new) }
-    ensures bad { (front : List ℕ) → Passed front number.old reading.old → HasNoFeed text.now → (more : List ℕ) → IfErr result (NamesLine (front ++ text.now ++ 10 ∷ more)) }
+    ensures passed { (front line : List ℕ) → Passed front number.old reading.old → StandsFor text.now line → HasNoFeed line → OnOk result (Passed (front ++ line ++ 10 ∷ []) number.new reading.new) }
+    ensures bad { (front line : List ℕ) → Passed front number.old reading.old → StandsFor text.now line → HasNoFeed line → (more : List ℕ) → IfErr result (NamesLine (front ++ line ++ 10 ∷ more)) }
 {
     match reading.take(plan_line(text)) {
         Ok(true) => {}

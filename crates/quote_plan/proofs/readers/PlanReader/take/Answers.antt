@@ -1,4 +1,5 @@
-use Rattle.std.proofs.Common.{◌∙◌, ◌++◌, ap}
+use Rattle.std.proofs.Common.{◌++◌, ap, subst, sym}
+use Rattle.quote_plan.specs.Begun.{StandsFor}
 use Rattle.quote_plan.proofs.Passing.{bad_more, line_more, rest_begun}
 use Rattle.quote_plan.specs.Passing.{PlanSoFar}
 use Rattle.quote_plan.proofs.readers.PlanReader.take.Goals as goal
@@ -15,4 +16,4 @@ returns-in-Err-clause-bad c = λ bytes taken more.
 pub returns-clause-taken : goal.returns-clause-taken
 returns-clause-taken c =
     rest_begun c.args.self.now c.loop-text.self _ c.args.piece.now c.loop-text.rest.now c.loop-text.invariant c.in_default.ensures.whole (ap (λ (p : PlanSoFar). p.number) c.self.view_is) (ap (λ (p : PlanSoFar). p.reading) c.self.view_is)
-    (c.in-Ok-extend_from_slice.ensures.items ∙ ap (λ (p : PlanSoFar). p.begun ++ c.loop-text.rest.now) c.self.view_is)
+    (λ line stands. c.in-Ok-go_on.ensures line (subst (λ (p : PlanSoFar). StandsFor p.begun line) (sym c.self.view_is) stands))
