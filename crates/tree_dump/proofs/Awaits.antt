@@ -43,7 +43,7 @@ either false c = refl
 either true true = refl
 either true false = refl
 
-waits_or_runs : (h : History) (s : ℕ) → (counts h s).waiting + (counts h s).running ≡ count_by (is_unsettled h s) (task_numbers h)
+pub waits_or_runs : (h : History) (s : ℕ) → (counts h s).waiting + (counts h s).running ≡ count_by (is_unsettled h s) (task_numbers h)
 unfolding counts
 waits_or_runs h s = sym (apart (is_unsettled h s) (is_at h s Waiting) (is_at h s Running) (task_numbers h) (λ k. unsettled (is_task_of h s k) (stage h k)))
 

@@ -139,6 +139,33 @@ module _ (L : Limits) (h : History) (legal : Legal L h) where
           let one : forked.forked ≡ f = cc in
           ap (option_map (λ (g : Forking). g.scope)) forked.is ∙ ap (λ (g : Forking). Some g.scope) one
 
+  -- nothing lies around main's outermost scope
+  pub root_parent : (p : ℕ) → outermost h 0 ≡ Some p → parent h p ≡ None
+  unfolding parent surrounding
+  root_parent p found =
+      ap (option_and_then (around h)) next_of.unclosed.is
+      ∙ (ap (λ a. option_or (innermost (before h o_of.place) a) (forked_in (before h o_of.place) a)) next_of.unclosed.by
+      ∙ (ap (λ w. option_or w (forked_in (before h o_of.place) 0)) (alone (innermost (before h o_of.place) 0) refl) ∙ unforked (forking (before h o_of.place) 0) refl))
+    where
+      next_of : IsNext h 0 0 p
+      next_of = is_next h 0 0 p (outermost_is h 0 ∙ found)
+
+      o_of : Opening
+      o_of = next_of.unclosed.opened
+
+      alone : (w : Option ℕ) → innermost (before h o_of.place) 0 ≡ w → innermost (before h o_of.place) 0 ≡ None
+      alone None at = at
+      alone (Some u) at =
+          let inside = innermost_unclosed (before h o_of.place) 0 u at in
+          let still = unclosed_around L h p u o_of legal next_of.unclosed.is next_of.unclosed.unclosed (subst (λ a. HasUnclosed (before h o_of.place) a u) (sym next_of.unclosed.by) inside) in
+          let there = opening_since h u o_of.place inside.opened inside.is in
+          let first = next_of.first u (record { opened = inside.opened; is = there; by = inside.by; unclosed = still }) (scope_given h u inside.opened there).0 in
+          absurd (omega (arith, first, earlier_number p u o_of inside.opened next_of.unclosed.is inside.is))
+
+      unforked : (x : Option Forking) → forking (before h o_of.place) 0 ≡ x → option_map (λ (g : Forking). g.scope) x ≡ None
+      unforked None is = refl
+      unforked (Some f) is = absurd (main_unforked (before h o_of.place) 0 f refl is)
+
   -- what lies inside an unclosed scope of the same owner was opened in it
   pub inner_parent : (s p : ℕ) (o : Opening) → opening h s ≡ Some o → closed h s ≡ false → inner h s ≡ Some p → (parent h p ≡ Some s) × IsNext h o.actor s p
   unfolding parent surrounding inner
@@ -188,7 +215,7 @@ module _ (L : Limits) (h : History) (legal : Legal L h) where
   smaller t _ (up {p} {q} chain is) = let rest = smaller t p chain in omega (arith, rest, (parent_smaller L h p q legal is).1)
 
   -- what lies around a scope is the scope, or lies around its parent
-  first_up : (p q s : ℕ) → OnChain h p q → parent h p ≡ Some s → (p ≡ q) ⊎ OnChain h s q
+  pub first_up : (p q s : ℕ) → OnChain h p q → parent h p ≡ Some s → (p ≡ q) ⊎ OnChain h s q
   first_up p _ s itself is = inl refl
   first_up p _ s (up {p = z} {q} chain next) is =
       elim (first_up p z s chain is) [

@@ -11,3 +11,9 @@ mod Listed
 mod Once
 mod Parted
 pub mod Awaits
+mod TimedAdds
+mod Opened
+mod Summed
+mod ShowsAwaited
+mod Lying
+mod ShowsLevels

@@ -25,20 +25,20 @@ use Rattle.scope_rules.proofs.Stages.{running_forked}
 use Rattle.scope_rows.proofs.FirstUnclosed.{outermost_is}
 use Rattle.tree_dump.proofs.Shows.{opened_info, reached}
 use Rattle.tree_dump.specs.Ages.{Clock}
-use Rattle.tree_dump.specs.Once.{Line, OfScope, OfTask, TreeShowsEachOnce, is_of_scope, is_of_task, line_text}
+use Rattle.tree_dump.specs.Once.{IsTreeOf, Line, OfScope, OfTask, TreeShowsEachOnce, is_of_scope, is_of_task, line_text}
 use Rattle.tree_dump.specs.TextTree.{nested, open_text, scope_line, scope_lines, task_line, task_lines, tasks_lines, tree_by}
 use Rattle.tree_dump.proofs.Insides.{OnChain, is_next, inner_parent, itself, only_one, outermost_parent, smaller, up}
 use Rattle.tree_dump.proofs.Listed.{count_listed, listed_holds, some_or_none, sum_both, sum_least, sum_most, sum_same, sum_some, unit}
 
 -- ---- the lines of the tree
 
-abbrev of_task : History → (ℕ → Option ℕ → List Line) → ℕ → ℕ → List Line
+abbrev pub of_task : History → (ℕ → Option ℕ → List Line) → ℕ → ℕ → List Line
 of_task h inside depth k = OfTask depth k ∷ inside (depth + 1) (outermost h k)
 
-abbrev of_scope : History → (ℕ → Option ℕ → List Line) → ℕ → ScopeInfo → List Line
+abbrev pub of_scope : History → (ℕ → Option ℕ → List Line) → ℕ → ScopeInfo → List Line
 of_scope h inside depth i = OfScope depth i ∷ (flat_map (of_task h inside (depth + 1)) (tasks_of h i.scope) ++ inside (depth + 1) (inner h i.scope))
 
-abbrev lines_at : History → ℕ → ℕ → Option ℕ → List Line
+abbrev pub lines_at : History → ℕ → ℕ → Option ℕ → List Line
 lines_at h zero depth place = []
 lines_at h (suc n) depth place = option_map_or (of_scope h (lines_at h n) depth) (option_and_then (info h) place) []
 
@@ -61,7 +61,7 @@ scope_written c h inside text writes depth i =
     ∙ (ap (λ l. l ++ flat_map (line_text c h) (inside (depth + 1) (inner h i.scope))) (tasks_written c h inside text writes (depth + 1) (tasks_of h i.scope))
     ∙ ap (λ l. flat_map (task_lines c h text (depth + 1)) (tasks_of h i.scope) ++ l) (writes (depth + 1) (inner h i.scope))))
 
-lines_written : (c : Clock) (h : History) (n : ℕ) → Writes c h (lines_at h n) (nested c h n)
+pub lines_written : (c : Clock) (h : History) (n : ℕ) → Writes c h (lines_at h n) (nested c h n)
 unfolding nested
 lines_written c h zero depth place = refl
 lines_written c h (suc n) depth place = by (option_and_then (info h) place) (lines_written c h n)
@@ -71,12 +71,12 @@ lines_written c h (suc n) depth place = by (option_and_then (info h) place) (lin
     by (Some i) writes = scope_written c h (lines_at h n) (nested c h n) writes depth i
 
 -- all lines of the tree
-abbrev tree_lines : History → List Line
+abbrev pub tree_lines : History → List Line
 tree_lines h = lines_at h 16 0 (outermost h 0)
 
 -- ---- how often a scope has a line
 
-abbrev times : ℕ → List Line → ℕ
+abbrev pub times : ℕ → List Line → ℕ
 times t ls = count_by (is_of_scope t) ls
 
 tasks_count : (h : History) (inside : ℕ → Option ℕ → List Line) (t depth : ℕ) (ks : List ℕ) → times t (flat_map (of_task h inside depth) ks) ≡ sum_by (λ k. times t (inside (depth + 1) (outermost h k))) ks
@@ -98,11 +98,11 @@ scope_count h inside t depth i =
 
 -- ---- the lines of one scope
 
-info_is : (h : History) (s : ℕ) (o : Opening) → opening h s ≡ Some o → info h s ≡ Some (info_of h s o)
+pub info_is : (h : History) (s : ℕ) (o : Opening) → opening h s ≡ Some o → info h s ≡ Some (info_of h s o)
 unfolding info
 info_is h s o is = ap (option_map (info_of h s)) is
 
-no_info : (h : History) (s : ℕ) → opening h s ≡ None → info h s ≡ None
+pub no_info : (h : History) (s : ℕ) → opening h s ≡ None → info h s ≡ None
 unfolding info
 no_info h s is = ap (option_map (info_of h s)) is
 
@@ -110,7 +110,7 @@ no_place : (h : History) (n depth t : ℕ) → times t (lines_at h n depth None)
 no_place h zero depth t = refl
 no_place h (suc n) depth t = refl
 
-split : (h : History) (n depth s t : ℕ) (o : Opening) → opening h s ≡ Some o →
+pub split : (h : History) (n depth s t : ℕ) (o : Opening) → opening h s ≡ Some o →
     times t (lines_at h (suc n) depth (Some s)) ≡ unit (s == t) + (sum_by (λ k. times t (lines_at h n (depth + 1 + 1) (outermost h k))) (tasks_of h s) + times t (lines_at h n (depth + 1) (inner h s)))
 split h n depth s t o is = ap (λ x. times t (option_map_or (of_scope h (lines_at h n) depth) x [])) (info_is h s o is) ∙ scope_count h (lines_at h n) t depth (info_of h s o)
 
@@ -151,11 +151,11 @@ module _ (L : Limits) (h : History) (legal : Legal L h) where
           let it = shows depth p parent_is.1.unclosed.unclosed there in
           (p, parent_is.1.unclosed, record { chain = it.0; live = it.1; inside = parent_is.0 })
 
-  listed_task : (s j k : ℕ) → slice_get (tasks_of h s) j ≡ Some k → is_task_of h s k ≡ true
+  pub listed_task : (s j k : ℕ) → slice_get (tasks_of h s) j ≡ Some k → is_task_of h s k ≡ true
   unfolding tasks_of
   listed_task s j k at = listed_holds (is_task_of h s) (task_numbers h) j k at
 
-  shows_below : (n t : ℕ) → Shows n t
+  pub shows_below : (n t : ℕ) → Shows n t
   shows_below zero t depth s live some = absurd (omega (arith, some))
   shows_below (suc n) t depth s live some = by (opening h s) refl (shows_below n t)
     where
@@ -237,7 +237,7 @@ module _ (L : Limits) (h : History) (legal : Legal L h) where
       let two = task_below n depth s t x (shows_below n t) other also in
       same_owner k x one.0 two.0 one.1 two.1 (only_one L h legal t one.0 two.0 s one.2.chain two.2.chain one.2.inside two.2.inside))
 
-  most_once : (n t : ℕ) → Most n t
+  pub most_once : (n t : ℕ) → Most n t
   most_once zero t depth s live = omega arith
   most_once (suc n) t depth s live = by (opening h s) refl (most_once n t)
     where
@@ -339,7 +339,7 @@ module _ (L : Limits) (c : Clock) (h : History) (legal : Legal L h) where
 
 -- ---- tasks
 
-abbrev times_task : ℕ → List Line → ℕ
+abbrev pub times_task : ℕ → List Line → ℕ
 times_task k ls = count_by (is_of_task k) ls
 
 tasks_counted : (h : History) (inside : ℕ → Option ℕ → List Line) (k depth : ℕ) (ks : List ℕ) → times_task k (flat_map (of_task h inside depth) ks) ≡ sum_by (λ x. unit (x == k) + times_task k (inside (depth + 1) (outermost h x))) ks
@@ -362,7 +362,7 @@ listed_once h s k f is =
     swap a b = elim (cases_eq a b) [ inl same ↦ ap unit (eq-eqb a b same ∙ sym (eq-eqb b a (sym same))) | inr apart ↦ ap unit (ne_eqb a b apart ∙ sym (ne_eqb b a (λ same. apart (sym same)))) ]
 
 -- a task has as many lines as its scope
-as_its_scope : (h : History) (k : ℕ) (f : Forking) → forking h k ≡ Some f → (n depth : ℕ) (place : Option ℕ) → times_task k (lines_at h n depth place) ≡ times f.scope (lines_at h n depth place)
+pub as_its_scope : (h : History) (k : ℕ) (f : Forking) → forking h k ≡ Some f → (n depth : ℕ) (place : Option ℕ) → times_task k (lines_at h n depth place) ≡ times f.scope (lines_at h n depth place)
 as_its_scope h k f is zero depth place = refl
 as_its_scope h k f is (suc n) depth None = refl
 as_its_scope h k f is (suc n) depth (Some s) = by (opening h s) refl (as_its_scope h k f is n)
@@ -390,22 +390,22 @@ root_lines : (c : Clock) (h : History) (o : Option ℕ) → (first : List ℕ) �
 root_lines c h None = (codes "nothing is open\n", sym (append-nil (codes "nothing is open\n")))
 root_lines c h (Some s) = ([], sym (lines_written c h 16 0 (Some s)))
 
-pub shows_once : TreeShowsEachOnce
+pub tree_is : (L : Limits) (c : Clock) (h : History) → Legal L h → IsTreeOf c h (tree_lines h)
 unfolding tree_by
-shows_once L c h legal =
-    let it = root_lines c h (outermost h 0) in (
-      tree_lines h,
-      record {
-        first = codes "moment " ++ decimal (moment h) ++ codes "\n" ++ it.0;
-        text = ap (λ l. codes "moment " ++ decimal (moment h) ++ codes "\n" ++ l) it.1 ∙ regroup (codes "moment ") (decimal (moment h)) (codes "\n") it.0 (flat_map (line_text c h) (tree_lines h));
-        scopes = λ s o is. scopes_once L c h legal s o is;
-        tasks = λ k f is.
-            as_its_scope h k f is 16 0 (outermost h 0) ∙ scope_of_task k f is;
-      },
-    )
+tree_is L c h legal =
+    let it = root_lines c h (outermost h 0) in
+    record {
+      first = codes "moment " ++ decimal (moment h) ++ codes "\n" ++ it.0;
+      text = ap (λ l. codes "moment " ++ decimal (moment h) ++ codes "\n" ++ l) it.1 ∙ regroup (codes "moment ") (decimal (moment h)) (codes "\n") it.0 (flat_map (line_text c h) (tree_lines h));
+      scopes = λ s o is. scopes_once L c h legal s o is;
+      tasks = λ k f is. as_its_scope h k f is 16 0 (outermost h 0) ∙ scope_of_task k f is;
+    }
   where
     regroup : (a b d e x : List ℕ) → a ++ b ++ d ++ (e ++ x) ≡ (a ++ b ++ d ++ e) ++ x
     regroup a b d e x = simp append_assoc
 
     scope_of_task : (k : ℕ) (f : Forking) → forking h k ≡ Some f → times f.scope (tree_lines h) ≡ cond (closed h f.scope) 0 1
     scope_of_task k f is = let it = forked_opened L h k f legal is in scopes_once L c h legal f.scope it.opened it.is
+
+pub shows_once : TreeShowsEachOnce
+shows_once L c h legal = (tree_lines h, tree_is L c h legal)

@@ -1,10 +1,10 @@
 -- How an object's members and a list's items follow one another, and how many tasks a scope has.
-use Rattle.std.proofs.Common.{◌≡◌, ℕ, suc, ◌+◌, ◌≤◌, ◌&&◌, Bool, true, false, cond, List, [], ◌∷◌, map, length, drop, Some, slice_get, count_by, codes, refl, sym, ap, ◌∙◌, subst, arith}
+use Rattle.std.proofs.Common.{◌≡◌, ℕ, suc, ◌+◌, ◌≤◌, ◌&&◌, Bool, true, false, cond, List, [], ◌∷◌, map, length, drop, Option, Some, None, slice_get, count_by, codes, refl, sym, ap, ◌∙◌, subst, arith}
 use Rattle.std.proofs.lemmas.List.{drop_more, drop_all}
 use Rattle.std.proofs.lemmas.List.Sums.{sum_by-cons, length-filter}
 use Rattle.std.proofs.lemmas.Option.{slice_get_within, get_or_from_slice_get}
 use Rattle.serde.specs.Event.{Log, Logs, map_begins, map_ends, seq_ends}
-use Rattle.serde_json.specs.Data.{Data, Items, Members, member, object, array, boolean, number, string, unsigned}
+use Rattle.serde_json.specs.Data.{Data, Items, Members, member, no_members, object, array, boolean, number, string, unsigned}
 use Rattle.serde_json.specs.View.{items_of}
 use Rattle.serde_json.specs.Events.{SendsValue, SendsItems, SendsMembers, items_len, members_len}
 use Rattle.scope_rules.specs.declared.types.answers.Stage.{Stage}
@@ -17,10 +17,10 @@ use Rattle.scope_rules.specs.Tasks.{stage, is_at, is_stage, counts}
 use Rattle.scope_rules.specs.Names.{text_of}
 use Rattle.scope_rules.specs.Texts.{stage_word, state_word}
 use Rattle.script_words.specs.Spelling.{policy_word}
-use Rattle.tree_dump.specs.Objects.{number_or_null, cause_or_null, scope_object, task_object}
+use Rattle.tree_dump.specs.Objects.{number_or_null, with_since, cause_or_null, scope_object, task_object}
 use Rattle.tree_dump.specs.Words.{expiry_word, scope_stage_word}
 use Rattle.tree_dump.specs.declared.told.TaskTold.{TaskTold}
-use Rattle.tree_dump.specs.Sent.{SendsMember}
+use Rattle.tree_dump.specs.Sent.{SendsMember, SendsSince, count_since}
 
 -- ---- members and items
 
@@ -41,36 +41,133 @@ item_sent f ks i k old mid end at one more =
 pub items_end : (f : ℕ → Data) (ks : List ℕ) (i : ℕ) (old end : Log) → length ks ≤ i → Logs old end seq_ends → SendsItems (items_of (map f (drop i ks))) old end
 items_end f ks i old end past last = subst (λ xs. SendsItems (items_of (map f xs)) old end) (sym (drop_all i ks past)) last
 
-member_as : (key : List ℕ) (value other : Data) (old new : Log) → value ≡ other → SendsMember key value old new → SendsMember key other old new
+pub member_as : (key : List ℕ) (value other : Data) (old new : Log) → value ≡ other → SendsMember key value old new → SendsMember key other old new
 member_as key value other old new same sent = subst (λ d. SendsMember key d old new) same sent
 
 -- ---- the objects
 
-pub scope_sent : (i : ScopeInfo) (inside : Data) (tasks : Items) (expiry how : List ℕ) (old l0 l1 l2 l3 l4 l5 l6 l7 l8 l9 l10 l11 new : Log) →
-    expiry ≡ expiry_word i.expiry → how ≡ scope_stage_word i.stage → Logs old l0 (map_begins (Some 11)) →
+-- since when, if that is told, and then the rest
+since_sent : (since : Option (Option ℕ)) (rest : Members) (old mid new : Log) → SendsSince since old mid → SendsMembers rest mid new → SendsMembers (with_since since rest) old new
+since_sent None rest old mid new same more = subst (λ l. SendsMembers rest l new) same more
+since_sent (Some reading) rest old mid new one more = (one.0, mid, one.1, one.2, more)
+
+pub scope_sent : (i : ScopeInfo) (since : Option (Option ℕ)) (inside : Data) (tasks : Items) (expiry how : List ℕ) (old l0 l1 l2 l3 l4 l5 l6 l7 l8 l9 l10 l11 l12 new : Log) →
+    expiry ≡ expiry_word i.expiry → how ≡ scope_stage_word i.stage → Logs old l0 (map_begins (Some (count_since since 11))) →
     SendsMember (codes "cause") (cause_or_null i.cause) l0 l1 → SendsMember (codes "deadline") (number_or_null i.deadline) l1 l2 →
     SendsMember (codes "expiry") (string expiry) l2 l3 → SendsMember (codes "id") (number (unsigned i.scope)) l3 l4 → SendsMember (codes "inner") inside l4 l5 →
     SendsMember (codes "joined") (boolean i.joined) l5 l6 → SendsMember (codes "joiner") (string (policy_word i.policy)) l6 l7 →
-    SendsMember (codes "owner") (number (unsigned i.owner)) l7 l8 → SendsMember (codes "shield") (boolean i.shield) l8 l9 →
-    SendsMember (codes "stage") (string how) l9 l10 → SendsMember (codes "tasks") (array tasks) l10 l11 → Logs l11 new map_ends →
-    SendsValue (scope_object i inside tasks) old new
+    SendsMember (codes "owner") (number (unsigned i.owner)) l7 l8 → SendsMember (codes "shield") (boolean i.shield) l8 l9 → SendsSince since l9 l10 →
+    SendsMember (codes "stage") (string how) l10 l11 → SendsMember (codes "tasks") (array tasks) l11 l12 → Logs l12 new map_ends →
+    SendsValue (scope_object i since inside tasks) old new
 unfolding scope_object
-scope_sent i inside tasks expiry how old l0 l1 l2 l3 l4 l5 l6 l7 l8 l9 l10 l11 new e s begun cause deadline by id inner joined joiner owner shield at list ended =
+scope_sent i since inside tasks expiry how old l0 l1 l2 l3 l4 l5 l6 l7 l8 l9 l10 l11 l12 new e s begun cause deadline by id inner joined joiner owner shield from at list ended =
     let by : SendsMember (codes "expiry") (string (expiry_word i.expiry)) l2 l3 = member_as (codes "expiry") _ _ l2 l3 (ap string e) by in
-    let at : SendsMember (codes "stage") (string (scope_stage_word i.stage)) l9 l10 = member_as (codes "stage") _ _ l9 l10 (ap string s) at in
-    (l0, begun, (cause.0, l1, cause.1, cause.2, (deadline.0, l2, deadline.1, deadline.2, (by.0, l3, by.1, by.2, (id.0, l4, id.1, id.2, (inner.0, l5, inner.1, inner.2, (joined.0, l6, joined.1, joined.2, (joiner.0, l7, joiner.1, joiner.2, (owner.0, l8, owner.1, owner.2, (shield.0, l9, shield.1, shield.2, (at.0, l10, at.1, at.2, (list.0, l11, list.1, list.2, ended))))))))))))
+    let at : SendsMember (codes "stage") (string (scope_stage_word i.stage)) l10 l11 = member_as (codes "stage") _ _ l10 l11 (ap string s) at in (
+      l0,
+      subst (λ n. Logs old l0 (map_begins (Some n))) (many since) begun,
+      (
+        cause.0,
+        l1,
+        cause.1,
+        cause.2,
+        (
+          deadline.0,
+          l2,
+          deadline.1,
+          deadline.2,
+          (
+            by.0,
+            l3,
+            by.1,
+            by.2,
+            (
+              id.0,
+              l4,
+              id.1,
+              id.2,
+              (
+                inner.0,
+                l5,
+                inner.1,
+                inner.2,
+                (
+                  joined.0,
+                  l6,
+                  joined.1,
+                  joined.2,
+                  (
+                    joiner.0,
+                    l7,
+                    joiner.1,
+                    joiner.2,
+                    (
+                      owner.0,
+                      l8,
+                      owner.1,
+                      owner.2,
+                      (
+                        shield.0,
+                        l9,
+                        shield.1,
+                        shield.2,
+                        since_sent since stage_on l9 l10 new from (at.0, l11, at.1, at.2, (list.0, l12, list.1, list.2, ended)),
+                      ),
+                    ),
+                  ),
+                ),
+              ),
+            ),
+          ),
+        ),
+      ),
+    )
+  where
+    stage_on : Members
+    stage_on = member (codes "stage") (string (scope_stage_word i.stage)) (member (codes "tasks") (array tasks) no_members)
 
-pub task_sent : (t : TaskTold) (inside : Data) (name how state : List ℕ) (old l0 l1 l2 l3 l4 l5 new : Log) →
-    name ≡ text_of t.label.name → how ≡ stage_word t.stage → state ≡ state_word t.state → Logs old l0 (map_begins (Some 5)) →
-    SendsMember (codes "id") (number (unsigned t.task)) l0 l1 → SendsMember (codes "inner") inside l1 l2 → SendsMember (codes "name") (string name) l2 l3 →
-    SendsMember (codes "stage") (string how) l3 l4 → SendsMember (codes "state") (string state) l4 l5 → Logs l5 new map_ends →
-    SendsValue (task_object t inside) old new
+    many : (since : Option (Option ℕ)) → count_since since 11 ≡ suc (suc (suc (suc (suc (suc (suc (suc (suc (members_len (with_since since stage_on))))))))))
+    many None = refl
+    many (Some reading) = refl
+
+pub task_sent : (t : TaskTold) (since : Option (Option ℕ)) (inside : Data) (name how state : List ℕ) (old l0 l1 l2 l3 l4 l5 l6 new : Log) →
+    name ≡ text_of t.label.name → how ≡ stage_word t.stage → state ≡ state_word t.state → Logs old l0 (map_begins (Some (count_since since 5))) →
+    SendsMember (codes "id") (number (unsigned t.task)) l0 l1 → SendsMember (codes "inner") inside l1 l2 → SendsMember (codes "name") (string name) l2 l3 → SendsSince since l3 l4 →
+    SendsMember (codes "stage") (string how) l4 l5 → SendsMember (codes "state") (string state) l5 l6 → Logs l6 new map_ends →
+    SendsValue (task_object t since inside) old new
 unfolding task_object
-task_sent t inside name how state old l0 l1 l2 l3 l4 l5 new n g s begun id inner named staged stated ended =
+task_sent t since inside name how state old l0 l1 l2 l3 l4 l5 l6 new n g s begun id inner named from staged stated ended =
     let named : SendsMember (codes "name") (string (text_of t.label.name)) l2 l3 = member_as (codes "name") _ _ l2 l3 (ap string n) named in
-    let staged : SendsMember (codes "stage") (string (stage_word t.stage)) l3 l4 = member_as (codes "stage") _ _ l3 l4 (ap string g) staged in
-    let stated : SendsMember (codes "state") (string (state_word t.state)) l4 l5 = member_as (codes "state") _ _ l4 l5 (ap string s) stated in
-    (l0, begun, (id.0, l1, id.1, id.2, (inner.0, l2, inner.1, inner.2, (named.0, l3, named.1, named.2, (staged.0, l4, staged.1, staged.2, (stated.0, l5, stated.1, stated.2, ended))))))
+    let staged : SendsMember (codes "stage") (string (stage_word t.stage)) l4 l5 = member_as (codes "stage") _ _ l4 l5 (ap string g) staged in
+    let stated : SendsMember (codes "state") (string (state_word t.state)) l5 l6 = member_as (codes "state") _ _ l5 l6 (ap string s) stated in (
+      l0,
+      subst (λ n. Logs old l0 (map_begins (Some n))) (many since) begun,
+      (
+        id.0,
+        l1,
+        id.1,
+        id.2,
+        (
+          inner.0,
+          l2,
+          inner.1,
+          inner.2,
+          (
+            named.0,
+            l3,
+            named.1,
+            named.2,
+            since_sent since stage_on l3 l4 new from (staged.0, l5, staged.1, staged.2, (stated.0, l6, stated.1, stated.2, ended)),
+          ),
+        ),
+      ),
+    )
+  where
+    stage_on : Members
+    stage_on = member (codes "stage") (string (stage_word t.stage)) (member (codes "state") (string (state_word t.state)) no_members)
+
+    many : (since : Option (Option ℕ)) → count_since since 5 ≡ suc (suc (suc (members_len (with_since since stage_on))))
+    many None = refl
+    many (Some reading) = refl
 
 -- ---- how many there are
 

@@ -6,6 +6,7 @@ use Rattle.scope_rules.specs.declared.types.records.Opening.{Opening}
 use Rattle.scope_rules.specs.History.{History, opening}
 use Rattle.scope_rules.specs.Nests.{inner, info, info_of}
 use Rattle.serde_json.specs.Data.{Data, null}
+use Rattle.tree_dump.specs.Ages.{Clock, scope_since}
 use Rattle.tree_dump.specs.Objects.{scope_object}
 use Rattle.tree_dump.specs.Tree.{nested, scope_shown, tasks_shown}
 
@@ -25,24 +26,26 @@ info_here h (Some s) i e = ap (info h) (info_scope h s i e) ∙ e
 pub info_there : (h : History) (place : Option ℕ) (i : ScopeInfo) → option_and_then (info h) place ≡ Some i → IsSome (info h i.scope)
 info_there h place i e = rw (info_here h place i e) refl
 
-pub nested_none : (h : History) (levels : ℕ) (place : Option ℕ) → levels ≡ 0 → nested h levels place ≡ null
+pub nested_none : (by : Option Clock) (h : History) (levels : ℕ) (place : Option ℕ) → levels ≡ 0 → nested by h levels place ≡ null
 unfolding nested
-nested_none h zero place e = refl
-nested_none h (suc levels) place e = absurd (omega (arith, e))
+nested_none by h zero place e = refl
+nested_none by h (suc levels) place e = absurd (omega (arith, e))
 
-pub nested_absent : (h : History) (levels : ℕ) (place : Option ℕ) → option_and_then (info h) place ≡ None → nested h levels place ≡ null
+pub nested_absent : (by : Option Clock) (h : History) (levels : ℕ) (place : Option ℕ) → option_and_then (info h) place ≡ None → nested by h levels place ≡ null
 unfolding nested
-nested_absent h zero place e = refl
-nested_absent h (suc levels) None e = refl
-nested_absent h (suc levels) (Some s) e = rw e refl
+nested_absent by h zero place e = refl
+nested_absent by h (suc levels) None e = refl
+nested_absent by h (suc levels) (Some s) e = rw e refl
 
-shown_at : (h : History) (inside : Option ℕ → Data) (s t : ℕ) (i : ScopeInfo) → info h s ≡ Some i → t ≡ s → scope_shown h inside s ≡ scope_object i (inside (inner h t)) (tasks_shown h inside t)
-shown_at h inside s t i e same = rw same (ap (λ o. option_map_or (λ j. scope_object j (inside (inner h s)) (tasks_shown h inside s)) o null) e)
+shown_at : (by : Option Clock) (h : History) (inside : Option ℕ → Data) (s t : ℕ) (i : ScopeInfo) → info h s ≡ Some i → t ≡ s →
+    scope_shown by h inside s ≡ scope_object i (option_map (λ c. scope_since c h i.scope) by) (inside (inner h t)) (tasks_shown by h inside t)
+shown_at by h inside s t i e same = rw same (ap (λ o. option_map_or (λ j. scope_object j (option_map (λ c. scope_since c h j.scope) by) (inside (inner h s)) (tasks_shown by h inside s)) o null) e)
 
-pub nested_shown : (h : History) (n levels : ℕ) (place : Option ℕ) (i : ScopeInfo) → n ≡ suc levels → option_and_then (info h) place ≡ Some i → nested h n place ≡ scope_object i (nested h levels (inner h i.scope)) (tasks_shown h (nested h levels) i.scope)
+pub nested_shown : (by : Option Clock) (h : History) (n levels : ℕ) (place : Option ℕ) (i : ScopeInfo) → n ≡ suc levels → option_and_then (info h) place ≡ Some i →
+    nested by h n place ≡ scope_object i (option_map (λ c. scope_since c h i.scope) by) (nested by h levels (inner h i.scope)) (tasks_shown by h (nested by h levels) i.scope)
 unfolding nested
-nested_shown h n levels None i more e = absurd cc
-nested_shown h n levels (Some s) i more e = ap (λ m. nested h m (Some s)) more ∙ shown_at h (nested h levels) s i.scope i e (info_scope h s i e)
+nested_shown by h n levels None i more e = absurd cc
+nested_shown by h n levels (Some s) i more e = ap (λ m. nested by h m (Some s)) more ∙ shown_at by h (nested by h levels) s i.scope i e (info_scope h s i e)
 
 pub none_if : {A : Type 0} (o : Option A) → ((x : A) → o ≡ Some x → ⊥) → o ≡ None
 none_if None no_some = refl

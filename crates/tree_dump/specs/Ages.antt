@@ -3,7 +3,7 @@ use Rattle.std.specs.Prelude.{ℕ, ◌-◌, ◌/◌, ◌%◌, ◌&&◌, nat_lt, 
 use Rattle.std.specs.Option.{option_and_then}
 use Rattle.std.specs.Fmt.{decimal}
 use Rattle.scope_rules.specs.declared.types.answers.Stage.{Stage}
-use Rattle.scope_rules.specs.declared.types.answers.Stage.TheVariants.{Running}
+use Rattle.scope_rules.specs.declared.types.answers.Stage.TheVariants.{Running, Finished}
 use Rattle.scope_rules.specs.declared.types.infos.ScopeInfo.{ScopeInfo}
 use Rattle.scope_rules.specs.History.{History}
 use Rattle.tree_dump.specs.declared.ages.Ages.{Ages}
@@ -37,9 +37,22 @@ is_running _ = false
 abbrev pub task_age : Clock → History → ℕ → Stage → Option ℕ
 task_age c h k stage = if is_running stage then option_map (since c) (reading_in c.started h.base.tasks k) else None
 
+-- the reading as scope s was opened, if it is known
+abbrev pub scope_since : Clock → History → ℕ → Option ℕ
+scope_since c h s = reading_in c.opened h.base.scopes s
+
 -- how long scope s is open, if the reading as it was opened is known
 abbrev pub scope_age : Clock → History → ℕ → Option ℕ
-scope_age c h s = option_map (since c) (reading_in c.opened h.base.scopes s)
+scope_age c h s = option_map (since c) (scope_since c h s)
+
+abbrev pub runs_or_ran : Stage → Bool
+runs_or_ran Running = true
+runs_or_ran Finished = true
+runs_or_ran _ = false
+
+-- the reading as task k started, if it runs or ran and the reading is known
+abbrev pub task_since : Clock → History → ℕ → Stage → Option ℕ
+task_since c h k stage = if runs_or_ran stage then reading_in c.started h.base.tasks k else None
 
 -- how late it is by now, if the deadline is past, and the scope is not joined
 abbrev pub late_by : Clock → Bool → Option ℕ → Option ℕ

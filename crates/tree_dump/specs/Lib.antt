@@ -11,3 +11,8 @@ pub mod RetiringText
 pub mod Shows
 pub mod Once
 pub mod Awaits
+pub mod Timed
+pub mod TimedAdds
+pub mod ShowsAwaited
+pub mod Summed
+pub mod ShowsLevels

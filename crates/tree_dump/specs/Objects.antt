@@ -5,7 +5,7 @@ use Rattle.scope_rules.specs.Texts.{kind_word, stage_word, state_word}
 use Rattle.scope_rules.specs.declared.types.answers.Cause.{Cause}
 use Rattle.scope_rules.specs.declared.types.infos.ScopeInfo.{ScopeInfo}
 use Rattle.script_words.specs.Spelling.{policy_word}
-use Rattle.serde_json.specs.Data.{Data, null, boolean, number, unsigned, string, array, object, Items, member, no_members}
+use Rattle.serde_json.specs.Data.{Data, null, boolean, number, unsigned, string, array, object, Items, Members, member, no_members}
 use Rattle.tree_dump.specs.Words.{expiry_word, scope_stage_word}
 use Rattle.tree_dump.specs.declared.told.TaskTold.{TaskTold}
 
@@ -21,9 +21,14 @@ cause_or_null (Some cause) =
     object (member (codes "by") (number (unsigned cause.scope))
     (member (codes "kind") (string (kind_word cause.kind)) no_members))
 
--- a scope, of what there is to say of it, what lies inside it, and its tasks
-unfoldable pub scope_object : ScopeInfo → Data → Items → Data
-scope_object info inner tasks =
+-- since when, if the dump tells times: a reading of the clock, or null
+abbrev pub with_since : Option (Option ℕ) → Members → Members
+with_since None rest = rest
+with_since (Some reading) rest = member (codes "since") (number_or_null reading) rest
+
+-- a scope, of what there is to say of it, since when it is open, what lies inside it, and its tasks
+unfoldable pub scope_object : ScopeInfo → Option (Option ℕ) → Data → Items → Data
+scope_object info since inner tasks =
     object (member (codes "cause") (cause_or_null info.cause)
     (member (codes "deadline") (number_or_null info.deadline)
     (member (codes "expiry") (string (expiry_word info.expiry))
@@ -33,14 +38,16 @@ scope_object info inner tasks =
     (member (codes "joiner") (string (policy_word info.policy))
     (member (codes "owner") (number (unsigned info.owner))
     (member (codes "shield") (boolean info.shield)
+    (with_since since
     (member (codes "stage") (string (scope_stage_word info.stage))
-    (member (codes "tasks") (array tasks) no_members)))))))))))
+    (member (codes "tasks") (array tasks) no_members))))))))))))
 
--- a task, of what there is to say of it and what lies inside it
-unfoldable pub task_object : TaskTold → Data → Data
-task_object told inner =
+-- a task, of what there is to say of it, since when it runs or ran, and what lies inside it
+unfoldable pub task_object : TaskTold → Option (Option ℕ) → Data → Data
+task_object told since inner =
     object (member (codes "id") (number (unsigned told.task))
     (member (codes "inner") inner
     (member (codes "name") (string (text_of told.label.name))
+    (with_since since
     (member (codes "stage") (string (stage_word told.stage))
-    (member (codes "state") (string (state_word told.state)) no_members)))))
+    (member (codes "state") (string (state_word told.state)) no_members))))))

@@ -16,7 +16,7 @@ use Rattle.tree_dump.specs.declared.parts.Sums.{Sums}
 use Rattle.tree_dump.specs.declared.parts.TreePart.{TreePart}
 use Rattle.tree_dump.specs.declared.parts.TreePart.TheVariants as part
 use Rattle.tree_dump.specs.Ages.{Clock}
-use Rattle.tree_dump.specs.TextTree.{nested, open_text, scope_line, task_line, tree_by}
+use Rattle.tree_dump.specs.TextTree.{nested, scope_line, task_line, tree_by}
 
 -- ---- all that is open
 

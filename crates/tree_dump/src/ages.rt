@@ -1,6 +1,6 @@
 //! How long tasks run and scopes are open, by a clock.
 ghost use Rattle.std.specs.Prelude.{◌≡◌, Some, option_map};
-ghost use Rattle.tree_dump.specs.Ages.{aged_text, clock_of, duration_text, for_text, late_by, late_text, no_clock, open_text, reading_in, scope_age, scope_late, since, task_age};
+ghost use Rattle.tree_dump.specs.Ages.{aged_text, clock_of, duration_text, for_text, late_by, late_text, no_clock, open_text, reading_in, runs_or_ran, scope_age, scope_late, scope_since, since, task_age, task_since};
 
 use scope_checks::Readings;
 use scope_rules::types::infos::ScopeInfo;
@@ -78,6 +78,45 @@ pub(crate) fn scope_age<R: Readings>(readings: &R, ages: &Ages<'_>, scope: Scope
         ages,
         reading_in(ages.opened, readings.retired_scopes(), scope),
     )
+}
+
+/// The reading as the scope was opened, if it is known. Without ages none is told.
+pub(crate) fn scope_since<R: Readings>(
+    readings: &R,
+    ages: Option<&Ages<'_>>,
+    scope: ScopeId,
+) -> Option<Option<u32>>
+    ensures { result ≡ option_map (λ c. scope_since c (R.history readings.now) scope) (option_map (λ a. clock_of a.now) ages.entry) }
+{
+    match ages {
+        Some(ages) => Some(reading_in(ages.opened, readings.retired_scopes(), scope)),
+        None => None,
+    }
+}
+
+/// Whether a task at this stage runs or ran.
+fn runs_or_ran(stage: Stage) -> bool
+    ensures { result ≡ runs_or_ran stage }
+{
+    matches!(stage, Stage::Running | Stage::Finished)
+}
+
+/// The reading as the task started, if it runs or ran and the reading is known. Without ages none is told.
+pub(crate) fn task_since<R: Readings>(
+    readings: &R,
+    ages: Option<&Ages<'_>>,
+    task: TaskId,
+    stage: Stage,
+) -> Option<Option<u32>>
+    ensures { result ≡ option_map (λ c. task_since c (R.history readings.now) task stage) (option_map (λ a. clock_of a.now) ages.entry) }
+{
+    match ages {
+        Some(ages) if runs_or_ran(stage) => {
+            Some(reading_in(ages.started, readings.retired_tasks(), task))
+        }
+        Some(_) => Some(None),
+        None => None,
+    }
 }
 
 /// How late it is by now, if the deadline is past and the scope is not joined.

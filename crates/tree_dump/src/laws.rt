@@ -5,6 +5,10 @@ ghost use Rattle.tree_dump.specs.Retiring.{DumpStays};
 ghost use Rattle.tree_dump.specs.RetiringText.{TreeStays};
 ghost use Rattle.tree_dump.specs.Once.{TreeShowsEachOnce};
 ghost use Rattle.tree_dump.specs.Shows.{TreeShowsEach};
+ghost use Rattle.tree_dump.specs.ShowsAwaited.{AwaitedShows};
+ghost use Rattle.tree_dump.specs.ShowsLevels.{LevelsShow, RootLevelsShow};
+ghost use Rattle.tree_dump.specs.Summed.{SumsCount};
+ghost use Rattle.tree_dump.specs.TimedAdds.{TimedAdds};
 
 /// A retirement changes nothing that a dump or a tree shows. If a list of commands without its retirements meets no
 /// limit, and no command behind an accepted retirement names a discarded number, then what it leaves is shown the same
@@ -13,6 +17,12 @@ ghost use Rattle.tree_dump.specs.Shows.{TreeShowsEach};
 pub fn retired()
     ensures dump { DumpStays }
     ensures tree { TreeStays }
+{}
+
+/// The second format of a dump is the first one with members more. Without them, `format`, `limits`, `now`, `used` and
+/// each `since`, its value is that of the first.
+pub fn timed_adds()
+    ensures { TimedAdds }
 {}
 
 /// The tree of a legal history has a line for each scope that is not closed, and one level deeper a line for each of its
@@ -30,4 +40,23 @@ pub fn tree_shows_each_once()
 /// The line of a scope in a tree says how many of its tasks wait or run, and how many were forked in it.
 pub fn tree_awaits()
     ensures { TreeAwaits }
+{}
+
+/// What is shown of what is waited for in a legal history: the scopes that are not closed and have a task that waits or
+/// runs, each once, in the order of their openings. Below each stand just those of its tasks, each once.
+pub fn awaited_shows()
+    ensures { AwaitedShows }
+{}
+
+/// The sums of a legal history say how many scopes are not closed, and how many tasks of those scopes are at each stage.
+pub fn sums_count()
+    ensures { SumsCount }
+{}
+
+/// What is shown of some levels of the tree of a legal history. The whole tree from that scope on has one line for each
+/// scope that lies in it and is not closed, and one for each task of such a scope. Shown are just the lines of those scopes
+/// that do not lie deeper than the levels go, and of their tasks, in the same order.
+pub fn levels_show()
+    ensures named { LevelsShow }
+    ensures root { RootLevelsShow }
 {}

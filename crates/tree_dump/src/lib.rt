@@ -1,5 +1,6 @@
 //! The tree of a realm: which scopes are not closed, inside which, with which tasks at which
-//! stage, who was cancelled and by whom. `dump_of` and `dump` give it as JSON, `tree_of` as text for a terminal.
+//! stage, who was cancelled and by whom. `dump_of` and `dump` give it as JSON, `timed_dump` as JSON with times and limits,
+//! and `tree_of` as text for a terminal.
 //!
 //! The JSON is compact, its keys stand in the order of their bytes, and it has no float:
 //!
@@ -15,6 +16,18 @@
 //! The root is main's outermost scope. What lies inside a scope is the next one that its owner opened
 //! and has not closed; what lies inside a task is its own outermost scope. The deadline is the scope's
 //! own one, in milliseconds, also after the join. Tasks stand in fork order.
+//!
+//! The second format (`timed_dump`) has all of this, and members more:
+//!
+//! ```text
+//! {"format":2,"limits":AMOUNTS,"moment":N,"now":T or null,"root":SCOPE or null,"used":AMOUNTS}
+//! AMOUNTS  {"load":N,"scopes":N,"tasks":N}
+//! ```
+//!
+//! Each SCOPE and each TASK has a member `"since":T or null` before its stage. T is a reading of a clock, in milliseconds
+//! since the realm began. A scope's is the reading as it was opened. A task's is the reading as it started, if it runs or
+//! ran. `now` is the last reading. Each is null if the clock was not read. The limits are those of the realm. What counts
+//! against them are the load used, and the scopes and tasks since the last retirement.
 //!
 //! The text for a terminal has a line with the moment, and then a line for each scope that is not closed and for each
 //! of its tasks, indented by two spaces a level:
@@ -56,6 +69,7 @@ mod members;
 mod parts;
 mod text_lines;
 mod text_walk;
+mod timed;
 pub mod told;
 pub mod walk;
 mod words;
@@ -64,4 +78,5 @@ pub use ages::Ages;
 pub use book::dump;
 pub use parts::{Sums, TreePart, tree_part};
 pub use text_walk::{tree_of, tree_with};
+pub use timed::timed_dump;
 pub use walk::dump_of;

@@ -1,8 +1,8 @@
 //! The members of a dump's objects, each as it is sent to a serializer: its key, and then its value.
-ghost use Rattle.std.specs.Prelude.{◌≡◌, OnOk};
+ghost use Rattle.std.specs.Prelude.{◌≡◌, ◌<◌, OnOk};
 ghost use Rattle.serde_json.specs.Data.{boolean, number, unsigned, string};
 ghost use Rattle.serde_json.specs.Events.{SendsValue};
-ghost use Rattle.tree_dump.specs.Sent.{SendsMember};
+ghost use Rattle.tree_dump.specs.Sent.{SendsMember, SendsSince, count_since};
 ghost use Rattle.tree_dump.specs.Objects.{number_or_null, cause_or_null};
 ghost use Rattle.script_words.specs.Spelling.{policy_word};
 
@@ -47,6 +47,31 @@ pub(crate) fn send_time<S: Serializer>(
     match time {
         Some(time) => out.u64(time),
         None => out.unit(),
+    }
+}
+
+/// Sends the member that says since when, if that is told: a reading in milliseconds, or null.
+pub(crate) fn send_since<S: Serializer>(
+    out: &mut S,
+    since: Option<Option<u32>>,
+) -> Result<(), S::Error>
+    ensures { OnOk result (SendsSince since (S.written out.old) (S.written out.new)) }
+{
+    match since {
+        None => Ok(()),
+        Some(None) => send_time(out, "since", None),
+        Some(Some(reading)) => send_time(out, "since", Some(u64::from(reading))),
+    }
+}
+
+/// How many members there are, of so many others.
+pub(crate) fn count_since(since: Option<Option<u32>>, others: usize) -> usize
+    requires { others < 16 }
+    ensures { result ≡ count_since since others }
+{
+    match since {
+        None => others,
+        Some(_) => others + 1,
     }
 }
 

@@ -1,13 +1,17 @@
 //! The walk over the tree, which is sent to a serializer as it goes.
-ghost use Rattle.std.specs.Prelude.{◌≡◌, IfOk, OnOk, string_bytes, length};
+ghost use Rattle.std.specs.Prelude.{◌≡◌, IfOk, None, OnOk, option_map, string_bytes, length};
 ghost use Rattle.scope_rules.specs.Checks.{scope_check};
 ghost use Rattle.scope_rules.specs.Nests.{tasks_of};
 ghost use Rattle.scope_checks.specs.Passes.{Passes};
 ghost use Rattle.serde_json.specs.Data.{array};
 ghost use Rattle.serde_json.specs.Events.{SendsValue};
+ghost use Rattle.tree_dump.specs.Ages.{clock_of};
 ghost use Rattle.tree_dump.specs.Tree.{nested, task_shown, tasks_shown, dump_data, dump_text};
 
-use crate::members::{send_cause, send_flag, send_joiner, send_number, send_text, send_time};
+use crate::ages::{Ages, scope_since, task_since};
+use crate::members::{
+    count_since, send_cause, send_flag, send_joiner, send_number, send_since, send_text, send_time,
+};
 use crate::told::{TaskTold, info_at, task_told};
 use crate::words::{expiry_word, scope_stage_word};
 use scope_checks::Readings;
@@ -17,18 +21,20 @@ use serde::{Described, Serialize, Serializer};
 use std::alloc::{AllocError, Global};
 
 /// How many levels of scopes there can be.
-const LEVELS: u8 = 16;
+pub(crate) const LEVELS: u8 = 16;
 
-/// Sends what stands where the scope may lie: the scope with what lies inside it, down to so many levels, or null.
+/// Sends what stands where the scope may lie: the scope with what lies inside it, down to so many levels, or null. With
+/// ages each scope and each task has a member more: since when it is open, or runs or ran.
 #[cycle(send_scope)]
-fn send_scope<R: Readings, S: Serializer>(
+pub(crate) fn send_scope<R: Readings, S: Serializer>(
     readings: &R,
+    ages: Option<&Ages<'_>>,
     alloc: Global,
     out: &mut S,
     levels: u8,
     place: Option<ScopeId>,
 ) -> Result<(), S::Error>
-    ensures { OnOk result (SendsValue (nested (R.history readings.now) levels place) (S.written out.old) (S.written out.new)) }
+    ensures { OnOk result (SendsValue (nested (option_map (λ a. clock_of a.now) ages.entry) (R.history readings.now) levels place) (S.written out.old) (S.written out.new)) }
 {
     if levels == 0 {
         return out.unit();
@@ -36,20 +42,29 @@ fn send_scope<R: Readings, S: Serializer>(
     let Some(info) = info_at(readings, place) else {
         return out.unit();
     };
-    out.begin_map(Some(11))?;
+    let since = scope_since(readings, ages, info.scope);
+    out.begin_map(Some(count_since(since, 11)))?;
     send_cause(out, "cause", info.cause)?;
     send_time(out, "deadline", info.deadline)?;
     send_text(out, "expiry", expiry_word(info.expiry))?;
     send_number(out, "id", info.scope)?;
     out.key("inner")?;
-    send_scope(readings, alloc, out, levels - 1, readings.inner(info.scope))?;
+    send_scope(
+        readings,
+        ages,
+        alloc,
+        out,
+        levels - 1,
+        readings.inner(info.scope),
+    )?;
     send_flag(out, "joined", info.joined)?;
     send_joiner(alloc, out, "joiner", info.policy)?;
     send_number(out, "owner", info.owner)?;
     send_flag(out, "shield", info.shield)?;
+    send_since(out, since)?;
     send_text(out, "stage", scope_stage_word(info.stage))?;
     out.key("tasks")?;
-    send_tasks(readings, alloc, out, levels - 1, info.scope)?;
+    send_tasks(readings, ages, alloc, out, levels - 1, info.scope)?;
     out.end_map()
 }
 
@@ -70,13 +85,14 @@ fn task_count<R: Readings>(readings: &R, scope: ScopeId) -> usize
 #[cycle(send_scope)]
 fn send_tasks<R: Readings, S: Serializer>(
     readings: &R,
+    ages: Option<&Ages<'_>>,
     alloc: Global,
     out: &mut S,
     levels: u8,
     scope: ScopeId,
 ) -> Result<(), S::Error>
     requires { Passes (scope_check (R.history readings.now) scope) }
-    ensures { OnOk result (SendsValue (array (tasks_shown (R.history readings.now) (nested (R.history readings.now) levels) scope)) (S.written out.old) (S.written out.new)) }
+    ensures { OnOk result (SendsValue (array (tasks_shown (option_map (λ a. clock_of a.now) ages.entry) (R.history readings.now) (nested (option_map (λ a. clock_of a.now) ages.entry) (R.history readings.now) levels) scope)) (S.written out.old) (S.written out.new)) }
 {
     let count = task_count(readings, scope);
     out.begin_seq(Some(count))?;
@@ -84,7 +100,7 @@ fn send_tasks<R: Readings, S: Serializer>(
         let Some(task) = readings.task_at(scope, index) else {
             unreachable!()
         };
-        send_task(readings, alloc, out, levels, task)?;
+        send_task(readings, ages, alloc, out, levels, task)?;
     }
     out.end_seq()
 }
@@ -93,21 +109,24 @@ fn send_tasks<R: Readings, S: Serializer>(
 #[cycle(send_scope)]
 fn send_task<R: Readings, S: Serializer>(
     readings: &R,
+    ages: Option<&Ages<'_>>,
     alloc: Global,
     out: &mut S,
     levels: u8,
     task: TaskId,
 ) -> Result<(), S::Error>
-    ensures { OnOk result (SendsValue (task_shown (R.history readings.now) (nested (R.history readings.now) levels) task) (S.written out.old) (S.written out.new)) }
+    ensures { OnOk result (SendsValue (task_shown (option_map (λ a. clock_of a.now) ages.entry) (R.history readings.now) (nested (option_map (λ a. clock_of a.now) ages.entry) (R.history readings.now) levels) task) (S.written out.old) (S.written out.new)) }
 {
     let Some(told) = task_told(readings, task) else {
         return out.unit();
     };
-    out.begin_map(Some(5))?;
+    let since = task_since(readings, ages, told.task, told.stage);
+    out.begin_map(Some(count_since(since, 5)))?;
     send_number(out, "id", told.task)?;
     out.key("inner")?;
-    send_scope(readings, alloc, out, levels, told.inner)?;
+    send_scope(readings, ages, alloc, out, levels, told.inner)?;
     send_text(out, "name", told.label.name.as_str())?;
+    send_since(out, since)?;
     send_text(out, "stage", told.stage.word())?;
     send_text(out, "state", told.state.word())?;
     out.end_map()
@@ -131,6 +150,7 @@ impl<R: Readings> Serialize for Tree<'_, R> {
         out.key("root")?;
         send_scope(
             self.readings,
+            None,
             self.alloc,
             out,
             LEVELS,

@@ -1,8 +1,9 @@
-use Rattle.std.proofs.Common.{◌+◌, ◌*◌, drop, map}
+use Rattle.std.proofs.Common.{◌+◌, ◌*◌, drop, map, option_map}
 use Rattle.scope_rules.specs.Nests.{tasks_of}
 use Rattle.serde.specs.Event.{Log}
 use Rattle.serde_json.specs.View.{items_of}
 use Rattle.serde_json.specs.Events.{SendsItems}
+use Rattle.tree_dump.specs.Ages.{clock_of}
 use Rattle.tree_dump.specs.Tree.{nested, task_shown}
 use Rattle.tree_dump.proofs.walk.+send_scope.Given as goal
 
@@ -19,5 +20,6 @@ decreases-send_tasks g l = 3 * l.levels + 2
 abbrev pub invariant-send_tasks-loop-index : goal.invariant-send_tasks-loop-index
 invariant-send_tasks-loop-index g l =
     let h = g.R.Readings.history l.readings in
-    let shown = task_shown h (nested h l.levels) in
+    let by = option_map (λ a. clock_of a.now) l.ages in
+    let shown = task_shown by h (nested by h l.levels) in
     (end : Log) → SendsItems (items_of (map shown (drop l.index (tasks_of h l.scope)))) (g.S.Serializer.written l.out) end → SendsItems (items_of (map shown (tasks_of h l.scope))) (g.S.Serializer.written l.initial.out) end
