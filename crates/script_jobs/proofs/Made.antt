@@ -1,5 +1,5 @@
 -- Lines that are put together.
-use Rattle.std.proofs.Common.{◌≡◌, ◌∙◌, ◌+◌, ◌&&◌, ℕ, true, false, Bool, refl, sym, ap, List, [], ◌∷◌, ◌++◌, length, arith, append_assoc, append-nil, length-append}
+use Rattle.std.proofs.Common.{◌≡◌, ◌∙◌, ◌+◌, ◌&&◌, ℕ, true, false, Bool, refl, sym, ap, List, [], ◌∷◌, ◌++◌, arith, append_assoc, append-nil, length-append}
 use Rattle.std.specs.List.{flat_map, list_all}
 use Rattle.std.proofs.Common.{codes, lit<}
 use Rattle.std.specs.Fmt.{digits}

@@ -41,12 +41,12 @@ module _ (limits : Limits) (unread unread_new written written_new : Option (List
   -- ---- a run that writes nothing
 
   pub shown : (view : View) (script bytes : List ℕ) (realm : Realm) (tally : Tally) (text : List ℕ) (count : Count) → Consumes unread unread_new script → IsAtEnd unread_new → bytes ≡ script → RunsText written written_new Quiet limits bytes realm tally →
-      (text ≡ shown_text view realm.history (stamps_of_script limits bytes)) × (count ≡ count_in tally realm.history) → Showed unread unread_new limits view text count
+      (text ≡ shown_text view limits realm.history (stamps_of_script limits bytes)) × (count ≡ count_in tally realm.history) → Showed unread unread_new limits view text count
   shown view script bytes realm tally text count read all same run is = record {
     script = script;
     read = read;
     all = all;
-    is = is.0 ∙ (ap (λ (r : Realm). shown_text view r.history (stamps_of_script limits bytes)) run.left ∙ ap (λ (b : List ℕ). shown_text view (realm_of_script limits b).history (stamps_of_script limits b)) same);
+    is = is.0 ∙ (ap (λ (r : Realm). shown_text view limits r.history (stamps_of_script limits bytes)) run.left ∙ ap (λ (b : List ℕ). shown_text view limits (realm_of_script limits b).history (stamps_of_script limits b)) same);
     counted = count_is limits bytes realm tally count run.left run.counted is.1 ∙ ap (count_of_script limits) same;
   }
 

@@ -1,5 +1,5 @@
 -- The times of a script, line by line.
-use Rattle.std.proofs.Common.{◌≡◌, ℕ, ◌||◌, Bool, true, false, is_some, List, [], ◌∷◌, ◌++◌, length, refl, ap, sym, ◌∙◌}
+use Rattle.std.proofs.Common.{◌≡◌, ℕ, ◌||◌, Bool, true, false, is_some, List, [], ◌∷◌, ◌++◌, length, ap, sym, ◌∙◌}
 use Rattle.scope_rules.specs.Replies.{Realm}
 use Rattle.script_words.specs.Lines.{line_said}
 use Rattle.scope_script.specs.Cutting.{ended_lines, has_feed, CutsLine}

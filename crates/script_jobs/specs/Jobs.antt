@@ -1,5 +1,5 @@
 -- What a job on a script has read and made.
-use Rattle.std.specs.Prelude.{◌≡◌, ◌++◌, ℕ, Option, List, [], ◌∷◌}
+use Rattle.std.specs.Prelude.{◌≡◌, ◌++◌, ℕ, Option, None, Some, List, [], ◌∷◌}
 use Rattle.std.specs.Io.KnownBytes.{Appends, Consumes, IsAtEnd}
 use Rattle.scope_rules.specs.declared.types.capacity.Limits.{Limits}
 use Rattle.scope_script.specs.Sessions.{replies_of, realm_of_script}
@@ -9,7 +9,9 @@ use Rattle.script_jobs.specs.declared.counting.Count.{Count}
 use Rattle.scope_rules.specs.History.{History}
 use Rattle.tree_dump.specs.Tree.{dump_text}
 use Rattle.tree_dump.specs.Ages.{Clock, no_clock}
+use Rattle.tree_dump.specs.Timed.{timed_dump_text}
 use Rattle.tree_dump.specs.TreeParts.{part_text}
+use Rattle.tree_dump.specs.declared.parts.TreePart.{TreePart}
 use Rattle.run_picture.specs.Picture.{drawn_text}
 use Rattle.run_picture.specs.Stamps.{open_times, start_times}
 use Rattle.run_picture.specs.Trace.{trace_text}
@@ -17,7 +19,7 @@ use Rattle.script_jobs.specs.Notes.{notes_text}
 use Rattle.script_jobs.specs.Times.{Stamps, stamps_of_script}
 use Rattle.script_jobs.specs.declared.notes.Notes.{Notes}
 use Rattle.script_jobs.specs.declared.showing.View.{View}
-use Rattle.script_jobs.specs.declared.showing.View.TheVariants.{Dump, Tree, Timeline, TraceEvents}
+use Rattle.script_jobs.specs.declared.showing.View.TheVariants.{Dump, TimedDump, Tree, Timeline, TraceEvents}
 
 -- all bytes were read, and exactly the replies to them were written, in a realm of these limits, which refused so many
 -- lines
@@ -48,12 +50,18 @@ clock_by h s (t ∷ times) = record { now = s.last; started = start_times h s.ev
 abbrev pub clock_in : History → Stamps → Clock
 clock_in h s = clock_by h s s.events
 
--- the text of a view of a history, by the times of its events
-abbrev pub shown_text : View → History → Stamps → List ℕ
-shown_text Dump h s = dump_text h ++ 10 ∷ []
-shown_text (Tree part) h s = part_text (clock_in h s) h part
-shown_text (Timeline seen) h s = drawn_text h (record { view = seen; lines = []; times = s.events })
-shown_text TraceEvents h s = trace_text h s.events
+-- the tree by a clock: a part of it as text, or the second format of the dump
+abbrev pub aged_text : Option TreePart → Limits → Clock → History → List ℕ
+aged_text (Some part) L c h = part_text c h part
+aged_text None L c h = timed_dump_text L c h ++ 10 ∷ []
+
+-- the text of a view of a history in a realm of these limits, by the times of its events
+abbrev pub shown_text : View → Limits → History → Stamps → List ℕ
+shown_text Dump L h s = dump_text h ++ 10 ∷ []
+shown_text TimedDump L h s = aged_text None L (clock_in h s) h
+shown_text (Tree part) L h s = aged_text (Some part) L (clock_in h s) h
+shown_text (Timeline seen) L h s = drawn_text h (record { view = seen; lines = []; times = s.events })
+shown_text TraceEvents L h s = trace_text h s.events
 
 -- all bytes were read, and the text is the view of the realm that they leave, which refused so many lines, by the
 -- readings of a clock among these lines
@@ -61,8 +69,19 @@ pub record Showed (unread unread_new : Option (List ℕ)) (limits : Limits) (vie
   pub script : List ℕ
   pub read : Consumes unread unread_new script
   pub all : IsAtEnd unread_new
-  pub is : text ≡ shown_text view (realm_of_script limits script).history (stamps_of_script limits script)
+  pub is : text ≡ shown_text view limits (realm_of_script limits script).history (stamps_of_script limits script)
   pub counted : count ≡ count_of_script limits script
+
+-- the same, and exactly the notes on the script's lines were said
+pub record ShowedNoted (unread unread_new said said_new : Option (List ℕ)) (limits : Limits) (view : View) (wanted : Notes) (text : List ℕ) (count : Count) : Type 0 where
+  pub shown : Showed unread unread_new limits view text count
+  pub noted : Appends said said_new (notes_text wanted limits shown.script)
+
+-- some bytes were read, and a beginning of the notes on them was said
+pub record NotedPartly (unread unread_new said said_new : Option (List ℕ)) (limits : Limits) (wanted : Notes) : Type 0 where
+  pub script : List ℕ
+  pub read : Consumes unread unread_new script
+  pub noted : AppendsPart said said_new (notes_text wanted limits script)
 
 -- some bytes were read
 pub record ReadSome (unread unread_new : Option (List ℕ)) : Type 0 where

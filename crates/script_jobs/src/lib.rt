@@ -20,6 +20,7 @@
 mod begun;
 mod comparing;
 mod counting;
+mod explained;
 pub mod laws;
 mod making;
 mod notes;
@@ -36,6 +37,7 @@ mod whys;
 
 pub use comparing::{Difference, first_difference};
 pub use counting::Count;
+pub use explained::shown_noted;
 pub use making::script_by;
 pub use notes::Notes;
 pub use noting::{NotedFault, replayed_noted};

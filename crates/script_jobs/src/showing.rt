@@ -3,8 +3,12 @@ ghost use Rattle.std.specs.Prelude.{◌≡◌, ◌⊎◌, ◌++◌, [], ◌∷�
 ghost use Rattle.std.specs.Io.KnownBytes.{Appends};
 ghost use Rattle.scope_book.specs.Books.{history_of};
 ghost use Rattle.tree_dump.specs.Tree.{dump_text};
-ghost use Rattle.script_jobs.specs.Counts.{count_in};
-ghost use Rattle.script_jobs.specs.Jobs.{ReadSome, Showed, shown_text};
+ghost use Rattle.scope_script.specs.Sessions.{realm_of_script};
+ghost use Rattle.script_jobs.specs.Counts.{count_in, count_of_script};
+ghost use Rattle.script_jobs.specs.Jobs.{ReadSome, Showed, aged_text, clock_in, shown_text};
+ghost use Rattle.tree_dump.specs.Ages.{clock_of};
+ghost use Rattle.run_picture.specs.Picture.{drawn_text};
+ghost use Rattle.run_picture.specs.Trace.{trace_text};
 ghost use Rattle.script_jobs.specs.Times.{stamps_of, stamps_of_script};
 
 use crate::counting::{Count, count_of};
@@ -16,13 +20,15 @@ use scope_rules::{AnyEnd, Limits};
 use scope_script::{Mode, Ran, ScriptFault, Watched, run_tallied, run_text};
 use std::alloc::{AllocError, Global};
 use std::io::{Read, Write};
-use tree_dump::{Ages, TreePart, dump, tree_part};
+use tree_dump::{Ages, TreePart, dump, timed_dump, tree_part};
 
 /// How what a script leaves is shown.
 #[derive(Clone, Copy)]
 pub enum View {
     /// The tree of the scopes that are not closed, as one line of JSON.
     Dump,
+    /// The same in the second format: with times, the limits, and what is used of them.
+    TimedDump,
     /// The same tree, or a part of it, as text for a terminal.
     Tree(TreePart),
     /// A picture of the run, or of a part of it, as SVG.
@@ -65,7 +71,7 @@ pub fn shown<R: Read + Drop, W: Write + Drop>(
 {
     match view {
         View::Dump => dumped(alloc, limits, reader, writer),
-        View::Tree(_) | View::Timeline(_) | View::TraceEvents => {
+        View::TimedDump | View::Tree(_) | View::Timeline(_) | View::TraceEvents => {
             shown_by_times(alloc, limits, view, reader, writer)
         }
     }
@@ -130,8 +136,30 @@ fn shown_by_times<R: Read + Drop, W: Write + Drop>(
         Ok(script) => script,
         Err(fault) => return Err(fault),
     };
-    match run_text(alloc, &script, writer, limits, Mode::Quiet) {
-        Ok(ran) => shown_of_run(alloc, limits, view, &script, &ran),
+    shown_of_script(alloc, limits, view, &script, writer)
+}
+
+/// The view of the realm that the script leaves, by the readings in it. Nothing is written; the writer is only passed on.
+///
+/// # Errors
+/// `Write` if the writer failed, `Memory` if memory was refused.
+pub(crate) fn shown_of_script<W: Write + Drop>(
+    alloc: Global,
+    limits: Limits,
+    view: View,
+    script: &[u8],
+    writer: &mut Watched<W>,
+) -> Result<Rendering, ScriptFault>
+    requires writer { writer.old.failed ≡ false }
+    ensures text { IfOk result (λ s. string_bytes s.text ≡ shown_text view limits (realm_of_script limits script.now).history (stamps_of_script limits script.now)) }
+    ensures count { IfOk result (λ s. s.count ≡ count_of_script limits script.now) }
+    ensures unwritten { Appends (W.contents writer.old.inner) (W.contents writer.new.inner) [] }
+    ensures read { IsErrOf result ScriptFault.Read → ⊥ }
+    ensures write { IsErrOf result ScriptFault.Write → writer.new.failed ≡ true }
+    ensures write_failed { writer.new.failed ≡ true → IsErrOf result ScriptFault.Write }
+{
+    match run_text(alloc, script, writer, limits, Mode::Quiet) {
+        Ok(ran) => shown_of_run(alloc, limits, view, script, &ran),
         Err(fault) => Err(fault),
     }
 }
@@ -144,13 +172,13 @@ fn shown_of_run(
     script: &[u8],
     ran: &Ran,
 ) -> Result<Rendering, ScriptFault>
-    ensures ok { IfOk result (λ s. (string_bytes s.text ≡ shown_text view (history_of ran.now.book) (stamps_of_script limits script.now)) × (s.count ≡ count_in ran.now.tally (history_of ran.now.book))) }
+    ensures ok { IfOk result (λ s. (string_bytes s.text ≡ shown_text view limits (history_of ran.now.book) (stamps_of_script limits script.now)) × (s.count ≡ count_in ran.now.tally (history_of ran.now.book))) }
     ensures memory { IfErr result (λ fault. fault ≡ ScriptFault.Memory) }
 {
     let Ok(times) = times_of(alloc, script, limits) else {
         return Err(ScriptFault::Memory);
     };
-    match text_of(alloc, view, &ran.book, &times) {
+    match text_of(alloc, limits, view, &ran.book, &times) {
         Ok(text) => Ok(Rendering {
             text,
             count: count_of(ran),
@@ -165,15 +193,17 @@ fn shown_of_run(
 /// If memory was refused.
 fn text_of(
     alloc: Global,
+    limits: Limits,
     view: View,
     book: &BookState<AnyEnd>,
     times: &Times,
 ) -> Result<String, AllocError>
-    ensures { IfOk result (λ text. string_bytes text ≡ shown_text view (history_of book.now) (stamps_of times.now)) }
+    ensures { IfOk result (λ text. string_bytes text ≡ shown_text view limits (history_of book.now) (stamps_of times.now)) }
 {
     match view {
         View::Dump => dump_line(alloc, book),
-        View::Tree(part) => tree_text(alloc, book, times, part),
+        View::TimedDump => aged_text(alloc, limits, book, times, None),
+        View::Tree(part) => aged_text(alloc, limits, book, times, Some(part)),
         View::Timeline(seen) => timeline(alloc, book, times, seen),
         View::TraceEvents => trace_text(alloc, book, times),
     }
@@ -189,7 +219,7 @@ fn timeline(
     times: &Times,
     seen: run_picture::View,
 ) -> Result<String, AllocError>
-    ensures { IfOk result (λ text. string_bytes text ≡ shown_text (View.Timeline seen) (history_of book.now) (stamps_of times.now)) }
+    ensures { IfOk result (λ text. string_bytes text ≡ drawn_text (history_of book.now) (record { view = seen; lines = []; times = times.now.events.items })) }
 {
     let events = book.realm().copied_events(alloc)?;
     picture_with(
@@ -209,26 +239,28 @@ fn timeline(
 /// # Errors
 /// If memory was refused.
 fn trace_text(alloc: Global, book: &BookState<AnyEnd>, times: &Times) -> Result<String, AllocError>
-    ensures { IfOk result (λ text. string_bytes text ≡ shown_text View.TraceEvents (history_of book.now) (stamps_of times.now)) }
+    ensures { IfOk result (λ text. string_bytes text ≡ trace_text (history_of book.now) times.now.events.items) }
 {
     let events = book.realm().copied_events(alloc)?;
     trace_of(alloc, book.realm(), &events, &times.events)
 }
 
-/// The part of the tree of the book's realm, with ages, if there are times.
+/// The tree of the book's realm, with ages, if there are times: a part of it as text, or else the second format of the
+/// dump.
 ///
 /// # Errors
 /// If memory was refused.
-fn tree_text(
+fn aged_text(
     alloc: Global,
+    limits: Limits,
     book: &BookState<AnyEnd>,
     times: &Times,
-    part: TreePart,
+    part: Option<TreePart>,
 ) -> Result<String, AllocError>
-    ensures { IfOk result (λ text. string_bytes text ≡ shown_text (View.Tree part) (history_of book.now) (stamps_of times.now)) }
+    ensures { IfOk result (λ text. string_bytes text ≡ aged_text part limits (clock_in (history_of book.now) (stamps_of times.now)) (history_of book.now)) }
 {
     if times.events.is_empty() {
-        return tree_part(alloc, book.realm(), &Ages::none(), part);
+        return aged_by(alloc, limits, book, &Ages::none(), part);
     }
     let events = book.realm().copied_events(alloc)?;
     let started = start_times(alloc, book.realm(), &events, &times.events)?;
@@ -238,7 +270,30 @@ fn tree_text(
         started: &started,
         opened: &opened,
     };
-    tree_part(alloc, book.realm(), &ages, part)
+    aged_by(alloc, limits, book, &ages, part)
+}
+
+/// The same by these ages.
+///
+/// # Errors
+/// If memory was refused.
+fn aged_by(
+    alloc: Global,
+    limits: Limits,
+    book: &BookState<AnyEnd>,
+    ages: &Ages<'_>,
+    part: Option<TreePart>,
+) -> Result<String, AllocError>
+    ensures { IfOk result (λ text. string_bytes text ≡ aged_text part limits (clock_of ages.now) (history_of book.now)) }
+{
+    match part {
+        Some(part) => tree_part(alloc, book.realm(), ages, part),
+        None => {
+            let mut text = timed_dump(alloc, book.realm(), limits, ages)?;
+            text.push('\n')?;
+            Ok(text)
+        }
+    }
 }
 
 /// The dump of the book's realm, and a line feed.

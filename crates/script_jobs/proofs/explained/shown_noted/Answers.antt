@@ -1,0 +1,20 @@
+use Rattle.std.proofs.Common.{◌∙◌, ap, subst, List, ℕ}
+use Rattle.std.specs.Io.KnownBytes.{Appends}
+use Rattle.scope_script.specs.Sessions.{realm_of_script}
+use Rattle.script_jobs.specs.Counts.{count_of_script}
+use Rattle.script_jobs.specs.Jobs.{shown_text}
+use Rattle.script_jobs.specs.Notes.{notes_text}
+use Rattle.script_jobs.specs.Times.{stamps_of_script}
+use Rattle.script_jobs.proofs.explained.shown_noted.Goals as goal
+
+pub returns-in-Ok-shown_of_script-clause-ok : goal.returns-in-Ok-shown_of_script-clause-ok
+returns-in-Ok-shown_of_script-clause-ok g c = record {
+  shown = record {
+    script = c.in-Ok.script.items;
+    read = c.in-Ok.ensures.ok.0;
+    all = c.in-Ok.ensures.ok.1;
+    is = c.in-Ok-shown_of_script.ensures.text ∙ ap (λ (b : List ℕ). shown_text c.args.view c.args.limits (realm_of_script c.args.limits b).history (stamps_of_script c.args.limits b)) c.deref-3.ensures.value;
+    counted = c.in-Ok-shown_of_script.ensures.count ∙ ap (count_of_script c.args.limits) c.deref-3.ensures.value;
+  };
+  noted = subst (Appends (g.E.Write.contents c.args.errors.now.inner) (g.E.Write.contents c.write_bytes.new.self.inner)) (c.deref-2.ensures.value ∙ (c.in-Ok-notes_on.ensures ∙ ap (notes_text c.args.wanted c.args.limits) c.deref.ensures.value)) c.in-Ok-write_bytes.ensures.all;
+}
