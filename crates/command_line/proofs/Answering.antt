@@ -15,7 +15,7 @@ use Rattle.command_line.proofs.Clearing.{said_clear}
 use Rattle.command_line.proofs.Requests.{asked_alone}
 use Rattle.command_line.specs.Application.{scopectl}
 use Rattle.command_line.specs.CommandLine.{Said, command_said}
-use Rattle.command_line.specs.HelpWord.{turned}
+use Rattle.command_line.specs.Delays.{read_as}
 use Rattle.command_line.specs.Faults.{Answers, AsksHelp, AsksVersion, IsUsageOrMemory, TellsKind}
 use Rattle.command_line.specs.declared.faults.LineFault.{LineFault}
 use Rattle.command_line.specs.declared.faults.LineFault.TheVariants.{Help, Version, Usage, Memory}
@@ -36,11 +36,11 @@ the_only k asked (inl is) = is
 the_only k asked (inr none) = absurd none
 
 pub answers_of : (words : List Text) (fault : LineFault) (k : ErrorKind) (kinds : Kinds) → TellsKind k fault → (k ≡ kind.OutOfMemory) ⊎ IsAmong k kinds
-    → kinds ≡ fault_of scopectl (turned words) → Answers words fault
+    → kinds ≡ fault_of scopectl (read_as words) → Answers words fault
 answers_of words Help k kinds told h same =
-    elim h [ inl memory ↦ absurd (cc) | inr asked ↦ asked_alone (turned words) kind.DisplayHelp refl (among k kind.DisplayHelp kinds (fault_of scopectl (turned words)) told same asked) ]
+    elim h [ inl memory ↦ absurd (cc) | inr asked ↦ asked_alone (read_as words) kind.DisplayHelp refl (among k kind.DisplayHelp kinds (fault_of scopectl (read_as words)) told same asked) ]
 answers_of words Version k kinds told h same =
-    elim h [ inl memory ↦ absurd (cc) | inr asked ↦ asked_alone (turned words) kind.DisplayVersion refl (among k kind.DisplayVersion kinds (fault_of scopectl (turned words)) told same asked) ]
+    elim h [ inl memory ↦ absurd (cc) | inr asked ↦ asked_alone (read_as words) kind.DisplayVersion refl (among k kind.DisplayVersion kinds (fault_of scopectl (read_as words)) told same asked) ]
 answers_of words (Usage text) k kinds told h same =
     elim h [
       | inl memory ↦ absurd (told.2 memory)
@@ -52,7 +52,7 @@ answers_of words (Usage text) k kinds told h same =
 answers_of words Memory k kinds told h same = tt
 
 -- if the parse took the words, help and the version are not answered
-pub taken_answers : (words : List Text) (fault : LineFault) → IsUsageOrMemory fault → fault_of scopectl (turned words) ≡ [] → Answers words fault
+pub taken_answers : (words : List Text) (fault : LineFault) → IsUsageOrMemory fault → fault_of scopectl (read_as words) ≡ [] → Answers words fault
 taken_answers words Help told clear = absurd told
 taken_answers words Version told clear = absurd told
 taken_answers words (Usage text) told clear = (λ (help : AsksHelp words). absurd (cc), λ (version : AsksVersion words). absurd (cc))
@@ -65,12 +65,12 @@ memory_is (Usage text) k told is = absurd (told.2 is)
 memory_is Memory k told is = refl
 
 -- a parse fails for want of memory alone if the words say a command
-pub refused_of : (words : List Text) (fault : LineFault) (k : ErrorKind) (kinds : Kinds) → TellsKind k fault → (k ≡ kind.OutOfMemory) ⊎ IsAmong k kinds
-    → kinds ≡ fault_of scopectl words → (fault ≡ Memory) ⊎ (command_said words ≡ None)
-refused_of words fault k kinds told h same = go (command_said words) refl
+pub refused_of : (texts words : List Text) (fault : LineFault) (k : ErrorKind) (kinds : Kinds) → TellsKind k fault → (k ≡ kind.OutOfMemory) ⊎ IsAmong k kinds
+    → kinds ≡ fault_of scopectl words → (fault ≡ Memory) ⊎ (command_said texts words ≡ None)
+refused_of texts words fault k kinds told h same = go (command_said texts words) refl
   where
-    go : (o : Option Said) → command_said words ≡ o → (fault ≡ Memory) ⊎ (command_said words ≡ None)
+    go : (o : Option Said) → command_said texts words ≡ o → (fault ≡ Memory) ⊎ (command_said texts words ≡ None)
     go None is = inr is
     go (Some numbers) is =
-        let none : kinds ≡ [] = same ∙ said_clear words numbers is in
+        let none : kinds ≡ [] = same ∙ said_clear texts words numbers is in
         elim h [ inl memory ↦ inl (memory_is fault k told memory) | inr asked ↦ absurd (subst (λ (ks : Kinds). IsAmong k ks) none asked) ]

@@ -188,10 +188,10 @@ of_each P (known ∷ names) all name own = go (of_each P names all.1 name) (byte
 -- an option without a text is none with one
 pub flag_no_option : (job : Job) (name : Text) → has_flag job name ≡ true → has_option job name ≡ false
 flag_no_option Replay = of_each (λ n. has_option Replay n ≡ false) (flag_names Replay) (refl, (refl, (refl, (refl, tt))))
-flag_no_option Dump = of_each (λ n. has_option Dump n ≡ false) (flag_names Dump) (refl, (refl, tt))
-flag_no_option Tree = of_each (λ n. has_option Tree n ≡ false) (flag_names Tree) (refl, (refl, (refl, (refl, tt))))
-flag_no_option Timeline = of_each (λ n. has_option Timeline n ≡ false) (flag_names Timeline) (refl, (refl, (refl, tt)))
-flag_no_option TraceEvents = of_each (λ n. has_option TraceEvents n ≡ false) (flag_names TraceEvents) (refl, (refl, (refl, tt)))
+flag_no_option Dump = of_each (λ n. has_option Dump n ≡ false) (flag_names Dump) (refl, (refl, (refl, tt)))
+flag_no_option Tree = of_each (λ n. has_option Tree n ≡ false) (flag_names Tree) (refl, (refl, (refl, (refl, (refl, tt)))))
+flag_no_option Timeline = of_each (λ n. has_option Timeline n ≡ false) (flag_names Timeline) (refl, (refl, (refl, (refl, tt))))
+flag_no_option TraceEvents = of_each (λ n. has_option TraceEvents n ≡ false) (flag_names TraceEvents) (refl, (refl, (refl, (refl, tt))))
 flag_no_option Quote = of_each (λ n. has_option Quote n ≡ false) (flag_names Quote) tt
 flag_no_option Generate = of_each (λ n. has_option Generate n ≡ false) (flag_names Generate) tt
 

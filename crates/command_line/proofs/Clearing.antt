@@ -12,19 +12,20 @@ use Rattle.clap.specs.Kinds.{Kinds}
 use Rattle.clap.specs.Simple.{entered}
 use Rattle.clap.specs.Walk.{Row, Rule, Text, Walk, finished, has_row, is_empty, nothing_held, settled, walk, walk_from, walked, with_default}
 use Rattle.command_line.specs.Application.{scopectl}
-use Rattle.command_line.specs.CommandLine.{Given, Said, ScriptSaid, command_said, command_word, generate, given_to, is_among, is_given, job_named, job_said, limit_names, option_names, picture_by, quote, show_by, text_given, tree_by, tree_said}
-use Rattle.command_line.specs.Settings.{NameAndMillis, Numbers, number_by, delay_by, delay_said, flag_name, greatest_of, if_given, is_digit, is_plain, name_of, numbers_by, plain_number, setting_number}
+use Rattle.command_line.specs.CommandLine.{Given, Said, ScriptSaid, command_said, command_word, format_by, format_said, generate, given_to, is_among, is_given, job_named, job_said, limit_names, option_names, picture_by, quote, show_by, text_given, tree_by, tree_said}
+use Rattle.command_line.specs.Delays.{delays_by}
+use Rattle.command_line.specs.Settings.{NameAndMillis, Numbers, number_by, flag_name, greatest_of, if_given, is_digit, is_plain, name_of, numbers_by, plain_number, setting_number}
 use Rattle.command_line.specs.declared.lines.Job.{Job}
 use Rattle.command_line.specs.declared.lines.Job.TheVariants.{Replay, Dump, Tree, Timeline, TraceEvents, Quote, Generate}
 use Rattle.command_line.specs.declared.lines.ViewOptions.{ViewOptions}
 use Rattle.command_line.specs.declared.lines.ViewOptions.TheVariants as view
-use Rattle.command_line.specs.declared.settings.Flag.TheVariants.{Awaited, Lenient, Quiet, Strict}
+use Rattle.command_line.specs.declared.settings.Flag.TheVariants.{Awaited, Explain, Lenient, Quiet, Strict}
+use Rattle.command_line.specs.declared.settings.DumpFormat.{DumpFormat}
 use Rattle.command_line.specs.declared.settings.PictureOptions.{PictureOptions}
 use Rattle.command_line.specs.declared.settings.TreeOptions.{TreeOptions}
 use Rattle.command_line.specs.declared.settings.Setting.{Setting}
-use Rattle.command_line.specs.declared.settings.Setting.TheVariants.{Scopes, Tasks, Load, Deadline, After, Seed, Lines, Width, Rows, From, To, Scope, Depth}
+use Rattle.command_line.specs.declared.settings.Setting.TheVariants.{Scopes, Tasks, Load, Deadline, After, TreeAfter, Seed, Lines, Width, Rows, From, To, Scope, Depth, Format}
 use Rattle.command_line.proofs.Built.{built_app, built_command, built_top, command_names, has_option, is_quiet, job_quiet, of_each, job_rules, top_rules, words_fault}
-use Rattle.command_line.proofs.Delays.{delay_is_no_flag}
 use Rattle.command_line.proofs.Passing.{NoFlags, is_no_flag, or_else-both, passes}
 use Rattle.command_line.proofs.TopLevel.{entered_is, fault_is, stopped_at, stops}
 
@@ -155,6 +156,11 @@ given_flagless X said each given (some o e) text is = go (said text) refl (ap (i
 number_flagless : (s : Setting) (given : Option Text) → HasSome (Option ℕ) (number_by s given) → Flagless given
 number_flagless s given has = given_flagless ℕ (plain_number (greatest_of s)) (λ text n says. number_is_no_flag (greatest_of s) n text says) given has
 
+-- no `--after` is left
+delays_flagless : (texts : List Text) (left : Option Text) → HasSome (List NameAndMillis) (delays_by texts left) → Flagless left
+delays_flagless texts None has text is = absurd (cc)
+delays_flagless texts (Some other) (some delays e) text is = absurd (cc)
+
 -- ---- what is said has all its parts
 
 module _ (numbers : Numbers) where
@@ -167,6 +173,14 @@ module _ (numbers : Numbers) where
   limits_have None b c e = absurd (cc)
   limits_have (Some n) None c e = absurd (cc)
   limits_have (Some n) (Some m) c e = (some n refl, some m refl, load_has n m c e)
+
+format_in : (a : Option DumpFormat) → HasSome ViewOptions (option_map (λ f. view.Dump f) a) → HasSome DumpFormat a
+format_in None (some v e) = absurd (cc)
+format_in (Some format) has = some format refl
+
+format_has : (format : DumpFormat) (a : Option (Option ℕ)) → option_map format_said a ≡ Some format → HasSome (Option ℕ) a
+format_has format None e = absurd (cc)
+format_has format (Some number) e = some number refl
 
 tree_in : (a : Option TreeOptions) → HasSome ViewOptions (option_map (λ t. view.Tree t) a) → HasSome TreeOptions a
 tree_in None (some v e) = absurd (cc)
@@ -194,25 +208,24 @@ picture_has picture (Some width) (Some rows) (Some from) (Some to) (Some scope) 
 
 module _ (said : Said) where
   -- what is shown of a script, and the script
-  show_has : (strict quiet : Bool) (a : Option Numbers) (v : Option ViewOptions) (lenient : Bool) → show_by (option_map (λ numbers. record { numbers = numbers; strict = strict; quiet = quiet }) a) v lenient ≡ Some said
+  show_has : (strict quiet : Bool) (a : Option Numbers) (v : Option ViewOptions) (lenient explain : Bool) → show_by (option_map (λ numbers. record { numbers = numbers; strict = strict; quiet = quiet }) a) v lenient explain ≡ Some said
       → HasSome Numbers a × HasSome ViewOptions v
-  show_has strict quiet None v lenient e = absurd (cc)
-  show_has strict quiet (Some numbers) None lenient e = absurd (cc)
-  show_has strict quiet (Some numbers) (Some v) lenient e = (some numbers refl, some v refl)
+  show_has strict quiet None v lenient explain e = absurd (cc)
+  show_has strict quiet (Some numbers) None lenient explain e = absurd (cc)
+  show_has strict quiet (Some numbers) (Some v) lenient explain e = (some numbers refl, some v refl)
 
   -- a job that runs a script has its limits
   script_has : (strict quiet : Bool) (f : ScriptSaid → Said) (a : Option Numbers) → option_map f (option_map (λ numbers. record { numbers = numbers; strict = strict; quiet = quiet }) a) ≡ Some said → HasSome Numbers a
   script_has strict quiet f None e = absurd (cc)
   script_has strict quiet f (Some numbers) e = some numbers refl
 
-  after_has : (deadline : Option ℕ) (c : Option (Option NameAndMillis)) → option_map (λ after. quote deadline after) c ≡ Some said → HasSome (Option NameAndMillis) c
-  after_has deadline None e = absurd (cc)
-  after_has deadline (Some after) e = some after refl
-
-  times_have : (b : Option (Option ℕ)) (c : Option (Option NameAndMillis)) → option_and_then (λ deadline. option_map (λ after. quote deadline after) c) b ≡ Some said
-      → HasSome (Option ℕ) b × HasSome (Option NameAndMillis) c
-  times_have None c e = absurd (cc)
-  times_have (Some d) c e = (some d refl, after_has d c e)
+  times_have : (b : Option (Option ℕ)) (c : Option (List NameAndMillis)) (d : Option (Option ℕ))
+      → option_and_then (λ deadline. option_and_then (λ after. option_map (λ tree_after. quote deadline after tree_after) d) c) b ≡ Some said
+      → HasSome (Option ℕ) b × HasSome (List NameAndMillis) c × HasSome (Option ℕ) d
+  times_have None c d e = absurd (cc)
+  times_have (Some deadline) None d e = absurd (cc)
+  times_have (Some deadline) (Some after) None e = absurd (cc)
+  times_have (Some deadline) (Some after) (Some tree_after) e = (some deadline refl, some after refl, some tree_after refl)
 
   lines_has : (seed : Option ℕ) (c : Option (Option ℕ)) → option_map (λ lines. generate seed lines) c ≡ Some said → HasSome (Option ℕ) c
   lines_has seed None e = absurd (cc)
@@ -239,6 +252,12 @@ module _ (given : Text → Option Text) where
       of_each (λ name. Flagless (given name)) limit_names
       (limit_flagless Scopes _ have.0, (limit_flagless Tasks _ have.1, (limit_flagless Load _ have.2, tt)))
 
+  dump_flagless : HasSome Numbers (numbers_by of_setting) → HasSome DumpFormat (format_by of_setting) → AreFlagless (option_names Dump)
+  dump_flagless (some numbers e) (some format f) =
+      let have = limits_have numbers _ _ _ e in
+      of_each (λ name. Flagless (given name)) (option_names Dump)
+      (limit_flagless Scopes _ have.0, (limit_flagless Tasks _ have.1, (limit_flagless Load _ have.2, (number_flagless Format _ (format_has format _ f), tt))))
+
   tree_flagless : (awaited : Bool) → HasSome Numbers (numbers_by of_setting) → HasSome TreeOptions (tree_by of_setting awaited) → AreFlagless (option_names Tree)
   tree_flagless awaited (some numbers e) (some tree t) =
       let have = limits_have numbers _ _ _ e in
@@ -255,42 +274,45 @@ module _ (given : Text → Option Text) where
         (limit_flagless Tasks _ have.1, (limit_flagless Load _ have.2, (number_flagless Width _ more.0, (number_flagless Rows _ more.1, (number_flagless From _ more.2, (number_flagless To _ more.3, (number_flagless Scope _ more.4, tt))))))),
       )
 
-  times_flagless : HasSome (Option ℕ) (number_by Deadline (of_setting Deadline)) → HasSome (Option NameAndMillis) (delay_by (of_setting After)) → AreFlagless (option_names Quote)
-  times_flagless deadline after =
+  times_flagless : (texts : List Text) → HasSome (Option ℕ) (number_by Deadline (of_setting Deadline)) → HasSome (List NameAndMillis) (delays_by texts (of_setting After))
+      → HasSome (Option ℕ) (number_by TreeAfter (of_setting TreeAfter)) → AreFlagless (option_names Quote)
+  times_flagless texts deadline after tree_after =
       of_each (λ name. Flagless (given name)) (option_names Quote)
-      (number_flagless Deadline _ deadline, (given_flagless NameAndMillis delay_said delay_is_no_flag _ after, tt))
+      (number_flagless Deadline _ deadline, (delays_flagless texts _ after, (number_flagless TreeAfter _ tree_after, tt)))
 
   seed_flagless : HasSome (Option ℕ) (number_by Seed (of_setting Seed)) → HasSome (Option ℕ) (number_by Lines (of_setting Lines)) → AreFlagless (option_names Generate)
   seed_flagless seed lines = of_each (λ name. Flagless (given name)) (option_names Generate) (number_flagless Seed _ seed, (number_flagless Lines _ lines, tt))
 
-no_flags : (job : Job) (final : Given) (said : Said) → job_said job final ≡ Some said → NoFlags job final
+no_flags : (texts : List Text) (job : Job) (final : Given) (said : Said) → job_said texts job final ≡ Some said → NoFlags job final
 unfolding NoFlags
-no_flags job final said e name text own is = go job e own
+no_flags texts job final said e name text own is = go job e own
   where
     limits : HasSome Numbers (numbers_by (λ s. text_given final (name_of s))) → is_among limit_names name ≡ true → is_no_flag text ≡ true
     limits has own = limits_flagless (text_given final) has name own text is
 
-    go : (job : Job) → job_said job final ≡ Some said → has_option job name ≡ true → is_no_flag text ≡ true
+    go : (job : Job) → job_said texts job final ≡ Some said → has_option job name ≡ true → is_no_flag text ≡ true
     go Replay e own = limits (script_has said _ _ _ _ e) own
-    go Dump e own = limits (show_has said (is_given final (flag_name Strict)) (is_given final (flag_name Quiet)) _ (Some view.Dump) true e).0 own
+    go Dump e own =
+        let have = show_has said (is_given final (flag_name Strict)) (is_given final (flag_name Quiet)) _ _ true (is_given final (flag_name Explain)) e in
+        dump_flagless (text_given final) have.0 (format_in _ have.1) name own text is
     go Tree e own =
-        let have = show_has said (is_given final (flag_name Strict)) (is_given final (flag_name Quiet)) _ _ (is_given final (flag_name Lenient)) e in
+        let have = show_has said (is_given final (flag_name Strict)) (is_given final (flag_name Quiet)) _ _ (is_given final (flag_name Lenient)) (is_given final (flag_name Explain)) e in
         tree_flagless (text_given final) (is_given final (flag_name Awaited)) have.0 (tree_in _ have.1) name own text is
     go Timeline e own =
-        let have = show_has said (is_given final (flag_name Strict)) (is_given final (flag_name Quiet)) _ _ (is_given final (flag_name Lenient)) e in
+        let have = show_has said (is_given final (flag_name Strict)) (is_given final (flag_name Quiet)) _ _ (is_given final (flag_name Lenient)) (is_given final (flag_name Explain)) e in
         picture_flagless (text_given final) have.0 (picture_in _ have.1) name own text is
-    go TraceEvents e own = limits (show_has said (is_given final (flag_name Strict)) (is_given final (flag_name Quiet)) _ (Some view.TraceEvents) (is_given final (flag_name Lenient)) e).0 own
-    go Quote e own = let have = times_have said _ _ e in times_flagless (text_given final) have.0 have.1 name own text is
+    go TraceEvents e own = limits (show_has said (is_given final (flag_name Strict)) (is_given final (flag_name Quiet)) _ (Some view.TraceEvents) (is_given final (flag_name Lenient)) (is_given final (flag_name Explain)) e).0 own
+    go Quote e own = let have = times_have said _ _ _ e in times_flagless (text_given final) texts have.0 have.1 have.2 name own text is
     go Generate e own = let have = seed_have said _ _ e in seed_flagless (text_given final) have.0 have.1 name own text is
 
 -- ---- words that say a command
 
-words_clear : (job : Job) (rest : List Text) (said : Said) → option_and_then (λ given. job_said job given) (given_to job rest) ≡ Some said → words_fault job rest ≡ []
-words_clear job rest said e = go (given_to job rest) refl e
+words_clear : (texts : List Text) (job : Job) (rest : List Text) (said : Said) → option_and_then (λ given. job_said texts job given) (given_to job rest) ≡ Some said → words_fault job rest ≡ []
+words_clear texts job rest said e = go (given_to job rest) refl e
   where
-    go : (o : Option Given) → given_to job rest ≡ o → option_and_then (λ given. job_said job given) o ≡ Some said → words_fault job rest ≡ []
+    go : (o : Option Given) → given_to job rest ≡ o → option_and_then (λ given. job_said texts job given) o ≡ Some said → words_fault job rest ≡ []
     go None is e = absurd (cc)
-    go (Some final) is e = given_clear job rest final is (no_flags job final said e)
+    go (Some final) is e = given_clear job rest final is (no_flags texts job final said e)
 
 -- the job that a word names has that word
 named_word : (word : Text) (job : Job) → job_named word ≡ Some job → command_word job ≡ word
@@ -310,15 +332,15 @@ named_word word job e =
     go false replays false dumps false trees false lines false traces false quotes true generates e = ap (λ o. command_word (unwrap_or o Replay)) (sym e) ∙ (bytes_eq-Decides (codes "generate") word).0 generates
     go false replays false dumps false trees false lines false traces false quotes false generates e = absurd (cc)
 
-pub said_clear : (words : List Text) (said : Said) → command_said words ≡ Some said → fault_of scopectl words ≡ []
+pub said_clear : (texts words : List Text) (said : Said) → command_said texts words ≡ Some said → fault_of scopectl words ≡ []
 unfolding command_said
-said_clear [] said e = absurd (cc)
-said_clear (program ∷ []) said e = absurd (cc)
-said_clear (program ∷ word ∷ rest) said e = go (job_named word) refl e
+said_clear texts [] said e = absurd (cc)
+said_clear texts (program ∷ []) said e = absurd (cc)
+said_clear texts (program ∷ word ∷ rest) said e = go (job_named word) refl e
   where
-    go : (o : Option Job) → job_named word ≡ o → option_and_then (λ job. option_and_then (λ given. job_said job given) (given_to job rest)) o ≡ Some said
+    go : (o : Option Job) → job_named word ≡ o → option_and_then (λ job. option_and_then (λ given. job_said texts job given) (given_to job rest)) o ≡ Some said
         → fault_of scopectl (program ∷ word ∷ rest) ≡ []
     go None is e = absurd (cc)
     go (Some job) is e =
         fault_is (program ∷ word ∷ rest)
-        ∙ subst (λ w. built_fault built_app nothing_held (w ∷ rest) ≡ []) (named_word word job is) (built_clear job rest (words_clear job rest said e))
+        ∙ subst (λ w. built_fault built_app nothing_held (w ∷ rest) ≡ []) (named_word word job is) (built_clear job rest (words_clear texts job rest said e))

@@ -1,7 +1,8 @@
 mod Answering
 mod Built
 mod Clearing
-mod Delays
+mod Cutting
+mod EachDelay
 mod Flagged
 mod HelpWords
 mod Hinting

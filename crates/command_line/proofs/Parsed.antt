@@ -61,5 +61,5 @@ module _ (words : List Text) (matches : ArgMatches) (p : Parsed words matches) w
     flags_said = flags_are words (found_of options) p.got filled
 
     -- what its options say
-    pub said_is : said_by p.got.job (λ setting. first_value (found_of options) (name_of setting)) has_said ≡ command_said words
+    pub said_is : (texts : List Text) → said_by texts p.got.job (λ setting. first_value (found_of options) (name_of setting)) has_said ≡ command_said texts words
     said_is = texts_said words (found_of options) p.got filled

@@ -17,7 +17,7 @@ use Rattle.command_line.specs.Parsing.{TellsFlags}
 use Rattle.command_line.specs.Settings.{flag_name, name_of}
 use Rattle.command_line.specs.declared.settings.Flag.{Flag}
 use Rattle.command_line.specs.declared.settings.Setting.{Setting}
-use Rattle.command_line.specs.declared.settings.Setting.TheVariants.{Scopes, Tasks, Load, Deadline, After, Seed, Lines, Width, Rows, From, To, Scope, Depth}
+use Rattle.command_line.specs.declared.settings.Setting.TheVariants.{Scopes, Tasks, Load, Deadline, After, TreeAfter, Seed, Lines, Width, Rows, From, To, Scope, Depth, Format}
 use Rattle.command_line.proofs.Flagged.{AreFit, flag_filled, one_text-rows, rows_filled, said_fit, text_filled, text_row}
 use Rattle.command_line.specs.declared.lines.Job.{Job}
 use Rattle.command_line.specs.declared.lines.Job.TheVariants.{Replay, Dump, Tree, Timeline, TraceEvents, Quote, Generate}
@@ -142,7 +142,7 @@ pub record IsRead (words : List Text) : Type 0 where
   pub given : Given
   pub fit : AreFit job given
   pub rows : subcommand_of scopectl words ≡ Some (command_word job, rows_filled job given)
-  pub said : command_said words ≡ job_said job given
+  pub said : (texts : List Text) → command_said texts words ≡ job_said texts job given
 
 pub named_is : (job : Job) → job_named (command_word job) ≡ Some job
 unfolding job_named
@@ -167,9 +167,9 @@ rows_entered TraceEvents rest = refl
 rows_entered Quote rest = refl
 rows_entered Generate rest = refl
 
-said_at : (program : Text) (job : Job) (rest : List Text) → command_said (program ∷ command_word job ∷ rest) ≡ option_and_then (λ given. job_said job given) (given_to job rest)
+said_at : (program : Text) (job : Job) (rest texts : List Text) → command_said texts (program ∷ command_word job ∷ rest) ≡ option_and_then (λ given. job_said texts job given) (given_to job rest)
 unfolding command_said
-said_at program job rest = ap (option_and_then (λ j. option_and_then (λ given. job_said j given) (given_to j rest))) (named_is job)
+said_at program job rest texts = ap (option_and_then (λ j. option_and_then (λ given. job_said texts j given) (given_to j rest))) (named_is job)
 
 -- what the words after a job's word give, if they meet no fault, and the rows of it
 abbrev IsGiven : Job → List Text → Type 0
@@ -191,7 +191,7 @@ read_command program job rest e =
       fit = said_fit job rest got.0 got.1;
       rows = subcommand_is (program ∷ command_word job ∷ rest) ∙ ap (λ (w : Walk). entered built_app w.stopped) (stops job rest)
           ∙ rows_entered job rest ∙ ap (λ r. Some (command_word job, r)) got.2;
-      said = said_at program job rest ∙ ap (option_and_then (λ given. job_said job given)) got.1;
+      said = λ texts. said_at program job rest texts ∙ ap (option_and_then (λ given. job_said texts job given)) got.1;
     }
 
 read_after : (program word : Text) (rest : List Text) → built_fault built_app nothing_held (word ∷ rest) ≡ [] → IsRead (program ∷ word ∷ rest)
@@ -234,6 +234,7 @@ setting_no_flag Tasks = each_job (λ job. has_flag job (name_of Tasks) ≡ false
 setting_no_flag Load = each_job (λ job. has_flag job (name_of Load) ≡ false) refl refl refl refl refl refl refl
 setting_no_flag Deadline = each_job (λ job. has_flag job (name_of Deadline) ≡ false) refl refl refl refl refl refl refl
 setting_no_flag After = each_job (λ job. has_flag job (name_of After) ≡ false) refl refl refl refl refl refl refl
+setting_no_flag TreeAfter = each_job (λ job. has_flag job (name_of TreeAfter) ≡ false) refl refl refl refl refl refl refl
 setting_no_flag Seed = each_job (λ job. has_flag job (name_of Seed) ≡ false) refl refl refl refl refl refl refl
 setting_no_flag Lines = each_job (λ job. has_flag job (name_of Lines) ≡ false) refl refl refl refl refl refl refl
 setting_no_flag Width = each_job (λ job. has_flag job (name_of Width) ≡ false) refl refl refl refl refl refl refl
@@ -242,6 +243,7 @@ setting_no_flag From = each_job (λ job. has_flag job (name_of From) ≡ false) 
 setting_no_flag To = each_job (λ job. has_flag job (name_of To) ≡ false) refl refl refl refl refl refl refl
 setting_no_flag Scope = each_job (λ job. has_flag job (name_of Scope) ≡ false) refl refl refl refl refl refl refl
 setting_no_flag Depth = each_job (λ job. has_flag job (name_of Depth) ≡ false) refl refl refl refl refl refl refl
+setting_no_flag Format = each_job (λ job. has_flag job (name_of Format) ≡ false) refl refl refl refl refl refl refl
 
 module _ (words : List Text) (found : Found) (got : IsRead words) (same : rows_of found ≡ rows_filled got.job got.given) where
   text_is : (setting : Setting) → first_value found (name_of setting) ≡ text_given got.given (name_of setting)
@@ -259,5 +261,5 @@ module _ (words : List Text) (found : Found) (got : IsRead words) (same : rows_o
   flags_are flag own = one_text-rows found (flag_name flag) ∙ ap (one_of (flag_name flag)) same ∙ flag_filled got.job got.given (flag_name flag) own got.fit
 
   -- what the rows say is what the words say
-  pub texts_said : said_by got.job (λ setting. first_value found (name_of setting)) has_given ≡ command_said words
-  texts_said = ap (λ (given : Setting → Option Text). said_by got.job given has_given) (λ i setting. text_is setting i) ∙ sym got.said
+  pub texts_said : (texts : List Text) → said_by texts got.job (λ setting. first_value found (name_of setting)) has_given ≡ command_said texts words
+  texts_said texts = ap (λ (given : Setting → Option Text). said_by texts got.job given has_given) (λ i setting. text_is setting i) ∙ sym (got.said texts)

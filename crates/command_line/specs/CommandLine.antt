@@ -1,15 +1,17 @@
 -- What the words of a command line say.
-use Rattle.std.specs.Prelude.{◌≡◌, ℕ, Bool, true, false, List, [], ◌∷◌, ◌++◌, Option, Some, None, ◌&&◌, not, codes, find, map, if◌then◌else◌}
+use Rattle.std.specs.Prelude.{◌≡◌, ℕ, Bool, true, false, List, [], ◌∷◌, ◌++◌, Option, Some, None, ◌&&◌, ◌==◌, not, codes, find, map, if◌then◌else◌}
 use Rattle.std.specs.Prelude.{option_map, option_and_then}
 use Rattle.std.specs.List.{list_any}
 use Rattle.std.specs.Str.{bytes_eq}
 use Rattle.clap.specs.Lexer.{long_of}
-use Rattle.command_line.specs.HelpWord.{turned}
-use Rattle.command_line.specs.Settings.{NameAndMillis, Numbers, number_by, delay_by, delay_of, flag_name, name_of, numbers_by, numbers_of}
+use Rattle.command_line.specs.Delays.{delay_texts, delays_by, read_as}
+use Rattle.command_line.specs.Settings.{NameAndMillis, Numbers, number_by, delay_of, flag_name, name_of, numbers_by, numbers_of}
 use Rattle.command_line.specs.declared.lines.CommandLine.{CommandLine}
 use Rattle.command_line.specs.declared.lines.CommandLine.TheVariants as line
 use Rattle.command_line.specs.declared.lines.ViewOptions.{ViewOptions}
 use Rattle.command_line.specs.declared.lines.ViewOptions.TheVariants as view
+use Rattle.command_line.specs.declared.settings.DumpFormat.{DumpFormat}
+use Rattle.command_line.specs.declared.settings.DumpFormat.TheVariants.{First, Second}
 use Rattle.command_line.specs.declared.settings.PictureOptions.{PictureOptions}
 use Rattle.command_line.specs.declared.settings.TreeOptions.{TreeOptions}
 use Rattle.command_line.specs.declared.settings.TreeOptions.TheVariants as part
@@ -19,7 +21,7 @@ use Rattle.command_line.specs.declared.settings.Flag.TheVariants.{Strict, Explai
 use Rattle.command_line.specs.declared.settings.Setting.{Setting}
 use Rattle.command_line.specs.declared.lines.Job.{Job}
 use Rattle.command_line.specs.declared.lines.Job.TheVariants.{Replay, Dump, Tree, Timeline, TraceEvents, Quote, Generate}
-use Rattle.command_line.specs.declared.settings.Setting.TheVariants.{Scopes, Tasks, Load, Deadline, After, Seed, Lines, Width, Rows, From, To, Scope, Depth}
+use Rattle.command_line.specs.declared.settings.Setting.TheVariants.{Scopes, Tasks, Load, Deadline, After, TreeAfter, Seed, Lines, Width, Rows, From, To, Scope, Depth, Format}
 
 -- ---- jobs
 
@@ -53,24 +55,24 @@ limit_names = map name_of limits_of
 -- the options with a text that a job has
 abbrev pub settings_of : Job → List Setting
 settings_of Replay = limits_of
-settings_of Dump = limits_of
+settings_of Dump = Scopes ∷ Tasks ∷ Load ∷ Format ∷ []
 settings_of Tree = Scopes ∷ Tasks ∷ Load ∷ Depth ∷ Scope ∷ []
 settings_of Timeline = Scopes ∷ Tasks ∷ Load ∷ Width ∷ Rows ∷ From ∷ To ∷ Scope ∷ []
 settings_of TraceEvents = limits_of
-settings_of Quote = Deadline ∷ After ∷ []
+settings_of Quote = Deadline ∷ After ∷ TreeAfter ∷ []
 settings_of Generate = Seed ∷ Lines ∷ []
 
 abbrev pub option_names : Job → List (List ℕ)
 option_names job = map name_of (settings_of job)
 
--- the options without a text that a job has: each that runs a script may be strict and quiet, a replay can
--- be explained and traced, a view for people may be lenient, and a tree may show what is waited for alone
+-- the options without a text that a job has: each that runs a script may be strict and quiet and can be explained, a
+-- replay can be traced, a view for people may be lenient, and a tree may show what is waited for alone
 abbrev pub flags_of : Job → List Flag
 flags_of Replay = Strict ∷ Quiet ∷ Explain ∷ Trace ∷ []
-flags_of Dump = Strict ∷ Quiet ∷ []
-flags_of Tree = Strict ∷ Quiet ∷ Lenient ∷ Awaited ∷ []
-flags_of Timeline = Strict ∷ Quiet ∷ Lenient ∷ []
-flags_of TraceEvents = Strict ∷ Quiet ∷ Lenient ∷ []
+flags_of Dump = Strict ∷ Quiet ∷ Explain ∷ []
+flags_of Tree = Strict ∷ Quiet ∷ Explain ∷ Lenient ∷ Awaited ∷ []
+flags_of Timeline = Strict ∷ Quiet ∷ Explain ∷ Lenient ∷ []
+flags_of TraceEvents = Strict ∷ Quiet ∷ Explain ∷ Lenient ∷ []
 flags_of Quote = []
 flags_of Generate = []
 
@@ -138,13 +140,22 @@ pub record ScriptSaid : Type 0 where
 -- a job, and what its options say
 pub data Said : Type 0 where
   replay : ScriptSaid → (explain trace : Bool) → Said
-  show : ScriptSaid → ViewOptions → (lenient : Bool) → Said
-  quote : (deadline : Option ℕ) (after : Option NameAndMillis) → Said
+  show : ScriptSaid → ViewOptions → (lenient explain : Bool) → Said
+  quote : (deadline : Option ℕ) (after : List NameAndMillis) (tree_after : Option ℕ) → Said
   generate : (seed lines : Option ℕ) → Said
 
 abbrev pub script_by : (Setting → Option (List ℕ)) → (strict quiet : Bool) → Option ScriptSaid
 script_by given strict quiet =
     option_map (λ numbers. record { numbers = numbers; strict = strict; quiet = quiet }) (numbers_by given)
+
+-- the format that has the number: 2 is the second's, and without a number it is the first
+abbrev pub format_said : (number : Option ℕ) → DumpFormat
+format_said None = First
+format_said (Some n) = if n == 2 then Second else First
+
+-- in which format a dump is written
+abbrev pub format_by : (Setting → Option (List ℕ)) → Option DumpFormat
+format_by given = option_map format_said (number_by Format (given Format))
 
 -- what of a run is drawn
 abbrev pub picture_by : (Setting → Option (List ℕ)) → Option PictureOptions
@@ -169,48 +180,50 @@ abbrev pub tree_by : (Setting → Option (List ℕ)) → (awaited : Bool) → Op
 tree_by given awaited = option_and_then (λ depth. option_and_then (λ scope. tree_said awaited depth scope) (number_by Scope (given Scope))) (number_by Depth (given Depth))
 
 -- what is shown of what a script leaves
-abbrev pub show_by : Option ScriptSaid → Option ViewOptions → (lenient : Bool) → Option Said
-show_by script view lenient = option_and_then (λ s. option_map (λ v. show s v lenient) view) script
+abbrev pub show_by : Option ScriptSaid → Option ViewOptions → (lenient explain : Bool) → Option Said
+show_by script view lenient explain = option_and_then (λ s. option_map (λ v. show s v lenient explain) view) script
 
-abbrev pub quote_by : (Setting → Option (List ℕ)) → Option Said
-quote_by given = option_and_then (λ deadline. option_map (λ after. quote deadline after) (delay_by (given After))) (number_by Deadline (given Deadline))
+abbrev pub quote_by : (texts : List (List ℕ)) → (Setting → Option (List ℕ)) → Option Said
+quote_by texts given = option_and_then (λ deadline. option_and_then (λ after. option_map (λ tree_after.
+    quote deadline after tree_after) (number_by TreeAfter (given TreeAfter))) (delays_by texts (given After))) (number_by Deadline (given Deadline))
 
 abbrev pub generate_by : (Setting → Option (List ℕ)) → Option Said
 generate_by given = option_and_then (λ seed. option_map (λ lines. generate seed lines) (number_by Lines (given Lines))) (number_by Seed (given Seed))
 
--- what is said of a job by the texts of its options, and by those options without a text that were given
-abbrev pub said_by : Job → (Setting → Option (List ℕ)) → (Flag → Bool) → Option Said
-said_by Replay given has = option_map (λ script. replay script (has Explain) (has Trace)) (script_by given (has Strict) (has Quiet))
-said_by Dump given has = show_by (script_by given (has Strict) (has Quiet)) (Some view.Dump) true
-said_by Tree given has = show_by (script_by given (has Strict) (has Quiet)) (option_map (λ t. view.Tree t) (tree_by given (has Awaited))) (has Lenient)
-said_by Timeline given has = show_by (script_by given (has Strict) (has Quiet)) (option_map (λ p. view.Timeline p) (picture_by given)) (has Lenient)
-said_by TraceEvents given has = show_by (script_by given (has Strict) (has Quiet)) (Some view.TraceEvents) (has Lenient)
-said_by Quote given has = quote_by given
-said_by Generate given has = generate_by given
+-- what is said of a job by the texts of its delays, by those of its other options, and by those options without a text
+-- that were given
+abbrev pub said_by : (texts : List (List ℕ)) → Job → (Setting → Option (List ℕ)) → (Flag → Bool) → Option Said
+said_by texts Replay given has = option_map (λ script. replay script (has Explain) (has Trace)) (script_by given (has Strict) (has Quiet))
+said_by texts Dump given has = show_by (script_by given (has Strict) (has Quiet)) (option_map (λ f. view.Dump f) (format_by given)) true (has Explain)
+said_by texts Tree given has = show_by (script_by given (has Strict) (has Quiet)) (option_map (λ t. view.Tree t) (tree_by given (has Awaited))) (has Lenient) (has Explain)
+said_by texts Timeline given has = show_by (script_by given (has Strict) (has Quiet)) (option_map (λ p. view.Timeline p) (picture_by given)) (has Lenient) (has Explain)
+said_by texts TraceEvents given has = show_by (script_by given (has Strict) (has Quiet)) (Some view.TraceEvents) (has Lenient) (has Explain)
+said_by texts Quote given has = quote_by texts given
+said_by texts Generate given has = generate_by given
 
 -- what is said of a job by the options that were given
-abbrev pub job_said : Job → Given → Option Said
-job_said job given = said_by job (λ setting. text_given given (name_of setting)) (λ flag. is_given given (flag_name flag))
+abbrev pub job_said : (texts : List (List ℕ)) → Job → Given → Option Said
+job_said texts job given = said_by texts job (λ setting. text_given given (name_of setting)) (λ flag. is_given given (flag_name flag))
 
--- the program's name, the word of a job and its options
-unfoldable pub command_said : List (List ℕ) → Option Said
-command_said (program ∷ command ∷ options) = option_and_then (λ job. option_and_then (λ given.
-    job_said job given) (given_to job options)) (job_named command)
-command_said _ = None
+-- the program's name, the word of a job and its options, of which delays with these texts were taken out
+unfoldable pub command_said : (texts : List (List ℕ)) → List (List ℕ) → Option Said
+command_said texts (program ∷ command ∷ options) = option_and_then (λ job. option_and_then (λ given.
+    job_said texts job given) (given_to job options)) (job_named command)
+command_said texts _ = None
 
 abbrev pub script_of : ScriptOptions → ScriptSaid
 script_of options = record { numbers = numbers_of options.limits; strict = options.strict; quiet = options.quiet }
 
 abbrev pub said_of : CommandLine → Said
 said_of (line.Replay script explain trace) = replay (script_of script) explain trace
-said_of (line.Show script view lenient) = show (script_of script) view lenient
-said_of (line.Quote deadline after) = quote deadline (option_map delay_of after)
+said_of (line.Show script view lenient explain) = show (script_of script) view lenient explain
+said_of (line.Quote deadline after tree_after) = quote deadline (map delay_of after.items) tree_after
 said_of (line.Generate seed lines) = generate seed lines
 
 -- the words say the command, as they are read
 abbrev pub Says : List (List ℕ) → CommandLine → Type 0
-Says words command = command_said (turned words) ≡ Some (said_of command)
+Says words command = command_said (delay_texts words) (read_as words) ≡ Some (said_of command)
 
 -- the words say no command, as they are read
 abbrev pub SaysNone : List (List ℕ) → Type 0
-SaysNone words = command_said (turned words) ≡ None
+SaysNone words = command_said (delay_texts words) (read_as words) ≡ None

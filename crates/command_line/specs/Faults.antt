@@ -4,7 +4,7 @@ use Rattle.clap.specs.Faults.{fault_of}
 use Rattle.clap.specs.declared.error.kind.ErrorKind.{ErrorKind}
 use Rattle.clap.specs.declared.error.kind.ErrorKind.TheVariants as kind
 use Rattle.command_line.specs.Application.{scopectl}
-use Rattle.command_line.specs.HelpWord.{turned}
+use Rattle.command_line.specs.Delays.{read_as}
 use Rattle.command_line.specs.declared.faults.LineFault.{LineFault}
 use Rattle.command_line.specs.declared.faults.LineFault.TheVariants.{Help, Version, Usage, Memory}
 
@@ -18,11 +18,11 @@ TellsKind k Memory = ⊤
 
 -- the parse of the words, as they are read, answers help, and can answer nothing else
 abbrev pub AsksHelp : List (List ℕ) → Type 0
-AsksHelp words = fault_of scopectl (turned words) ≡ kind.DisplayHelp ∷ []
+AsksHelp words = fault_of scopectl (read_as words) ≡ kind.DisplayHelp ∷ []
 
 -- the parse of the words, as they are read, answers the version, and can answer nothing else
 abbrev pub AsksVersion : List (List ℕ) → Type 0
-AsksVersion words = fault_of scopectl (turned words) ≡ kind.DisplayVersion ∷ []
+AsksVersion words = fault_of scopectl (read_as words) ≡ kind.DisplayVersion ∷ []
 
 -- the words ask for neither
 abbrev pub IsNoRequest : List (List ℕ) → Type 0

@@ -1,9 +1,14 @@
 pub mod Application
+pub mod Colors
 pub mod CommandLine
+pub mod Delays
 pub mod Faults
 pub mod Files
 pub mod HelpWord
 pub mod Hints
+pub mod Near
 pub mod Parsing
 pub mod Settings
+pub mod Taken
 pub mod Texts
+pub mod Words

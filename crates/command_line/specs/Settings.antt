@@ -12,8 +12,8 @@ use Rattle.command_line.specs.declared.settings.Delay.{Delay}
 use Rattle.command_line.specs.declared.settings.Flag.{Flag}
 use Rattle.command_line.specs.declared.settings.Flag.TheVariants.{Strict, Explain, Trace, Quiet, Lenient, Awaited}
 use Rattle.command_line.specs.declared.settings.Setting.{Setting}
-use Rattle.command_line.specs.declared.settings.Setting.TheVariants.{Scopes, Tasks, Load, Deadline, After, Seed, Lines, Width, Rows, From, To, Scope, Depth}
-use Rattle.command_line.specs.declared.settings.TheConstants.{DAY_MILLIS, SEED_LIMIT, LINES_LIMIT, ROWS_LIMIT, SCOPE_NUMBER_LIMIT, WIDTH_LIMIT}
+use Rattle.command_line.specs.declared.settings.Setting.TheVariants.{Scopes, Tasks, Load, Deadline, After, TreeAfter, Seed, Lines, Width, Rows, From, To, Scope, Depth, Format}
+use Rattle.command_line.specs.declared.settings.TheConstants.{DAY_MILLIS, SEED_LIMIT, LINES_LIMIT, FORMAT_LIMIT, ROWS_LIMIT, SCOPE_NUMBER_LIMIT, WIDTH_LIMIT}
 
 -- an option's name, without its hyphens
 abbrev pub name_of : Setting → List ℕ
@@ -22,6 +22,7 @@ name_of Tasks = codes "tasks"
 name_of Load = codes "load"
 name_of Deadline = codes "deadline"
 name_of After = codes "after"
+name_of TreeAfter = codes "tree-after"
 name_of Seed = codes "seed"
 name_of Lines = codes "lines"
 name_of Width = codes "width"
@@ -30,6 +31,7 @@ name_of From = codes "from"
 name_of To = codes "to"
 name_of Scope = codes "scope"
 name_of Depth = codes "depth"
+name_of Format = codes "format"
 
 -- the name of an option that has no text, without its hyphens
 abbrev pub flag_name : Flag → List ℕ
@@ -52,6 +54,7 @@ greatest_of Tasks = TASK_LIMIT
 greatest_of Load = LOAD_LIMIT
 greatest_of Deadline = DAY_MILLIS
 greatest_of After = DAY_MILLIS
+greatest_of TreeAfter = DAY_MILLIS
 greatest_of Seed = SEED_LIMIT
 greatest_of Lines = LINES_LIMIT
 greatest_of Width = WIDTH_LIMIT
@@ -60,6 +63,7 @@ greatest_of From = LOAD_LIMIT
 greatest_of To = LOAD_LIMIT
 greatest_of Scope = SCOPE_NUMBER_LIMIT
 greatest_of Depth = LEVEL_LIMIT
+greatest_of Format = FORMAT_LIMIT
 
 abbrev pub is_digit : ℕ → Bool
 is_digit byte = nat_le 48 byte && nat_le byte 57
@@ -131,7 +135,3 @@ delay_said text =
       name = name;
       millis = millis;
     }) (plain_number (greatest_of After) (after_first is_equals text)) else None
-
--- the delay whose option was given with a text, or was not given
-abbrev pub delay_by : Option (List ℕ) → Option (Option NameAndMillis)
-delay_by = if_given delay_said

@@ -4,6 +4,7 @@ ghost use Rattle.clap.specs.Words.{kind_of};
 ghost use Rattle.command_line.specs.Faults.{TellsKind, fault_text};
 ghost use Rattle.command_line.specs.declared.faults.LineFault.TheVariants.{Memory};
 
+use crate::hints::Hint;
 use clap::Error;
 use clap::error::ErrorKind;
 use std::alloc::{AllocError, Global};
@@ -24,7 +25,7 @@ pub enum LineFault {
 
 impl LineFault {
     /// The fault of a parse that failed. The hint stands behind the error that is said.
-    pub(crate) fn of_parse(alloc: Global, error: &Error, hint: Option<&str>) -> LineFault
+    pub(crate) fn of_parse(alloc: Global, error: &Error, hint: Option<Hint>) -> LineFault
         ensures { TellsKind (kind_of error.now) result }
     {
         match error.kind() {
@@ -40,9 +41,10 @@ impl LineFault {
 }
 
 // What is said of an error, and the hint in a line of its own.
-fn usage_text(alloc: Global, error: &Error, hint: Option<&str>) -> Result<String, AllocError> {
+fn usage_text(alloc: Global, error: &Error, hint: Option<Hint>) -> Result<String, AllocError> {
     match hint {
-        Some(hint) => format!(in alloc; "{error}{hint}\n"),
+        Some(Hint::Sentence(hint)) => format!(in alloc; "{error}{hint}\n"),
+        Some(Hint::Meant(name)) => format!(in alloc; "{error}hint: did you mean '--{name}'?\n"),
         None => format!(in alloc; "{error}"),
     }
 }

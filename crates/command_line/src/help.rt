@@ -57,7 +57,9 @@ Options:
       --quiet       Do not say how many lines were refused
 ",
             $options,
-            "  -h, --help        Print help
+            "      --color <WHEN>
+                    When to color the output: auto, always or never [default: auto]
+  -h, --help        Print help
 ",
             $example,
             "
@@ -84,6 +86,7 @@ Usage: scopectl replay [OPTIONS] [FILE]
 ",
     "      --explain     Explain each refused line on standard error
       --trace       Report each line with its reply on standard error
+      --json        Write the replies as JSON
       --expect <F>  Compare the replies with those in file F, and write none
 ",
     "
@@ -108,9 +111,14 @@ pub const DUMP_HELP: &str = script_help!(
 writes one line of JSON: the tree of the scopes that are not closed. The tree shows the tasks of
 each scope, the scopes inside it and inside its tasks, and why a scope is cancelled.
 
+Format 1 is the tree as it always was. Format 2 has a version, and the limits with the load that is
+used. If the script has times, it says since when each scope is open and each task runs.
+
 Usage: scopectl dump [OPTIONS] [FILE]
 ",
-    "",
+    "      --explain     Explain each refused line on standard error
+      --format <N>  Write the dump in format N, 1 or 2 [default: 1]
+",
     "
 Example: the script
 
@@ -134,7 +142,8 @@ writes the tree of the scopes that are not closed, as text: one indented line pe
 
 Usage: scopectl tree [OPTIONS] [FILE]
 ",
-    "      --lenient     End with status 0 even if lines are not commands
+    "      --explain     Explain each refused line on standard error
+      --lenient     End with status 0 even if lines are not commands
       --awaited     Show the scopes that wait for tasks, the oldest first, and these tasks alone
       --depth <N>   Show N levels of scopes, from 1 to 16
       --scope <S>   Show scope S alone, with what is inside it
@@ -165,7 +174,8 @@ draws the run as an SVG picture: a band per scope, a lane per task, and events f
 
 Usage: scopectl timeline [OPTIONS] [FILE]
 ",
-    "      --lenient     End with status 0 even if lines are not commands
+    "      --explain     Explain each refused line on standard error
+      --lenient     End with status 0 even if lines are not commands
       --width <PX>  How many pixels wide, up to 100000; at least 320 are drawn [default: 1200]
       --rows <N>    Fold closed scopes if there are more than N rows [default: 300]
       --from <N>    Begin at event N; the first event is 1
@@ -189,7 +199,8 @@ writes the run as Chrome trace events (JSON): a slice per scope and task, an ins
 
 Usage: scopectl trace [OPTIONS] [FILE]
 ",
-    "      --lenient     End with status 0 even if lines are not commands
+    "      --explain     Explain each refused line on standard error
+      --lenient     End with status 0 even if lines are not commands
 ",
     "
 Example: look at a run in Perfetto or chrome://tracing.
@@ -210,7 +221,12 @@ Usage: scopectl quote [OPTIONS] [FILE]
 
 Options:
       --deadline <MS>    After MS milliseconds, answer with the prices so far: partial NAME=PRICE ..
-      --after <NAME=MS>  Make the job of offer NAME take MS milliseconds, to try a deadline
+      --after <NAME=MS>  Make the job of offer NAME take MS milliseconds, to try a deadline; repeat
+                         it for other offers
+      --tree-after <MS>  After MS milliseconds, write the tree of the plan's realm to standard
+                         error, if the plan is still being served
+      --journal <FILE>   Write the journal of the run to FILE, as a script
+      --color <WHEN>     When to color the output: auto, always or never [default: auto]
   -h, --help             Print help
 
 A plan is one of these modes, then up to 64 offers with different names. A line that is empty or
@@ -247,9 +263,10 @@ gives the same script, on any machine. Reads nothing.
 Usage: scopectl generate [OPTIONS]
 
 Options:
-      --seed <N>   The number to make the script from, from 1 to 4294967295 [default: 1]
-      --lines <N>  How many lines to write, from 1 to 1000000 [default: 100]
-  -h, --help       Print help
+      --seed <N>      The number to make the script from, from 1 to 4294967295 [default: 1]
+      --lines <N>     How many lines to write, from 1 to 1000000 [default: 100]
+      --color <WHEN>  When to color the output: auto, always or never [default: auto]
+  -h, --help          Print help
 
 Example: try another implementation on a random script.
 

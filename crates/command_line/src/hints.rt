@@ -1,13 +1,24 @@
 //! What is hinted at behind a usage error.
-ghost use Rattle.std.specs.Prelude.{◌≡◌, option_map, map};
-ghost use Rattle.std.specs.List.{before_first};
-ghost use Rattle.clap.specs.Lexer.{strip_byte};
-ghost use Rattle.command_line.specs.Hints.{hint_at, hint_behind, hint_for, input_hint, is_dashed, is_flag, is_stray, long_name, may_take, option_hint, sets_limit};
-ghost use Rattle.command_line.specs.CommandLine.{flag_names, is_among};
-ghost use Rattle.command_line.specs.Settings.{flag_name, is_equals};
+ghost use Rattle.std.specs.Prelude.{◌≡◌, [], option_map, map};
+ghost use Rattle.std.specs.List.{list_any};
+ghost use Rattle.command_line.specs.CommandLine.{flag_names, is_among, job_named, limit_names};
+ghost use Rattle.command_line.specs.Hints.{command_hint, early_hint, has_job, hint_at, hint_behind, hint_for, hint_said, input_hint, is_flag, is_quote, is_stray, may_take, name_hint, near_hint, other_hint, own_hint, own_names, taken_hint, taken_names};
+ghost use Rattle.command_line.specs.Settings.{flag_name};
+ghost use Rattle.command_line.specs.Words.{is_option};
 
 use crate::lines::Job;
+use crate::near::nearest;
 use crate::settings::{Flag, Setting};
+use crate::words::{has_text, is_dashed, is_option, long_name};
+
+/// What is hinted at.
+#[derive(Clone, Copy)]
+pub enum Hint {
+    /// A sentence.
+    Sentence(&'static str),
+    /// The option of this name is meant, by one whose name is near it.
+    Meant(&'static str),
+}
 
 /// Where the script of a replay comes from.
 pub const REPLAY_INPUT: &str =
@@ -38,42 +49,221 @@ pub const GENERATE_INPUT: &str = "hint: generate reads no FILE: scopectl generat
 
 /// Which options a quote has, and which it has not.
 pub const QUOTE_OPTIONS: &str =
-    "hint: quote has no limits to set; its options are --deadline and --after";
+    "hint: quote has no limits to set; its options are --deadline, --after, --tree-after, --journal and --color";
+
+/// An option that was read stands there once more.
+pub const OPTION_ONCE: &str = "hint: this option stands once at most";
+
+/// An option with a text stands there once more, or without one.
+pub const TEXT_ONCE: &str = "hint: this option stands once at most, and has a text";
+
+/// `--json` stands there once more, or with a text.
+pub const JSON_ONCE: &str = "hint: this option stands once at most, and has no text";
+
+/// Options stand before the word of a job.
+pub const OPTIONS_FIRST: &str =
+    "hint: options stand behind the command: scopectl <COMMAND> [OPTIONS]";
 
 /// The hint to words that are not understood, if there is one. The first is the program's name.
-pub fn hint_for(words: &[&str]) -> Option<&'static str>
-    ensures { option_map (λ hint. hint.now) result ≡ hint_for (map (λ word. word.now) words.now) }
+pub fn hint_for(words: &[&str]) -> Option<Hint>
+    ensures { option_map hint_said result ≡ hint_for (map (λ word. word.now) words.now) }
 {
     match words {
-        [_, command, rest @ ..] => hint_behind(Job::named(command)?, command, rest),
+        [_, command, rest @ ..] => command_hint(command, rest),
         _ => None,
     }
 }
 
-// The first hint at words that stand behind the word `command`.
-fn hint_behind(job: Job, command: &str, words: &[&str]) -> Option<&'static str>
-    ensures { option_map (λ hint. hint.now) result ≡ hint_behind job command.now (map (λ word. word.now) words.now) }
+// The hint to the words behind the program's name.
+fn command_hint(command: &str, rest: &[&str]) -> Option<Hint>
+    ensures { option_map hint_said result ≡ command_hint (job_named command.now) command.now (map (λ word. word.now) rest.now) }
+{
+    match Job::named(command) {
+        Some(job) => hint_behind(job, command, rest),
+        None => early_hint(command, rest),
+    }
+}
+
+// The hint if options stand before the word of a job.
+fn early_hint(command: &str, rest: &[&str]) -> Option<Hint>
+    ensures { option_map hint_said result ≡ early_hint command.now (map (λ word. word.now) rest.now) }
+{
+    if is_dashed(command) && has_job(rest) {
+        Some(Hint::Sentence(OPTIONS_FIRST))
+    } else {
+        None
+    }
+}
+
+// Whether one of the words is the word of a job.
+fn has_job(words: &[&str]) -> bool
+    ensures { result ≡ has_job (map (λ word. word.now) words.now) }
+{
+    match words {
+        [] => false,
+        [word, others @ ..] => Job::named(word).is_some() || has_job(others),
+    }
+}
+
+// The first hint at words that stand behind the word `command` of the job.
+fn hint_behind(job: Job, command: &str, words: &[&str]) -> Option<Hint>
+    ensures { option_map hint_said result ≡ hint_behind job [] command.now (map (λ word. word.now) words.now) }
 {
     let mut before = command;
+    let mut seen = 0;
     for word in words {
-        let hint = hint_at(job, before, word);
+        let hint = hint_at(job, &words[..seen], before, word);
         if hint.is_some() {
             return hint;
         }
         before = word;
+        seen += 1;
     }
     None
 }
 
-// The hint at one word, behind the word `before`.
-fn hint_at(job: Job, before: &str, word: &str) -> Option<&'static str>
-    ensures { option_map (λ hint. hint.now) result ≡ hint_at job before.now word.now }
+// The hint at one word, behind the words `seen`, of which the last, or the job's word, is `before`.
+fn hint_at(job: Job, seen: &[&str], before: &str, word: &str) -> Option<Hint>
+    ensures { option_map hint_said result ≡ hint_at job (map (λ word. word.now) seen.now) before.now word.now }
 {
     if is_stray(job, before, word) {
-        Some(input_hint(job))
-    } else {
-        option_hint(job, word)
+        return Some(Hint::Sentence(input_hint(job)));
     }
+    match long_name(word) {
+        Some(name) => {
+            if has_name(own_names(job), name) {
+                own_hint(job, seen, name)
+            } else {
+                other_hint(job, name)
+            }
+        }
+        None => None,
+    }
+}
+
+// The hint at an option of the job's own.
+fn own_hint(job: Job, seen: &[&str], name: &str) -> Option<Hint>
+    ensures { option_map hint_said result ≡ own_hint job (map (λ word. word.now) seen.now) name.now }
+{
+    if has_name(taken_names(job), name) {
+        Some(taken_hint(name))
+    } else if name != Setting::After.name() && stands_in(seen, name) {
+        Some(Hint::Sentence(OPTION_ONCE))
+    } else {
+        None
+    }
+}
+
+// The hint at an option that is taken out of the words if it stands as it should.
+fn taken_hint(name: &str) -> Hint
+    ensures { hint_said result ≡ taken_hint name.now }
+{
+    if name == "json" {
+        Hint::Sentence(JSON_ONCE)
+    } else {
+        Hint::Sentence(TEXT_ONCE)
+    }
+}
+
+// Whether one of the words is the option of this name.
+fn stands_in(words: &[&str], name: &str) -> bool
+    ensures { result ≡ list_any (λ word. is_option name.now word) (map (λ word. word.now) words.now) }
+{
+    match words {
+        [] => false,
+        [word, others @ ..] => is_option(name, word) || stands_in(others, name),
+    }
+}
+
+// The hint at an option that the job does not have.
+fn other_hint(job: Job, name: &str) -> Option<Hint>
+    ensures { option_map hint_said result ≡ other_hint job name.now }
+{
+    if is_quote(job) && sets_limit(name) {
+        Some(Hint::Sentence(QUOTE_OPTIONS))
+    } else {
+        near_hint(job, name)
+    }
+}
+
+// Whether the job is a quote, which has no limits.
+fn is_quote(job: Job) -> bool
+    ensures { result ≡ is_quote job }
+{
+    matches!(job, Job::Quote)
+}
+
+// The hint at an option of the job whose name is near.
+fn near_hint(job: Job, name: &str) -> Option<Hint>
+    ensures { option_map hint_said result ≡ near_hint job name.now }
+{
+    match nearest(own_names(job), name) {
+        Some(own) => Some(Hint::Meant(own)),
+        None => None,
+    }
+}
+
+// The names of the job's options that are taken out of the words before the others are read.
+fn taken_names(job: Job) -> &'static [&'static str]
+    ensures { map (λ name. name.now) result.now ≡ taken_names job }
+{
+    match job {
+        Job::Replay => &["expect", "color", "json"],
+        Job::Quote => &["journal", "color"],
+        Job::Dump | Job::Tree | Job::Timeline | Job::TraceEvents | Job::Generate => &["color"],
+    }
+}
+
+// The names of all options of the job.
+fn own_names(job: Job) -> &'static [&'static str]
+    ensures { map (λ name. name.now) result.now ≡ own_names job }
+{
+    match job {
+        Job::Replay => &[
+            "scopes", "tasks", "load", "strict", "quiet", "explain", "trace", "expect", "color",
+            "json", "help",
+        ],
+        Job::Dump => &[
+            "scopes", "tasks", "load", "format", "strict", "quiet", "explain", "color", "help",
+        ],
+        Job::Tree => &[
+            "scopes", "tasks", "load", "depth", "scope", "strict", "quiet", "explain", "lenient",
+            "awaited", "color", "help",
+        ],
+        Job::Timeline => &[
+            "scopes", "tasks", "load", "width", "rows", "from", "to", "scope", "strict", "quiet",
+            "explain", "lenient", "color", "help",
+        ],
+        Job::TraceEvents => &[
+            "scopes", "tasks", "load", "strict", "quiet", "explain", "lenient", "color", "help",
+        ],
+        Job::Quote => &[
+            "deadline",
+            "after",
+            "tree-after",
+            "journal",
+            "color",
+            "help",
+        ],
+        Job::Generate => &["seed", "lines", "color", "help"],
+    }
+}
+
+// Whether the name is among these.
+fn has_name(names: &[&str], name: &str) -> bool
+    ensures { result ≡ is_among (map (λ known. known.now) names.now) name.now }
+{
+    match names {
+        [] => false,
+        [known, others @ ..] => *known == name || has_name(others, name),
+    }
+}
+
+// Whether the name is that of an option that sets a limit.
+fn sets_limit(name: &str) -> bool
+    ensures { result ≡ is_among limit_names name.now }
+{
+    name == Setting::Scopes.name() || name == Setting::Tasks.name() || name == Setting::Load.name()
 }
 
 // Where the job finds what a stray word seems to name.
@@ -91,16 +281,6 @@ fn input_hint(job: Job) -> &'static str
     }
 }
 
-// What is hinted at where the job does not have the option.
-fn option_hint(job: Job, word: &str) -> Option<&'static str>
-    ensures { option_map (λ hint. hint.now) result ≡ option_hint job word.now }
-{
-    match job {
-        Job::Quote if sets_limit(word) => Some(QUOTE_OPTIONS),
-        _ => None,
-    }
-}
-
 // Whether the word is not an option, and not the text of one, behind the word `before`. Behind `--` no
 // word is one.
 pub(crate) fn is_stray(job: Job, before: &str, word: &str) -> bool
@@ -113,14 +293,7 @@ pub(crate) fn is_stray(job: Job, before: &str, word: &str) -> bool
 fn may_take(job: Job, word: &str) -> bool
     ensures { result ≡ may_take job word.now }
 {
-    is_dashed(word) && !word.as_bytes().contains(&b'=') && !is_flag(job, word)
-}
-
-// Whether the word is a hyphen and more: an option, or `--`.
-fn is_dashed(word: &str) -> bool
-    ensures { result ≡ is_dashed word.now }
-{
-    matches!(word.as_bytes(), [b'-', _, ..])
+    is_dashed(word) && !has_text(word) && !is_flag(job, word)
 }
 
 // Whether the word is an option of the job that has no text.
@@ -147,44 +320,5 @@ fn is_among_flags(flags: &[Flag], name: &str) -> bool
     match flags {
         [] => false,
         [flag, others @ ..] => flag.name() == name || is_among_flags(others, name),
-    }
-}
-
-// Whether the word is an option that sets a limit.
-fn sets_limit(word: &str) -> bool
-    ensures { result ≡ sets_limit word.now }
-{
-    match long_name(word) {
-        Some(name) => {
-            name == Setting::Scopes.name()
-                || name == Setting::Tasks.name()
-                || name == Setting::Load.name()
-        }
-        None => false,
-    }
-}
-
-// The name in `--name` or `--name=text`.
-pub(crate) fn long_name(word: &str) -> Option<&str>
-    ensures { option_map (λ name. name.now) result ≡ long_name word.now }
-{
-    let option = without_hyphen(without_hyphen(word)?)?;
-    Some(before_equals(option))
-}
-
-// What stands behind a first hyphen.
-fn without_hyphen(word: &str) -> Option<&str>
-    ensures { option_map (λ rest. rest.now) result ≡ strip_byte 45 word.now }
-{
-    word.strip_prefix('-')
-}
-
-// What stands before the first `=`, if there is one.
-fn before_equals(option: &str) -> &str
-    ensures { result.now ≡ before_first is_equals option.now }
-{
-    match option.split_once('=') {
-        Some((name, _)) => name,
-        None => option,
     }
 }

@@ -3,20 +3,23 @@ ghost use Rattle.std.specs.Prelude.{◌≡◌, ◌⊎◌, Bool, IfOk, IfErr, Som
 ghost use Rattle.clap.specs.Words.{first_value, found_of, one_text};
 ghost use Rattle.command_line.specs.CommandLine.{Says, SaysNone, command_word, flags_of, job_named, said_by, said_of, script_by, settings_of, show_by};
 ghost use Rattle.command_line.specs.Faults.{Answers, IsUsageOrMemory};
-ghost use Rattle.command_line.specs.HelpWord.{turned};
+ghost use Rattle.command_line.specs.Delays.{delay_texts, read_as};
 ghost use Rattle.command_line.specs.Parsing.{TellsFlags};
 ghost use Rattle.command_line.specs.Settings.{bool_text, flag_name, name_of};
 
+use crate::delays::{delays, part_delays};
 use crate::faults::LineFault;
 use crate::help_word::{has_help_word, turned};
 use crate::hints::hint_for;
-use crate::settings::{Delay, Flag, PictureOptions, ScriptOptions, Setting, TreeOptions};
+use crate::settings::{
+    Delay, DumpFormat, Flag, PictureOptions, ScriptOptions, Setting, TreeOptions,
+};
 use crate::{application, settings};
 use clap::ArgMatches;
 use std::alloc::Global;
 
 /// What a command line tells the program to do.
-#[derive(Clone, Copy)]
+#[derive(Drop)]
 pub enum CommandLine {
     /// Replays the script on standard input, and writes the replies.
     Replay {
@@ -32,13 +35,17 @@ pub enum CommandLine {
         view: ViewOptions,
         /// Whether the status is 0 though lines are no commands.
         lenient: bool,
+        /// Whether it is to be said why lines were refused.
+        explain: bool,
     },
     /// Serves the plan on standard input, and writes the answer.
     Quote {
         /// After how many milliseconds the plan is answered by what is there, if it is.
         deadline: Option<u32>,
-        /// Which job of the plan is to take time, if one is.
-        after: Option<Delay>,
+        /// Which jobs of the plan are to take time, each of another offer.
+        after: Vec<Delay>,
+        /// After how many milliseconds the tree of the plan's realm is said, if it is served so long.
+        tree_after: Option<u32>,
     },
     /// Writes a random script.
     Generate {
@@ -53,7 +60,7 @@ pub enum CommandLine {
 #[derive(Clone, Copy)]
 pub enum ViewOptions {
     /// The tree of the scopes that are not closed, as JSON.
-    Dump,
+    Dump(DumpFormat),
     /// The same tree, as text for a terminal.
     Tree(TreeOptions),
     /// A picture of the run.
@@ -95,9 +102,13 @@ impl Job {
         ensures { result.now ≡ settings_of self }
     {
         match self {
-            Job::Replay | Job::Dump | Job::TraceEvents => {
-                &[Setting::Scopes, Setting::Tasks, Setting::Load]
-            }
+            Job::Replay | Job::TraceEvents => &[Setting::Scopes, Setting::Tasks, Setting::Load],
+            Job::Dump => &[
+                Setting::Scopes,
+                Setting::Tasks,
+                Setting::Load,
+                Setting::Format,
+            ],
             Job::Tree => &[
                 Setting::Scopes,
                 Setting::Tasks,
@@ -115,7 +126,7 @@ impl Job {
                 Setting::To,
                 Setting::Scope,
             ],
-            Job::Quote => &[Setting::Deadline, Setting::After],
+            Job::Quote => &[Setting::Deadline, Setting::After, Setting::TreeAfter],
             Job::Generate => &[Setting::Seed, Setting::Lines],
         }
     }
@@ -126,9 +137,17 @@ impl Job {
     {
         match self {
             Job::Replay => &[Flag::Strict, Flag::Quiet, Flag::Explain, Flag::Trace],
-            Job::Dump => &[Flag::Strict, Flag::Quiet],
-            Job::Tree => &[Flag::Strict, Flag::Quiet, Flag::Lenient, Flag::Awaited],
-            Job::Timeline | Job::TraceEvents => &[Flag::Strict, Flag::Quiet, Flag::Lenient],
+            Job::Dump => &[Flag::Strict, Flag::Quiet, Flag::Explain],
+            Job::Tree => &[
+                Flag::Strict,
+                Flag::Quiet,
+                Flag::Explain,
+                Flag::Lenient,
+                Flag::Awaited,
+            ],
+            Job::Timeline | Job::TraceEvents => {
+                &[Flag::Strict, Flag::Quiet, Flag::Explain, Flag::Lenient]
+            }
             Job::Quote | Job::Generate => &[],
         }
     }
@@ -170,20 +189,23 @@ pub fn line<'a>(alloc: Global, words: &'a [&'a str]) -> Result<CommandLine, Line
         ⊎ SaysNone (map (λ word. word.now) words.entry.now)) }
     ensures answers { IfErr result (Answers (map (λ word. word.now) words.entry.now)) }
 {
-    if has_help_word(words) {
-        let read = turned(alloc, words)?;
-        return command(alloc, words, &read);
+    let delayed = part_delays(alloc, words)?;
+    if has_help_word(&delayed.words) {
+        let read = turned(alloc, &delayed.words)?;
+        return command(alloc, words, &read, &delayed.texts);
     }
-    command(alloc, words, words)
+    command(alloc, words, &delayed.words, &delayed.texts)
 }
 
-// The command that the words say, which are read as `read`.
+// The command that the words say, which are read as `read`, and whose delays have these texts.
 fn command<'a>(
     alloc: Global,
     words: &'a [&'a str],
     read: &'a [&'a str],
+    texts: &[&str],
 ) -> Result<CommandLine, LineFault>
-    requires read { map (λ word. word.now) read.now ≡ turned (map (λ word. word.now) words.now) }
+    requires read { map (λ word. word.now) read.now ≡ read_as (map (λ word. word.now) words.now) }
+    requires texts { map (λ text. text.now) texts.now ≡ delay_texts (map (λ word. word.now) words.now) }
     ensures said { IfOk result (Says (map (λ word. word.now) words.entry.now)) }
     ensures refused { IfErr result (λ fault. (fault ≡ LineFault.Memory)
         ⊎ SaysNone (map (λ word. word.now) words.entry.now)) }
@@ -200,15 +222,20 @@ fn command<'a>(
     let Some(job) = Job::named(word) else {
         unreachable!()
     };
-    said(alloc, job, options)
+    said(alloc, job, options, texts)
 }
 
-// What the options of the job say.
-fn said(alloc: Global, job: Job, options: &ArgMatches<'_>) -> Result<CommandLine, LineFault>
+// What the options of the job say, and the texts of its delays.
+fn said(
+    alloc: Global,
+    job: Job,
+    options: &ArgMatches<'_>,
+    texts: &[&str],
+) -> Result<CommandLine, LineFault>
     ensures said { (has : Flag → Bool) → TellsFlags job (found_of options.now) has → IfOk result (λ command.
-        said_by job (λ setting. first_value (found_of options.now) (name_of setting)) has ≡ Some (said_of command)) }
+        said_by (map (λ text. text.now) texts.now) job (λ setting. first_value (found_of options.now) (name_of setting)) has ≡ Some (said_of command)) }
     ensures refused { (has : Flag → Bool) → TellsFlags job (found_of options.now) has → IfErr result (λ fault. (fault ≡ LineFault.Memory)
-        ⊎ (said_by job (λ setting. first_value (found_of options.now) (name_of setting)) has ≡ None)) }
+        ⊎ (said_by (map (λ text. text.now) texts.now) job (λ setting. first_value (found_of options.now) (name_of setting)) has ≡ None)) }
     ensures told { IfErr result IsUsageOrMemory }
 {
     match job {
@@ -222,14 +249,10 @@ fn said(alloc: Global, job: Job, options: &ArgMatches<'_>) -> Result<CommandLine
                 trace,
             })
         }
-        Job::Dump => {
-            let script = settings::script(alloc, options)?;
-            Ok(CommandLine::Show {
-                script,
-                view: ViewOptions::Dump,
-                lenient: true,
-            })
-        }
+        Job::Dump => match settings::format(alloc, options) {
+            Ok(format) => shown_with(alloc, options, ViewOptions::Dump(format), true),
+            Err(fault) => Err(fault),
+        },
         Job::Tree => match settings::tree(alloc, options) {
             Ok(tree) => shown(alloc, options, ViewOptions::Tree(tree)),
             Err(fault) => Err(fault),
@@ -241,8 +264,13 @@ fn said(alloc: Global, job: Job, options: &ArgMatches<'_>) -> Result<CommandLine
         Job::TraceEvents => shown(alloc, options, ViewOptions::TraceEvents),
         Job::Quote => {
             let deadline = settings::number_if_given(alloc, options, Setting::Deadline)?;
-            let after = settings::after(alloc, options)?;
-            Ok(CommandLine::Quote { deadline, after })
+            let after = delays(alloc, options, texts)?;
+            let tree_after = settings::number_if_given(alloc, options, Setting::TreeAfter)?;
+            Ok(CommandLine::Quote {
+                deadline,
+                after,
+                tree_after,
+            })
         }
         Job::Generate => {
             let seed = settings::number_if_given(alloc, options, Setting::Seed)?;
@@ -252,24 +280,46 @@ fn said(alloc: Global, job: Job, options: &ArgMatches<'_>) -> Result<CommandLine
     }
 }
 
-// What the options of a view say, if `--strict`, `--quiet` and `--lenient` are such options.
+// What the options of a view say, if `--strict`, `--quiet`, `--explain` and `--lenient` are such options.
 fn shown(
     alloc: Global,
     options: &ArgMatches<'_>,
     view: ViewOptions,
 ) -> Result<CommandLine, LineFault>
-    ensures said { (strict quiet lenient : Bool) → one_text (found_of options.now) (flag_name Flag.Strict) ≡ Some (bool_text strict) → one_text (found_of options.now) (flag_name Flag.Quiet) ≡ Some (bool_text quiet)
+    ensures said { (strict quiet explain lenient : Bool) → one_text (found_of options.now) (flag_name Flag.Strict) ≡ Some (bool_text strict)
+        → one_text (found_of options.now) (flag_name Flag.Quiet) ≡ Some (bool_text quiet)
+        → one_text (found_of options.now) (flag_name Flag.Explain) ≡ Some (bool_text explain)
         → one_text (found_of options.now) (flag_name Flag.Lenient) ≡ Some (bool_text lenient) → IfOk result (λ command.
-        show_by (script_by (λ setting. first_value (found_of options.now) (name_of setting)) strict quiet) (Some view) lenient ≡ Some (said_of command)) }
-    ensures refused { (strict quiet lenient : Bool) → IfErr result (λ fault. (fault ≡ LineFault.Memory)
-        ⊎ (show_by (script_by (λ setting. first_value (found_of options.now) (name_of setting)) strict quiet) (Some view) lenient ≡ None)) }
+        show_by (script_by (λ setting. first_value (found_of options.now) (name_of setting)) strict quiet) (Some view) lenient explain ≡ Some (said_of command)) }
+    ensures refused { (strict quiet explain lenient : Bool) → one_text (found_of options.now) (flag_name Flag.Lenient) ≡ Some (bool_text lenient) → IfErr result (λ fault. (fault ≡ LineFault.Memory)
+        ⊎ (show_by (script_by (λ setting. first_value (found_of options.now) (name_of setting)) strict quiet) (Some view) lenient explain ≡ None)) }
+    ensures told { IfErr result IsUsageOrMemory }
+{
+    let lenient = settings::is_set(options, Flag::Lenient);
+    shown_with(alloc, options, view, lenient)
+}
+
+// What the options of a view say, if `--strict`, `--quiet` and `--explain` are such options, and it is lenient or not.
+fn shown_with(
+    alloc: Global,
+    options: &ArgMatches<'_>,
+    view: ViewOptions,
+    lenient: bool,
+) -> Result<CommandLine, LineFault>
+    ensures said { (strict quiet explain : Bool) → one_text (found_of options.now) (flag_name Flag.Strict) ≡ Some (bool_text strict)
+        → one_text (found_of options.now) (flag_name Flag.Quiet) ≡ Some (bool_text quiet)
+        → one_text (found_of options.now) (flag_name Flag.Explain) ≡ Some (bool_text explain) → IfOk result (λ command.
+        show_by (script_by (λ setting. first_value (found_of options.now) (name_of setting)) strict quiet) (Some view) lenient explain ≡ Some (said_of command)) }
+    ensures refused { (strict quiet explain : Bool) → IfErr result (λ fault. (fault ≡ LineFault.Memory)
+        ⊎ (show_by (script_by (λ setting. first_value (found_of options.now) (name_of setting)) strict quiet) (Some view) lenient explain ≡ None)) }
     ensures told { IfErr result IsUsageOrMemory }
 {
     let script = settings::script(alloc, options)?;
-    let lenient = settings::is_set(options, Flag::Lenient);
+    let explain = settings::is_set(options, Flag::Explain);
     Ok(CommandLine::Show {
         script,
         view,
         lenient,
+        explain,
     })
 }

@@ -2,9 +2,9 @@
 ghost use Rattle.std.specs.Prelude.{◌≡◌, ◌≤◌, ◌⊎◌, Bool, IfOk, IfErr, IfSome, Some, None, option_map};
 ghost use Rattle.std.specs.List.{list_all};
 ghost use Rattle.clap.specs.Words.{first_value, found_of, one_text};
-ghost use Rattle.command_line.specs.CommandLine.{picture_by, script_by, script_of, tree_by, tree_said};
+ghost use Rattle.command_line.specs.CommandLine.{format_by, format_said, picture_by, script_by, script_of, tree_by, tree_said};
 ghost use Rattle.command_line.specs.Faults.{IsUsageOrMemory};
-ghost use Rattle.command_line.specs.Settings.{bool_text, flag_name, greatest_of, is_digit, is_plain, name_of, setting_number, numbers_by, numbers_of, plain_number, number_by, delay_by, delay_of, delay_said};
+ghost use Rattle.command_line.specs.Settings.{bool_text, flag_name, greatest_of, is_digit, is_plain, name_of, setting_number, numbers_by, numbers_of, plain_number, number_by, delay_of, delay_said};
 
 use crate::faults::LineFault;
 use clap::ArgMatches;
@@ -30,6 +30,9 @@ pub const ROWS_LIMIT: u32 = 69_632;
 /// The greatest number that a scope can have: numbers go on when a realm is compacted.
 pub const SCOPE_NUMBER_LIMIT: u32 = 4_294_967_295;
 
+/// How many formats a dump has.
+pub const FORMAT_LIMIT: u32 = 2;
+
 /// What is said where `--awaited` stands beside an option that selects a part of the tree.
 const AWAITED_ALONE: &str =
     "error: the argument '--awaited' cannot be used with '--depth <N>' or '--scope <S>'\n\nFor more information, try '--help'.\n";
@@ -47,6 +50,8 @@ pub enum Setting {
     Deadline,
     /// Of which offer the job is to take time, and how many milliseconds.
     After,
+    /// After how many milliseconds the tree of the plan's realm is said.
+    TreeAfter,
     /// By which number a random script is made.
     Seed,
     /// How many lines a random script has.
@@ -63,6 +68,8 @@ pub enum Setting {
     Scope,
     /// How many levels of scopes are shown.
     Depth,
+    /// In which format a dump is written.
+    Format,
 }
 
 impl Setting {
@@ -91,6 +98,7 @@ impl Setting {
             Setting::Load => ("load", LOAD_LIMIT),
             Setting::Deadline => ("deadline", DAY_MILLIS),
             Setting::After => ("after", DAY_MILLIS),
+            Setting::TreeAfter => ("tree-after", DAY_MILLIS),
             Setting::Seed => ("seed", SEED_LIMIT),
             Setting::Lines => ("lines", LINES_LIMIT),
             Setting::Width => ("width", WIDTH_LIMIT),
@@ -99,13 +107,14 @@ impl Setting {
             Setting::To => ("to", LOAD_LIMIT),
             Setting::Scope => ("scope", SCOPE_NUMBER_LIMIT),
             Setting::Depth => ("depth", LEVEL_LIMIT),
+            Setting::Format => ("format", FORMAT_LIMIT),
         }
     }
 
     /// How help and errors write what the option says.
     pub fn value_name(self) -> &'static str {
         match self {
-            Setting::Deadline => "MS",
+            Setting::Deadline | Setting::TreeAfter => "MS",
             Setting::After => "NAME=MS",
             Setting::Width => "PX",
             Setting::Scope => "S",
@@ -117,7 +126,8 @@ impl Setting {
             | Setting::Rows
             | Setting::From
             | Setting::To
-            | Setting::Depth => "N",
+            | Setting::Depth
+            | Setting::Format => "N",
         }
     }
 
@@ -128,6 +138,7 @@ impl Setting {
             | Setting::Tasks
             | Setting::Load
             | Setting::Deadline
+            | Setting::TreeAfter
             | Setting::Seed
             | Setting::Lines
             | Setting::Width
@@ -135,7 +146,8 @@ impl Setting {
             | Setting::From
             | Setting::To
             | Setting::Scope
-            | Setting::Depth => "a decimal number",
+            | Setting::Depth
+            | Setting::Format => "a decimal number",
             Setting::After => "the name of an offer, '=' and a decimal number",
         }
     }
@@ -214,6 +226,15 @@ pub enum TreeOptions {
         /// The one scope that is shown, with what lies in it, if not all.
         scope: Option<ScopeId>,
     },
+}
+
+/// In which format a dump is written.
+#[derive(Clone, Copy)]
+pub enum DumpFormat {
+    /// One line of JSON: the tree as it always was.
+    First,
+    /// With version, times, limits and load used.
+    Second,
 }
 
 /// A job of a plan's offer that is to take time.
@@ -316,6 +337,31 @@ pub fn number_if_given(
     }
 }
 
+/// In which format the options of a job say that a dump is written: the first if they do not say it.
+///
+/// # Errors
+/// `Usage` if the number is no format's, `Memory` if memory was refused.
+pub fn format(alloc: Global, matches: &ArgMatches<'_>) -> Result<DumpFormat, LineFault>
+    ensures said { IfOk result (λ format. format_by (λ setting.
+        first_value (found_of matches.now) (name_of setting)) ≡ Some format) }
+    ensures refused { IfErr result (λ fault. (fault ≡ LineFault.Memory) ⊎ (format_by (λ setting.
+        first_value (found_of matches.now) (name_of setting)) ≡ None)) }
+    ensures told { IfErr result IsUsageOrMemory }
+{
+    let number = number_if_given(alloc, matches, Setting::Format)?;
+    Ok(format_said(number))
+}
+
+// The format that has this number: the first if none is given.
+fn format_said(number: Option<u32>) -> DumpFormat
+    ensures { result ≡ format_said number }
+{
+    match number {
+        Some(2) => DumpFormat::Second,
+        _ => DumpFormat::First,
+    }
+}
+
 /// What of a run is drawn by the options of a job.
 ///
 /// # Errors
@@ -372,28 +418,8 @@ fn tree_said(awaited: bool, depth: Option<u32>, scope: Option<ScopeId>) -> Optio
     }
 }
 
-/// The delay that the options of a job say, if they say one.
-///
-/// # Errors
-/// `Usage` if the text says no name and number, `Memory` if memory was refused.
-pub fn after(alloc: Global, matches: &ArgMatches<'_>) -> Result<Option<Delay>, LineFault>
-    ensures said { IfOk result (λ delay.
-        delay_by (first_value (found_of matches.now) (name_of Setting.After)) ≡ Some (option_map delay_of delay)) }
-    ensures refused { IfErr result (λ fault. (fault ≡ LineFault.Memory)
-        ⊎ (delay_by (first_value (found_of matches.now) (name_of Setting.After)) ≡ None)) }
-    ensures told { IfErr result IsUsageOrMemory }
-{
-    let Some(text) = matches.get_str(Setting::After.name()) else {
-        return Ok(None);
-    };
-    match delay_said(text) {
-        Some(delay) => Ok(Some(delay)),
-        None => Err(refused_value(alloc, Setting::After, text)),
-    }
-}
-
-// The delay that a text NAME=MS says: the name before its first `=`, and the number after it.
-fn delay_said(text: &str) -> Option<Delay>
+/// The delay that a text NAME=MS says: the name before its first `=`, and the number after it.
+pub fn delay_said(text: &str) -> Option<Delay>
     ensures { option_map delay_of result ≡ delay_said text.now }
 {
     let (name, millis) = text.split_once('=')?;
@@ -435,8 +461,8 @@ fn is_decimal(bytes: &[u8]) -> bool
     bytes.iter().all(|byte| b'0' <= *byte && *byte <= b'9')
 }
 
-// What to say of a value that the option can not say.
-fn refused_value(alloc: Global, setting: Setting, text: &str) -> LineFault
+/// What to say of a value that the option can not say.
+pub fn refused_value(alloc: Global, setting: Setting, text: &str) -> LineFault
     ensures { IsUsageOrMemory result }
 {
     let name = setting.name();
@@ -452,8 +478,8 @@ fn refused_value(alloc: Global, setting: Setting, text: &str) -> LineFault
     }
 }
 
-// What to say of options that can not stand together.
-fn refused_words(alloc: Global, text: &str) -> LineFault
+/// What to say of options that can not stand together.
+pub fn refused_words(alloc: Global, text: &str) -> LineFault
     ensures { IsUsageOrMemory result }
 {
     match String::from_str(alloc, text) {

@@ -14,5 +14,5 @@ pub use offer_jobs::{Late, LateJob, OfferJob, jobs_of, late_jobs_of};
 pub use quote_plan::{
     Answer, Mode, Offer, Plan, PlanFault, PlanReader, PlanWhy, Quote, Quotes, read_plan,
 };
-pub use services::{Served, serve, serve_by};
+pub use services::{Served, main_context, serve, serve_by};
 pub use serving::{serve_in, serve_in_by};

@@ -1,5 +1,7 @@
 //! Jobs that end as the offers of a plan say.
-ghost use Rattle.std.specs.Prelude.{◌≡◌, IfOk};
+ghost use Rattle.std.specs.Prelude.{◌≡◌, IfOk, IfSome, is_some, true};
+ghost use Rattle.std.specs.List.{list_any};
+ghost use Rattle.scope_rules.specs.Names.{same_name};
 ghost use Rattle.quote_plan.specs.Plans.{label_of, labels_of};
 ghost use Rattle.quote_gateway.specs.Offers.{labels_in};
 
@@ -78,11 +80,11 @@ fn sleep_late<T: Wait + SystemTime + Copy, S: Spawner<N>, N: RealmName>(
     let _mark = ctx.sleep_by(&rt, &mut clock, until);
 }
 
-/// The jobs of the plan's offers, in order, of which one may be late.
+/// The jobs of the plan's offers, in order, of which those are late that are named.
 pub fn late_jobs_of<T: Copy>(
     alloc: Global,
     plan: &Plan,
-    late: Option<Late<T>>,
+    late: &[Late<T>],
 ) -> Result<Vec<NamedJob<Due, LateJob<T>>>, AllocError>
     ensures { IfOk result (λ jobs. labels_in jobs.items ≡ labels_of plan.now) }
 {
@@ -116,14 +118,28 @@ fn offer_job(name: Name, offer: Offer) -> NamedJob<Due, OfferJob>
 }
 
 /// The job of the offer with this name, which is late if that is said of its name.
-fn late_job<T: Copy>(name: Name, offer: Offer, late: Option<Late<T>>) -> NamedJob<Due, LateJob<T>>
+fn late_job<T: Copy>(name: Name, offer: Offer, late: &[Late<T>]) -> NamedJob<Due, LateJob<T>>
     ensures { result.label ≡ label_of (name, offer) }
 {
-    let late = match late {
-        Some(late) if late.name == name => Some(late),
-        _ => None,
-    };
+    let late = late_of(&name, late);
     NamedJob::new(label_for(name, offer), LateJob { offer, late })
+}
+
+/// How long the job of the offer with this name takes, if that is said: by the first that names it.
+fn late_of<T: Copy>(name: &Name, late: &[Late<T>]) -> Option<Late<T>>
+    ensures named { IfSome result (λ one. same_name one.name name.now ≡ true) }
+    ensures found { is_some result ≡ list_any (λ one. same_name one.name name.now) late.now }
+{
+    match late {
+        [] => None,
+        [one, others @ ..] => {
+            if one.name.is_same(name) {
+                Some(*one)
+            } else {
+                late_of(name, others)
+            }
+        }
+    }
 }
 
 /// The label of the offer with this name.

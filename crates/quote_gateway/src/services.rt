@@ -96,8 +96,9 @@ pub fn serve_by<
     Ok(Served { found, ctx })
 }
 
-/// Main's context in a realm of its own. Refused for memory alone.
-fn main_context<N: RealmName, S: Spawner<N> + Drop>(
+/// Main's context in a realm of its own, with the greatest limits: for who shares the realm before a request is served in
+/// it. Refused for memory alone.
+pub fn main_context<N: RealmName, S: Spawner<N> + Drop>(
     alloc: Global,
     seed: Seed,
     spawner: S,

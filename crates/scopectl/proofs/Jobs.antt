@@ -1,27 +1,26 @@
 -- What was read and written makes what a job did.
 use Rattle.std.proofs.Common.{◌≡◌, ◌≢◌, ◌≤◌, ◌∙◌, ap, arith, inl, inr, ℕ, Bool, true, false, refl, sym, subst, List, [], Option, None, Some, Result, Ok, Err, append-nil}
-use Rattle.std.proofs.KnownBytes.{Appends-nil, Appends-trans}
+use Rattle.std.proofs.KnownBytes.{Appends-trans}
 use Rattle.std.specs.Io.KnownBytes.{Appends}
 use Rattle.scope_script.specs.Running.{RunsPartly}
 use Rattle.scope_script.specs.Streams.{AppendsPart}
 use Rattle.scope_script.specs.declared.session.run.Mode.TheVariants.{Replies}
 use Rattle.scope_script.specs.declared.session.run.ScriptFault.{ScriptFault}
 use Rattle.scope_script.specs.declared.session.run.ScriptFault.TheVariants as ended
-use Rattle.script_jobs.specs.Jobs.{ReadSome, Replayed, ReplayedNoted, ReplayedPartly, Showed}
+use Rattle.script_jobs.specs.Jobs.{NotedPartly, ReadSome, Replayed, ReplayedNoted, ReplayedPartly, Showed, ShowedNoted}
 use Rattle.script_jobs.specs.declared.noting.NotedFault.{NotedFault}
 use Rattle.script_jobs.specs.declared.noting.NotedFault.TheVariants as noted
 use Rattle.scopectl.specs.Naming.{CameFrom, NamesFault, OfNotes}
-use Rattle.scopectl.specs.Program.{AnswersPlan, DidJob, DidPart, DidWhole, FailedAtEnd, Made, Makes, ToldNotes, WroteLate, noted_text, notes_on, notes_wanted, view_of}
+use Rattle.scopectl.specs.Program.{DidJob, DidPart, DidWhole, FailedAtEnd, Made, Makes, ToldNotes, WroteLate, noted_text, notes_on, notes_wanted, view_of}
 use Rattle.script_jobs.specs.Notes.{notes_text}
 use Rattle.script_jobs.specs.declared.notes.Notes.{Notes}
-use Rattle.scopectl.specs.Saying.{EitherBy, IsSaid, Noted, SaidNotes, count_text, is_silent, status_of}
+use Rattle.script_jobs.specs.declared.notes.Notes.TheVariants.{Refusals}
+use Rattle.scopectl.specs.Saying.{EitherBy, IsSaid, Noted, count_text, is_silent, status_of}
 use Rattle.scopectl.specs.Texts.{fault_of_noted, fault_of_run}
-use Rattle.script_jobs.specs.Counts.{count_of_script}
 use Rattle.script_jobs.specs.declared.counting.Count.{Count}
 use Rattle.command_line.specs.declared.lines.CommandLine.{CommandLine}
 use Rattle.command_line.specs.declared.lines.CommandLine.TheVariants as line
 use Rattle.command_line.specs.declared.lines.ViewOptions.{ViewOptions}
-use Rattle.command_line.specs.declared.settings.Delay.{Delay}
 use Rattle.command_line.specs.declared.settings.ScriptOptions.{ScriptOptions}
 use Rattle.scopectl.specs.declared.fault.ProgramFault.{ProgramFault}
 use Rattle.scopectl.specs.declared.fault.ProgramFault.TheVariants as program
@@ -159,8 +158,8 @@ module _ (script : ScriptOptions) (explain trace : Bool) (unread unread_new writ
 
 -- ---- a view
 
-pub made : (v : ViewOptions) (script : ScriptOptions) (lenient : Bool) (unread unread_new : Option (List ℕ)) (text : List ℕ) (count : Count) → Showed unread unread_new script.limits (view_of v) text count → Made (Makes (line.Show script v lenient)) unread unread_new text
-made v script lenient unread unread_new text count shown = record {
+pub made : (v : ViewOptions) (script : ScriptOptions) (lenient explain : Bool) (unread unread_new : Option (List ℕ)) (text : List ℕ) (count : Count) → Showed unread unread_new script.limits (view_of v) text count → Made (Makes (line.Show script v lenient explain)) unread unread_new text
+made v script lenient explain unread unread_new text count shown = record {
   bytes = shown.script;
   whole = record { read = shown.read; all = shown.all };
   makes = shown.is;
@@ -169,7 +168,7 @@ made v script lenient unread unread_new text count shown = record {
 -- ---- a text that is made of all that is read, and then written
 
 module _ (command : CommandLine) (unread unread_new written mid written_new : Option (List ℕ)) (text : List ℕ) (made : Made (Makes command) unread unread_new text) (unwritten : Appends written mid []) where
-  told : Appends mid written_new text → DidJob command unread unread_new written written_new
+  pub told : Appends mid written_new text → DidJob command unread unread_new written written_new
   told wrote = record {
     bytes = made.bytes;
     read = made.whole.read;
@@ -196,32 +195,25 @@ module _ (command : CommandLine) (unread unread_new written mid written_new : Op
   pub late : (failed : Bool) → AppendsPart mid written_new text → failed ≡ true → WroteLate command made.bytes unread_new written written_new failed
   late failed wrote fails = inr (failed_at_end failed wrote fails)
 
-module _ (v : ViewOptions) (script : ScriptOptions) (lenient : Bool) (unread unread_new written mid written_new : Option (List ℕ)) (failed : Bool) where
-  pub view_told_part : (text : List ℕ) → Made (Makes (line.Show script v lenient)) unread unread_new text → Appends written mid [] → AppendsPart mid written_new text → failed ≡ true
-      → DidPart (line.Show script v lenient) unread unread_new written written_new failed
+module _ (v : ViewOptions) (script : ScriptOptions) (lenient explain : Bool) (unread unread_new written mid written_new : Option (List ℕ)) (failed : Bool) where
+  pub view_told_part : (text : List ℕ) → Made (Makes (line.Show script v lenient explain)) unread unread_new text → Appends written mid [] → AppendsPart mid written_new text → failed ≡ true
+      → DidPart (line.Show script v lenient explain) unread unread_new written written_new failed
   view_told_part text made unwritten wrote fails = record {
     bytes = made.bytes;
     read = made.whole.read;
-    wrote = late (line.Show script v lenient) unread unread_new written mid written_new text made unwritten failed wrote fails;
+    wrote = late (line.Show script v lenient explain) unread unread_new written mid written_new text made unwritten failed wrote fails;
   }
 
-pub view_stopped : (v : ViewOptions) (script : ScriptOptions) (lenient : Bool) (unread unread_new written written_new : Option (List ℕ)) (failed : Bool) → ReadSome unread unread_new → Appends written written_new []
-    → DidPart (line.Show script v lenient) unread unread_new written written_new failed
-view_stopped v script lenient unread unread_new written written_new failed some unwritten =
+pub view_stopped : (v : ViewOptions) (script : ScriptOptions) (lenient explain : Bool) (unread unread_new written written_new : Option (List ℕ)) (failed : Bool) → ReadSome unread unread_new → Appends written written_new []
+    → DidPart (line.Show script v lenient explain) unread unread_new written written_new failed
+view_stopped v script lenient explain unread unread_new written written_new failed some unwritten =
     record { bytes = some.bytes; read = some.read; wrote = inl unwritten }
 
-module _ (deadline : Option ℕ) (after : Option Delay) (unread unread_new written written_new : Option (List ℕ)) where
-  pub quote_told : (text : List ℕ) → Made (AnswersPlan deadline after) unread unread_new text → Appends written written_new text → DidJob (line.Quote deadline after) unread unread_new written written_new
-  quote_told text made wrote = told (line.Quote deadline after) unread unread_new written written written_new text made (Appends-nil written) wrote
-
-  pub quote_told_part : (failed : Bool) (text : List ℕ) → Made (AnswersPlan deadline after) unread unread_new text → AppendsPart written written_new text → failed ≡ true
-      → DidPart (line.Quote deadline after) unread unread_new written written_new failed
-  quote_told_part failed text made wrote fails =
-      record { bytes = made.bytes; read = made.whole.read; wrote = late (line.Quote deadline after) unread unread_new written written written_new text made (Appends-nil written) failed wrote fails }
-
-pub quote_stopped : (deadline : Option ℕ) (after : Option Delay) (unread unread_new written : Option (List ℕ)) (failed : Bool) → ReadSome unread unread_new → DidPart (line.Quote deadline after) unread unread_new written written failed
-quote_stopped deadline after unread unread_new written failed some =
-    record { bytes = some.bytes; read = some.read; wrote = inl (Appends-nil written) }
+-- the same, with notes on the lines
+pub view_stopped_noted : (v : ViewOptions) (script : ScriptOptions) (lenient : Bool) (unread unread_new written written_new said said_new : Option (List ℕ)) (failed : Bool) → NotedPartly unread unread_new said said_new script.limits Refusals → Appends written written_new []
+    → DidPart (line.Show script v lenient true) unread unread_new written written_new failed
+view_stopped_noted v script lenient unread unread_new written written_new said said_new failed some unwritten =
+    record { bytes = some.script; read = some.read; wrote = inl unwritten }
 
 -- ---- a command that was done, with what was said of the lines that were refused
 
@@ -251,14 +243,25 @@ module _ (Kept : Type 0) (unread unread_new written written_new said said_new : 
         status = status ∙ ap (status_of script.strict true) it.counted;
       }
 
+    -- without notes
     pub view_whole : (v : ViewOptions) (lenient : Bool) → result ≡ status_of script.strict lenient count → Noted script.quiet count Kept said said_new failed → (mid : Option (List ℕ)) (text : List ℕ) → Showed unread unread_new script.limits (view_of v) text count → Appends written mid [] → Appends mid written_new text
-        → DidWhole (line.Show script v lenient) Kept unread unread_new written written_new said said_new failed result
+        → DidWhole (line.Show script v lenient false) Kept unread unread_new written written_new said said_new failed result
     view_whole v lenient status noted mid text it unwritten wrote = record {
       did = record { bytes = it.script; read = it.read; all = it.all; text = text; makes = it.is; wrote = Appends-trans written mid written_new [] text unwritten wrote };
       noted = subst (λ (t : Count). Noted script.quiet t Kept said said_new failed) it.counted noted;
       status = status ∙ ap (status_of script.strict lenient) it.counted;
     }
 
-  pub quote_whole : (deadline : Option ℕ) (after : Option Delay) → DidJob (line.Quote deadline after) unread unread_new written written_new → Kept → result ≡ 0
-      → DidWhole (line.Quote deadline after) Kept unread unread_new written written_new said said_new failed result
-  quote_whole deadline after done kept none = record { did = done; noted = kept; status = none }
+    -- with notes on the refused lines
+    pub view_noted : (v : ViewOptions) (lenient : Bool) → result ≡ status_of script.strict lenient count → (told : Option (List ℕ)) → Noted script.quiet count (said_new ≡ told) told said_new failed → (mid : Option (List ℕ)) (text : List ℕ)
+        → ShowedNoted unread unread_new said told script.limits (view_of v) Refusals text count → Appends written mid [] → Appends mid written_new text
+        → DidWhole (line.Show script v lenient true) Kept unread unread_new written written_new said said_new failed result
+    view_noted v lenient status told noted mid text it unwritten wrote = record {
+      did = record { bytes = it.shown.script; read = it.shown.read; all = it.shown.all; text = text; makes = it.shown.is; wrote = Appends-trans written mid written_new [] text unwritten wrote };
+      noted = record {
+        noted = told;
+        notes_said = it.noted;
+        counted = subst (λ (t : Count). Noted script.quiet t (said_new ≡ told) told said_new failed) it.shown.counted noted;
+      };
+      status = status ∙ ap (status_of script.strict lenient) it.shown.counted;
+    }

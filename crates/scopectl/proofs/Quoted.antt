@@ -1,14 +1,12 @@
 -- Why a plan that was read has no answer.
-use Rattle.std.proofs.Common.{◌≡◌, ℕ, Bool, true, false, not, is_some, ◌||◌, ◌++◌, Option, List, Result, Ok, Err, inl, inr, refl, subst, sym, take, ◌+◌, ◌<◌, ◌≤◌, ◌∙◌, add-one, ap, arith, drop, length, Some, None, slice_get}
+use Rattle.std.proofs.Common.{◌≡◌, ℕ, Bool, true, false, not, is_some, ◌||◌, ◌++◌, Option, List, Result, Ok, Err, inl, inr, refl, subst, sym, take, ◌+◌, ◌<◌, ◌≤◌, add-one, ap, arith, drop, length, nat_lt, Some, None, slice_get}
 use Rattle.std.proofs.Math.Seq.{drop-cons}
 use Rattle.std.proofs.lemmas.List.{append-nil, drop_all}
 use Rattle.std.proofs.lemmas.Option.{get_or_from_slice_get, slice_get-get_or, slice_get_within}
 use Rattle.std.specs.List.{list_any}
 use Rattle.std.specs.Io.KnownBytes.{Consumes, IsAtEnd}
 use Rattle.std.proofs.KnownBytes.{Consumes-trans}
-use Rattle.std.specs.Prelude.{◌⊎◌, IfOk, MatchResult, OnErr}
-use Rattle.scope_rules.specs.declared.types.events.Options.{Options}
-use Rattle.share_ledger.specs.Values.{OwnerValue}
+use Rattle.std.specs.Prelude.{◌⊎◌, IfOk, OnErr}
 use Rattle.quote_plan.specs.Allowed.{AllowedText, AllowedTextBy, PartText}
 use Rattle.quote_plan.specs.AnswerText.{answer_text}
 use Rattle.quote_plan.specs.Passing.{NamesLine}
@@ -17,7 +15,6 @@ use Rattle.quote_plan.specs.declared.answers.Answer.{Answer}
 use Rattle.quote_plan.specs.declared.reading.PlanFault.{PlanFault}
 use Rattle.quote_plan.specs.declared.reading.PlanFault.TheVariants as plan_fault
 use Rattle.command_line.specs.declared.settings.Delay.{Delay}
-use Rattle.quote_gateway.specs.Requests.{Fails, RestsOn}
 use Rattle.quote_gateway.specs.declared.faults.GatewayFault.{GatewayFault}
 use Rattle.quote_gateway.specs.declared.faults.GatewayFault.TheVariants as service
 use Rattle.scopectl.specs.declared.fault.ProgramFault.{ProgramFault}
@@ -27,26 +24,11 @@ use Rattle.scopectl.specs.Program.{ReadPlan, has_late}
 use Rattle.scopectl.specs.Texts.{fault_of_plan, fault_of_service}
 
 -- by a deadline the plan allows the line, or it says some of the prices
-pub allowed_by : (plan : PlanValue) (deadline : ℕ) (reading : Option ℕ) (found : Result Answer GatewayFault) (a : Answer) → found ≡ Ok a → IfOk found (λ x. AllowedTextBy plan deadline reading (answer_text x)) → AllowedText plan (answer_text a) ⊎ PartText plan (answer_text a)
-allowed_by plan deadline reading found a is allowed =
-    let here = subst (λ (r : Result Answer GatewayFault). IfOk r (λ x. AllowedTextBy plan deadline reading (answer_text x))) is allowed in
-    elim here [ inl whole ↦ inl whole | inr part ↦ inr part.1 ]
-
--- a cause of the service's, whose jobs were the plan's, is one that may come at a plan
-may_end : (timed lacks : Bool) (old new : OwnerValue) (plan : PlanValue) (options : Options) (Expired : Type 0) (why : GatewayFault) → Fails old new plan options Expired why → MayEndPlan timed lacks (fault_of_service why)
-may_end timed lacks old new plan options Expired service.Memory fails = tt
-may_end timed lacks old new plan options Expired service.Strange fails = absurd fails
-may_end timed lacks old new plan options Expired service.Rejected fails = tt
-may_end timed lacks old new plan options Expired service.Cancelled fails = tt
-may_end timed lacks old new plan options Expired service.Lost fails = tt
-
-pub not_found : (timed lacks : Bool) (old new : OwnerValue) (plan : PlanValue) (options : Options) (Expired : Type 0) (found : Result Answer GatewayFault) (why : GatewayFault) → found ≡ Err why
-    → MatchResult found (RestsOn old new plan options) (Fails old new plan options Expired) → MayEndPlan timed lacks (fault_of_service why)
-not_found timed lacks old new plan options Expired found why is rests =
-    may_end timed lacks old new plan options Expired why (subst (λ (r : Result Answer GatewayFault). MatchResult r (RestsOn old new plan options) (Fails old new plan options Expired)) is rests)
+pub allowed_by : (plan : PlanValue) (deadline : ℕ) (reading : Option ℕ) (a : Answer) → AllowedTextBy plan deadline reading (answer_text a) → AllowedText plan (answer_text a) ⊎ PartText plan (answer_text a)
+allowed_by plan deadline reading a allowed = elim allowed [ inl whole ↦ inl whole | inr part ↦ inr part.1 ]
 
 -- such a fault at the plan that was read is one of the plan
-pub of_plan : (deadline : Option ℕ) (after : Option Delay) (plan : PlanValue) (unread unread_new : Option (List ℕ)) (fault : ProgramFault) (ByReader Sound : Type 0) → Sound → ReadPlan unread unread_new plan → MayEndPlan (is_timed deadline after) (not (has_late after plan)) fault → CameFrom fault ByReader ⊥ Sound (IsOfPlan deadline after unread unread_new)
+pub of_plan : (deadline : Option ℕ) (after : List Delay) (plan : PlanValue) (unread unread_new : Option (List ℕ)) (fault : ProgramFault) (ByReader Sound : Type 0) → Sound → ReadPlan unread unread_new plan → MayEndPlan (is_timed deadline after) (not (has_late after plan)) fault → CameFrom fault ByReader ⊥ Sound (IsOfPlan deadline after unread unread_new)
 of_plan deadline after plan unread unread_new program.Memory ByReader Sound sound read it = sound
 of_plan deadline after plan unread unread_new program.Time ByReader Sound sound read it = record { plan = plan; read = read; may = it }
 of_plan deadline after plan unread unread_new (program.PlanLine line why) ByReader Sound sound read it = absurd it
@@ -76,18 +58,19 @@ module _ {X : Type 0} (p : X → Bool) (xs : List X) (place : ℕ) where
   past_none d within none = let some = slice_get-get_or xs place d within in cc
 
 -- an offer that the plan lacks, and a time that the system does not give
-pub lacks_offer : (timed : Bool) (after : Option Delay) (plan : PlanValue) (has : Bool) → has ≡ has_late after plan → not has ≡ true → MayEndPlan timed (not (has_late after plan)) program.NoOffer
+pub lacks_offer : (timed : Bool) (after : List Delay) (plan : PlanValue) (has : Bool) → has ≡ has_late after plan → not has ≡ true → MayEndPlan timed (not (has_late after plan)) program.NoOffer
 lacks_offer timed after plan has is lacks = subst (λ (b : Bool). not b ≡ true) is lacks
 
 or_true : (a b : Bool) → b ≡ true → (a || b) ≡ true
 or_true true b is = refl
 or_true false b is = is
 
-pub lacks_time : (deadline : Option ℕ) (after : Option Delay) (lacks : Bool) (fault : ProgramFault) → (fault ≡ program.Time) × (is_some after ≡ true) → MayEndPlan (is_timed deadline after) lacks fault
-lacks_time deadline after lacks fault it = subst (MayEndPlan (is_timed deadline after) lacks) (sym it.0) (or_true (is_some deadline) (is_some after) it.1)
+pub lacks_time : (deadline : Option ℕ) (after : List Delay) (lacks : Bool) (fault : ProgramFault) → (fault ≡ program.Memory) ⊎ ((fault ≡ program.Time) × (nat_lt 0 (length after) ≡ true)) → MayEndPlan (is_timed deadline after) lacks fault
+lacks_time deadline after lacks fault (inl memory) = subst (MayEndPlan (is_timed deadline after) lacks) (sym memory) tt
+lacks_time deadline after lacks fault (inr it) = subst (MayEndPlan (is_timed deadline after) lacks) (sym it.0) (or_true (is_some deadline) (nat_lt 0 (length after)) it.1)
 
 -- a bad line is one too
-pub of_line : (deadline : Option ℕ) (after : Option Delay) (unread unread_new : Option (List ℕ)) (fault : ProgramFault) (ByReader Sound : Type 0) → CameFrom fault ByReader ⊥ Sound (IsBadLine unread unread_new) → CameFrom fault ByReader ⊥ Sound (IsOfPlan deadline after unread unread_new)
+pub of_line : (deadline : Option ℕ) (after : List Delay) (unread unread_new : Option (List ℕ)) (fault : ProgramFault) (ByReader Sound : Type 0) → CameFrom fault ByReader ⊥ Sound (IsBadLine unread unread_new) → CameFrom fault ByReader ⊥ Sound (IsOfPlan deadline after unread unread_new)
 of_line deadline after unread unread_new program.Memory ByReader Sound it = it
 of_line deadline after unread unread_new program.Time ByReader Sound it = absurd it
 of_line deadline after unread unread_new (program.PlanLine line why) ByReader Sound it = it
@@ -126,3 +109,17 @@ module _ (unread unread_new : Option (List ℕ)) (bytes : List ℕ) (read : Cons
   pub bad_at_end : (fault : PlanFault) → IsAtEnd unread_new → NamesLine bytes fault → CameFrom (fault_of_plan fault) ByReader ⊥ Sound (IsBadLine unread unread_new)
   bad_at_end plan_fault.Memory end names = sound
   bad_at_end (plan_fault.Word line why) end names = record { bytes = bytes; read = read; bad = inl (end, names) }
+
+-- ---- a plan that was served in a realm which could be looked at
+
+pub seen_ok : {T E F : Type 0} (r : Result T E) (found : Result T F) (P : T → Type 0) → IfOk r (λ a. found ≡ Ok a) → IfOk found P → IfOk r P
+seen_ok {T} {E} {F} (Ok a) found P is it = subst (λ (f : Result T F). IfOk f P) is it
+seen_ok (Err e) found P is it = tt
+
+-- a cause of the service's that is not `strange` is one that may come at a plan
+pub may_end_unless : (timed lacks : Bool) (why : GatewayFault) → (why ≡ service.Strange → ⊥) → MayEndPlan timed lacks (fault_of_service why)
+may_end_unless timed lacks service.Memory other = tt
+may_end_unless timed lacks service.Strange other = absurd (other refl)
+may_end_unless timed lacks service.Rejected other = tt
+may_end_unless timed lacks service.Cancelled other = tt
+may_end_unless timed lacks service.Lost other = tt

@@ -1,5 +1,5 @@
 -- What a fault that is named on standard error says of the streams and of the plan.
-use Rattle.std.specs.Prelude.{◌≡◌, ◌⊎◌, ◌++◌, ◌||◌, ⊤, ℕ, Bool, true, not, Option, List, is_some}
+use Rattle.std.specs.Prelude.{◌≡◌, ◌⊎◌, ◌++◌, ◌||◌, nat_lt, length, ⊤, ℕ, Bool, true, not, Option, List, is_some}
 use Rattle.quote_plan.specs.Passing.{NamesLine}
 use Rattle.quote_plan.specs.Plans.{PlanValue}
 use Rattle.quote_plan.specs.declared.reading.PlanFault.TheVariants as plan_fault
@@ -18,12 +18,12 @@ use Rattle.scopectl.specs.Texts.{line_of}
 
 -- ---- a plan's faults
 
--- the time is asked for a deadline, or for a job that is to take time
-abbrev pub is_timed : (deadline : Option ℕ) (after : Option Delay) → Bool
-is_timed deadline after = is_some deadline || is_some after
+-- the time is asked for a deadline, or for jobs that are to take time
+abbrev pub is_timed : (deadline : Option ℕ) (after : List Delay) → Bool
+is_timed deadline after = is_some deadline || nat_lt 0 (length after)
 
 -- what may come at a plan that was read: the jobs are never strange, `time` comes only where it is asked for, and that
--- an offer is missing only if the plan lacks the one that is to take time
+-- an offer is missing only if the plan lacks one that is to take time
 abbrev pub MayEndPlan : (timed lacks : Bool) → ProgramFault → Type 0
 MayEndPlan timed lacks program.Rejected = ⊤
 MayEndPlan timed lacks program.Cancelled = ⊤
@@ -46,22 +46,26 @@ IsBadLine unread unread_new (program.PlanLine line why) = HasBadLine unread unre
 IsBadLine unread unread_new other = ⊥
 
 -- all bytes were read, they are a plan, and the fault is one that may come then
-pub record IsUnanswered (deadline : Option ℕ) (after : Option Delay) (unread unread_new : Option (List ℕ)) (fault : ProgramFault) : Type 0 where
+pub record IsUnanswered (deadline : Option ℕ) (after : List Delay) (unread unread_new : Option (List ℕ)) (fault : ProgramFault) : Type 0 where
   pub plan : PlanValue
   pub read : ReadPlan unread unread_new plan
   pub may : MayEndPlan (is_timed deadline after) (not (has_late after plan)) fault
 
 -- the plan that is read has the bad line, or else has no answer
-abbrev pub IsOfPlan : (deadline : Option ℕ) (after : Option Delay) (unread unread_new : Option (List ℕ)) → ProgramFault → Type 0
+abbrev pub IsOfPlan : (deadline : Option ℕ) (after : List Delay) (unread unread_new : Option (List ℕ)) → ProgramFault → Type 0
 IsOfPlan deadline after unread unread_new (program.PlanLine line why) = HasBadLine unread unread_new line why
 IsOfPlan deadline after unread unread_new other = IsUnanswered deadline after unread unread_new other
 
+-- the command is a quote, and the fault is of its plan
+abbrev pub OfQuote : CommandLine → (unread unread_new : Option (List ℕ)) → ProgramFault → Type 0
+OfQuote (line.Quote deadline after tree_after) unread unread_new fault = IsOfPlan deadline after.items unread unread_new fault
+OfQuote command unread unread_new fault = ⊥
+
 -- the words say a quote, and the fault is of its plan
 pub record IsOfQuote (words : List (List ℕ)) (unread unread_new : Option (List ℕ)) (fault : ProgramFault) : Type 0 where
-  pub deadline : Option ℕ
-  pub after : Option Delay
-  pub said : Says words (line.Quote deadline after)
-  pub is : IsOfPlan deadline after unread unread_new fault
+  pub command : CommandLine
+  pub said : Says words command
+  pub is : OfQuote command unread unread_new fault
 
 -- ---- all faults
 

@@ -1,5 +1,5 @@
 -- What the program has done.
-use Rattle.std.specs.Prelude.{◌≡◌, ◌⊎◌, ◌++◌, ◌-◌, ℕ, Bool, true, false, Option, None, Some, List, [], ◌∷◌, unwrap_or}
+use Rattle.std.specs.Prelude.{◌≡◌, ◌⊎◌, ◌++◌, ◌-◌, ◌&&◌, ℕ, Bool, true, false, Option, None, Some, List, [], ◌∷◌, unwrap_or}
 use Rattle.std.specs.Io.KnownBytes.{Appends, Consumes, IsAtEnd}
 use Rattle.scope_rules.specs.declared.types.capacity.Limits.{Limits}
 use Rattle.scope_script.specs.Sessions.{replies_of, realm_of_script}
@@ -24,6 +24,7 @@ use Rattle.command_line.specs.declared.lines.CommandLine.TheVariants as line
 use Rattle.command_line.specs.declared.lines.ViewOptions.{ViewOptions}
 use Rattle.command_line.specs.declared.lines.ViewOptions.TheVariants as asked
 use Rattle.command_line.specs.declared.settings.Delay.{Delay}
+use Rattle.command_line.specs.declared.settings.DumpFormat.TheVariants as asked_format
 use Rattle.command_line.specs.declared.settings.PictureOptions.{PictureOptions}
 use Rattle.command_line.specs.declared.settings.TreeOptions.{TreeOptions}
 use Rattle.command_line.specs.declared.settings.TreeOptions.TheVariants as tree
@@ -92,13 +93,13 @@ pub record SaysAllowed (deadline : Option ℕ) (plan : PlanValue) (text : List �
 abbrev pub has_offer : Name → PlanValue → Bool
 has_offer name plan = list_any (λ named. same_name named.0 name) plan.offers
 
--- the offer whose job is to take time, if one is to, is in the plan
-abbrev pub has_late : Option Delay → PlanValue → Bool
-has_late None plan = true
-has_late (Some delay) plan = has_offer delay.name plan
+-- each offer whose job is to take time is in the plan
+unfoldable pub has_late : List Delay → PlanValue → Bool
+has_late [] plan = true
+has_late (delay ∷ delays) plan = has_offer delay.name plan && has_late delays plan
 
--- the bytes are a plan, which has the offer that is to take time, and the text is such of it
-pub record AnswersPlan (deadline : Option ℕ) (after : Option Delay) (bytes text : List ℕ) : Type 0 where
+-- the bytes are a plan, which has the offers that are to take time, and the text is such of it
+pub record AnswersPlan (deadline : Option ℕ) (after : List Delay) (bytes text : List ℕ) : Type 0 where
   pub plan : PlanValue
   pub say_plan : SayPlan (lines_of bytes) plan
   pub late : has_late after plan ≡ true
@@ -127,21 +128,22 @@ seen_of p = record {
 
 -- the view that the words ask for
 abbrev pub view_of : ViewOptions → View
-view_of asked.Dump = view.Dump
+view_of (asked.Dump asked_format.First) = view.Dump
+view_of (asked.Dump asked_format.Second) = view.TimedDump
 view_of (asked.Tree tree) = view.Tree (tree_part tree)
 view_of (asked.Timeline picture) = view.Timeline (seen_of picture)
 view_of asked.TraceEvents = view.TraceEvents
 
 -- the text is the view of the realm of these limits that the script leaves
 abbrev pub Shows : View → Limits → (bytes text : List ℕ) → Type 0
-Shows view limits bytes text = text ≡ shown_text view (realm_of_script limits bytes).history (stamps_of_script limits bytes)
+Shows view limits bytes text = text ≡ shown_text view limits (realm_of_script limits bytes).history (stamps_of_script limits bytes)
 
 -- what a command makes of the bytes that are read: the replies to a script, in a realm of its limits; a view of the
 -- realm that the script leaves; or an answer to a plan by the deadline
 abbrev pub Makes : CommandLine → (bytes text : List ℕ) → Type 0
 Makes (line.Replay script explain trace) bytes text = text ≡ replies_of script.limits bytes
-Makes (line.Show script view lenient) bytes text = Shows (view_of view) script.limits bytes text
-Makes (line.Quote deadline after) bytes text = AnswersPlan deadline after bytes text
+Makes (line.Show script view lenient explain) bytes text = Shows (view_of view) script.limits bytes text
+Makes (line.Quote deadline after tree_after) bytes text = AnswersPlan deadline after.items bytes text
 Makes (line.Generate seed lines) bytes text = IsScript (lines_or lines) text
 
 -- the command was done: all bytes were read, and exactly a text that it makes of them was written
@@ -159,27 +161,27 @@ no_count = record { tally = no_refusals; is_foreign = false }
 
 abbrev pub count_of : CommandLine → List ℕ → Count
 count_of (line.Replay script explain trace) bytes = count_of_script script.limits bytes
-count_of (line.Show script view lenient) bytes = count_of_script script.limits bytes
-count_of (line.Quote deadline after) bytes = no_count
+count_of (line.Show script view lenient explain) bytes = count_of_script script.limits bytes
+count_of (line.Quote deadline after tree_after) bytes = no_count
 count_of (line.Generate seed lines) bytes = no_count
 
 -- the status is to tell that lines were refused
 abbrev pub is_strict : CommandLine → Bool
 is_strict (line.Replay script explain trace) = script.strict
-is_strict (line.Show script view lenient) = script.strict
-is_strict (line.Quote deadline after) = false
+is_strict (line.Show script view lenient explain) = script.strict
+is_strict (line.Quote deadline after tree_after) = false
 is_strict (line.Generate seed lines) = false
 
 -- the status is 0 though lines are no commands
 abbrev pub is_lenient : CommandLine → Bool
-is_lenient (line.Show script view lenient) = lenient
+is_lenient (line.Show script view lenient explain) = lenient
 is_lenient _ = true
 
 -- nothing is to be said of how many lines were refused
 abbrev pub is_quiet : CommandLine → Bool
 is_quiet (line.Replay script explain trace) = script.quiet
-is_quiet (line.Show script view lenient) = script.quiet
-is_quiet (line.Quote deadline after) = true
+is_quiet (line.Show script view lenient explain) = script.quiet
+is_quiet (line.Quote deadline after tree_after) = true
 is_quiet (line.Generate seed lines) = true
 
 -- the notes that are wanted: on the lines that were refused, on each line's reply, or on both
@@ -196,20 +198,23 @@ ToldNotes (Some wanted) script bytes ErrorsKept said said_new errors_failed =
 ToldNotes None script bytes ErrorsKept said said_new errors_failed =
     Noted script.quiet (count_of_script script.limits bytes) ErrorsKept said said_new errors_failed
 
--- the notes that are wanted on the lines of the bytes that were read: those on the lines of a replay, and no others
+-- the notes that are wanted on the lines of the bytes that were read: those on the lines of a script, and no others
 abbrev pub noted_text : Option Notes → Limits → List ℕ → List ℕ
 noted_text (Some wanted) limits bytes = notes_text wanted limits bytes
 noted_text None limits bytes = []
 
 abbrev pub notes_on : CommandLine → List ℕ → List ℕ
 notes_on (line.Replay script explain trace) bytes = noted_text (notes_wanted explain trace) script.limits bytes
+notes_on (line.Show script view lenient explain) bytes = noted_text (notes_wanted explain false) script.limits bytes
 notes_on _ bytes = []
 
--- what was said of the bytes that were read: the notes that are wanted on the lines of a replay, and how many lines
+-- what was said of the bytes that were read: the notes that are wanted on the lines of a script, and how many lines
 -- were refused
 abbrev pub Told : CommandLine → (bytes : List ℕ) (ErrorsKept : Type 0) (said said_new : Option (List ℕ)) (errors_failed : Bool) → Type 0
 Told (line.Replay script explain trace) bytes ErrorsKept said said_new errors_failed =
     ToldNotes (notes_wanted explain trace) script bytes ErrorsKept said said_new errors_failed
+Told (line.Show script view lenient explain) bytes ErrorsKept said said_new errors_failed =
+    ToldNotes (notes_wanted explain false) script bytes ErrorsKept said said_new errors_failed
 Told command bytes ErrorsKept said said_new errors_failed =
     Noted (is_quiet command) (count_of command bytes) ErrorsKept said said_new errors_failed
 

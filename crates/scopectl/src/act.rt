@@ -9,10 +9,11 @@ ghost use Rattle.scopectl.specs.Saying.{IsSaid, Noted, SaidSome, count_text, is_
 ghost use Rattle.scopectl.specs.Texts.{line_of, not_utf8_line};
 
 use crate::fault::{ProgramFault, count_text};
+use crate::looks::Looker;
 use crate::quoting::quoted;
 use command_line::{
-    CommandLine, Delay, LineFault, PictureOptions, ScriptOptions, TreeOptions, VERSION_LINE,
-    ViewOptions, help_of, line,
+    CommandLine, Delay, DumpFormat, LineFault, PictureOptions, ScriptOptions, TreeOptions,
+    VERSION_LINE, ViewOptions, help_of, line,
 };
 use job_runner::JobWork;
 use quote_gateway::LateJob;
@@ -21,12 +22,13 @@ use run_picture::View as Seen;
 use scope_rules::Due;
 use scope_rules::types::capacity::LEVEL_LIMIT;
 use scope_script::Watched;
-use script_jobs::{Count, Notes, Rendering, View, replayed, replayed_noted, script_by, shown};
+use script_jobs::{
+    Count, Notes, Rendering, View, replayed, replayed_noted, script_by, shown, shown_noted,
+};
 use std::alloc::Global;
 use std::io::{ErrorKind, Read, Write};
 use std::rt::Clock as SystemTime;
-use std::sync::Wait;
-use thread_crew::Spawns;
+use thread_crew::{CrewRuntime, Spawns};
 use tree_dump::TreePart;
 
 /// By which number a random script is made if none is given.
@@ -50,7 +52,8 @@ pub const LINES_REFUSED: u8 = 3;
 /// Does what the words say, of which the first is the program's name, and answers the exit status.
 /// What is read comes from `reader`, what is written goes to `writer`, and what is said of faults to
 /// `errors`, whose own failing is passed over. The threads of a plan's jobs are the spawner's, and the seed
-/// is that of the realm that they run in; else neither is used.
+/// is that of the realm that they run in; else neither is used. That realm is looked at by `looks`, if that was asked for;
+/// what it writes is in no clause.
 ///
 /// With status 0 or 3 the words asked for help or the version, and exactly that text was written and nothing
 /// read; or they said a replay, all bytes were read, and exactly the reply text of them was written, in
@@ -79,9 +82,9 @@ pub const LINES_REFUSED: u8 = 3;
 /// was refused.
 pub fn act<
     'a,
-    N: RealmName,
+    N: RealmName + Send + Sync + 'static,
     S: Spawns<N, JobWork<Due, N, LateJob<T>>> + Drop,
-    T: Wait + SystemTime + Copy,
+    T: CrewRuntime + SystemTime,
     R: Read + Drop,
     W: Write + Drop,
     E: Write + Drop,
@@ -90,6 +93,7 @@ pub fn act<
     alloc: Global,
     seed: Seed,
     spawner: S,
+    looks: &mut Looker<'_>,
     words: &'a [&'a str],
     reader: &mut Watched<R>,
     writer: &mut Watched<W>,
@@ -125,10 +129,19 @@ pub fn act<
                 script,
                 view,
                 lenient,
+                explain,
             },
-        ) => show(alloc, script, view, lenient, reader, writer, errors),
-        Ok(CommandLine::Quote { deadline, after }) => quote::<N, S, T, R, W, E>(
-            rt, alloc, seed, spawner, deadline, after, reader, writer, errors,
+        ) => show(
+            alloc, script, view, lenient, explain, reader, writer, errors,
+        ),
+        Ok(
+            CommandLine::Quote {
+                deadline,
+                after,
+                tree_after,
+            },
+        ) => quote::<N, S, T, R, W, E>(
+            rt, alloc, seed, spawner, looks, deadline, after, tree_after, reader, writer, errors,
         ),
         Ok(CommandLine::Generate { seed, lines }) => generate(alloc, seed, lines, writer, errors),
         Err(LineFault::Help) => tell(help_of(words), writer, errors),
@@ -154,7 +167,7 @@ pub fn refuse_words<E: Write + Drop>(kind: ErrorKind, errors: &mut Watched<E>) -
 }
 
 /// Says why the words are not understood.
-fn refuse_line<E: Write + Drop>(why: &str, errors: &mut Watched<E>) -> u8
+pub fn refuse_line<E: Write + Drop>(why: &str, errors: &mut Watched<E>) -> u8
     ensures status { result ≡ 2 }
     ensures said { SaidSome (E.contents errors.old.inner) (E.contents errors.new.inner) errors.new.failed }
 {
@@ -267,8 +280,34 @@ fn generate<W: Write + Drop, E: Write + Drop>(
     }
 }
 
-/// Shows the realm that the script which is read leaves.
+/// Shows the realm that the script which is read leaves, with notes on the refused lines, if these are to be explained.
 fn show<R: Read + Drop, W: Write + Drop, E: Write + Drop>(
+    alloc: Global,
+    script: ScriptOptions,
+    view: ViewOptions,
+    lenient: bool,
+    explain: bool,
+    reader: &mut Watched<R>,
+    writer: &mut Watched<W>,
+    errors: &mut Watched<E>,
+) -> u8
+    requires reader { reader.old.failed ≡ false }
+    requires writer { writer.old.failed ≡ false }
+    ensures status { (result ≤ 3) × (result ≢ 2) }
+    ensures done { result ≢ 1 → DidWhole (CommandLine.Show script view lenient explain) (errors.new ≡ errors.old) (R.remaining reader.old.inner) (R.remaining reader.new.inner) (W.contents writer.old.inner) (W.contents writer.new.inner) (E.contents errors.old.inner) (E.contents errors.new.inner) errors.new.failed result }
+    ensures fault { result ≡ 1 → DidPart (CommandLine.Show script view lenient explain) (R.remaining reader.old.inner) (R.remaining reader.new.inner) (W.contents writer.old.inner) (W.contents writer.new.inner) writer.new.failed }
+    ensures named { result ≡ 1 → NamesFault (E.contents errors.old.inner) (E.contents errors.new.inner) errors.new.failed ((reader.new.failed ≡ true) ⊎ (reader.new.reads ≡ u64.MAX)) (writer.new.failed ≡ true) ((reader.new.failed ≡ false) × (writer.new.failed ≡ false)) (λ _. ⊥)
+        ⊎ NamesAfter (CommandLine.Show script view lenient explain) (R.remaining reader.old.inner) (R.remaining reader.new.inner) (E.contents errors.old.inner) (E.contents errors.new.inner) errors.new.failed ((reader.new.failed ≡ true) ⊎ (reader.new.reads ≡ u64.MAX)) (writer.new.failed ≡ true) ((reader.new.failed ≡ false) × (writer.new.failed ≡ false)) }
+{
+    if explain {
+        show_noted(alloc, script, view, lenient, reader, writer, errors)
+    } else {
+        show_plainly(alloc, script, view, lenient, reader, writer, errors)
+    }
+}
+
+/// Shows the realm that the script leaves.
+fn show_plainly<R: Read + Drop, W: Write + Drop, E: Write + Drop>(
     alloc: Global,
     script: ScriptOptions,
     view: ViewOptions,
@@ -280,13 +319,45 @@ fn show<R: Read + Drop, W: Write + Drop, E: Write + Drop>(
     requires reader { reader.old.failed ≡ false }
     requires writer { writer.old.failed ≡ false }
     ensures status { (result ≤ 3) × (result ≢ 2) }
-    ensures done { result ≢ 1 → DidWhole (CommandLine.Show script view lenient) (errors.new ≡ errors.old) (R.remaining reader.old.inner) (R.remaining reader.new.inner) (W.contents writer.old.inner) (W.contents writer.new.inner) (E.contents errors.old.inner) (E.contents errors.new.inner) errors.new.failed result }
-    ensures fault { result ≡ 1 → DidPart (CommandLine.Show script view lenient) (R.remaining reader.old.inner) (R.remaining reader.new.inner) (W.contents writer.old.inner) (W.contents writer.new.inner) writer.new.failed }
+    ensures done { result ≢ 1 → DidWhole (CommandLine.Show script view lenient false) (errors.new ≡ errors.old) (R.remaining reader.old.inner) (R.remaining reader.new.inner) (W.contents writer.old.inner) (W.contents writer.new.inner) (E.contents errors.old.inner) (E.contents errors.new.inner) errors.new.failed result }
+    ensures fault { result ≡ 1 → DidPart (CommandLine.Show script view lenient false) (R.remaining reader.old.inner) (R.remaining reader.new.inner) (W.contents writer.old.inner) (W.contents writer.new.inner) writer.new.failed }
     ensures named { result ≡ 1 → NamesFault (E.contents errors.old.inner) (E.contents errors.new.inner) errors.new.failed ((reader.new.failed ≡ true) ⊎ (reader.new.reads ≡ u64.MAX)) (writer.new.failed ≡ true) ((reader.new.failed ≡ false) × (writer.new.failed ≡ false)) (λ _. ⊥) }
 {
     match shown(alloc, script.limits, view_of(view), reader, writer) {
         Ok(shown) => tell_shown(script, lenient, &shown, writer, errors),
         Err(cause) => fail(ProgramFault::of_run(cause), errors),
+    }
+}
+
+/// Shows the realm that the script leaves, and says before why its lines were refused.
+fn show_noted<R: Read + Drop, W: Write + Drop, E: Write + Drop>(
+    alloc: Global,
+    script: ScriptOptions,
+    view: ViewOptions,
+    lenient: bool,
+    reader: &mut Watched<R>,
+    writer: &mut Watched<W>,
+    errors: &mut Watched<E>,
+) -> u8
+    requires reader { reader.old.failed ≡ false }
+    requires writer { writer.old.failed ≡ false }
+    ensures status { (result ≤ 3) × (result ≢ 2) }
+    ensures done { result ≢ 1 → DidWhole (CommandLine.Show script view lenient true) (errors.new ≡ errors.old) (R.remaining reader.old.inner) (R.remaining reader.new.inner) (W.contents writer.old.inner) (W.contents writer.new.inner) (E.contents errors.old.inner) (E.contents errors.new.inner) errors.new.failed result }
+    ensures fault { result ≡ 1 → DidPart (CommandLine.Show script view lenient true) (R.remaining reader.old.inner) (R.remaining reader.new.inner) (W.contents writer.old.inner) (W.contents writer.new.inner) writer.new.failed }
+    ensures named { result ≡ 1 → NamesAfter (CommandLine.Show script view lenient true) (R.remaining reader.old.inner) (R.remaining reader.new.inner) (E.contents errors.old.inner) (E.contents errors.new.inner) errors.new.failed ((reader.new.failed ≡ true) ⊎ (reader.new.reads ≡ u64.MAX)) (writer.new.failed ≡ true) ((reader.new.failed ≡ false) × (writer.new.failed ≡ false)) }
+{
+    let wanted = Notes::Refusals;
+    match shown_noted(
+        alloc,
+        script.limits,
+        view_of(view),
+        wanted,
+        reader,
+        writer,
+        errors,
+    ) {
+        Ok(shown) => tell_shown(script, lenient, &shown, writer, errors),
+        Err(reason) => fail(ProgramFault::of_noted(reason), errors),
     }
 }
 
@@ -317,7 +388,8 @@ fn view_of(view: ViewOptions) -> View
     ensures { result ≡ view_of view }
 {
     match view {
-        ViewOptions::Dump => View::Dump,
+        ViewOptions::Dump(DumpFormat::First) => View::Dump,
+        ViewOptions::Dump(DumpFormat::Second) => View::TimedDump,
         ViewOptions::Tree(tree) => View::Tree(tree_part(tree)),
         ViewOptions::Timeline(picture) => View::Timeline(seen_of(picture)),
         ViewOptions::TraceEvents => View::TraceEvents,
@@ -362,12 +434,12 @@ fn place_or(number: Option<u32>, other: u32) -> u32
     }
 }
 
-/// Serves the plan that is read, by the deadline if there is one, in milliseconds from now. The job of the
-/// offer that is named takes so long.
+/// Serves the plan that is read, by the deadline if there is one, in milliseconds from now. The jobs of the
+/// offers that are named take so long. Its realm is looked at, if that is asked for.
 fn quote<
-    N: RealmName,
+    N: RealmName + Send + Sync + 'static,
     S: Spawns<N, JobWork<Due, N, LateJob<T>>> + Drop,
-    T: Wait + SystemTime + Copy,
+    T: CrewRuntime + SystemTime,
     R: Read + Drop,
     W: Write + Drop,
     E: Write + Drop,
@@ -376,8 +448,10 @@ fn quote<
     alloc: Global,
     seed: Seed,
     spawner: S,
+    looks: &mut Looker<'_>,
     deadline: Option<u32>,
-    after: Option<Delay>,
+    after: Vec<Delay>,
+    tree_after: Option<u32>,
     reader: &mut Watched<R>,
     writer: &mut Watched<W>,
     errors: &mut Watched<E>,
@@ -386,12 +460,14 @@ fn quote<
     requires reader { reader.old.failed ≡ false }
     requires writer { writer.old.failed ≡ false }
     ensures status { result ≤ 1 }
-    ensures done { result ≡ 0 → DidJob (CommandLine.Quote deadline after) (R.remaining reader.old.inner) (R.remaining reader.new.inner) (W.contents writer.old.inner) (W.contents writer.new.inner) }
+    ensures done { result ≡ 0 → DidJob (CommandLine.Quote deadline after tree_after) (R.remaining reader.old.inner) (R.remaining reader.new.inner) (W.contents writer.old.inner) (W.contents writer.new.inner) }
     ensures silent { result ≡ 0 → errors.new ≡ errors.old }
-    ensures fault { result ≡ 1 → DidPart (CommandLine.Quote deadline after) (R.remaining reader.old.inner) (R.remaining reader.new.inner) (W.contents writer.old.inner) (W.contents writer.new.inner) writer.new.failed }
-    ensures named { result ≡ 1 → NamesFault (E.contents errors.old.inner) (E.contents errors.new.inner) errors.new.failed ((reader.new.failed ≡ true) ⊎ (reader.new.reads ≡ u64.MAX)) (writer.new.failed ≡ true) ((reader.new.failed ≡ false) × (writer.new.failed ≡ false)) (IsOfPlan deadline after (R.remaining reader.old.inner) (R.remaining reader.new.inner)) }
+    ensures fault { result ≡ 1 → DidPart (CommandLine.Quote deadline after tree_after) (R.remaining reader.old.inner) (R.remaining reader.new.inner) (W.contents writer.old.inner) (W.contents writer.new.inner) writer.new.failed }
+    ensures named { result ≡ 1 → NamesFault (E.contents errors.old.inner) (E.contents errors.new.inner) errors.new.failed ((reader.new.failed ≡ true) ⊎ (reader.new.reads ≡ u64.MAX)) (writer.new.failed ≡ true) ((reader.new.failed ≡ false) × (writer.new.failed ≡ false)) (IsOfPlan deadline after.items (R.remaining reader.old.inner) (R.remaining reader.new.inner)) }
 {
-    match quoted::<N, S, T, R>(rt, alloc, seed, spawner, deadline, after, reader) {
+    match quoted::<N, S, T, R>(
+        rt, alloc, seed, spawner, looks, deadline, &after, tree_after, reader,
+    ) {
         Ok(answer) => tell(&answer, writer, errors),
         Err(reason) => fail(reason, errors),
     }

@@ -1,6 +1,7 @@
 //! From where a line's job reads, and what is said before it does.
 use crate::act::{FAULT, LINES_REFUSED, NOT_UNDERSTOOD, fail, note, refuse_words};
 use crate::fault::ProgramFault;
+use crate::looks::Looker;
 use crate::threads::act_on;
 use command_line::{CommandLine, ScriptOptions, line};
 use scope_script::Watched;
@@ -109,6 +110,7 @@ pub fn input_of<'a, R: Files, E: Write + Drop>(
 pub fn act_by<'a, T: CrewRuntime + SystemTime, R: Read + Drop, W: Write + Drop, E: Write + Drop>(
     rt: &T,
     alloc: Global,
+    looks: &mut Looker<'_>,
     words: &'a [&'a str],
     input: R,
     expected: Expected,
@@ -116,8 +118,8 @@ pub fn act_by<'a, T: CrewRuntime + SystemTime, R: Read + Drop, W: Write + Drop, 
     errors: &mut Watched<E>,
 ) -> u8 {
     match expected {
-        Expected::Nothing => act_from(rt, alloc, words, input, output, errors),
-        Expected::Replies(text) => act_compared(rt, alloc, words, input, &text, errors),
+        Expected::Nothing => act_from(rt, alloc, looks, words, input, output, errors),
+        Expected::Replies(text) => act_compared(rt, alloc, looks, words, input, &text, errors),
         Expected::Refused(status) => status,
     }
 }
@@ -126,6 +128,7 @@ pub fn act_by<'a, T: CrewRuntime + SystemTime, R: Read + Drop, W: Write + Drop, 
 fn act_from<'a, T: CrewRuntime + SystemTime, R: Read + Drop, W: Write + Drop, E: Write + Drop>(
     rt: &T,
     alloc: Global,
+    looks: &mut Looker<'_>,
     words: &'a [&'a str],
     input: R,
     output: W,
@@ -133,7 +136,7 @@ fn act_from<'a, T: CrewRuntime + SystemTime, R: Read + Drop, W: Write + Drop, E:
 ) -> u8 {
     let mut reader = Watched::new(input);
     let mut writer = Watched::new(output);
-    act_on(rt, alloc, words, &mut reader, &mut writer, errors)
+    act_on(rt, alloc, looks, words, &mut reader, &mut writer, errors)
 }
 
 /// With what the replies are to be compared.
@@ -180,6 +183,7 @@ fn read_into<R: Files>(files: &R, path: &str, text: &mut Vec<u8>) -> io::Result<
 pub fn act_compared<'a, T: CrewRuntime + SystemTime, R: Read + Drop, E: Write + Drop>(
     rt: &T,
     alloc: Global,
+    looks: &mut Looker<'_>,
     words: &'a [&'a str],
     input: R,
     expected: &[u8],
@@ -187,7 +191,7 @@ pub fn act_compared<'a, T: CrewRuntime + SystemTime, R: Read + Drop, E: Write + 
 ) -> u8 {
     let mut reader = Watched::new(input);
     let mut writer = Watched::new(Vec::new(alloc));
-    let status = act_on(rt, alloc, words, &mut reader, &mut writer, errors);
+    let status = act_on(rt, alloc, looks, words, &mut reader, &mut writer, errors);
     if status == FAULT || status == NOT_UNDERSTOOD {
         return status;
     }

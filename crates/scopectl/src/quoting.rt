@@ -1,5 +1,5 @@
 //! The answer to the plan that is read. Nothing is written here.
-ghost use Rattle.std.specs.Prelude.{◌≡◌, ◌⊎◌, ◌++◌, [], ◌∷◌, Bool, false, true, not, None, Some, is_some, drop, length, ◌+◌, ◌<◌, ◌^◌, IfOk, IfErr, OnErr, OnOk, string_bytes};
+ghost use Rattle.std.specs.Prelude.{◌≡◌, ◌⊎◌, ◌++◌, [], ◌∷◌, Bool, false, true, nat_lt, not, None, Some, Ok, Err, drop, length, ◌+◌, ◌<◌, ◌^◌, IfOk, IfErr, OnErr, OnOk, string_bytes};
 ghost use Rattle.quote_plan.specs.AnswerText.{answer_text};
 ghost use Rattle.quote_plan.specs.Allowed.{AllowedText};
 ghost use Rattle.quote_plan.specs.Plans.{labels_of};
@@ -11,10 +11,12 @@ ghost use Rattle.script_jobs.specs.Jobs.{ReadSome};
 ghost use Rattle.scopectl.specs.Naming.{CameFrom, IsBadLine, IsOfPlan, MayEndPlan, is_timed};
 
 use crate::fault::ProgramFault;
+use crate::looks::Looker;
 use command_line::Delay;
-use job_runner::{JobWork, NamedJob, SystemClock};
+use job_runner::{JobWork, NamedJob, SystemClock, TaskCtx};
 use quote_gateway::{
-    Answer, Late, LateJob, Plan, PlanReader, Served, late_jobs_of, serve, serve_by,
+    Answer, GatewayFault, Late, LateJob, Plan, PlanReader, late_jobs_of, main_context, serve_in,
+    serve_in_by,
 };
 use realm_lock::{RealmName, Seed};
 use scope_rules::{Due, Name};
@@ -22,8 +24,7 @@ use scope_script::Watched;
 use std::alloc::{AllocError, Global};
 use std::io::Read;
 use std::rt::Clock as SystemTime;
-use std::sync::Wait;
-use thread_crew::Spawns;
+use thread_crew::{CrewRuntime, Spawner, Spawns};
 
 /// How many bytes are read at a time.
 const PIECE: usize = 4096;
@@ -32,30 +33,34 @@ const PIECE: usize = 4096;
 ///
 /// # Errors
 /// `Read` if the reader failed or was given up; else `PlanLine` as soon as the first bad line has ended, or once
-/// all was read, and then what the service answers. `NoOffer` if the plan lacks the offer that is to take time. `Memory` if memory was refused, `Time` if the system gives
+/// all was read, and then what the service answers. `NoOffer` if the plan lacks an offer that is to take time. `Memory` if memory was refused, `Time` if the system gives
 /// no time and a deadline or a late job is asked for.
 pub fn quoted<
-    N: RealmName,
+    N: RealmName + Send + Sync + 'static,
     S: Spawns<N, JobWork<Due, N, LateJob<T>>> + Drop,
-    T: Wait + SystemTime + Copy,
+    T: CrewRuntime + SystemTime,
     R: Read + Drop,
 >(
     rt: &T,
     alloc: Global,
     seed: Seed,
     spawner: S,
+    looks: &mut Looker<'_>,
     deadline: Option<u32>,
-    after: Option<Delay>,
+    after: &[Delay],
+    tree_after: Option<u32>,
     reader: &mut Watched<R>,
 ) -> Result<String, ProgramFault>
     requires named { seed ≡ N.table }
     requires reader { reader.old.failed ≡ false }
-    ensures ok { IfOk result (λ text. Made (AnswersPlan deadline after) (R.remaining reader.old.inner) (R.remaining reader.new.inner) (string_bytes text)) }
+    ensures ok { IfOk result (λ text. Made (AnswersPlan deadline after.now) (R.remaining reader.old.inner) (R.remaining reader.new.inner) (string_bytes text)) }
     ensures part { OnErr result (ReadSome (R.remaining reader.old.inner) (R.remaining reader.new.inner)) }
-    ensures came { IfErr result (λ fault. CameFrom fault ((reader.new.failed ≡ true) ⊎ (reader.new.reads ≡ u64.MAX)) ⊥ (reader.new.failed ≡ false) (IsOfPlan deadline after (R.remaining reader.old.inner) (R.remaining reader.new.inner))) }
+    ensures came { IfErr result (λ fault. CameFrom fault ((reader.new.failed ≡ true) ⊎ (reader.new.reads ≡ u64.MAX)) ⊥ (reader.new.failed ≡ false) (IsOfPlan deadline after.now (R.remaining reader.old.inner) (R.remaining reader.new.inner))) }
 {
     match read_from(alloc, reader) {
-        Ok(plan) => answered::<N, S, T>(rt, alloc, seed, spawner, deadline, after, &plan),
+        Ok(plan) => answered::<N, S, T>(
+            rt, alloc, seed, spawner, looks, deadline, after, tree_after, &plan,
+        ),
         Err(fault) => Err(fault),
     }
 }
@@ -90,27 +95,31 @@ fn read_from<R: Read + Drop>(alloc: Global, reader: &mut Watched<R>) -> Result<P
 
 /// The answer's line of the plan, and a line feed.
 fn answered<
-    N: RealmName,
+    N: RealmName + Send + Sync + 'static,
     S: Spawns<N, JobWork<Due, N, LateJob<T>>> + Drop,
-    T: Wait + SystemTime + Copy,
+    T: CrewRuntime + SystemTime,
 >(
     rt: &T,
     alloc: Global,
     seed: Seed,
     spawner: S,
+    looks: &mut Looker<'_>,
     deadline: Option<u32>,
-    after: Option<Delay>,
+    after: &[Delay],
+    tree_after: Option<u32>,
     plan: &Plan,
 ) -> Result<String, ProgramFault>
     requires named { seed ≡ N.table }
     ensures ok { IfOk result (λ text. SaysAllowed deadline plan.now (string_bytes text)) }
-    ensures late { IfOk result (λ text. has_late after plan.now ≡ true) }
-    ensures fault { IfErr result (MayEndPlan (is_timed deadline after) (not (has_late after plan.now))) }
+    ensures late { IfOk result (λ text. has_late after.now plan.now ≡ true) }
+    ensures fault { IfErr result (MayEndPlan (is_timed deadline after.now) (not (has_late after.now plan.now))) }
 {
     if !has_late(plan, after) {
         return Err(ProgramFault::NoOffer);
     }
-    let answer = match answer_to::<N, S, T>(rt, alloc, seed, spawner, deadline, after, plan) {
+    let answer = match answer_to::<N, S, T>(
+        rt, alloc, seed, spawner, looks, deadline, after, tree_after, plan,
+    ) {
         Ok(answer) => answer,
         Err(fault) => return Err(fault),
     };
@@ -122,48 +131,55 @@ fn answered<
 
 /// The answer to the plan, by the deadline if there is one.
 fn answer_to<
-    N: RealmName,
+    N: RealmName + Send + Sync + 'static,
     S: Spawns<N, JobWork<Due, N, LateJob<T>>> + Drop,
-    T: Wait + SystemTime + Copy,
+    T: CrewRuntime + SystemTime,
 >(
     rt: &T,
     alloc: Global,
     seed: Seed,
     spawner: S,
+    looks: &mut Looker<'_>,
     deadline: Option<u32>,
-    after: Option<Delay>,
+    after: &[Delay],
+    tree_after: Option<u32>,
     plan: &Plan,
 ) -> Result<Answer, ProgramFault>
     requires named { seed ≡ N.table }
     ensures ok { IfOk result (λ a. AllowedIn deadline plan.now (answer_text a)) }
-    ensures fault { IfErr result (MayEndPlan (is_timed deadline after) (not (has_late after plan.now))) }
+    ensures fault { IfErr result (MayEndPlan (is_timed deadline after.now) (not (has_late after.now plan.now))) }
 {
     let clock = SystemClock::starting_at(*rt, 0);
-    let late = match late_by(after, clock) {
+    let late = match late_by(alloc, after, clock) {
         Ok(late) => late,
         Err(fault) => return Err(fault),
     };
-    let Ok(jobs) = late_jobs_of(alloc, plan, late) else {
+    let Ok(jobs) = late_jobs_of(alloc, plan, &late) else {
         return Err(ProgramFault::Memory);
     };
     match deadline {
-        None => asked::<N, S, T>(rt, alloc, seed, spawner, plan, jobs),
+        None => asked::<N, S, T>(rt, alloc, seed, spawner, looks, tree_after, plan, jobs),
         Some(deadline) => match clock {
             Some(clock) => {
-                asked_by::<N, S, T>(rt, alloc, seed, spawner, plan, jobs, deadline, clock)
+                asked_by::<N, S, T>(
+                    rt, alloc, seed, spawner, looks, tree_after, plan, jobs, deadline, clock,
+                )
             }
             None => Err(ProgramFault::Time),
         },
     }
 }
 
-/// Whether the offer whose job is to take time, if one is to, is in the plan.
-fn has_late(plan: &Plan, after: Option<Delay>) -> bool
-    ensures { result ≡ has_late after plan.now }
+/// Whether each offer whose job is to take time is in the plan.
+#[tactic(auto, unfolding(crate::specs::Program::has_late))]
+fn has_late(plan: &Plan, after: &[Delay]) -> bool
+    ensures { result ≡ has_late after.now plan.now }
 {
     match after {
-        None => true,
-        Some(delay) => has_offer_from(plan, &delay.name, 0, plan.len()),
+        [] => true,
+        [delay, others @ ..] => {
+            has_offer_from(plan, &delay.name, 0, plan.len()) && has_late(plan, others)
+        }
     }
 }
 
@@ -187,36 +203,43 @@ fn has_offer_from(plan: &Plan, name: &Name, place: usize, left: usize) -> bool
     }
 }
 
-/// Which job is late, by the clock. `Time` if one is and there is no clock.
+/// Which jobs are late, by the clock. `Time` if some are and there is no clock.
 fn late_by<T: Copy>(
-    after: Option<Delay>,
+    alloc: Global,
+    after: &[Delay],
     clock: Option<SystemClock<T>>,
-) -> Result<Option<Late<T>>, ProgramFault>
-    ensures { IfErr result (λ fault. (fault ≡ ProgramFault.Time) × (is_some after ≡ true)) }
+) -> Result<Vec<Late<T>>, ProgramFault>
+    ensures { IfErr result (λ fault. (fault ≡ ProgramFault.Memory) ⊎ ((fault ≡ ProgramFault.Time) × (nat_lt 0 (length after.now) ≡ true))) }
 {
-    match after {
-        None => Ok(None),
-        Some(delay) => match clock {
-            Some(clock) => Ok(Some(Late {
-                name: delay.name,
-                until: u64::from(delay.millis),
-                clock,
-            })),
-            None => Err(ProgramFault::Time),
-        },
+    let mut late = Vec::new(alloc);
+    if after.is_empty() {
+        return Ok(late);
     }
+    let Some(clock) = clock else {
+        return Err(ProgramFault::Time);
+    };
+    for delay in after {
+        let until = u64::from(delay.millis);
+        let name = delay.name;
+        if late.push(Late { name, until, clock }).is_err() {
+            return Err(ProgramFault::Memory);
+        }
+    }
+    Ok(late)
 }
 
 /// The answer to the plan of which these are the jobs.
 fn asked<
-    N: RealmName,
+    N: RealmName + Send + Sync + 'static,
     S: Spawns<N, JobWork<Due, N, LateJob<T>>> + Drop,
-    T: Wait + SystemTime + Copy,
+    T: CrewRuntime + SystemTime,
 >(
     rt: &T,
     alloc: Global,
     seed: Seed,
     spawner: S,
+    looks: &mut Looker<'_>,
+    tree_after: Option<u32>,
     plan: &Plan,
     jobs: Vec<NamedJob<Due, LateJob<T>>>,
 ) -> Result<Answer, ProgramFault>
@@ -225,28 +248,29 @@ fn asked<
     ensures ok { IfOk result (λ a. AllowedText plan.now (answer_text a)) }
     ensures fault { (timed lacks : Bool) → IfErr result (MayEndPlan timed lacks) }
 {
-    let served = match serve::<N, LateJob<T>, S, T>(rt, alloc, seed, plan, jobs, spawner) {
-        Ok(served) => served,
+    let mut ctx = match main_context::<N, S>(alloc, seed, spawner) {
+        Ok(ctx) => ctx,
         Err(fault) => return Err(ProgramFault::of_service(fault)),
     };
-    let Served { found, ctx } = served;
+    let is_seen = begin_look(rt, &ctx, looks, tree_after);
+    let found = serve_in::<N, LateJob<T>, S, T>(rt, alloc, &mut ctx, plan, jobs);
+    looks.end(rt);
     let (_token, _spawner) = ctx.leave(rt);
-    match found {
-        Ok(answer) => Ok(answer),
-        Err(fault) => Err(ProgramFault::of_service(fault)),
-    }
+    answer_seen(is_seen, found)
 }
 
 /// The same by a deadline, in milliseconds of the clock.
 fn asked_by<
-    N: RealmName,
+    N: RealmName + Send + Sync + 'static,
     S: Spawns<N, JobWork<Due, N, LateJob<T>>> + Drop,
-    T: Wait + SystemTime + Copy,
+    T: CrewRuntime + SystemTime,
 >(
     rt: &T,
     alloc: Global,
     seed: Seed,
     spawner: S,
+    looks: &mut Looker<'_>,
+    tree_after: Option<u32>,
     plan: &Plan,
     jobs: Vec<NamedJob<Due, LateJob<T>>>,
     deadline: u32,
@@ -259,14 +283,43 @@ fn asked_by<
 {
     let mut clock = clock;
     let by = u64::from(deadline);
-    let served = match serve_by::<N, LateJob<T>, S, SystemClock<T>, T>(
-        rt, alloc, seed, plan, jobs, spawner, by, &mut clock,
-    ) {
-        Ok(served) => served,
+    let mut ctx = match main_context::<N, S>(alloc, seed, spawner) {
+        Ok(ctx) => ctx,
         Err(fault) => return Err(ProgramFault::of_service(fault)),
     };
-    let Served { found, ctx } = served;
+    let is_seen = begin_look(rt, &ctx, looks, tree_after);
+    let found = serve_in_by::<N, LateJob<T>, S, SystemClock<T>, T>(
+        rt, alloc, &mut ctx, plan, jobs, by, &mut clock,
+    );
+    looks.end(rt);
     let (_token, _spawner) = ctx.leave(rt);
+    answer_seen(is_seen, found)
+}
+
+/// Has the realm of the context looked at. Answers whether there was memory for a share of it.
+fn begin_look<N: RealmName + Send + Sync + 'static, S: Spawner<N>, T: CrewRuntime>(
+    rt: &T,
+    ctx: &TaskCtx<Due, S, N>,
+    looks: &mut Looker<'_>,
+    tree_after: Option<u32>,
+) -> bool {
+    match ctx.realm() {
+        Ok(realm) => {
+            looks.begin(rt, realm, tree_after);
+            true
+        }
+        Err(_) => false,
+    }
+}
+
+/// What was found, if its realm could be looked at. Else memory was refused.
+fn answer_seen(is_seen: bool, found: Result<Answer, GatewayFault>) -> Result<Answer, ProgramFault>
+    ensures ok { IfOk result (λ a. found ≡ Ok a) }
+    ensures fault { (timed lacks : Bool) → IfErr result (λ fault. (found ≡ Err GatewayFault.Strange → ⊥) → MayEndPlan timed lacks fault) }
+{
+    if !is_seen {
+        return Err(ProgramFault::Memory);
+    }
     match found {
         Ok(answer) => Ok(answer),
         Err(fault) => Err(ProgramFault::of_service(fault)),

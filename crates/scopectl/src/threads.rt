@@ -4,6 +4,7 @@ ghost use Rattle.std.specs.String.{string_bytes};
 ghost use Rattle.scopectl.specs.Acting.{Acts};
 
 use crate::act::{act, refuse_words};
+use crate::looks::Looker;
 use command_line::Job;
 use job_runner::JobWork;
 use quote_gateway::LateJob;
@@ -14,7 +15,6 @@ use std::alloc::{AllocError, Global};
 use std::io::{ErrorKind, Read, Write};
 use std::marker::Brand;
 use std::rt::Clock as SystemTime;
-use std::sync::Wait;
 use thread_crew::{Crew, CrewRuntime, Nobody, OsThreads};
 
 /// How many threads of a crew may rest.
@@ -25,6 +25,7 @@ const KEPT: usize = 4;
 pub fn act_on<'a, T: CrewRuntime + SystemTime, R: Read + Drop, W: Write + Drop, E: Write + Drop>(
     rt: &T,
     alloc: Global,
+    looks: &mut Looker<'_>,
     words: &'a [&'a str],
     reader: &mut Watched<R>,
     writer: &mut Watched<W>,
@@ -38,9 +39,9 @@ pub fn act_on<'a, T: CrewRuntime + SystemTime, R: Read + Drop, W: Write + Drop, 
         return refuse_words(ErrorKind::OutOfMemory, errors);
     };
     if needs_threads(words) {
-        act_with_crew::<Brand, T, R, W, E>(rt, alloc, seed, words, reader, writer, errors)
+        act_with_crew::<Brand, T, R, W, E>(rt, alloc, seed, looks, words, reader, writer, errors)
     } else {
-        act_alone::<Brand, T, R, W, E>(rt, alloc, seed, words, reader, writer, errors)
+        act_alone::<Brand, T, R, W, E>(rt, alloc, seed, looks, words, reader, writer, errors)
     }
 }
 
@@ -66,8 +67,8 @@ fn needs_threads(words: &[&str]) -> bool {
 /// Does what the words say over no threads: each job's thread is refused.
 fn act_alone<
     'a,
-    N: RealmName,
-    T: Wait + SystemTime + Copy,
+    N: RealmName + Send + Sync + 'static,
+    T: CrewRuntime + SystemTime,
     R: Read + Drop,
     W: Write + Drop,
     E: Write + Drop,
@@ -75,6 +76,7 @@ fn act_alone<
     rt: &T,
     alloc: Global,
     seed: Seed,
+    looks: &mut Looker<'_>,
     words: &'a [&'a str],
     reader: &mut Watched<R>,
     writer: &mut Watched<W>,
@@ -85,7 +87,9 @@ fn act_alone<
     requires writer { writer.old.failed ≡ false }
     ensures acts { Acts (map (λ word. word.now) words.now) (reader.new ≡ reader.old) (writer.new ≡ writer.old) (errors.new ≡ errors.old) ((reader.new.failed ≡ true) ⊎ (reader.new.reads ≡ u64.MAX)) ((reader.new.failed ≡ false) × (writer.new.failed ≡ false)) (R.remaining reader.old.inner) (R.remaining reader.new.inner) (W.contents writer.old.inner) (W.contents writer.new.inner) (E.contents errors.old.inner) (E.contents errors.new.inner) writer.new.failed errors.new.failed result }
 {
-    act::<N, Nobody, T, R, W, E>(rt, alloc, seed, Nobody, words, reader, writer, errors)
+    act::<N, Nobody, T, R, W, E>(
+        rt, alloc, seed, Nobody, looks, words, reader, writer, errors,
+    )
 }
 
 /// Does what the words say with a crew of threads, which is closed then. Where the crew's own thread is
@@ -101,6 +105,7 @@ fn act_with_crew<
     rt: &T,
     alloc: Global,
     seed: Seed,
+    looks: &mut Looker<'_>,
     words: &'a [&'a str],
     reader: &mut Watched<R>,
     writer: &mut Watched<W>,
@@ -112,9 +117,11 @@ fn act_with_crew<
     ensures acts { Acts (map (λ word. word.now) words.now) (reader.new ≡ reader.old) (writer.new ≡ writer.old) (errors.new ≡ errors.old) ((reader.new.failed ≡ true) ⊎ (reader.new.reads ≡ u64.MAX)) ((reader.new.failed ≡ false) × (writer.new.failed ≡ false)) (R.remaining reader.old.inner) (R.remaining reader.new.inner) (W.contents writer.old.inner) (W.contents writer.new.inner) (E.contents errors.old.inner) (E.contents errors.new.inner) writer.new.failed errors.new.failed result }
 {
     let Ok(crew) = Crew::<N, JobWork<Due, N, LateJob<T>>>::open(rt, alloc, KEPT) else {
-        return act_alone::<N, T, R, W, E>(rt, alloc, seed, words, reader, writer, errors);
+        return act_alone::<N, T, R, W, E>(rt, alloc, seed, looks, words, reader, writer, errors);
     };
-    let status = act_over::<N, T, R, W, E>(rt, alloc, seed, &crew, words, reader, writer, errors);
+    let status = act_over::<N, T, R, W, E>(
+        rt, alloc, seed, &crew, looks, words, reader, writer, errors,
+    );
     crew.close(rt);
     status
 }
@@ -133,6 +140,7 @@ fn act_over<
     alloc: Global,
     seed: Seed,
     crew: &Crew<N, JobWork<Due, N, LateJob<T>>>,
+    looks: &mut Looker<'_>,
     words: &'a [&'a str],
     reader: &mut Watched<R>,
     writer: &mut Watched<W>,
@@ -145,8 +153,8 @@ fn act_over<
 {
     match crew.threads() {
         Ok(threads) => act::<N, OsThreads<N, JobWork<Due, N, LateJob<T>>>, T, R, W, E>(
-            rt, alloc, seed, threads, words, reader, writer, errors,
+            rt, alloc, seed, threads, looks, words, reader, writer, errors,
         ),
-        Err(_) => act_alone::<N, T, R, W, E>(rt, alloc, seed, words, reader, writer, errors),
+        Err(_) => act_alone::<N, T, R, W, E>(rt, alloc, seed, looks, words, reader, writer, errors),
     }
 }

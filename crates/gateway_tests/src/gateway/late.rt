@@ -29,12 +29,14 @@ fn line_over<N: RealmName, R: CrewRuntime + SystemTime + Drop>(
 ) -> Option<String>
     requires { seed ≡ N.table }
 {
-    let late = Late {
+    let mut late = Vec::new(alloc);
+    late.push(Late {
         name: Name::new(b"oak")?,
         until: LATE,
         clock: *clock,
-    };
-    let jobs = late_jobs_of(alloc, plan, Some(late)).ok()?;
+    })
+    .ok()?;
+    let jobs = late_jobs_of(alloc, plan, &late).ok()?;
     let served = serve_by::<N, _, _, _, _>(
         rt, alloc, seed, plan, jobs, threads, DEADLINE, clock,
     ).ok()?;

@@ -1,41 +1,45 @@
-use Rattle.std.proofs.Common.{◌≡◌, ◌≢◌, ◌≤◌, arith, inl, inr, refl, subst, ℕ}
+use Rattle.std.proofs.Common.{inl, inr, refl, subst, map}
 use Rattle.command_line.specs.CommandLine.{Says}
+use Rattle.command_line.specs.declared.lines.CommandLine.TheVariants as line
 use Rattle.command_line.specs.Faults.{Answers}
 use Rattle.scopectl.specs.declared.fault.ProgramFault.TheVariants.{Memory, Write}
-use Rattle.scopectl.proofs.Jobs.{names_alone, names_weaker, quote_whole, well_ended}
+use Rattle.scopectl.proofs.Jobs.{names_alone, names_weaker, well_ended}
 use Rattle.scopectl.proofs.act.act.Goals as goal
 
 pub returns-in-Ok-Replay-clause-done : goal.returns-in-Ok-Replay-clause-done
-returns-in-Ok-Replay-clause-done g c = λ e f. inr (record { command = _; says = subst (Says _) c.in-Ok-Replay.field-0-is c.in-Ok-Replay.ensures.said; did = c.replay.ensures.done e })
+returns-in-Ok-Replay-clause-done g c = λ e f. inr (record { command = _; says = subst (Says (map (λ word. word.now) c.args.words.now)) c.in-Ok-Replay.field-0-is c.in-Ok-Replay.ensures.said; did = c.replay.ensures.done e })
 
 pub returns-in-Ok-Replay-clause-fault : goal.returns-in-Ok-Replay-clause-fault
-returns-in-Ok-Replay-clause-fault g c = λ e. inr (inr (record { command = _; said = subst (Says _) c.in-Ok-Replay.field-0-is c.in-Ok-Replay.ensures.said; did = c.replay.ensures.fault e }))
+returns-in-Ok-Replay-clause-fault g c = λ e. inr (inr (record { command = _; said = subst (Says (map (λ word. word.now) c.args.words.now)) c.in-Ok-Replay.field-0-is c.in-Ok-Replay.ensures.said; did = c.replay.ensures.fault e }))
 
 pub returns-in-Ok-Replay-clause-named : goal.returns-in-Ok-Replay-clause-named
 returns-in-Ok-Replay-clause-named g c = λ e. elim (c.replay.ensures.named e) [
   | inl plain ↦ inl (names_weaker _ _ _ _ _ _ _ _ (λ f none. absurd none) plain)
-  | inr after ↦ inr (record { command = _; says = subst (Says _) c.in-Ok-Replay.field-0-is c.in-Ok-Replay.ensures.said; names = after })
+  | inr after ↦ inr (record { command = _; says = subst (Says (map (λ word. word.now) c.args.words.now)) c.in-Ok-Replay.field-0-is c.in-Ok-Replay.ensures.said; names = after })
 ]
 
 pub returns-in-Ok-Show-clause-done : goal.returns-in-Ok-Show-clause-done
-returns-in-Ok-Show-clause-done g c = λ e f. inr (record { command = _; says = subst (Says _) c.in-Ok-Show.field-0-is c.in-Ok-Show.ensures.said; did = c.show.ensures.done e })
+returns-in-Ok-Show-clause-done g c = λ e f. inr (record { command = _; says = subst (Says (map (λ word. word.now) c.args.words.now)) c.in-Ok-Show.field-0-is c.in-Ok-Show.ensures.said; did = c.show.ensures.done e })
 
 pub returns-in-Ok-Show-clause-fault : goal.returns-in-Ok-Show-clause-fault
-returns-in-Ok-Show-clause-fault g c = λ e. inr (inr (record { command = _; said = subst (Says _) c.in-Ok-Show.field-0-is c.in-Ok-Show.ensures.said; did = c.show.ensures.fault e }))
+returns-in-Ok-Show-clause-fault g c = λ e. inr (inr (record { command = _; said = subst (Says (map (λ word. word.now) c.args.words.now)) c.in-Ok-Show.field-0-is c.in-Ok-Show.ensures.said; did = c.show.ensures.fault e }))
 
 pub returns-in-Ok-Show-clause-named : goal.returns-in-Ok-Show-clause-named
-returns-in-Ok-Show-clause-named g c = λ e. inl (names_weaker _ _ _ _ _ _ _ _ (λ f none. absurd none) (c.show.ensures.named e))
+returns-in-Ok-Show-clause-named g c = λ e. elim (c.show.ensures.named e) [
+  | inl plain ↦ inl (names_weaker _ _ _ _ _ _ _ _ (λ f none. absurd none) plain)
+  | inr after ↦ inr (record { command = _; says = subst (Says (map (λ word. word.now) c.args.words.now)) c.in-Ok-Show.field-0-is c.in-Ok-Show.ensures.said; names = after })
+]
 
 pub returns-in-Ok-Quote-clause-done : goal.returns-in-Ok-Quote-clause-done
 returns-in-Ok-Quote-clause-done g c =
-    λ e f. (let none = well_ended _ c.quote.ensures.status e in inr (record { command = _; says = subst (Says _) c.in-Ok-Quote.field-0-is c.in-Ok-Quote.ensures.said; did = quote_whole _ _ _ _ _ _ _ _ _ _ _ (c.quote.ensures.done none) (c.quote.ensures.silent none) none }))
+    λ e f. (let none = well_ended _ c.quote.ensures.status e in inr (record { command = _; says = subst (Says (map (λ word. word.now) c.args.words.now)) c.in-Ok-Quote.field-0-is c.in-Ok-Quote.ensures.said; did = record { did = c.quote.ensures.done none; noted = c.quote.ensures.silent none; status = none } }))
 
 pub returns-in-Ok-Quote-clause-fault : goal.returns-in-Ok-Quote-clause-fault
-returns-in-Ok-Quote-clause-fault g c = λ e. inr (inr (record { command = _; said = subst (Says _) c.in-Ok-Quote.field-0-is c.in-Ok-Quote.ensures.said; did = c.quote.ensures.fault e }))
+returns-in-Ok-Quote-clause-fault g c = λ e. inr (inr (record { command = _; said = subst (Says (map (λ word. word.now) c.args.words.now)) c.in-Ok-Quote.field-0-is c.in-Ok-Quote.ensures.said; did = c.quote.ensures.fault e }))
 
 pub returns-in-Ok-Quote-clause-named : goal.returns-in-Ok-Quote-clause-named
 returns-in-Ok-Quote-clause-named g c =
-    λ e. inl (names_weaker _ _ _ _ _ _ _ _ (λ f it. (record { deadline = c.in-Ok-Quote.deadline; after = c.in-Ok-Quote.after; said = subst (Says _) c.in-Ok-Quote.field-0-is c.in-Ok-Quote.ensures.said; is = it })) (c.quote.ensures.named e))
+    λ e. inl (names_weaker _ _ _ _ _ _ _ _ (λ f it. (record { command = line.Quote c.in-Ok-Quote.deadline c.in-Ok-Quote.after c.in-Ok-Quote.tree_after; said = subst (Says (map (λ word. word.now) c.args.words.now)) c.in-Ok-Quote.field-0-is c.in-Ok-Quote.ensures.said; is = it })) (c.quote.ensures.named e))
 
 pub returns-in-Err-Help-clause-done : goal.returns-in-Err-Help-clause-done
 returns-in-Err-Help-clause-done g c = λ e f. (let none = well_ended _ c.tell.ensures.status e in inl (
@@ -44,7 +48,7 @@ returns-in-Err-Help-clause-done g c = λ e f. (let none = well_ended _ c.tell.en
   c.tell.ensures.silent none,
   record {
     text = _;
-    asked = inl (inl (subst (Answers _) c.in-Err-Help.field-0-is c.in-Err-Help.ensures.answers, c.help_of.ensures));
+    asked = inl (inl (subst (Answers (map (λ word. word.now) c.args.words.now)) c.in-Err-Help.field-0-is c.in-Err-Help.ensures.answers, c.help_of.ensures));
     wrote = c.tell.ensures.done none;
   },
 ))
@@ -54,7 +58,7 @@ returns-in-Err-Help-clause-fault g c = λ e. inr (inl (
   refl,
   record {
     text = _;
-    asked = inl (inl (subst (Answers _) c.in-Err-Help.field-0-is c.in-Err-Help.ensures.answers, c.help_of.ensures));
+    asked = inl (inl (subst (Answers (map (λ word. word.now) c.args.words.now)) c.in-Err-Help.field-0-is c.in-Err-Help.ensures.answers, c.help_of.ensures));
     wrote = c.tell.ensures.fault e;
     writer = c.tell.ensures.failed e;
   },
@@ -72,7 +76,7 @@ pub returns-in-Err-Usage-clause-not_understood : goal.returns-in-Err-Usage-claus
 returns-in-Err-Usage-clause-not_understood g c = λ e. (
   (
     elim c.in-Err-Usage.ensures.refused [ inl memory ↦ absurd (cc) | inr none ↦ none ],
-    subst (Answers _) c.in-Err-Usage.field-0-is c.in-Err-Usage.ensures.answers,
+    subst (Answers (map (λ word. word.now) c.args.words.now)) c.in-Err-Usage.field-0-is c.in-Err-Usage.ensures.answers,
   ),
   refl,
   refl,
@@ -86,7 +90,7 @@ returns-in-Ok-Generate-clause-done g c = λ e f. (let none = well_ended _ c.gene
   c.generate.ensures.silent none,
   record {
     text = made.0;
-    asked = inr (record { seed = _; lines = _; said = subst (Says _) c.in-Ok-Generate.field-0-is c.in-Ok-Generate.ensures.said; is = made.1 });
+    asked = inr (record { seed = _; lines = _; said = subst (Says (map (λ word. word.now) c.args.words.now)) c.in-Ok-Generate.field-0-is c.in-Ok-Generate.ensures.said; is = made.1 });
     wrote = made.2;
   },
 ))
@@ -98,7 +102,7 @@ returns-in-Ok-Generate-clause-fault g c = λ e. elim (c.generate.ensures.fault e
     refl,
     record {
       text = made.0;
-      asked = inr (record { seed = _; lines = _; said = subst (Says _) c.in-Ok-Generate.field-0-is c.in-Ok-Generate.ensures.said; is = made.1 });
+      asked = inr (record { seed = _; lines = _; said = subst (Says (map (λ word. word.now) c.args.words.now)) c.in-Ok-Generate.field-0-is c.in-Ok-Generate.ensures.said; is = made.1 });
       wrote = made.2;
       writer = made.3;
     },

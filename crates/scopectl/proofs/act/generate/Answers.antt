@@ -1,4 +1,4 @@
-use Rattle.std.proofs.Common.{subst, inl, inr, string_bytes, ℕ}
+use Rattle.std.proofs.Common.{subst, inr, string_bytes, ℕ}
 use Rattle.std.specs.Io.KnownBytes.{Appends}
 use Rattle.scope_script.specs.Streams.{AppendsPart}
 use Rattle.script_jobs.specs.Made.{IsScript}

@@ -2,7 +2,7 @@ use Rattle.std.proofs.Common.{◌≡◌, ◌∙◌, ◌⊎◌, true, false, sym,
 use Rattle.scope_script.specs.Streams.{AppendsPart}
 use Rattle.scopectl.specs.Naming.{CameFrom, OfNotes}
 use Rattle.scopectl.specs.declared.fault.ProgramFault.{ProgramFault}
-use Rattle.scopectl.proofs.Jobs.{came_of_noted, noted_kept, noted_part, notes_are, read_no_memory, replay_noted, replayed_all, sound_noted, write_no_memory}
+use Rattle.scopectl.proofs.Jobs.{came_of_noted, noted_kept, noted_part, notes_are, read_no_memory, replay_noted, sound_noted, write_no_memory}
 use Rattle.scopectl.proofs.act.replay_noted.Goals as goal
 
 pub returns-in-Ok-clause-done : goal.returns-in-Ok-clause-done

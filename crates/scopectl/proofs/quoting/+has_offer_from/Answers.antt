@@ -1,7 +1,7 @@
-use Rattle.std.proofs.Common.{◌≡◌, ◌∙◌, ◌||◌, ◌+◌, Bool, ap, arith, drop, sym, true, false}
+use Rattle.std.proofs.Common.{◌∙◌, ◌||◌, ◌+◌, ap, arith, drop, sym}
 use Rattle.std.specs.List.{list_any}
 use Rattle.scope_rules.specs.Names.{same_name}
-use Rattle.scopectl.proofs.Quoted.{none_left, one_left, past_none}
+use Rattle.scopectl.proofs.Quoted.{none_left, one_left}
 use Rattle.scopectl.proofs.quoting.+has_offer_from.Goals as goal
 
 pub returns-then-left-eq0 : goal.returns-then-left-eq0

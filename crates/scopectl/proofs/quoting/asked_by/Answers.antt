@@ -1,11 +1,11 @@
-use Rattle.std.proofs.Common.{sym, subst}
-use Rattle.scopectl.specs.Naming.{MayEndPlan}
-use Rattle.scopectl.proofs.Quoted.{allowed_by, not_found}
+use Rattle.std.proofs.lemmas.Result.{IfErr-weaker, IfOk-weaker}
+use Rattle.scopectl.proofs.Quoted.{allowed_by, seen_ok}
 use Rattle.scopectl.proofs.quoting.asked_by.Goals as goal
 
-pub returns-in-Ok-found-clause-ok : goal.returns-in-Ok-found-clause-ok
-returns-in-Ok-found-clause-ok g c = allowed_by c.args.plan.now _ _ c.in-Ok.served.found c.in-Ok-found.answer c.in-Ok-found.is c.in-Ok.ensures.allowed
-
 pub returns-clause-fault : goal.returns-clause-fault
-returns-clause-fault g c =
-    λ timed lacks. subst (MayEndPlan timed lacks) (sym c.of_service-in-Err-found.ensures) (not_found timed lacks _ _ _ _ _ c.in-Ok.served.found c.in-Err-found.fault c.in-Err-found.is c.in-Ok.ensures.rests)
+returns-clause-fault g c = λ timed lacks.
+    IfErr-weaker c.answer_seen.result _ _ (λ fault it. it (λ strange. c.serve_in_by-found.ensures.strange.0 strange c.requires.labelled)) (c.answer_seen.ensures.fault timed lacks)
+
+pub returns-clause-ok : goal.returns-clause-ok
+returns-clause-ok g c =
+    seen_ok c.answer_seen.result c.serve_in_by-found.result _ c.answer_seen.ensures.ok (IfOk-weaker c.serve_in_by-found.result _ _ (λ a. allowed_by c.args.plan.now _ _ a) c.serve_in_by-found.ensures.allowed)

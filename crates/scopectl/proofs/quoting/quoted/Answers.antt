@@ -14,7 +14,7 @@ returns-in-Ok-clause-part g c =
 
 pub returns-in-Ok-clause-came : goal.returns-in-Ok-clause-came
 returns-in-Ok-clause-came g c =
-    IfErr-weaker c.answered.result _ _ (λ fault it. of_plan c.args.deadline c.args.after c.in-Ok.plan _ _ fault _ _ c.in-Ok.ensures.sound c.in-Ok.ensures.plan it) c.answered.ensures.fault
+    IfErr-weaker c.answered.result _ _ (λ fault it. of_plan c.args.deadline c.args.after.now c.in-Ok.plan _ _ fault _ _ c.in-Ok.ensures.sound c.in-Ok.ensures.plan it) c.answered.ensures.fault
 
 pub returns-in-Err-clause-came : goal.returns-in-Err-clause-came
-returns-in-Err-clause-came g c = of_line c.args.deadline c.args.after _ _ c.in-Err.fault _ _ c.in-Err.ensures.came
+returns-in-Err-clause-came g c = of_line c.args.deadline c.args.after.now _ _ c.in-Err.fault _ _ c.in-Err.ensures.came

@@ -1,6 +1,6 @@
 use Rattle.std.proofs.Common.{sym}
-use Rattle.command_line.proofs.Delays.{cut, nothing_after, whole}
-use Rattle.command_line.proofs.files.after_equals.Goals as goal
+use Rattle.command_line.proofs.Cutting.{cut, nothing_after, whole}
+use Rattle.command_line.proofs.words.after_equals.Goals as goal
 
 pub returns-in-Some : goal.returns-in-Some
 returns-in-Some c = (cut _ _ c.split_once.ensures.cases _ c.in-Some.is).1

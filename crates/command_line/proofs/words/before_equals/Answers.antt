@@ -1,7 +1,7 @@
 use Rattle.std.proofs.Common.{arith, ap, sym, ◌∙◌, take}
 use Rattle.std.proofs.lemmas.List.{take_all}
-use Rattle.command_line.proofs.Delays.{cut, whole}
-use Rattle.command_line.proofs.hints.before_equals.Goals as goal
+use Rattle.command_line.proofs.Cutting.{cut, whole}
+use Rattle.command_line.proofs.words.before_equals.Goals as goal
 
 pub returns-in-Some : goal.returns-in-Some
 returns-in-Some c = (cut _ _ c.split_once.ensures.cases _ c.in-Some.is).0

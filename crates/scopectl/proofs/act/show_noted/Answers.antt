@@ -1,0 +1,53 @@
+use Rattle.std.proofs.Common.{◌≡◌, ◌∙◌, ◌⊎◌, ℕ, List, Option, [], true, false, sym, ap, subst, append-nil, Err}
+use Rattle.scopectl.specs.Naming.{CameFrom, OfNotes}
+use Rattle.scopectl.specs.declared.fault.ProgramFault.{ProgramFault}
+use Rattle.scopectl.specs.declared.fault.ProgramFault.TheVariants.{Write}
+use Rattle.scope_rules.specs.declared.types.capacity.Limits.{Limits}
+use Rattle.script_jobs.specs.Jobs.{ShowedNoted}
+use Rattle.script_jobs.specs.declared.counting.Count.{Count}
+use Rattle.script_jobs.specs.declared.notes.Notes.TheVariants.{Refusals}
+use Rattle.script_jobs.specs.declared.showing.View.{View}
+use Rattle.scopectl.proofs.Jobs.{came_of_noted, made, noted_kept, read_no_memory, sound_noted, view_noted, view_told_part, view_stopped_noted, write_no_memory}
+use Rattle.scopectl.proofs.act.show_noted.Goals as goal
+
+-- the view that was shown is the one that the words ask for
+shown_as : (a b : View) (unread unread_new said said_new : Option (List ℕ)) (limits : Limits) (text : List ℕ) (count : Count) → a ≡ b → ShowedNoted unread unread_new said said_new limits a Refusals text count → ShowedNoted unread unread_new said said_new limits b Refusals text count
+shown_as a b unread unread_new said said_new limits text count same it = subst (λ (v : View). ShowedNoted unread unread_new said said_new limits v Refusals text count) same it
+
+pub returns-in-Ok-clause-done : goal.returns-in-Ok-clause-done
+returns-in-Ok-clause-done g c =
+    λ e. view_noted _ _ _ _ _ _ _ _ _ _ _ c.args.view c.args.lenient (c.tell_shown.ensures.told e) (g.E.Write.contents c.shown_noted.new.errors.inner)
+    (noted_kept c.args.script.quiet c.in-Ok.shown.count (c.tell_shown.new.errors ≡ c.shown_noted.new.errors) (g.E.Write.contents c.tell_shown.new.errors.inner ≡ g.E.Write.contents c.shown_noted.new.errors.inner) (g.E.Write.contents c.shown_noted.new.errors.inner) (g.E.Write.contents c.tell_shown.new.errors.inner) c.tell_shown.new.errors.failed (λ kept. cc) (c.tell_shown.ensures.noted e))
+    _ _ (shown_as _ _ _ _ _ _ _ _ _ c.view_of.ensures c.in-Ok.ensures.ok) c.shown_noted.ensures.unwritten (c.tell_shown.ensures.done e)
+
+pub returns-in-Ok-clause-fault : goal.returns-in-Ok-clause-fault
+returns-in-Ok-clause-fault g c =
+    λ e. view_told_part c.args.view _ c.args.lenient true _ _ _ _ _ _ _ (made c.args.view c.args.script c.args.lenient true _ _ _ _ (shown_as _ _ _ _ _ _ _ _ _ c.view_of.ensures c.in-Ok.ensures.ok).shown) c.shown_noted.ensures.unwritten (c.tell_shown.ensures.fault e) (c.tell_shown.ensures.failed e)
+
+pub returns-in-Err-clause-fault : goal.returns-in-Err-clause-fault
+returns-in-Err-clause-fault g c = λ e. view_stopped_noted c.args.view _ c.args.lenient _ _ _ _ _ _ _ c.in-Err.ensures.part c.shown_noted.ensures.unwritten
+
+pub returns-in-Ok-clause-named : goal.returns-in-Ok-clause-named
+returns-in-Ok-clause-named g c = λ e. record {
+  bytes = c.in-Ok.ensures.ok.shown.script;
+  read = c.in-Ok.ensures.ok.shown.read;
+  noted = g.E.Write.contents c.shown_noted.new.errors.inner;
+  notes = record { part = _; rest = []; whole = sym (append-nil _); appended = c.in-Ok.ensures.ok.noted };
+  names = record { fault = Write; came = c.tell_shown.ensures.failed e; line = c.tell_shown.ensures.named e };
+}
+
+pub returns-in-Err-clause-named : goal.returns-in-Err-clause-named
+returns-in-Err-clause-named g c = λ e. record {
+  bytes = c.in-Err.ensures.part.script;
+  read = c.in-Err.ensures.part.read;
+  noted = g.E.Write.contents c.shown_noted.new.errors.inner;
+  notes = c.in-Err.ensures.part.noted;
+  names = record {
+    fault = c.of_noted.result;
+    came = subst (λ (f : ProgramFault). CameFrom f ((c.shown_noted.new.reader.failed ≡ true) ⊎ (c.shown_noted.new.reader.reads ≡ 18446744073709551615)) (c.shown_noted.new.writer.failed ≡ true) ((c.shown_noted.new.reader.failed ≡ false) × (c.shown_noted.new.writer.failed ≡ false)) (OfNotes (c.fail.new.errors.failed ≡ true))) (sym c.of_noted.ensures)
+        (came_of_noted c.in-Err.reason _ _ _ _ (λ is. c.shown_noted.ensures.read (c.in-Err.is ∙ ap Err is)) (λ is. c.shown_noted.ensures.write (c.in-Err.is ∙ ap Err is))
+        (λ is. (sound_noted _ _ _ _ c.in-Err.is c.shown_noted.ensures.read_failed is read_no_memory, sound_noted _ _ _ _ c.in-Err.is c.shown_noted.ensures.write_failed is write_no_memory))
+        (λ is. c.fail.ensures.stays (c.shown_noted.ensures.notes (c.in-Err.is ∙ ap Err is))));
+    line = c.fail.ensures.named;
+  };
+}
