@@ -8,5 +8,6 @@ pub mod Parts
 pub mod Rooms
 pub mod Slots
 pub mod Together
+pub mod Told
 pub mod Turns
 pub mod Times

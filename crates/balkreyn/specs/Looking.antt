@@ -1,8 +1,9 @@
 -- Waits that look again and again, and sleep between two looks.
-use Rattle.std.specs.Prelude.{◌≡◌, ◌⊎◌, ◌<◌, ℕ, Bool, true, false, List, [], length, slice_index_or, Option, None, Some, Result, Ok, Err, IsErrAnd}
+use Rattle.std.specs.Prelude.{◌≡◌, ◌⊎◌, ◌<◌, ℕ, Bool, true, false, List, [], length, slice_index_or, Option, None, Some, Result, Ok, Err, IsErrAnd, IsOk}
 use Rattle.std.specs.Borrow.{MutBor}
 use Rattle.std.specs.Fn.{Once}
 use Rattle.cancel_marks.specs.declared.marks.Mark.{Mark}
+use Rattle.scope_rules.specs.Ends.{EndValue}
 use Rattle.scope_rules.specs.Checks.{task_check}
 use Rattle.scope_rules.specs.Table.{answering}
 use Rattle.scope_rules.specs.Tasks.{state}
@@ -102,3 +103,8 @@ abbrev pub Watches : {X : Type 0} → (X → OwnerValue) → (X → X → Result
 Watches {X = X} token sleeps s old new (Ok true) = (there : X) × (how : Cancelling) × SeesMore (token old) (token there) × RecordsOrMemory (token there) (token new) (Cancel s) (Ok how)
 Watches token sleeps s old new (Ok false) = (mark : Mark) × SleptLast token sleeps old new (Ok (Some mark))
 Watches {X = X} token sleeps s old new (Err refusal) = SleptLast token sleeps old new (Err refusal) ⊎ ((there : X) × SeesMore (token old) (token there) × RecordsOrMemory (token there) (token new) (Cancel s) (Err refusal))
+
+-- what a watch that writes files does: it never gives up before a mark is shown in a sleep, or that is refused, and then
+-- it succeeds
+abbrev pub WatchesOn : {X : Type 0} → (X → OwnerValue) → (X → X → Result (Option Mark) Refusal → Type 0) → X → X → EndValue → Type 0
+WatchesOn token sleeps old new end = IsOk end × (((mark : Mark) × SleptLast token sleeps old new (Ok (Some mark))) ⊎ ((refusal : Refusal) × SleptLast token sleeps old new (Err refusal)))

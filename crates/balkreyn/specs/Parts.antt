@@ -1,9 +1,11 @@
 -- What is run for a service.
+use Rattle.std.specs.Prelude.{IsOk}
 use Rattle.scope_rules.specs.Ends.{EndValue}
 use Rattle.balkreyn.specs.declared.act.tasks.Part.{Part}
-use Rattle.balkreyn.specs.declared.act.tasks.Part.TheVariants.{Own, Watch}
+use Rattle.balkreyn.specs.declared.act.tasks.Part.TheVariants.{Own, Stop, Watch}
 
--- a job of the service ends as that may; of its watch nothing is said
+-- a job of the service ends as that may, of the watch for its stop nothing is said, and that for its files succeeds
 abbrev pub PartMayEnd : {W : Type 0} → (W → EndValue → Type 0) → Part W → EndValue → Type 0
 PartMayEnd may (Own job) end = may job end
-PartMayEnd may (Watch watch) end = Unit {0}
+PartMayEnd may (Stop watch) end = Unit {0}
+PartMayEnd may (Watch watch) end = IsOk end

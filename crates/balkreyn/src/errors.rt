@@ -1,8 +1,10 @@
 //! What a service may fail with beside a refusal.
 ghost use Rattle.std.specs.Prelude.{◌≡◌};
+ghost use Rattle.scope_rules.specs.declared.types.refusals.Refusal.TheVariants.{Memory};
 ghost use Rattle.balkreyn.specs.declared.errors.ServiceError.TheVariants as failed;
 
 use scope_rules::Refusal;
+use std::alloc::AllocError;
 use std::error::Error;
 use std::fmt;
 
@@ -18,7 +20,8 @@ impl fmt::Display for NoTime {
 
 impl Error for NoTime {}
 
-/// Why a service failed that has no error of its own: `?` makes one of a refusal, and of a clock that is not had.
+/// Why a service failed that has no error of its own: `?` makes one of a refusal, of want of memory, and of a clock that
+/// is not had.
 #[derive(Clone, Copy, Debug, PartialEq, Eq)]
 pub enum ServiceError {
     /// The runtime refused a call.
@@ -43,6 +46,14 @@ impl From<Refusal> for ServiceError {
 
     fn from(refusal: Refusal) -> ServiceError {
         ServiceError::Refused(refusal)
+    }
+}
+
+impl From<AllocError> for ServiceError {
+    ghost from_gives = { λ none error. error ≡ failed.Refused Memory };
+
+    fn from(_none: AllocError) -> ServiceError {
+        ServiceError::Refused(Refusal::Memory)
     }
 }
 

@@ -50,9 +50,9 @@ pub use rooms::Need;
 pub use rotation::{Stopped, Turns, rotate};
 pub use scope_log::{LogEntry, ScopeLog};
 pub use scope_rules::{
-    AnyEnd, Cancelling, Catalog, Completion, Due, Effective, End, Event, Expiry, Fault, ForkReply,
-    Label, Limits, Name, Options, Outcome, Refusal, Rule, ScopeId, State, TaskId, TaskState,
-    TaskStates, TaskValue, TaskValues, Value, Verdict,
+    AnyEnd, Cancelling, Catalog, Cause, CauseKind, Completion, Due, Effective, End, Event, Expiry,
+    Fault, ForkReply, Label, Limits, Name, Options, Outcome, Refusal, Rule, ScopeId, State, TaskId,
+    TaskState, TaskStates, TaskValue, TaskValues, Value, Verdict,
 };
 pub use scoped::{Scopes, within, within_by};
 pub use services::{Promises, Service, realm_clock, serve_on_crew};

@@ -119,6 +119,7 @@ fn hooked<R: CrewRuntime + SystemTime>(
     let observer = Arc::new(alloc, Counts::new())?;
     let hooks = Hooks {
         stop: None,
+        watch: None,
         load: Arc::try_clone(&load)?,
         observer: Arc::try_clone(&observer)?,
     };

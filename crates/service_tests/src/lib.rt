@@ -5,6 +5,8 @@
 #[cfg(test)]
 mod acting;
 #[cfg(test)]
+mod cancels;
+#[cfg(test)]
 mod channels;
 #[cfg(test)]
 mod hooked;

@@ -1,12 +1,20 @@
-//! A service that hangs, under a watch.
+//! Services that hang, under a watch: one of the whole service, one by hand, and one beside a stop.
 
-use balkreyn::act::{Acts, Serves, Task, Watch, scope, serve};
-use balkreyn::{End, Fault, Joiner, Options, Promises, Refusal, ServiceError, Value, named};
+use balkreyn::act::{
+    Acts, Hooks, Load, Serves, Stop, Task, Watch, scope, serve, serve_watched, serve_with, shielded,
+};
+use balkreyn::{
+    CrewRuntime, End, Fault, Joiner, Options, Promises, Refusal, ServiceError, Value, named,
+};
+use std::alloc::{AllocError, Global};
 use std::fs;
 use std::process::Abort;
+use std::rt::Clock as SystemTime;
+use std::sync::Arc;
 use std::test::Fail;
+use std::time::Instant;
 
-/// What the service forks: a job that hangs for so many milliseconds, and the watch.
+/// What a service forks: a job that hangs for so many milliseconds, or a watch by hand.
 #[derive(Drop)]
 enum Work {
     Hangs(u64),
@@ -25,9 +33,9 @@ impl Task for Work {
     }
 }
 
-/// A service that hangs for a fifth of a second, and is watched.
+/// A service that hangs for so many milliseconds.
 #[derive(Clone, Copy)]
-struct Hanging(HostRuntime);
+struct Hanging(u64);
 
 impl Promises for Hanging {
     type Answer = ();
@@ -37,48 +45,154 @@ impl Promises for Hanging {
 
 impl Serves<Work> for Hanging {
     fn serve<X: Acts<Work>>(self, cx: &mut X) -> Result<(), ServiceError> {
-        let watch = Watch {
-            io: self.0,
-            tree: "tree",
-            journal: "journal",
-            ask: "ask",
-            every: 2,
-            late: 60,
-        };
-        let watched: Result<(), Refusal> = scope(
-            cx,
-            Joiner::AwaitAll,
-            Options::PLAIN,
-            |cx, scope| {
-                cx.fork(scope, named(b"watch"), Work::Watch(watch))?;
-                hang(cx)
-            },
-        );
-        Ok(watched?)
+        Ok(hang(cx, self.0)?)
     }
 }
 
 /// Hangs in a scope of its own.
-fn hang<X: Acts<Work>>(cx: &mut X) -> Result<(), Refusal> {
+fn hang<X: Acts<Work>>(cx: &mut X, millis: u64) -> Result<(), Refusal> {
     scope(cx, Joiner::AwaitAll, Options::PLAIN, |cx, scope| {
-        cx.fork(scope, named(b"stuck"), Work::Hangs(200))?;
+        cx.fork(scope, named(b"stuck"), Work::Hangs(millis))?;
         cx.join(scope)?;
         Ok(())
     })
 }
 
+/// Runs the service beside a watch, which writes once nothing has happened for 60 milliseconds.
+fn watched<R: CrewRuntime + SystemTime>(
+    rt: &R,
+    io: HostRuntime,
+    service: Hanging,
+) -> Result<(), ServiceError> {
+    let alloc = io.alloc();
+    let watch = Watch {
+        io,
+        tree: String::from_str(alloc, "tree")?,
+        journal: String::from_str(alloc, "journal")?,
+        ask: String::from_str(alloc, "ask")?,
+        every: 2,
+        late: 60,
+    };
+    serve_watched::<Work, Hanging, R>(rt, alloc, 2, watch, service)
+}
+
 #[test]
 fn a_watch_shows_what_hangs_and_since_when(rt: HostRuntime) -> Result<(), Fail> {
-    serve::<Work, Hanging, _>(&rt, rt.alloc(), 2, Hanging(rt)).map_err(|_| "a refusal")?;
+    watched(&rt, rt, Hanging(200)).map_err(|_| "a refusal")?;
     let tree = fs::read_to_string(&rt, "tree").map_err(|_| "no tree")?;
     let journal = fs::read_to_string(&rt, "journal").map_err(|_| "no journal")?;
     assert!(rt;
-        tree.contains("task 2 stuck: running"),
+        tree.contains("watch: running") && tree.contains("stuck: running"),
         "the tree shows what hangs"
     );
     assert!(rt;
-        journal.contains("# at ") && journal.contains("\nstart 2\n# at "),
+        journal.contains("\nstart 2\n# at ") || journal.contains("\nstart 2\nstart 1\n# at "),
         "and the journal, until when"
     );
+    Ok(())
+}
+
+/// A watch that writes to this file, looks so often, and writes once nothing has happened for so many milliseconds.
+fn watch_of(io: HostRuntime, tree: &str, every: u64, late: u64) -> Result<Watch, AllocError> {
+    let alloc = io.alloc();
+    Ok(Watch {
+        io,
+        tree: String::from_str(alloc, tree)?,
+        journal: String::from_str(alloc, "journal-of-another")?,
+        ask: String::from_str(alloc, "asked")?,
+        every,
+        late,
+    })
+}
+
+/// A service that forks its watch by hand, asks it, and gives it a tenth of a second.
+#[derive(Clone, Copy)]
+struct Asking(HostRuntime);
+
+impl Promises for Asking {
+    /// Whether the watch wrote.
+    type Answer = bool;
+
+    type Error = ServiceError;
+}
+
+impl Serves<Work> for Asking {
+    fn serve<X: Acts<Work>>(self, cx: &mut X) -> Result<bool, ServiceError> {
+        let io = self.0;
+        let watch = watch_of(io, "asked-tree", 2, u64::MAX)?;
+        fs::write(&io, "asked", "").map_err(|_| Refusal::Unavailable)?;
+        let forked: Result<(), Refusal> = scope(
+            cx,
+            Joiner::AwaitAll,
+            Options::PLAIN,
+            |cx, scope| {
+                cx.fork(scope, named(b"watch"), Work::Watch(watch))?;
+                cx.sleep(100)?;
+                Ok(())
+            },
+        );
+        forked?;
+        let is_there = fs::exists(&io, "asked-tree").is_ok_and(|there| there);
+        let is_taken = fs::exists(&io, "asked").is_ok_and(|there| !there);
+        Ok(is_there && is_taken)
+    }
+}
+
+#[test]
+fn a_watch_is_forked_by_hand_and_asked(rt: HostRuntime) -> Result<(), Fail> {
+    let wrote = serve::<Work, Asking, _>(&rt, rt.alloc(), 2, Asking(rt));
+    assert!(rt; wrote == Ok(true));
+    Ok(())
+}
+
+/// A service that asks for its own stop, and then hangs behind a shield.
+#[derive(Drop)]
+struct Stopping(Arc<Stop, Global>);
+
+impl Promises for Stopping {
+    type Answer = ();
+
+    type Error = ServiceError;
+}
+
+impl Serves<Work> for Stopping {
+    fn serve<X: Acts<Work>>(self, cx: &mut X) -> Result<(), ServiceError> {
+        self.0.ask(cx);
+        let hung: Result<(), Refusal> = shielded(cx, |cx, _scope| hang(cx, 200));
+        Ok(hung?)
+    }
+}
+
+/// Hooks with this stop, and a watch that writes once nothing has happened for 60 milliseconds.
+fn hooks_of(io: HostRuntime, stop: Arc<Stop, Global>) -> Result<Hooks<()>, Refusal> {
+    let alloc = io.alloc();
+    Ok(Hooks {
+        stop: Some(stop),
+        watch: Some(watch_of(io, "stopped-tree", 2, 60)?),
+        load: Arc::new(alloc, Load::at_most(u64::MAX))?,
+        observer: Arc::new(alloc, ())?,
+    })
+}
+
+#[test]
+fn a_watch_sees_what_hangs_behind_a_stop(rt: HostRuntime) -> Result<(), Fail> {
+    let stop = Arc::new(rt.alloc(), Stop::new())?;
+    let hooks = hooks_of(rt, Arc::try_clone(&stop)?).map_err(|_| "no memory")?;
+    serve_with::<Work, (), Stopping, _>(&rt, rt.alloc(), 2, hooks, Stopping(stop)).map_err(
+        |_| "a refusal",
+    )?;
+    let tree = fs::read_to_string(&rt, "stopped-tree").map_err(|_| "no tree")?;
+    assert!(rt; tree.contains("stuck: running"));
+    Ok(())
+}
+
+#[test]
+fn a_watch_ends_with_its_service(rt: HostRuntime) -> Result<(), Fail> {
+    let alloc = rt.alloc();
+    let watch = watch_of(rt, "no-tree", 60_000, u64::MAX)?;
+    let before = Instant::now(&rt).map_err(|_| "no time")?;
+    let served = serve_watched::<Work, Hanging, _>(&rt, alloc, 2, watch, Hanging(1));
+    let waited = before.elapsed(&rt).map_err(|_| "no time")?;
+    assert!(rt; served == Ok(()) && waited.as_millis() < 5_000);
     Ok(())
 }

@@ -2,8 +2,9 @@
 ghost use Rattle.realm_core.specs.Calls.{SeesMore};
 ghost use Rattle.balkreyn.specs.Slots.{ForksUnder};
 
-use crate::act::hooks::{Happening, Hooks, Observes};
+use crate::act::hooks::{Happening, Observes, Shares};
 use crate::act::tasks::{Part, Task, Timed};
+use crate::act::told::Told;
 use crate::aliases::{Forks, Handle};
 use crate::by_token::ShowsByToken;
 use crate::forks::fork;
@@ -13,8 +14,8 @@ use job_runner::{Clock, SystemClock, TaskCtx};
 use join_rules::Joiner;
 use realm_lock::{Joined, Mark, RealmName};
 use scope_rules::{
-    AnyEnd, Base, Cancelling, ForkReply, Name, Options, Refusal, ScopeId, State, TaskId, Value,
-    Verdict,
+    AnyEnd, Base, Cancelling, CauseKind, ForkReply, Name, Options, Refusal, ScopeId, State, TaskId,
+    Value, Verdict,
 };
 use std::alloc::Global;
 use std::rt::Clock as SystemTime;
@@ -146,27 +147,30 @@ pub trait Acts<W>: Scopes + Wait {
         ensures { Reads (Self.token self.old) (Self.token self.new) (SaysWhenNow Self.reads (Self.time self.old) times.now.found.items result) };
 }
 
-/// The context of a task, with the clock of its realm and the hooks of its service.
+/// The context of a task, with the clock of its realm, the hooks of its service, and what it told the observer.
 #[derive(Drop)]
 pub struct Cx<'a, K, O, S: Spawner<N>, N: RealmName> {
     pub(crate) alloc: Global,
     pub(crate) clock: SystemClock<K>,
-    pub(crate) hooks: &'a Hooks<O>,
+    pub(crate) hooks: &'a Shares<O>,
+    pub(crate) told: Told,
     pub(crate) ctx: &'a mut TaskCtx<AnyEnd, S, N>,
 }
 
 impl<'a, K, O, S: Spawner<N>, N: RealmName> Cx<'a, K, O, S, N> {
-    /// This context, with its realm's clock and its service's hooks.
+    /// This context, with its realm's clock, its service's hooks, and what its task told.
     pub(crate) fn new(
         alloc: Global,
         clock: SystemClock<K>,
-        hooks: &'a Hooks<O>,
+        hooks: &'a Shares<O>,
+        told: Told,
         ctx: &'a mut TaskCtx<AnyEnd, S, N>,
     ) -> Cx<'a, K, O, S, N> {
         Cx {
             alloc,
             clock,
             hooks,
+            told,
             ctx,
         }
     }
@@ -177,6 +181,13 @@ impl<K: Handle, O: Observes, S: Spawner<N>, N: RealmName> Cx<'_, K, O, S, N> {
     fn report(&self, what: Happening) {
         let mut clock = self.clock;
         self.hooks.observer.saw(&clock.runtime(), clock.now(), what);
+    }
+
+    /// The same, if there are any news.
+    fn report_news(&self, news: Option<Happening>) {
+        if let Some(what) = news {
+            self.report(what);
+        }
     }
 
     /// Forks the job, if there may be one more.
@@ -200,6 +211,7 @@ impl<K: Handle, O: Observes, S: Spawner<N>, N: RealmName> Cx<'_, K, O, S, N> {
                     clock,
                     hooks,
                     one,
+                    scope,
                     name,
                     job,
                 };
@@ -282,7 +294,9 @@ impl<K: Handle, O: Observes, N: RealmName, W: Task, S: Forks<AnyEnd, N, Timed<K,
 
     fn close(&mut self, scope: ScopeId) -> Result<Verdict, Refusal> {
         let mut clock = self.clock;
-        self.close_opened_by(&clock.runtime(), scope, &mut clock)
+        let found = self.close_opened_by(&clock.runtime(), scope, &mut clock);
+        self.told.closed(scope, &found);
+        found
     }
 
     fn fork(&mut self, scope: ScopeId, name: Name, job: W) -> Result<ForkReply, Refusal> {
@@ -301,7 +315,10 @@ impl<K: Handle, O: Observes, N: RealmName, W: Task, S: Forks<AnyEnd, N, Timed<K,
 
     fn join(&mut self, scope: ScopeId) -> Result<Joined, Refusal> {
         let mut clock = self.clock;
-        self.ctx.join_by(&clock.runtime(), scope, &mut clock)
+        let found = self.ctx.join_by(&clock.runtime(), scope, &mut clock);
+        let news = self.told.by_join(&found);
+        self.report_news(news);
+        found
     }
 
     fn result(&mut self, task: TaskId) -> Result<Value, Refusal> {
@@ -315,17 +332,24 @@ impl<K: Handle, O: Observes, N: RealmName, W: Task, S: Forks<AnyEnd, N, Timed<K,
     fn sleep(&mut self, millis: u64) -> Result<Option<Mark>, Refusal> {
         let mut clock = self.clock;
         let until = clock.now().saturating_add(millis);
-        self.ctx.sleep_by(&clock.runtime(), &mut clock, until)
+        let found = self.ctx.sleep_by(&clock.runtime(), &mut clock, until);
+        let news = self.told.by_sleep(&found);
+        self.report_news(news);
+        found
     }
 
     fn checkpoint(&mut self) -> Option<Mark> {
-        self.ctx.checkpoint()
+        let found = self.ctx.checkpoint();
+        let news = self.told.by_mark(&found);
+        self.report_news(news);
+        found
     }
 
     fn cancel(&mut self, scope: ScopeId) -> Result<Cancelling, Refusal> {
         let how = self.ctx.cancel(&self.clock.runtime(), scope);
-        if how.is_ok() {
-            self.report(Happening::Cancelled { scope });
+        if let Ok(Cancelling::Recorded) = how {
+            let kind = CauseKind::Call;
+            self.report(Happening::Cancelled { scope, kind });
         }
         how
     }

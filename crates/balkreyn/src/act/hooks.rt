@@ -1,10 +1,12 @@
 //! What a service is run with beside its threads: who observes it, what it may have at hand, and its stop.
 
-ghost use Rattle.std.specs.Prelude.{◌≡◌, IfErr};
+ghost use Rattle.std.specs.Arc.{arc_value};
+ghost use Rattle.std.specs.Prelude.{◌≡◌, ◌<◌, IfOk, IfSome, MatchResult};
 ghost use Rattle.scope_rules.specs.declared.types.refusals.Refusal.TheVariants.{Memory};
 
 use crate::act::stops::Stop;
-use scope_rules::{Fault, Name, Refusal, ScopeId};
+use crate::act::watches::Watch;
+use scope_rules::{CauseKind, Fault, Name, Refusal, ScopeId};
 use std::alloc::{AllocError, Global};
 use std::sync::atomic::{AtomicU64, Ordering};
 use std::sync::{Arc, Wait};
@@ -32,22 +34,44 @@ pub enum Happening {
         name: Name,
         fault: Option<Fault>,
     },
-    /// The scope was cancelled by a call.
+    /// The scope itself was cancelled, by this; the scopes inside, which that reaches, aren't reported. `Observes` says who
+    /// reports it, and when.
     Cancelled {
         scope: ScopeId,
+        kind: CauseKind,
     },
 }
 
 /// Who is called about what happens, by the thread on which it happens, with the time in milliseconds of the realm's
 /// time. The realm's lock is free then, so it may wait; while it does, so does who forks, or ends (Trio, an `Instrument`).
+///
+/// A task reports a cancel when it learns of it, and none twice, if there is memory to note it. No lock is taken for that:
+///
+/// - A call: by its caller, at once. One on a scope that is cancelled already does nothing, and isn't reported.
+/// - A deadline or a joiner: by the owner of the scope, at the join, or at a sleep or a checkpoint inside before that. An
+///   owner that does none of these before the close doesn't report it, since a close tells no cause.
+/// - A close: by each task that it cuts off, at the next sleep, checkpoint or join of that task. So several tasks may
+///   report one close, and none does if it cuts off nothing.
+///
+/// A scope is itself cancelled once, so two reports of one scope are of one cancel. The time is that of the report.
 pub trait Observes: Drop {
-    /// Takes note of it. The start of a job may be seen before its fork. The watch of a stop is a job named `stop`.
+    /// Takes note of it. The start of a job may be seen before its fork. Of the watches of a service, which are jobs named
+    /// `stop` and `watch`, only start and end are reported, and the call by which a stop cancels.
     fn saw<R: Wait>(&self, rt: &R, moment: u64, what: Happening);
+
+    /// Whether there is somebody. If not, no cancel is looked into or noted for a report.
+    fn is_there(&self) -> bool {
+        true
+    }
 }
 
 /// Nobody.
 impl Observes for () {
     fn saw<R: Wait>(&self, _rt: &R, _moment: u64, _what: Happening) {}
+
+    fn is_there(&self) -> bool {
+        false
+    }
 }
 
 /// How many jobs a service has at hand, from their fork to their end, and how many it may have. Each holds a thread.
@@ -66,7 +90,9 @@ pub(crate) struct AtHand {
 
 impl Load {
     /// So many at most: a fork beyond them is refused for `Memory`, before the realm hears of it.
-    pub fn at_most(most: u64) -> Load {
+    pub fn at_most(most: u64) -> Load
+        ensures { result.most ≡ most }
+    {
         Load {
             most,
             at_hand: AtomicU64::new(0),
@@ -90,8 +116,11 @@ impl Load {
         self.refused.load(Ordering::SeqCst)
     }
 
-    /// Counts one more at hand, if there may be one.
-    pub(crate) fn begin(load: &Arc<Load, Global>) -> Result<Option<AtHand>, AllocError> {
+    /// Counts one more at hand, if there may be one: there is none under a cap of 0. How many there are no clause knows,
+    /// since another thread may change that at any time.
+    pub(crate) fn begin(load: &Arc<Load, Global>) -> Result<Option<AtHand>, AllocError>
+        ensures { IfOk result (λ found. IfSome found (λ one. (0 < (arc_value load.now).most) × (arc_value one.load ≡ arc_value load.now))) }
+    {
         let one = AtHand {
             load: Arc::try_clone(load)?,
         };
@@ -125,29 +154,39 @@ impl Drop for AtHand {
 pub struct Hooks<O> {
     /// What stops it, if anything may.
     pub stop: Option<Arc<Stop, Global>>,
+    /// What watches it from its begin to its end, if anything does.
+    pub watch: Option<Watch>,
     /// Its counters, and its cap.
     pub load: Arc<Load, Global>,
     /// Who observes it.
     pub observer: Arc<O, Global>,
 }
 
-impl<O: Drop> Hooks<O> {
-    /// A share of the counters and the observer.
-    pub(crate) fn share(&self) -> Result<Hooks<O>, AllocError> {
-        Ok(Hooks {
-            stop: None,
+/// What each job of a service has of its hooks.
+#[derive(Drop)]
+pub(crate) struct Shares<O> {
+    pub(crate) load: Arc<Load, Global>,
+    pub(crate) observer: Arc<O, Global>,
+}
+
+impl<O: Drop> Shares<O> {
+    /// The same for one more.
+    pub(crate) fn share(&self) -> Result<Shares<O>, AllocError>
+        ensures { IfOk result (λ other. (arc_value other.load ≡ arc_value self.now.load) × (arc_value other.observer ≡ arc_value self.now.observer)) }
+    {
+        Ok(Shares {
             load: Arc::try_clone(&self.load)?,
             observer: Arc::try_clone(&self.observer)?,
         })
     }
 
-    /// One more job at hand, if there may be one, and a share for it.
-    pub(crate) fn begin(&self) -> Result<(AtHand, Hooks<O>), Refusal>
-        ensures { IfErr result (λ refusal. refusal ≡ Memory) }
+    /// One more job at hand, if there may be one, and its shares.
+    pub(crate) fn begin(&self) -> Result<(AtHand, Shares<O>), Refusal>
+        ensures { MatchResult result (λ begun. (0 < (arc_value self.now.load).most) × (arc_value begun.0.load ≡ arc_value self.now.load) × (arc_value begun.1.observer ≡ arc_value self.now.observer)) (λ refusal. refusal ≡ Memory) }
     {
-        let hooks = self.share()?;
+        let shares = self.share()?;
         match Load::begin(&self.load)? {
-            Some(one) => Ok((one, hooks)),
+            Some(one) => Ok((one, shares)),
             None => Err(Refusal::Memory),
         }
     }

@@ -2,8 +2,10 @@
 ghost use Rattle.std.specs.Prelude.{◌≡◌, IfOk};
 
 use crate::act::contexts::{Acts, Cx};
-use crate::act::hooks::{AtHand, Happening, Hooks, Load, Observes};
+use crate::act::hooks::{AtHand, Happening, Hooks, Load, Observes, Shares};
 use crate::act::stops::{Stop, StopWatch};
+use crate::act::told::Told;
+use crate::act::watches::Watch;
 use crate::aliases::{Forks, Handle};
 use crate::errors::NoTime;
 use crate::forks::fork;
@@ -13,7 +15,7 @@ use crate::services::{Promises, Service, realm_clock, serve_on_crew};
 use job_runner::{Answers, Clock, Job, JobWork, SystemClock, TaskCtx};
 use join_rules::Joiner;
 use realm_lock::{RealmName, Seed};
-use scope_rules::{AnyEnd, End, ForkReply, Name, Options, Refusal};
+use scope_rules::{AnyEnd, End, ForkReply, Name, Options, Refusal, ScopeId};
 use std::alloc::{AllocError, Global};
 use std::marker::{Brand, PhantomData};
 use std::rt::Clock as SystemTime;
@@ -33,11 +35,12 @@ pub trait Task: Drop + Sized {
         ensures { Self.may_end self result };
 }
 
-/// What is run for a service: a job of its own, or the watch for its stop.
+/// What is run for a service: a job of its own, the watch for its stop, or the one for its files.
 #[derive(Drop)]
 pub enum Part<W> {
     Own(W),
-    Watch(StopWatch),
+    Stop(StopWatch),
+    Watch(Watch),
 }
 
 /// Such a job on its way to a thread, with the realm's clock.
@@ -45,8 +48,10 @@ pub enum Part<W> {
 pub struct Timed<K, W, O> {
     pub(crate) alloc: Global,
     pub(crate) clock: SystemClock<K>,
-    pub(crate) hooks: Hooks<O>,
+    pub(crate) hooks: Shares<O>,
     pub(crate) one: Option<AtHand>,
+    /// The scope in which it is forked.
+    pub(crate) scope: ScopeId,
     pub(crate) name: Name,
     pub(crate) job: Part<W>,
 }
@@ -68,14 +73,19 @@ impl<K: Handle, N: RealmName, W: Task, O: Observes, S: Forks<AnyEnd, N, Timed<K,
             clock,
             hooks,
             one,
+            scope,
             name,
             job,
         } = self;
         let (observer, mut last) = (&hooks.observer, clock);
         observer.saw(&last.runtime(), last.now(), Happening::Started { name });
+        let hears = observer.is_there() && matches!(&job, Part::Own(_));
+        let told = Told::nothing(alloc, hears, Some(scope));
+        let mut cx = Cx::new(alloc, clock, &hooks, told, ctx);
         let end = match job {
-            Part::Own(job) => job.run(&mut Cx::new(alloc, clock, &hooks, ctx)),
-            Part::Watch(watch) => watch.run(&mut Cx::new(alloc, clock, &hooks, ctx)),
+            Part::Own(job) => job.run(&mut cx),
+            Part::Stop(watch) => watch.run(&mut cx),
+            Part::Watch(watch) => watch.act(&mut cx),
         };
         let fault = end.err();
         observer.saw(
@@ -127,21 +137,30 @@ where
         let Acting {
             alloc,
             service,
-            mut hooks,
+            hooks,
             ..
         } = self;
-        let clock = realm_clock(rt)?;
-        match hooks.stop.take() {
-            None => service.serve(&mut Cx::new(alloc, clock, &hooks, ctx)),
-            Some(stop) => {
-                serve_watched::<K, N, W, O, V, S>(alloc, clock, ctx, stop, &hooks, service)
+        let Hooks {
+            stop,
+            watch,
+            load,
+            observer,
+        } = hooks;
+        let (clock, shares) = (realm_clock(rt)?, Shares { load, observer });
+        match watch {
+            None => {
+                serve_stoppable::<K, N, W, O, V, S>(alloc, clock, ctx, stop, &shares, service)
+            }
+            Some(watch) => {
+                serve_beside::<K, N, W, O, V, S>(alloc, clock, ctx, watch, stop, &shares, service)
             }
         }
     }
 }
 
-/// Serves in a scope, which a watch cancels once the stop is asked for.
-fn serve_watched<
+/// Serves in a scope, in which the watch runs from the begin to the end: the close of that scope ends it at once. A stop
+/// cancels only what is within, so the watch sees it, too.
+fn serve_beside<
     K: Handle,
     N: RealmName,
     W: Task,
@@ -152,17 +171,21 @@ fn serve_watched<
     alloc: Global,
     clock: SystemClock<K>,
     ctx: &mut TaskCtx<AnyEnd, S, N>,
-    stop: Arc<Stop, Global>,
-    hooks: &Hooks<O>,
+    watch: Watch,
+    stop: Option<Arc<Stop, Global>>,
+    shares: &Shares<O>,
     service: V,
 ) -> Result<V::Answer, V::Error>
     ensures { IfOk result (λ answer. V.may_answer service answer) }
 {
     let rt = clock.runtime();
     let scope = ctx.open_scope(&rt, Joiner::AwaitAll, Options::PLAIN)?;
-    let watch = StopWatch { stop, scope };
-    let found = match fork_watch::<K, N, W, O, S>(alloc, clock, ctx, hooks, watch) {
-        Ok(_reply) => service.serve(&mut Cx::new(alloc, clock, hooks, ctx)),
+    let (name, part) = (named(b"watch"), Part::Watch(watch));
+    let forked = fork_part::<K, N, W, O, S>(alloc, clock, ctx, shares, scope, name, part);
+    let found = match forked {
+        Ok(_reply) => {
+            serve_stoppable::<K, N, W, O, V, S>(alloc, clock, ctx, stop, shares, service)
+        }
         Err(refusal) => Err(refusal.into()),
     };
     let mut last = clock;
@@ -170,23 +193,79 @@ fn serve_watched<
     found
 }
 
-/// Forks the watch in the scope that it watches. It is none of the service's jobs at hand.
-fn fork_watch<K: Handle, N: RealmName, W: Task, O: Observes, S: Forks<AnyEnd, N, Timed<K, W, O>>>(
+/// Serves; if there is a stop, in a scope that a watch cancels once the stop is asked for.
+fn serve_stoppable<
+    K: Handle,
+    N: RealmName,
+    W: Task,
+    O: Observes,
+    V: Serves<W> + Drop,
+    S: Forks<AnyEnd, N, Timed<K, W, O>>,
+>(
     alloc: Global,
     clock: SystemClock<K>,
     ctx: &mut TaskCtx<AnyEnd, S, N>,
-    hooks: &Hooks<O>,
-    watch: StopWatch,
+    stop: Option<Arc<Stop, Global>>,
+    shares: &Shares<O>,
+    service: V,
+) -> Result<V::Answer, V::Error>
+    ensures { IfOk result (λ answer. V.may_answer service answer) }
+{
+    let Some(stop) = stop else {
+        return serve_plainly::<K, N, W, O, V, S>(alloc, clock, ctx, shares, service);
+    };
+    let rt = clock.runtime();
+    let scope = ctx.open_scope(&rt, Joiner::AwaitAll, Options::PLAIN)?;
+    let (name, part) = (named(b"stop"), Part::Stop(StopWatch { stop, scope }));
+    let forked = fork_part::<K, N, W, O, S>(alloc, clock, ctx, shares, scope, name, part);
+    let found = match forked {
+        Ok(_reply) => serve_plainly::<K, N, W, O, V, S>(alloc, clock, ctx, shares, service),
+        Err(refusal) => Err(refusal.into()),
+    };
+    let mut last = clock;
+    ctx.close_opened_by(&rt, scope, &mut last)?;
+    found
+}
+
+/// Serves by main's context.
+fn serve_plainly<
+    K: Handle,
+    N: RealmName,
+    W: Task,
+    O: Observes,
+    V: Serves<W> + Drop,
+    S: Forks<AnyEnd, N, Timed<K, W, O>>,
+>(
+    alloc: Global,
+    clock: SystemClock<K>,
+    ctx: &mut TaskCtx<AnyEnd, S, N>,
+    shares: &Shares<O>,
+    service: V,
+) -> Result<V::Answer, V::Error>
+    ensures { IfOk result (λ answer. V.may_answer service answer) }
+{
+    let told = Told::nothing(alloc, shares.observer.is_there(), None);
+    service.serve(&mut Cx::new(alloc, clock, shares, told, ctx))
+}
+
+/// Forks a part that is none of the service's jobs at hand.
+fn fork_part<K: Handle, N: RealmName, W: Task, O: Observes, S: Forks<AnyEnd, N, Timed<K, W, O>>>(
+    alloc: Global,
+    clock: SystemClock<K>,
+    ctx: &mut TaskCtx<AnyEnd, S, N>,
+    shares: &Shares<O>,
+    scope: ScopeId,
+    name: Name,
+    part: Part<W>,
 ) -> Result<ForkReply, Refusal> {
-    let (scope, name, hooks) = (watch.scope, named(b"stop"), hooks.share()?);
-    let (one, job) = (None, Part::Watch(watch));
     let timed = Timed {
         alloc,
         clock,
-        hooks,
-        one,
+        hooks: shares.share()?,
+        one: None,
+        scope,
         name,
-        job,
+        job: part,
     };
     fork(&clock.runtime(), ctx, scope, name, timed)
 }
@@ -207,16 +286,21 @@ where
     V::Error: From<NoTime>,
     ensures { IfOk result (λ answer. V.may_answer service answer) }
 {
-    match plain(alloc, None) {
+    match plain(alloc, None, None) {
         Ok(hooks) => serve_with::<W, (), V, R>(rt, alloc, keep, hooks, service),
         Err(_) => Err(Refusal::Memory.into()),
     }
 }
 
-/// Hooks with no observer and no cap, and this stop.
-fn plain(alloc: Global, stop: Option<Arc<Stop, Global>>) -> Result<Hooks<()>, AllocError> {
+/// Hooks with no observer and no cap, and with this stop and this watch.
+fn plain(
+    alloc: Global,
+    stop: Option<Arc<Stop, Global>>,
+    watch: Option<Watch>,
+) -> Result<Hooks<()>, AllocError> {
     Ok(Hooks {
         stop,
+        watch,
         load: Arc::new(alloc, Load::at_most(u64::MAX))?,
         observer: Arc::new(alloc, ())?,
     })
@@ -239,17 +323,40 @@ where
     V::Error: From<NoTime>,
     ensures { IfOk result (λ answer. V.may_answer service answer) }
 {
-    match plain(alloc, Some(stop)) {
+    match plain(alloc, Some(stop), None) {
         Ok(hooks) => serve_with::<W, (), V, R>(rt, alloc, keep, hooks, service),
         Err(_) => Err(Refusal::Memory.into()),
     }
 }
 
-/// Runs the service as `serve` does, with hooks: an observer, counters with a cap on the jobs at hand, and a stop, if there
-/// is one.
+/// Runs the service as `serve` does, beside a watch that writes tree and journal to files if nothing happens for too long,
+/// or if somebody asks. The watch is a job named `watch`, has a thread, and ends at once when the service does. It has a
+/// scope around it all, so `retire` is refused: a service that retires forks its watch by hand (`Watch::act`).
 ///
 /// # Errors
-/// Those of `serve_until`.
+/// Those of `serve`, and the refusal of the scope, of its watch, or of its close.
+pub fn serve_watched<W: Task + Send + 'static, V: Serves<W> + Drop, R: CrewRuntime + SystemTime>(
+    rt: &R,
+    alloc: Global,
+    keep: usize,
+    watch: Watch,
+    service: V,
+) -> Result<V::Answer, V::Error>
+where
+    V::Error: From<NoTime>,
+    ensures { IfOk result (λ answer. V.may_answer service answer) }
+{
+    match plain(alloc, None, Some(watch)) {
+        Ok(hooks) => serve_with::<W, (), V, R>(rt, alloc, keep, hooks, service),
+        Err(_) => Err(Refusal::Memory.into()),
+    }
+}
+
+/// Runs the service as `serve` does, with hooks: an observer, counters with a cap on the jobs at hand, and a stop and a
+/// watch, if there are any. A stop doesn't end the watch, which sees what hangs behind it.
+///
+/// # Errors
+/// Those of `serve_until` and `serve_watched`.
 pub fn serve_with<
     W: Task + Send + 'static,
     O: Observes + Send + Sync + 'static,

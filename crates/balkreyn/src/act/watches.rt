@@ -1,24 +1,28 @@
 //! A watch: a job that notes when events happen, and writes tree and journal to files if the service hangs.
+ghost use Rattle.realm_core.specs.Calls.{SeesMore};
+ghost use Rattle.balkreyn.specs.Acting.{Sleeps};
+ghost use Rattle.balkreyn.specs.Looking.{WatchesOn};
 
 use crate::act::contexts::Acts;
 use crate::times::Times;
-use scope_rules::{End, Fault, Name, Refusal, Value};
+use scope_rules::{End, Refusal, Value};
 use std::fs;
 use std::rt::HostRuntime;
 
 /// A job that watches its realm: it looks every so many milliseconds, and writes the tree and the journal with times to
-/// two files if nothing has happened for too long, once a stop, or if somebody asks. Fork it in a scope around what it
-/// watches; the close of that scope ends it. Its value is how often it wrote. A file that can't be written is passed over.
-#[derive(Clone, Copy)]
+/// two files if nothing has happened for too long, once each time, or if somebody asks. `serve_watched` runs one beside a
+/// service. By hand fork it in a scope around what it watches; the close of that scope ends it. A file that can't be
+/// written is passed over.
+#[derive(Drop)]
 pub struct Watch {
     /// By which it reaches its files.
     pub io: HostRuntime,
     /// The file of the tree.
-    pub tree: &'static str,
+    pub tree: String,
     /// The file of the journal, a script with times that `scopectl` reads.
-    pub journal: &'static str,
+    pub journal: String,
     /// If this file is there, both are written, and it is removed.
-    pub ask: &'static str,
+    pub ask: String,
     /// How many milliseconds lie between two looks: so exact are the times.
     pub every: u64,
     /// For how many milliseconds nothing may happen.
@@ -36,8 +40,12 @@ struct Watching {
 }
 
 impl Watch {
-    /// Watches until its scope is cancelled.
-    pub fn act<W, X: Acts<W>>(self, cx: &mut X) -> End {
+    /// Watches until a cancel, as by the close of its scope, or a refusal ends a sleep. It never fails, and its value is how
+    /// often it wrote.
+    pub fn act<W, X: Acts<W>>(self, cx: &mut X) -> End
+        ensures { WatchesOn X.token (λ old new slept. Sleeps X.reads X.reading X.time X.token X.seat self.every old new slept) cx.old cx.new result }
+    {
+        let every = self.every;
         let mut watching = Watching {
             watch: self,
             times: Times::new(cx.alloc()),
@@ -45,18 +53,27 @@ impl Watch {
             written: 0,
         };
         for _ in 0..u64::MAX {
-            match cx.sleep(self.every) {
+            match cx.sleep(every) {
                 Ok(None) => watching.look(cx),
-                _ => break,
+                Ok(Some(_mark)) => return Ok(watching.count()),
+                Err(_refusal) => return Ok(watching.count()),
             }
         }
-        Ok(Value::Num(i64::from(watching.written)))
+        for _ in cx.forever() {}
+        unreachable!()
     }
 }
 
 impl Watching {
+    /// How often it wrote.
+    fn count(&self) -> Value {
+        Value::Num(i64::from(self.written))
+    }
+
     /// Looks, and writes if that is due. Without memory it goes on at the next look.
-    fn look<W, X: Acts<W>>(&mut self, cx: &mut X) {
+    fn look<W, X: Acts<W>>(&mut self, cx: &mut X)
+        ensures { SeesMore (X.token cx.old) (X.token cx.new) }
+    {
         if cx.note(&mut self.times).is_err() {
             return;
         }
@@ -83,21 +100,24 @@ impl Watching {
 
     /// Whether somebody asks; the file that asks is removed.
     fn is_asked(&self) -> bool {
-        let Watch { io, ask, .. } = self.watch;
-        fs::exists(&io, ask).is_ok_and(|there| there) && fs::remove_file(&io, ask).is_ok()
+        let Watch { io, ask, .. } = &self.watch;
+        fs::exists(io, ask.as_str()).is_ok_and(|there| there)
+            && fs::remove_file(io, ask.as_str()).is_ok()
     }
 
     /// Writes both files.
-    fn write<W, X: Acts<W>>(&self, cx: &mut X) -> Result<(), Refusal> {
+    fn write<W, X: Acts<W>>(&self, cx: &mut X) -> Result<(), Refusal>
+        ensures { SeesMore (X.token cx.old) (X.token cx.new) }
+    {
         let Watch {
             io,
             tree,
             journal,
             ..
-        } = self.watch;
+        } = &self.watch;
         let (shown, script) = (cx.tree()?, cx.timed_journal(&self.times)?);
-        let _shown = fs::write(&io, tree, shown.as_str());
-        let _script = fs::write(&io, journal, script.as_str());
+        let _shown = fs::write(io, tree.as_str(), shown.as_str());
+        let _script = fs::write(io, journal.as_str(), script.as_str());
         Ok(())
     }
 }

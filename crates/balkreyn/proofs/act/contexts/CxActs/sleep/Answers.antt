@@ -8,7 +8,7 @@ returns-clause-answer g c = record {
   begun = c.now.new.self;
   now = c.now.result;
   read = c.now.ensures.read;
-  last = c.sleep_by.new.clock;
-  slept = slept _ (λ clock. clock.last) _ _ _ _ _ _ (search rules) c.sleep_by.result c.sleep_by.ensures.answer c.sleep_by.ensures.slept;
-  shows = c.sleep_by.ensures.shows;
+  last = c.sleep_by-found.new.clock;
+  slept = slept _ (λ clock. clock.last) _ _ _ _ _ _ (search rules) c.sleep_by-found.result c.sleep_by-found.ensures.answer c.sleep_by-found.ensures.slept;
+  shows = c.sleep_by-found.ensures.shows;
 }

@@ -1,0 +1,10 @@
+-- The token has only seen more.
+use Rattle.realm_core.specs.Calls.{SeesMore}
+use Rattle.balkreyn.proofs.act.watches.Watch.act.Given as goal
+
+abbrev pub invariant-loop : goal.invariant-loop
+invariant-loop g l = SeesMore (g.X.Scopes.token l.initial.cx) (g.X.Scopes.token l.cx)
+
+abbrev pub invariant-loop-2 : goal.invariant-loop-2
+invariant-loop-2 g l =
+    (goal.iterator-loop-2 g).can_next l.iterator' × (goal.iterator-loop-2 g).is_finite l.iterator'
