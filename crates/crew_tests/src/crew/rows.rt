@@ -190,14 +190,15 @@ const CLOSED_AT_ONCE: Rounds = Rounds {
     refused: &[0],
 };
 
-/// Where no thread may rest, each fork waits for one, in which the close mostly finds it: it is answered then
-/// too. Else this would never end.
+/// If no thread may rest, each fork waits for one, and the close mostly finds it there: it is answered then
+/// too. Else this would never end. Each crew begins when no thread of the last one is counted any more.
 #[test]
 fn a_closing_crew_answers_a_fork_that_waits_for_a_thread(rt: HostRuntime) -> Result<(), Fail> {
+    let threads = threads_now(&rt);
     for _ in 0..200 {
         let seed = Seed::new(rt.alloc())?;
         let played = on_a_crew::<Brand, _>(&rt, rt.alloc(), seed, (CLOSED_AT_ONCE, 0, 0))?;
-        assert!(rt; played.is_right_but_for(0));
+        assert!(rt; played.is_right_but_for(0) && comes_to(&rt, threads));
     }
     Ok(())
 }
