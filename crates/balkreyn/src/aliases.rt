@@ -9,6 +9,25 @@ use thread_crew::Spawns;
 
 /// An executor on the threads of a realm that is named `N`, onto which jobs of type `J` can be forked. All
 /// spawners of their works are such.
+///
+/// A helper that may fork jobs of this type:
+///
+/// ```rust
+/// fn ask<N: RealmName, S: Forks<AnyEnd, N, Work>, R: Wait>(
+///     rt: &R,
+///     ctx: &mut TaskCtx<AnyEnd, S, N>,
+///     name: Name,
+/// ) -> Result<Value, Refusal> {
+///     within(rt, ctx, Joiner::All, Options::PLAIN, |ctx, scope| {
+///         fork(rt, ctx, scope, name, Work::Shop)?;
+///         let joined = ctx.join(rt, scope)?;
+///         match joined.outcome.values() {
+///             Some([one]) => Ok(one.value),
+///             _ => Err(Refusal::Unavailable),
+///         }
+///     })
+/// }
+/// ```
 pub trait Forks<C: Catalog, N: RealmName, J: Answers>: Spawns<N, JobWork<C, N, J>> {}
 
 impl<C: Catalog, N: RealmName, J: Answers, S: Spawns<N, JobWork<C, N, J>>> Forks<C, N, J> for S {}

@@ -22,6 +22,33 @@ impl Error for NoTime {}
 
 /// Why a service failed that has no error of its own: `?` makes one of a refusal, of want of memory, and of a clock that
 /// is not had.
+///
+/// A service hands on each refusal by a `?`:
+///
+/// ```rust
+/// impl<N: RealmName, R: Handle, S: Forks<AnyEnd, N, Work<R, N>>> Service<S, N, R> for Hangs {
+///     #[tactic(auto, unfolding(scope_rules::specs::NameText::is_name))]
+///     fn serve(self, rt: &R, ctx: &mut TaskCtx<AnyEnd, S, N>) -> Result<Seen, ServiceError> {
+///         let clock = realm_clock(rt)?;
+///         let (shop, watch) = (Name::literal(b"shop"), Name::literal(b"watch"));
+///         let alloc = self.alloc;
+///         let job = Watch {
+///             alloc,
+///             realm: ctx.realm()?,
+///             millis: 30,
+///             clock,
+///         };
+///         let seen: Seen = within(rt, ctx, Joiner::Any, Options::PLAIN, |ctx, scope| {
+///             fork(rt, ctx, scope, shop, Work::Shop)?;
+///             await_start(rt, ctx, scope)?;
+///             let slot = fork_typed(rt, alloc, ctx, scope, watch, job)?;
+///             ctx.join(rt, scope)?;
+///             slot.take(rt, ctx)
+///         })?;
+///         Ok(seen)
+///     }
+/// }
+/// ```
 #[derive(Clone, Copy, Debug, PartialEq, Eq)]
 pub enum ServiceError {
     /// The runtime refused a call.

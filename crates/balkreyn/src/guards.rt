@@ -32,6 +32,24 @@ use thread_crew::Spawner;
 /// that of a nursery). It can't be dropped: if it would be, by a forgotten `close` or by a `?` before it,
 /// the program doesn't compile. Pass it to `close_by` or `report_by`, or to `close` or `report`, which wait without
 /// a clock, in the context in which it was opened: another refuses it.
+///
+/// A request over a guard:
+///
+/// ```rust
+/// fn sum_guarded<R: Wait + SystemTime + Copy, N: RealmName, S: Forks<AnyEnd, N, Ask<R>>>(
+///     rt: &R,
+///     ctx: &mut TaskCtx<AnyEnd, S, N>,
+///     clock: &mut SystemClock<R>,
+///     asks: (Ask<R>, Ask<R>),
+///     millis: u64,
+/// ) -> Result<Option<i64>, Refusal> {
+///     let options = fail_after(clock, millis);
+///     let scope = Opened::at(rt, ctx, Joiner::All, options)?;
+///     let found = ask_both(rt, ctx, &scope, clock, asks);
+///     scope.close_by(rt, ctx, clock)?;
+///     found
+/// }
+/// ```
 pub struct Opened {
     scope: ScopeId,
 }

@@ -13,6 +13,19 @@ use std::sync::{Arc, Wait};
 use thread_crew::Spawner;
 
 /// What a job fails with that has errors of its own type. The rules know its task by a fault, which the error gives.
+///
+/// An error that gives its task's fault a name of its own:
+///
+/// ```rust
+/// impl JobError for NoStock {
+///     fn fault(&self, name: Name) -> Fault {
+///         match self {
+///             NoStock::Empty => Fault(named(b"empty")),
+///             _ => Fault(name),
+///         }
+///     }
+/// }
+/// ```
 pub trait JobError: Drop {
     /// The fault of a task whose job failed so, and was forked under the name: that name, if it does not say.
     fn fault(&self, name: Name) -> Fault {
@@ -32,6 +45,16 @@ impl JobError for Fault {
 
 /// What a job answers that is of a type of its own. It stands apart from how the job runs, as `Answers`
 /// does.
+///
+/// ```rust
+/// impl Yields for AskStock {
+///     type Value = Stock;
+///
+///     type Error = NoStock;
+///
+///     ghost is_fact = { λ name stock. Prim.hlevel };
+/// }
+/// ```
 pub trait Yields {
     ghost use Rattle.scope_rules.specs.declared.types.names.Name.{Name};
 
@@ -51,6 +74,22 @@ pub trait Yields {
 
 /// A job that answers a value of a type of its own (JEP 505 has a `Callable` of that type), or an error of its own. It
 /// acts by its context, as any job.
+///
+/// ```rust
+/// impl<N: RealmName, S: Spawner<N>> TypedJob<S, N> for AskStock {
+///     fn run_typed<R: Wait>(
+///         self,
+///         _rt: &R,
+///         _ctx: &mut TaskCtx<AnyEnd, S, N>,
+///         name: Name,
+///     ) -> Result<Stock, Fault> {
+///         match self.pieces {
+///             0 => Err(Fault(name)),
+///             pieces => Ok(Stock { pieces }),
+///         }
+///     }
+/// }
+/// ```
 pub trait TypedJob<S: Spawner<N>, N: RealmName>: Yields {
     /// Does the job, which was forked under the name.
     fn run_typed<R: Wait>(
@@ -64,6 +103,16 @@ pub trait TypedJob<S: Spawner<N>, N: RealmName>: Yields {
 
 /// Such a job, with the place to which its value goes. It is a job of the runtime, whose task succeeds with
 /// the number 0 if there is a value, and else fails with the fault of the job's error.
+///
+/// The arm of a service's jobs in which it is forked:
+///
+/// ```rust
+/// impl From<Typed<AskStock>> for Shop {
+///     fn from(typed: Typed<AskStock>) -> Shop {
+///         Shop::Stock(typed)
+///     }
+/// }
+/// ```
 #[derive(Drop)]
 pub struct Typed<J: Yields> {
     pub(crate) name: Name,

@@ -16,6 +16,33 @@ use std::sync::Wait;
 /// What shows itself from outside, while others act on it: any thread that has a share of a realm may ask, as a
 /// service's that looks at a request which takes too long. The realm's lock is held while the events since the last
 /// retirement are copied, and no longer: the text is made of the copy.
+///
+/// A job that looks at its realm, unless a cancel comes first:
+///
+/// ```rust
+/// impl<K: Handle, N: RealmName, S: Spawner<N>> TypedJob<S, N> for Watch<K, N> {
+///     fn run_typed<R: Wait>(
+///         self,
+///         rt: &R,
+///         ctx: &mut TaskCtx<AnyEnd, S, N>,
+///         name: Name,
+///     ) -> Result<Seen, Fault> {
+///         let mut clock = self.clock;
+///         let until = clock.now().saturating_add(self.millis);
+///         match ctx.sleep_by(&clock.runtime(), &mut clock, until) {
+///             Ok(None) => match (
+///                 self.realm.tree(rt, self.alloc),
+///                 self.realm.dump(rt, self.alloc),
+///                 ctx.journal(rt, self.alloc),
+///             ) {
+///                 (Ok(tree), Ok(dump), Ok(script)) => Ok(Seen { tree, dump, script }),
+///                 _ => Err(Fault(name)),
+///             },
+///             _ => Err(Fault(name)), // the request came to its end before
+///         }
+///     }
+/// }
+/// ```
 pub trait Shows {
     ghost use Rattle.scope_rules.specs.History.{History};
 

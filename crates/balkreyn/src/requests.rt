@@ -3,6 +3,25 @@
 use crate::{CloseReport, Handle, Name, SystemClock};
 
 /// Where the requests of a service come from: each is a job of type `J`, with its name.
+///
+/// A queue of so many requests:
+///
+/// ```rust
+/// impl<R: Handle> Requests<Work<R>, R> for Queue {
+///     fn next(&mut self, clock: SystemClock<R>) -> Option<(Name, Work<R>)> {
+///         if self.left == 0 {
+///             return None;
+///         }
+///         self.left -= 1;
+///         let name = self.name;
+///         Some((name, Work::Request { name, clock }))
+///     }
+///
+///     fn refused(&mut self, _name: Name) {
+///         self.refused = self.refused.saturating_add(1);
+///     }
+/// }
+/// ```
 pub trait Requests<J, R: Handle> {
     /// The next request; none where the service is to end. It may wait for one. The clock is of the realm in
     /// which the request is to be served: its job waits and sleeps by a copy of it.
@@ -20,6 +39,26 @@ pub enum Side {
 }
 
 /// Gets reports of how turns ended, by whichever owner had them.
+///
+/// A count by the reports of turns:
+///
+/// ```rust
+/// impl<K: Wait + Drop> Turned for Counted<K> {
+///     fn ended(&self, _side: Side, report: Option<CloseReport>) {
+///         let Some(report) = report else {
+///             return;
+///         };
+///         let mut count = self.count.lock(&self.rt);
+///         count.turns = count.turns.saturating_add(1);
+///         for entry in report.log.entries() {
+///             if let LogEntry::Finish { end: Ok(value), .. } = *entry {
+///                 count.ended = count.ended.saturating_add(1);
+///                 count.sum = count.sum.saturating_add(number(value));
+///             }
+///         }
+///     }
+/// }
+/// ```
 pub trait Turned {
     /// Takes the report of the scope in which a turn's requests were served, in the realm of this side: its log
     /// has an entry for each event of it, with the end of each request. There is none if memory was refused

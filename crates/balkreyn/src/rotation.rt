@@ -14,6 +14,19 @@ use std::rt::Clock as SystemTime;
 use std::thread;
 
 /// How a service goes on without going idle.
+///
+/// Turns of so many requests, in two realms with these limits:
+///
+/// ```rust
+/// fn turns_of(requests: Option<u32>, limits: (Limits, Limits)) -> Turns {
+///     Turns {
+///         requests,
+///         request: ASKS,
+///         limits,
+///         keep: 8,
+///     }
+/// }
+/// ```
 #[derive(Clone, Copy)]
 pub struct Turns {
     /// How many requests a realm begins before it hands on to the other, if that is free; 0 counts as 1. With
@@ -28,6 +41,34 @@ pub struct Turns {
 }
 
 /// A service that ended before its source did.
+///
+/// A queue that is served over two realms, or comes back:
+///
+/// ```rust
+/// fn served<
+///     A: RealmName + Send + Sync + 'static,
+///     B: RealmName + Send + Sync + 'static,
+///     R: CrewRuntime + SystemTime,
+/// >(
+///     rt: &R,
+///     alloc: Global,
+///     seeds: (Seed, Seed),
+///     requests: u32,
+///     queue: Queue,
+///     counted: &Counted<R>,
+/// ) -> Result<Queue, Stopped<Queue>>
+///     requires first { seeds.0 ≡ A.table }
+///     requires second { seeds.1 ≡ B.table }
+/// {
+///     let turns = Turns {
+///         requests: Some(requests),
+///         request: REQUEST,
+///         limits: (Limits::GREATEST, Limits::GREATEST),
+///         keep: 8,
+///     };
+///     rotate::<A, B, Work<R>, _, _, R>(rt, alloc, seeds, turns, queue, counted)
+/// }
+/// ```
 #[derive(Drop)]
 pub struct Stopped<Q> {
     /// For what a realm could not be made, or its owner could not go on.

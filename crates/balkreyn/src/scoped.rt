@@ -17,6 +17,28 @@ use thread_crew::Spawner;
 
 /// Where scopes are opened and closed by an actor's token: a context, of whatever jobs and threads. It
 /// stands between `within` and `TaskCtx`, so that a body is a closure over any context.
+///
+/// A request in a scope by a deadline:
+///
+/// ```rust
+/// fn ask_two<K: Handle, N: RealmName, S: Forks<AnyEnd, N, Work<K>>>(
+///     ctx: &mut TaskCtx<AnyEnd, S, N>,
+///     name: Name,
+///     mut clock: SystemClock<K>,
+/// ) -> Result<i64, Refusal> {
+///     let rt = clock.runtime();
+///     let options = fail_after(&mut clock, 60_000);
+///     within_by(&rt, ctx, Joiner::All, options, clock, |ctx, scope| {
+///         fork(&rt, ctx, scope, name, Work::Shop { price: 30 })?;
+///         fork(&rt, ctx, scope, name, Work::Shop { price: 12 })?;
+///         let joined = ctx.join_by(&rt, scope, &mut clock)?;
+///         match joined.outcome.values() {
+///             Some([one, two]) => Ok(number(one.value).saturating_add(number(two.value))),
+///             _ => Err(Refusal::Unavailable),
+///         }
+///     })
+/// }
+/// ```
 pub trait Scopes {
     ghost use Rattle.std.specs.Prelude.{ℕ, Result};
     ghost use Rattle.scope_rules.specs.declared.types.answers.Verdict.{Verdict};

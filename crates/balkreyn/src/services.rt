@@ -11,6 +11,16 @@ use std::rt::Clock as SystemTime;
 use thread_crew::{Crew, CrewRuntime, OsThreads, Spawner};
 
 /// What a service may return. It is apart from how the service runs, as `Answers` does.
+///
+/// ```rust
+/// impl Promises for Looks {
+///     type Answer = Found;
+///
+///     type Error = Refusal;
+///
+///     ghost may_answer = { λ looks found. Unit {0} };
+/// }
+/// ```
 pub trait Promises {
     /// What it returns.
     type Answer: Drop;
@@ -23,6 +33,14 @@ pub trait Promises {
 }
 
 /// What a service does with main's context. One that forks jobs of type `J` asks `S: Forks<AnyEnd, N, J>`.
+///
+/// ```rust
+/// impl<N: RealmName, S: Forks<AnyEnd, N, Shop>, R: Handle> Service<S, N, R> for Looks {
+///     fn serve(self, rt: &R, ctx: &mut TaskCtx<AnyEnd, S, N>) -> Result<Found, Refusal> {
+///         look(rt, self.alloc, ctx, self.name)
+///     }
+/// }
+/// ```
 pub trait Service<S: Spawner<N>, N: RealmName, R: Handle>: Promises {
     /// Serves. What is left open is closed behind it.
     fn serve(self, rt: &R, ctx: &mut TaskCtx<AnyEnd, S, N>) -> Result<Self::Answer, Self::Error>

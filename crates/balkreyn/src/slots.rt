@@ -16,6 +16,25 @@ use thread_crew::{Spawner, Spawns};
 
 /// What a forked job's value is obtained from (JEP 505, `Subtask`). Its value is the job's name, with what its
 /// fork was answered.
+///
+/// Before the join it refuses, and behind it it gives the value:
+///
+/// ```rust
+/// fn slots<X: Acts<Shop>>(
+///     cx: &mut X,
+/// ) -> Result<(Result<Stock, Refusal>, Result<Stock, Refusal>), Refusal> {
+///     scope(cx, Joiner::AwaitAll, Options::PLAIN, |cx, scope| {
+///         let ask = AskStock {
+///             pieces: 3,
+///             after: 0,
+///         };
+///         let slot = fork_value(cx, scope, named(b"stock"), ask)?;
+///         let early = slot.value(cx);
+///         cx.join(scope)?;
+///         Ok((early, slot.value(cx)))
+///     })
+/// }
+/// ```
 #[derive(Drop)]
 pub struct Slot<J: Yields> {
     pub(crate) name: Name,

@@ -5,7 +5,7 @@ use Rattle.std.specs.List.{list_any}
 use Rattle.std.specs.Option.{option_map_or}
 use Rattle.std.specs.Str.{bytes_eq}
 use Rattle.command_line.specs.CommandLine.{flag_names, is_among, job_named, limit_names, option_names}
-use Rattle.command_line.specs.Near.{nearest}
+use Rattle.script_words.specs.Near.{nearest}
 use Rattle.command_line.specs.Settings.{name_of}
 use Rattle.command_line.specs.Taken.{text_name}
 use Rattle.command_line.specs.Words.{has_text, is_dashed, is_option, long_name}

@@ -6,7 +6,6 @@ pub mod Faults
 pub mod Files
 pub mod HelpWord
 pub mod Hints
-pub mod Near
 pub mod Parsing
 pub mod Settings
 pub mod Taken

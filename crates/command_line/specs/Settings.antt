@@ -1,9 +1,11 @@
 -- The options of a job, and what they say.
-use Rattle.std.specs.Prelude.{ℕ, Bool, List, [], ◌∷◌, Option, Some, None, ◌&&◌, ◌==◌, not, true, false, nat_le, codes, if◌then◌else◌}
+use Rattle.std.specs.Prelude.{◌≡◌, ℕ, Bool, List, [], ◌∷◌, Option, Some, None, ◌&&◌, ◌==◌, not, true, false, nat_le, codes, if◌then◌else◌}
 use Rattle.std.specs.Prelude.{option_map, option_and_then}
 use Rattle.std.specs.List.{after_first, before_first, list_all}
 use Rattle.std.specs.Option.{option_map_or}
 use Rattle.std.specs.Str.Parse.{digits_value}
+use Rattle.clap.specs.Words.{one_text}
+use Rattle.clap.specs.declared.parser.matches.Found.{Found}
 use Rattle.scope_rules.specs.NameText.{is_name}
 use Rattle.scope_rules.specs.Names.{text_of}
 use Rattle.scope_rules.specs.declared.types.capacity.Limits.{Limits}
@@ -46,6 +48,10 @@ flag_name Awaited = codes "awaited"
 abbrev pub bool_text : Bool → List ℕ
 bool_text true = codes "true"
 bool_text false = codes "false"
+
+-- what was found says that the option was given, or that it wasn't
+abbrev pub HasFlag : Found → Flag → Bool → Type 0
+HasFlag found flag set = one_text found (flag_name flag) ≡ Some (bool_text set)
 
 -- the greatest number that an option can say
 abbrev pub greatest_of : Setting → ℕ

@@ -1,11 +1,11 @@
 //! From the program's words to the command that they say.
 ghost use Rattle.std.specs.Prelude.{◌≡◌, ◌⊎◌, Bool, IfOk, IfErr, Some, None, map};
-ghost use Rattle.clap.specs.Words.{first_value, found_of, one_text};
+ghost use Rattle.clap.specs.Words.{first_value, found_of};
 ghost use Rattle.command_line.specs.CommandLine.{Says, SaysNone, command_word, flags_of, job_named, said_by, said_of, script_by, settings_of, show_by};
 ghost use Rattle.command_line.specs.Faults.{Answers, IsUsageOrMemory};
 ghost use Rattle.command_line.specs.Delays.{delay_texts, read_as};
 ghost use Rattle.command_line.specs.Parsing.{TellsFlags};
-ghost use Rattle.command_line.specs.Settings.{bool_text, flag_name, name_of};
+ghost use Rattle.command_line.specs.Settings.{HasFlag, name_of};
 
 use crate::delays::{delays, part_delays};
 use crate::faults::LineFault;
@@ -286,12 +286,12 @@ fn shown(
     options: &ArgMatches<'_>,
     view: ViewOptions,
 ) -> Result<CommandLine, LineFault>
-    ensures said { (strict quiet explain lenient : Bool) → one_text (found_of options.now) (flag_name Flag.Strict) ≡ Some (bool_text strict)
-        → one_text (found_of options.now) (flag_name Flag.Quiet) ≡ Some (bool_text quiet)
-        → one_text (found_of options.now) (flag_name Flag.Explain) ≡ Some (bool_text explain)
-        → one_text (found_of options.now) (flag_name Flag.Lenient) ≡ Some (bool_text lenient) → IfOk result (λ command.
+    ensures said { (strict quiet explain lenient : Bool) → HasFlag (found_of options.now) Flag.Strict strict
+        → HasFlag (found_of options.now) Flag.Quiet quiet
+        → HasFlag (found_of options.now) Flag.Explain explain
+        → HasFlag (found_of options.now) Flag.Lenient lenient → IfOk result (λ command.
         show_by (script_by (λ setting. first_value (found_of options.now) (name_of setting)) strict quiet) (Some view) lenient explain ≡ Some (said_of command)) }
-    ensures refused { (strict quiet explain lenient : Bool) → one_text (found_of options.now) (flag_name Flag.Lenient) ≡ Some (bool_text lenient) → IfErr result (λ fault. (fault ≡ LineFault.Memory)
+    ensures refused { (strict quiet explain lenient : Bool) → HasFlag (found_of options.now) Flag.Lenient lenient → IfErr result (λ fault. (fault ≡ LineFault.Memory)
         ⊎ (show_by (script_by (λ setting. first_value (found_of options.now) (name_of setting)) strict quiet) (Some view) lenient explain ≡ None)) }
     ensures told { IfErr result IsUsageOrMemory }
 {
@@ -306,9 +306,9 @@ fn shown_with(
     view: ViewOptions,
     lenient: bool,
 ) -> Result<CommandLine, LineFault>
-    ensures said { (strict quiet explain : Bool) → one_text (found_of options.now) (flag_name Flag.Strict) ≡ Some (bool_text strict)
-        → one_text (found_of options.now) (flag_name Flag.Quiet) ≡ Some (bool_text quiet)
-        → one_text (found_of options.now) (flag_name Flag.Explain) ≡ Some (bool_text explain) → IfOk result (λ command.
+    ensures said { (strict quiet explain : Bool) → HasFlag (found_of options.now) Flag.Strict strict
+        → HasFlag (found_of options.now) Flag.Quiet quiet
+        → HasFlag (found_of options.now) Flag.Explain explain → IfOk result (λ command.
         show_by (script_by (λ setting. first_value (found_of options.now) (name_of setting)) strict quiet) (Some view) lenient explain ≡ Some (said_of command)) }
     ensures refused { (strict quiet explain : Bool) → IfErr result (λ fault. (fault ≡ LineFault.Memory)
         ⊎ (show_by (script_by (λ setting. first_value (found_of options.now) (name_of setting)) strict quiet) (Some view) lenient explain ≡ None)) }

@@ -1,9 +1,11 @@
 //! Which name is meant by one that differs from it by an edit.
-ghost use Rattle.std.specs.Prelude.{◌≡◌, ◌∷◌, map, option_map};
-ghost use Rattle.command_line.specs.Near.{is_near, is_single, nearest, one_edit, swapped};
+ghost use Rattle.std.specs.Prelude.{◌≡◌, map, option_map};
+ghost use Rattle.script_words.specs.Near.{nearest};
+
+use script_words::is_near;
 
 /// The first of the names that one edit makes of the name.
-#[tactic(auto, unfolding(crate::specs::Near::nearest))]
+#[tactic(auto, unfolding(script_words::specs::Near::nearest))]
 pub fn nearest(names: &[&'static str], name: &str) -> Option<&'static str>
     ensures { option_map (λ found. found.now) result ≡ nearest (map (λ known. known.now) names.now) name.now }
 {
@@ -16,53 +18,5 @@ pub fn nearest(names: &[&'static str], name: &str) -> Option<&'static str>
                 nearest(others, name)
             }
         }
-    }
-}
-
-// Whether one edit makes the other of the name.
-#[tactic(auto, unfolding(crate::specs::Near::is_near))]
-fn is_near(name: &[u8], other: &[u8]) -> bool
-    ensures { result ≡ is_near name.now other.now }
-{
-    match (name, other) {
-        ([], other) => is_single(other),
-        (name, []) => is_single(name),
-        ([x, xs @ ..], [y, ys @ ..]) => {
-            if x == y {
-                is_near(xs, ys)
-            } else {
-                one_edit(name, *x, xs, other, *y, ys)
-            }
-        }
-    }
-}
-
-// Whether names that begin with different letters differ by one edit. Each comes as its first letter and the rest.
-fn one_edit(one: &[u8], x: u8, xs: &[u8], other: &[u8], y: u8, ys: &[u8]) -> bool
-    requires one { one.now ≡ x ∷ xs.now }
-    requires other { other.now ≡ y ∷ ys.now }
-    ensures { result ≡ one_edit x xs.now y ys.now }
-{
-    xs == ys || xs == other || one == ys || swapped(x, xs, y, ys)
-}
-
-// Whether two neighbours stand the other way round, and the rest is the same.
-fn swapped(x: u8, xs: &[u8], y: u8, ys: &[u8]) -> bool
-    ensures { result ≡ swapped x xs.now y ys.now }
-{
-    match (xs, ys) {
-        ([a, others @ ..], [b, rest @ ..]) => x == *b && *a == y && others == rest,
-        _ => false,
-    }
-}
-
-// Whether the name has one letter.
-fn is_single(name: &[u8]) -> bool
-    ensures { result ≡ is_single name.now }
-{
-    match name {
-        [] => false,
-        [_] => true,
-        [_, _, ..] => false,
     }
 }

@@ -1,10 +1,10 @@
 //! The options of a job, and what they say.
 ghost use Rattle.std.specs.Prelude.{◌≡◌, ◌≤◌, ◌⊎◌, Bool, IfOk, IfErr, IfSome, Some, None, option_map};
 ghost use Rattle.std.specs.List.{list_all};
-ghost use Rattle.clap.specs.Words.{first_value, found_of, one_text};
+ghost use Rattle.clap.specs.Words.{first_value, found_of};
 ghost use Rattle.command_line.specs.CommandLine.{format_by, format_said, picture_by, script_by, script_of, tree_by, tree_said};
 ghost use Rattle.command_line.specs.Faults.{IsUsageOrMemory};
-ghost use Rattle.command_line.specs.Settings.{bool_text, flag_name, greatest_of, is_digit, is_plain, name_of, setting_number, numbers_by, numbers_of, plain_number, number_by, delay_of, delay_said};
+ghost use Rattle.command_line.specs.Settings.{HasFlag, flag_name, greatest_of, is_digit, is_plain, name_of, setting_number, numbers_by, numbers_of, plain_number, number_by, delay_of, delay_said};
 
 use crate::faults::LineFault;
 use clap::ArgMatches;
@@ -251,7 +251,7 @@ pub struct Delay {
 /// # Errors
 /// `Usage` if a number is none or too great, `Memory` if memory was refused.
 pub fn script(alloc: Global, matches: &ArgMatches<'_>) -> Result<ScriptOptions, LineFault>
-    ensures said { (strict quiet : Bool) → one_text (found_of matches.now) (flag_name Flag.Strict) ≡ Some (bool_text strict) → one_text (found_of matches.now) (flag_name Flag.Quiet) ≡ Some (bool_text quiet) → IfOk result (λ options.
+    ensures said { (strict quiet : Bool) → HasFlag (found_of matches.now) Flag.Strict strict → HasFlag (found_of matches.now) Flag.Quiet quiet → IfOk result (λ options.
         script_by (λ setting. first_value (found_of matches.now) (name_of setting)) strict quiet ≡ Some (script_of options)) }
     ensures refused { (strict quiet : Bool) → IfErr result (λ fault. (fault ≡ LineFault.Memory)
         ⊎ (script_by (λ setting. first_value (found_of matches.now) (name_of setting)) strict quiet ≡ None)) }
@@ -269,7 +269,7 @@ pub fn script(alloc: Global, matches: &ArgMatches<'_>) -> Result<ScriptOptions, 
 
 /// Whether the option was given, which is one of the job's: `clap` has a text for either case.
 pub fn is_set(matches: &ArgMatches<'_>, flag: Flag) -> bool
-    ensures { (set : Bool) → one_text (found_of matches.now) (flag_name flag) ≡ Some (bool_text set) → result ≡ set }
+    ensures { (set : Bool) → HasFlag (found_of matches.now) flag set → result ≡ set }
 {
     matches.get_flag(flag.name())
 }
@@ -392,9 +392,9 @@ pub fn picture(alloc: Global, matches: &ArgMatches<'_>) -> Result<PictureOptions
 /// # Errors
 /// `Usage` if a number is none or too great, `Memory` if memory was refused.
 pub fn tree(alloc: Global, matches: &ArgMatches<'_>) -> Result<TreeOptions, LineFault>
-    ensures said { (awaited : Bool) → one_text (found_of matches.now) (flag_name Flag.Awaited) ≡ Some (bool_text awaited) → IfOk result (λ tree.
+    ensures said { (awaited : Bool) → HasFlag (found_of matches.now) Flag.Awaited awaited → IfOk result (λ tree.
         tree_by (λ setting. first_value (found_of matches.now) (name_of setting)) awaited ≡ Some tree) }
-    ensures refused { (awaited : Bool) → one_text (found_of matches.now) (flag_name Flag.Awaited) ≡ Some (bool_text awaited) → IfErr result (λ fault. (fault ≡ LineFault.Memory)
+    ensures refused { (awaited : Bool) → HasFlag (found_of matches.now) Flag.Awaited awaited → IfErr result (λ fault. (fault ≡ LineFault.Memory)
         ⊎ (tree_by (λ setting. first_value (found_of matches.now) (name_of setting)) awaited ≡ None)) }
     ensures told { IfErr result IsUsageOrMemory }
 {

@@ -5,3 +5,4 @@ pub mod Said
 pub mod Growing
 pub mod NeverOpened
 pub mod Closed
+pub mod StepPlaces

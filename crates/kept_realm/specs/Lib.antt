@@ -2,3 +2,4 @@ pub mod Lending
 pub mod Telling
 pub mod Fits
 pub mod Readings
+pub mod Steps

@@ -7,6 +7,7 @@ mod fitting;
 mod logs;
 mod readings;
 mod realm;
+mod steps;
 mod telling;
 
 pub use fitting::FittingRealm;

@@ -38,6 +38,8 @@ use Rattle.share_ledger.proofs.Histories.{advanced-append, legal_history}
 use Rattle.share_ledger.specs.Values.{OwnerValue}
 use Rattle.realm_core.specs.Calls.{SeesMore, Added, history_seen}
 use Rattle.realm_core.specs.Waiting.{IsOpenOf}
+use Rattle.quote_plan.specs.Plans.{policy_of}
+use Rattle.quote_plan.specs.declared.plans.Mode.{Mode}
 use Rattle.quote_gateway.specs.Going.{shapes, nests, GoesOn, KeepsScopes, KeepsTasks, IsOpenHere, HasForked, Opens, ForkedAs, task_in}
 use Rattle.quote_gateway.proofs.Going.{FindsEnds, shapes_find, nests_find, agreed, walked, open_going, open_followed, legal_there, history_added, same_actor, same_limits}
 use Rattle.quote_gateway.proofs.Following.{labels_stay, task_is}
@@ -136,6 +138,11 @@ opened_empty L h a policy options legal =
       record { opened = own.opened; is = own.is; by = own.by; unclosed = own.unclosed },
       (tasks_kept h e (scopes h + 1) refl ∙ next_tasks L h legal, refl),
     )
+
+-- as it was asked to be
+pub opened_for : (old new : OwnerValue) (s : ℕ) {m mode : Mode} {o options : Options} → m ≡ mode → o ≡ options → Opens old new (policy_of m) o s → Opens old new (policy_of mode) options s
+opened_for old new s {m} {mode} {o} {options} of_mode of_options opens =
+    subst (λ (told : Options). Opens old new (policy_of mode) told s) of_options (subst (λ (asked : Mode). Opens old new (policy_of asked) o s) of_mode opens)
 
 pub opened_here : (old new : OwnerValue) (policy : Policy) (options : Options) (s : ℕ) → SeesMore old new → Opens old new policy options s → HasForked new s [] []
 opened_here old new policy options s same it =

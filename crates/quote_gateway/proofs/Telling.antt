@@ -20,9 +20,8 @@ use Rattle.realm_core.specs.Ends.{ended}
 use Rattle.realm_core.specs.Waiting.{IsOpenOf}
 use Rattle.realm_core.proofs.EndSteps.{history_ended}
 use Rattle.quote_gateway.specs.Going.{shapes, EndsScope, GoesOn, IsOpenHere, KeepsTasks}
-use Rattle.quote_gateway.specs.Requests.{IsTold}
+use Rattle.quote_gateway.specs.Requests.{IsTold, Pulsed}
 use Rattle.quote_gateway.proofs.Going.{history_added, shapes_find, walked}
-use Rattle.quote_gateway.proofs.Turned.{Pulsed}
 
 -- a tick that is accepted is not back
 not_back : (L : Limits) (h : History) (now : ℕ) → Accepts L h (Tick now) → moment h ≤ now

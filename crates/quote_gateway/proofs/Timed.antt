@@ -24,14 +24,14 @@ use Rattle.quote_plan.specs.Plans.{PlanValue}
 use Rattle.quote_gateway.specs.declared.faults.GatewayFault.{GatewayFault}
 use Rattle.quote_gateway.specs.declared.faults.GatewayFault.TheVariants as fault
 use Rattle.quote_gateway.specs.Going.{shapes, IsOpenHere, IsTurnedDown, HasForked, HasJoined, KeepsTasks}
-use Rattle.quote_gateway.specs.Requests.{FindsNone, IsOfCall, IsRejectedIn, IsStepIn, IsTold}
+use Rattle.quote_gateway.specs.Requests.{FindsNone, IsOfCall, IsRejectedIn, IsStepIn, IsTold, Pulsed}
 use Rattle.quote_gateway.proofs.Going.{added, begins_going, begins_on, goes_nowhere, looked, same_actor, same_limits, tokens_on}
 use Rattle.quote_gateway.proofs.Closing.{begins_keeps, refused_keeps}
 use Rattle.quote_gateway.proofs.Following.{label_after, rejected_after, task_after}
 use Rattle.quote_gateway.proofs.Asking.{forked_still}
 use Rattle.quote_gateway.proofs.Reading.{follows_still, joined_here}
 use Rattle.quote_gateway.proofs.Requested.{none_earlier, turned_none}
-use Rattle.quote_gateway.proofs.Turned.{join_keeps, join_refused, looked_by, refused_or_memory, turned_down, Pulsed}
+use Rattle.quote_gateway.proofs.Turned.{join_keeps, join_refused, looked_by, refused_or_memory, turned_down}
 
 module _ {K : Type 0} (reads : K → K → ℕ → Type 0) (old : OwnerValue) (start : K) (lawful : IsLegal old.limits old.seen) where
   -- while it waits, its token's actor opens, closes and forks nothing

@@ -1,6 +1,6 @@
 -- What a call leaves that was refused while a request was served, and why it was.
 use Rattle.std.proofs.Common.{◌≡◌, ◌⊎◌, ℕ, Ok, Err, Result, List, [], ◌∷◌, ◌++◌, refl, sym, ap, ◌∙◌, subst, inl, inr, append_assoc}
-use Rattle.std.specs.Prelude.{Some, Option, None, IfSome, IsSome}
+use Rattle.std.specs.Prelude.{Some, Option, None, IsSome}
 use Rattle.scope_rules.specs.declared.types.answers.ForkReply.{ForkReply}
 use Rattle.scope_rules.specs.declared.types.answers.ForkReply.TheVariants.{Thread}
 use Rattle.scope_rules.specs.declared.types.events.Event.TheVariants.{Open, Fork, Join, Reject}
@@ -14,7 +14,7 @@ use Rattle.share_ledger.specs.declared.steps.Ask.TheVariants.{Tick}
 use Rattle.share_ledger.specs.declared.steps.RealmStep.{RealmStep}
 use Rattle.share_ledger.specs.declared.steps.RealmStep.TheVariants.{Happened, Asked}
 use Rattle.share_ledger.specs.Values.{OwnerValue}
-use Rattle.realm_core.specs.Calls.{Refused, OutOfMemory, DidOrMemory, DoesOrMemory, SeesMore, HasLooked, history_seen, step_check}
+use Rattle.realm_core.specs.Calls.{Refused, OutOfMemory, DidOrMemory, SeesMore, HasLooked, history_seen, step_check}
 use Rattle.realm_core.specs.Views.{Joins}
 use Rattle.realm_core.specs.declared.joins.Joined.{Joined}
 use Rattle.job_runner.specs.Forks.{ForkWhy, Before, Rejected, ForksJob, ForksRejected, refusal_of}
@@ -24,7 +24,7 @@ use Rattle.quote_plan.specs.Plans.{PlanValue}
 use Rattle.quote_gateway.specs.declared.faults.GatewayFault.{GatewayFault}
 use Rattle.quote_gateway.specs.declared.faults.GatewayFault.TheVariants as fault
 use Rattle.quote_gateway.specs.Going.{nests, KeepsScopes, KeepsTasks, KeepsInnermost, IsBeginning, IsOpenHere, IsRefusedAt, IsTurnedDown, IsOneOf, HasRejected, ForkedAs, ForkTurnedDown, OpensNone}
-use Rattle.quote_gateway.specs.Requests.{IsOfCall, IsRejectedIn}
+use Rattle.quote_gateway.specs.Requests.{IsOfCall, IsRejectedIn, Pulsed}
 use Rattle.quote_gateway.proofs.Going.{added, added_inside, begins_agreeing, begins_on, begins_same, goes_nowhere, looked, nests_find, same_actor, scopes_kept, tokens_on}
 use Rattle.quote_gateway.proofs.Following.{task_after, label_after}
 use Rattle.quote_gateway.proofs.Asking.{forked_task, here_inside, rejected_last}
@@ -174,10 +174,6 @@ fork_turned old mid new s its done rest labels fault.Lost same begins is it = it
 ticked : (old new : OwnerValue) (now : ℕ) (result : Result ℕ Refusal) → DidOrMemory old new (Asked old.actor (Tick now)) (λ h. now) result → KeepsTasks old new
 ticked old new now (Ok reading) it = added old.limits old.actor old.seen new.seen (Asked old.actor (Tick now)) it.adds refl
 ticked old new now (Err refusal) it = looked old.limits old.actor old.seen new.seen (looked_by old new (Asked old.actor (Tick now)) refusal it)
-
--- what a pulse told
-abbrev pub Pulsed : OwnerValue → OwnerValue → Option ℕ → Result ℕ Refusal → Type 0
-Pulsed old new reading result = IfSome reading (λ now. DoesOrMemory old new (Asked old.actor (Tick now)) (λ h. now) result)
 
 pub pulse_keeps : (old new : OwnerValue) (reading : Option ℕ) (result : Result ℕ Refusal) → IsSome reading → Pulsed old new reading result → KeepsTasks old new
 pulse_keeps old new None result read it = absurd cc

@@ -1,6 +1,6 @@
 -- What a request comes to, and on what that rests: all is said of the history that the token of its context has
 -- seen by then.
-use Rattle.std.specs.Prelude.{◌≡◌, ℕ, ◌<◌, ◌≤◌, true, false, ◌⊎◌, Option, Some, None, List, [], map}
+use Rattle.std.specs.Prelude.{◌≡◌, ℕ, ◌<◌, ◌≤◌, true, false, ◌⊎◌, Option, Some, None, Result, List, [], map, IfSome, MatchResult}
 use Rattle.scope_rules.specs.declared.types.events.Event.TheVariants.{Open, Fork, Join}
 use Rattle.scope_rules.specs.declared.types.events.Expiry.TheVariants.{Fail, MoveOn}
 use Rattle.scope_rules.specs.declared.types.events.Options.{Options}
@@ -9,6 +9,7 @@ use Rattle.scope_rules.specs.declared.types.records.Opening.{Opening}
 use Rattle.scope_rules.specs.declared.types.outcomes.Outcome.{Outcome}
 use Rattle.scope_rules.specs.declared.types.outcomes.Outcome.TheVariants as outcome_is
 use Rattle.scope_rules.specs.declared.types.outcomes.TaskState.{TaskState}
+use Rattle.scope_rules.specs.declared.types.refusals.Refusal.{Refusal}
 use Rattle.scope_rules.specs.Answers.{listing_by}
 use Rattle.scope_rules.specs.History.{History, moment, opening, scopes}
 use Rattle.scope_rules.specs.Nests.{tasks_of, label}
@@ -19,9 +20,9 @@ use Rattle.share_ledger.specs.declared.steps.Ask.TheVariants.{Tick}
 use Rattle.share_ledger.specs.declared.steps.RealmStep.{RealmStep}
 use Rattle.share_ledger.specs.declared.steps.RealmStep.TheVariants.{Happened, Asked}
 use Rattle.share_ledger.specs.Values.{OwnerValue}
-use Rattle.realm_core.specs.Calls.{history_seen}
+use Rattle.realm_core.specs.Calls.{DoesOrMemory, history_seen}
 use Rattle.quote_plan.specs.Plans.{PlanValue, labels_of, policy_of}
-use Rattle.quote_plan.specs.Allowed.{AllowedText, PartText}
+use Rattle.quote_plan.specs.Allowed.{AllowedText, HasExpired, PartText}
 use Rattle.quote_plan.specs.Answering.{Answers, IsCancelled}
 use Rattle.quote_plan.specs.declared.answers.Answer.{Answer}
 use Rattle.quote_plan.specs.declared.answering.NoAnswer.{NoAnswer}
@@ -109,6 +110,10 @@ MakesNone plan Expired tasks o fault.Cancelled = WasCancelled Expired o
 MakesNone plan Expired tasks o fault.Memory = Unit {0}
 MakesNone plan Expired tasks o _ = ⊥
 
+-- what the outcome and the states make: an answer, or none
+abbrev pub MakesBy : PlanValue → Type 0 → List TaskState → Outcome → Result Answer GatewayFault → Type 0
+MakesBy plan Expired tasks o result = MatchResult result (λ a. MakesAnswer plan a tasks o) (MakesNone plan Expired tasks o)
+
 -- the step is one that the actor takes for the plan in scope s and that may be refused: it forks a job of the plan,
 -- joins, or tells the moment
 abbrev pub IsStepIn : PlanValue → ℕ → ℕ → RealmStep → Type 0
@@ -149,7 +154,19 @@ Fails old new plan options Expired fault.Lost = WasServed old new plan options (
 Fails old new plan options Expired fault.Cancelled = WasServed old new plan options (λ tasks o. WasCancelled Expired o)
 Fails old new plan options Expired why = IsTurnedDown (IsNotOpened old new plan options ⊎ WasRejected old new plan options) why
 
+-- what is found in scope s: an answer that rests on it, or nothing for a cause
+abbrev pub Finds : OwnerValue → OwnerValue → PlanValue → ℕ → Type 0 → Result Answer GatewayFault → Type 0
+Finds old new plan s Expired result = MatchResult result (λ a. IsFound (history_seen new) plan s (MakesAnswer plan a)) (FindsNone old new plan s Expired)
+
+-- what a request whose jobs are the plan's comes to: an answer that rests on its scope, or none for a cause
+abbrev pub ComesTo : OwnerValue → OwnerValue → PlanValue → Options → Type 0 → Result Answer GatewayFault → Type 0
+ComesTo old new plan options Expired result = MatchResult result (RestsOn old new plan options) (Fails old new plan options Expired)
+
 -- ---- the clock of a request
+
+-- what a pulse told
+abbrev pub Pulsed : OwnerValue → OwnerValue → Option ℕ → Result ℕ Refusal → Type 0
+Pulsed old new reading result = IfSome reading (λ now. DoesOrMemory old new (Asked old.actor (Tick now)) (λ h. now) result)
 
 -- the clock has been read, and the moment has come to what it read last
 abbrev pub IsTold : History → Option ℕ → Type 0
@@ -164,6 +181,10 @@ without_deadline = record { deadline = None; expiry = Fail; shield = false }
 -- its time runs out at the deadline, and the join then shows what was there
 abbrev pub moving_on : ℕ → Options
 moving_on deadline = record { deadline = Some deadline; expiry = MoveOn; shield = false }
+
+-- why a request by the deadline whose jobs are the plan's has no answer
+abbrev pub FailsBy : OwnerValue → OwnerValue → PlanValue → (deadline : ℕ) (reading : Option ℕ) → GatewayFault → Type 0
+FailsBy old new plan deadline reading why = Fails old new plan (moving_on deadline) (HasExpired deadline reading) why
 
 -- what the token was before it had seen anything
 abbrev pub unused : OwnerValue → OwnerValue

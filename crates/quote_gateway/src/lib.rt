@@ -8,6 +8,7 @@ mod offer_jobs;
 mod requests;
 mod services;
 mod serving;
+mod until;
 
 pub use faults::GatewayFault;
 pub use offer_jobs::{Late, LateJob, OfferJob, jobs_of, late_jobs_of};

@@ -1,15 +1,14 @@
 //! What is done for a request in its scope.
-ghost use Rattle.std.specs.Prelude.{◌≡◌, ◌↔◌, ℕ, [], ◌∷◌, IfErr, IfOk, IsTrue, MatchResult};
+ghost use Rattle.std.specs.Prelude.{◌≡◌, ◌↔◌, ℕ, [], ◌∷◌, IfErr, IfOk, IsTrue};
 ghost use Rattle.join_rules.specs.Joiners.{policy_of as policy_stored};
 ghost use Rattle.scope_rules.specs.Answers.{listing_by};
 ghost use Rattle.scope_rules.specs.Tasks.{state};
 ghost use Rattle.realm_core.specs.Calls.{SeesMore, history_seen};
-ghost use Rattle.quote_plan.specs.Answering.{Answers};
 ghost use Rattle.quote_plan.specs.AnswerText.{answer_text};
 ghost use Rattle.quote_plan.specs.Plans.{labels_of, policy_of};
 ghost use Rattle.quote_gateway.specs.Going.{EndsScope, ForkTurnedDown, ForkedAs, HasForked, HasJoined, IsOpenHere, IsTaskHere, IsTurnedDown, KeepsScopes, KeepsTasks, Opens, OpensNone, task_in};
 ghost use Rattle.quote_gateway.specs.Offers.{labels_in};
-ghost use Rattle.quote_gateway.specs.Requests.{Allows, FindsNone, IsFound, IsPartial, MakesAnswer, MakesNone};
+ghost use Rattle.quote_gateway.specs.Requests.{Allows, Finds, IsPartial, MakesBy};
 
 use crate::faults::GatewayFault;
 use job_runner::{Answers, JobWork, NamedJob, TaskCtx};
@@ -118,7 +117,7 @@ pub(crate) fn join_and_answer<N: RealmName, S: Spawner<N>, R: Wait>(
     ensures token { SeesMore ctx.old.token ctx.new.token }
     ensures keeps { KeepsTasks ctx.old.token ctx.new.token }
     ensures allowed { IfOk result (λ a. Allows plan.now ⊥ (answer_text a)) }
-    ensures found { MatchResult result (λ a. IsFound (history_seen ctx.new.token) plan.now scope (MakesAnswer plan.now a)) (FindsNone ctx.old.token ctx.new.token plan.now scope ⊥) }
+    ensures found { Finds ctx.old.token ctx.new.token plan.now scope ⊥ result }
 {
     match ctx.join(rt, scope) {
         Ok(joined) => answer_joined(rt, alloc, ctx, plan, tasks, &joined.outcome, false),
@@ -141,7 +140,7 @@ pub(crate) fn answer_joined<N: RealmName, S: Spawner<N>, R: Wait>(
     ensures token { SeesMore ctx.old.token ctx.new.token }
     ensures keeps { KeepsTasks ctx.old.token ctx.new.token }
     ensures allowed { IfOk result (λ a. Allows plan.now (IsTrue expired) (answer_text a)) }
-    ensures rests { MatchResult result (λ a. Answers plan.now.mode plan.now.offers (listing_by (state (history_seen ctx.new.token)) tasks.now) outcome.now a) (MakesNone plan.now (IsTrue expired) (listing_by (state (history_seen ctx.new.token)) tasks.now) outcome.now) }
+    ensures rests { MakesBy plan.now (IsTrue expired) (listing_by (state (history_seen ctx.new.token)) tasks.now) outcome.now result }
 {
     match states_of(rt, alloc, ctx, tasks) {
         Ok(states) => answer_by(alloc, plan, states.as_slice(), outcome, expired),
@@ -195,7 +194,7 @@ fn answer_by(
     expired: bool,
 ) -> Result<Answer, GatewayFault>
     ensures allowed { IfOk result (λ a. Allows plan.now (IsTrue expired) (answer_text a)) }
-    ensures rests { MatchResult result (λ a. Answers plan.now.mode plan.now.offers tasks.now outcome.now a) (MakesNone plan.now (IsTrue expired) tasks.now outcome.now) }
+    ensures rests { MakesBy plan.now (IsTrue expired) tasks.now outcome.now result }
 {
     if !expired && is_partial(outcome) {
         return Err(GatewayFault::Cancelled);

@@ -6,11 +6,12 @@ ghost use Rattle.quote_plan.specs.Allowed.{AllowedText, AllowedTextBy, HasExpire
 ghost use Rattle.quote_plan.specs.AnswerText.{answer_text};
 ghost use Rattle.quote_plan.specs.Plans.{labels_of};
 ghost use Rattle.quote_gateway.specs.Offers.{labels_in};
-ghost use Rattle.quote_gateway.specs.Requests.{Fails, IsTold, RestsOn, moving_on, unused, without_deadline};
+ghost use Rattle.quote_gateway.specs.Requests.{ComesTo, IsTold, moving_on, unused, without_deadline};
 
 use crate::faults::GatewayFault;
 use crate::labels::are_offers;
-use crate::serving::{ask, ask_by};
+use crate::serving::ask;
+use crate::until::{By, Untimed};
 use job_runner::{Answers, Clock, JobWork, NamedJob, TaskCtx};
 use quote_plan::{Answer, Plan};
 use realm_lock::{Realm, RealmName, Seed};
@@ -47,7 +48,7 @@ pub fn serve<N: RealmName, J: Answers + Drop, S: Spawns<N, JobWork<Due, N, J>> +
     requires named { seed ≡ N.table }
     ensures main { IfOk result (λ served. (served.ctx.token.table ≡ N.table) × (served.ctx.token.actor ≡ 0) × (innermost (history_seen served.ctx.token) 0 ≡ None)) }
     ensures allowed { IfOk result (λ served. IfOk served.found (λ a. AllowedText plan.now (answer_text a))) }
-    ensures rests { IfOk result (λ served. MatchResult served.found (RestsOn (unused served.ctx.token) served.ctx.token plan.now without_deadline) (Fails (unused served.ctx.token) served.ctx.token plan.now without_deadline ⊥)) }
+    ensures rests { IfOk result (λ served. ComesTo (unused served.ctx.token) served.ctx.token plan.now without_deadline ⊥ served.found) }
     ensures strange { (result ≡ Err GatewayFault.Strange) ↔ (labels_in jobs.items ≡ labels_of plan.now → ⊥) }
     ensures none { IfErr result (λ fault. labels_in jobs.items ≡ labels_of plan.now → fault ≡ GatewayFault.Memory) }
 {
@@ -55,7 +56,7 @@ pub fn serve<N: RealmName, J: Answers + Drop, S: Spawns<N, JobWork<Due, N, J>> +
         return Err(GatewayFault::Strange);
     }
     let mut ctx = main_context::<N, S>(alloc, seed, spawner)?;
-    let found = ask(rt, alloc, &mut ctx, plan, jobs);
+    let found = ask(rt, alloc, &mut ctx, plan, jobs, &Untimed, &mut ());
     Ok(Served { found, ctx })
 }
 
@@ -83,7 +84,7 @@ pub fn serve_by<
     requires named { seed ≡ N.table }
     ensures main { IfOk result (λ served. (served.ctx.token.table ≡ N.table) × (served.ctx.token.actor ≡ 0) × (innermost (history_seen served.ctx.token) 0 ≡ None)) }
     ensures allowed { IfOk result (λ served. IfOk served.found (λ a. AllowedTextBy plan.now deadline (K.reading clock.new) (answer_text a))) }
-    ensures rests { IfOk result (λ served. MatchResult served.found (RestsOn (unused served.ctx.token) served.ctx.token plan.now (moving_on deadline)) (Fails (unused served.ctx.token) served.ctx.token plan.now (moving_on deadline) (HasExpired deadline (K.reading clock.new)))) }
+    ensures rests { IfOk result (λ served. ComesTo (unused served.ctx.token) served.ctx.token plan.now (moving_on deadline) (HasExpired deadline (K.reading clock.new)) served.found) }
     ensures told { IfOk result (λ served. OnOk served.found (IsTold (history_seen served.ctx.token) (K.reading clock.new))) }
     ensures strange { (result ≡ Err GatewayFault.Strange) ↔ (labels_in jobs.items ≡ labels_of plan.now → ⊥) }
     ensures none { IfErr result (λ fault. labels_in jobs.items ≡ labels_of plan.now → fault ≡ GatewayFault.Memory) }
@@ -92,7 +93,7 @@ pub fn serve_by<
         return Err(GatewayFault::Strange);
     }
     let mut ctx = main_context::<N, S>(alloc, seed, spawner)?;
-    let found = ask_by(rt, alloc, &mut ctx, plan, jobs, deadline, clock);
+    let found = ask(rt, alloc, &mut ctx, plan, jobs, &By { deadline }, clock);
     Ok(Served { found, ctx })
 }
 

@@ -1,15 +1,20 @@
 -- A search finds something just if a test says that there is something.
-use Rattle.std.proofs.Common.{◌≡◌, ℕ, zero, suc, ◌+◌, ◌&&◌, ◌||◌, Bool, true, false, not, cond, is_some, nat_lt, Option, Some, None, List, [], ◌∷◌, length, refl, ap, sym, ◌∙◌, arith}
+use Rattle.std.proofs.Common.{◌≡◌, ℕ, zero, suc, ◌+◌, ◌&&◌, ◌||◌, Bool, true, false, not, cond, is_some, nat_lt, Option, Some, None, Err, List, [], ◌∷◌, length, refl, ap, sym, ◌∙◌, arith}
 use Rattle.std.proofs.lemmas.Bool.{lt-ltb}
 use Rattle.std.proofs.lemmas.Bool.Decides.{nat_tests}
-use Rattle.std.specs.Option.{option_or}
+use Rattle.std.specs.Option.{option_or, option_map_or}
 use Rattle.std.specs.List.{list_any, find, filter, position, position_or_len}
 use Rattle.scope_rules.specs.Search.{earliest, some_below}
 use Rattle.scope_rules.specs.Completions.{is_task_of}
 use Rattle.scope_rules.specs.History.{History, task_numbers}
 use Rattle.scope_rules.specs.Nests.{tasks_of}
-use Rattle.scope_rules.specs.Scopes.{joins, ends, joined, closed, closing, closing_at}
+use Rattle.scope_rules.specs.Scopes.{joins, ends, joined, closed, closing, closing_at, innermost}
 use Rattle.scope_rules.specs.Tasks.{settled}
+use Rattle.scope_rules.proofs.Innermosts.{innermost_unclosed}
+use Rattle.refusal_reasons.specs.declared.reasons.Reason.{Reason}
+use Rattle.refusal_reasons.specs.declared.reasons.Reason.TheVariants as reason
+use Rattle.refusal_reasons.specs.declared.reasons.ScopeObstacle.TheVariants as scope_is
+use Rattle.refusal_reasons.specs.Obstacles.{stopped_by, stands, not_closed}
 use Rattle.refusal_reasons.specs.Places.{place_if, first_place, closing_place, closed_place, joined_place, is_pending, pending_task}
 
 moved : (m n : ℕ) → nat_lt m n ≡ nat_lt (1 + m) (suc n)
@@ -87,3 +92,23 @@ no_pending_task h s holds = none_if (pending_task h s) (by (is_some (pending_tas
     by : (b : Bool) → not b ≡ true → b ≡ false
     by true so = absurd cc
     by false so = refl
+
+-- ---- what is found of a scope that is closing
+
+pub found_closed : (h : History) (s : ℕ) → closed_place h.events s ≡ None → closed h s ≡ false
+found_closed h s none = closed_is h s ∙ ap is_some none
+
+pub stands_closed : (h : History) (s : ℕ) (r : Reason) → closing h s ≡ true → not_closed h s ≡ Err r → stands h s ≡ Err r
+stands_closed h s r so is = by (closing_place h s) (closed_place h.events s) (sym (closing_is h s) ∙ so) is
+  where
+    by : (o c : Option ℕ) → is_some o ≡ true → stopped_by c (λ at. reason.Scope s (scope_is.Closed (at + 1))) ≡ Err r → stopped_by o (λ place. option_map_or (λ at. reason.Scope s (scope_is.Closed (at + 1))) c (reason.Scope s (scope_is.Closing (place + 1)))) ≡ Err r
+    by None c none is = absurd cc
+    by (Some place) None some is = absurd cc
+    by (Some place) (Some at) some is = is
+
+pub stands_closing : (h : History) (s place : ℕ) → closed h s ≡ false → closing_place h s ≡ Some place → stands h s ≡ Err (reason.Scope s (scope_is.Closing (place + 1)))
+stands_closing h s place unclosed is = rw is (ap (λ (c : Option ℕ). Err (option_map_or (λ at. reason.Scope s (scope_is.Closed (at + 1))) c (reason.Scope s (scope_is.Closing (place + 1))))) (no_closed h s unclosed))
+
+-- an actor's innermost scope is not closed
+pub innermost_live : (h : History) (a s : ℕ) → innermost h a ≡ Some s → closed h s ≡ false
+innermost_live h a s is = (innermost_unclosed h a s is).unclosed

@@ -1,12 +1,13 @@
 mod Searched
 mod Found
+mod Closings
 mod Fits
 mod RowsFit
 mod Truth
 mod RowsTrue
 mod Ascii
-mod Tables
 mod Options
 mod FaultsFit
 mod FirstWrong
+mod Called
 mod PlacesFit

@@ -8,34 +8,7 @@ use Rattle.script_words.specs.Fields.{first_and_rest}
 use Rattle.script_words.specs.Joiners.{after, policy_said, rule_said, failures_said, successes_said, sum_said}
 use Rattle.script_words.specs.Numbers.{small_said, integer_said}
 use Rattle.script_words.specs.Openings.{found_or, next_said, policy_next, deadline_said, deadline_next, flag_said, flag_next}
-use Rattle.refusal_reasons.specs.Faults.{is_small_after, is_integer_after, count_of, count_next}
-
--- ---- rules
-
-some_or : {A : Type 0} (o p : Option A) → is_some (option_or o p) ≡ (is_some o || is_some p)
-some_or None p = refl
-some_or (Some x) p = refl
-
-some_mapped : {A B C : Type 0} (f : B → C) (g : A → Option B) (o : Option A) → is_some (option_map f (option_and_then g o)) ≡ option_map_or (λ x. is_some (g x)) o false
-some_mapped f g None = refl
-some_mapped f g (Some x) = by (g x)
-  where
-    by : (o : Option _) → is_some (option_map f o) ≡ is_some o
-    by None = refl
-    by (Some y) = refl
-
-pub rule_is : (word : List ℕ) → is_some (rule_said word) ≡ (is_small_after (codes "until:fail:") word || (is_small_after (codes "until:ok:") word || is_integer_after (codes "until:sum:") word))
-unfolding rule_said
-rule_is word =
-    some_or (failures_said word) (option_or (successes_said word) (sum_said word))
-    ∙ (ap (λ b. is_some (failures_said word) || b) (some_or (successes_said word) (sum_said word))
-    ∙ (ap (λ b. b || (is_some (successes_said word) || is_some (sum_said word))) (some_mapped _ small_said (after (codes "until:fail:") word))
-    ∙ (ap (λ b. is_small_after (codes "until:fail:") word || (b || is_some (sum_said word))) (some_mapped _ small_said (after (codes "until:ok:") word))
-    ∙ ap (λ b. is_small_after (codes "until:fail:") word || (is_small_after (codes "until:ok:") word || b)) (some_mapped _ integer_said (after (codes "until:sum:") word)))))
-
--- a word that is no other rule
-pub last_rule : (word : List ℕ) → is_small_after (codes "until:fail:") word ≡ false → is_small_after (codes "until:ok:") word ≡ false → is_integer_after (codes "until:sum:") word ≡ is_some (rule_said word)
-last_rule word fails also = sym (rule_is word ∙ (ap (λ b. b || (is_small_after (codes "until:ok:") word || is_integer_after (codes "until:sum:") word)) fails ∙ ap (λ b. b || is_integer_after (codes "until:sum:") word) also))
+use Rattle.refusal_reasons.specs.Faults.{count_of, count_next}
 
 -- ---- the next word
 

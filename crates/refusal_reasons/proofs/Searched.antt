@@ -1,84 +1,38 @@
 -- What searches find.
-use Rattle.std.proofs.Common.{◌≡◌, ℕ, zero, suc, ◌+◌, ◌<◌, ◌≤◌, Bool, true, false, cond, Option, Some, None, List, [], ◌∷◌, ◌++◌, length, slice_get, take, ◌||◌, refl, ap, sym, ◌∙◌, arith}
-use Rattle.std.proofs.lemmas.List.{length-take}
+use Rattle.std.proofs.Common.{◌≡◌, ℕ, zero, suc, ◌+◌, ◌<◌, ◌≤◌, Bool, true, false, cond, Some, None, List, [], ◌∷◌, ◌++◌, length, slice_get, take, ◌||◌, refl, ap, sym, ◌∙◌, arith}
+use Rattle.std.proofs.lemmas.Bool.{false_from_ne_true}
 use Rattle.std.proofs.lemmas.List.Sums.{count_by-le-length, length-filter}
 use Rattle.std.proofs.lemmas.List.FromFn.{length-range_with_len}
 use Rattle.std.specs.List.{find, list_any, position, position_from}
 use Rattle.std.proofs.lemmas.Iterator.Adapters.{position_from-zero}
-use Rattle.scope_rules.specs.Scopes.{ends, closed}
 use Rattle.scope_rules.specs.Completions.{is_task_of}
 use Rattle.scope_rules.specs.Nests.{tasks_of}
-use Rattle.scope_rules.specs.declared.types.records.Opening.{Opening}
 use Rattle.scope_rules.specs.Search.{earliest}
-use Rattle.scope_rules.specs.History.{History, before, opening, forked_count, tasks, task_numbers}
-use Rattle.scope_rules.proofs.Searching.{earliest_none_step, earliest_found}
-use Rattle.scope_rules.proofs.Earlier.{opening_before, opening_since, opening_within}
+use Rattle.scope_rules.specs.History.{History, forked_count, tasks, task_numbers}
+use Rattle.scope_rules.proofs.Searching.{earliest_found}
 use Rattle.scope_rules.proofs.Prefixes.{take_at, take_whole}
-use Rattle.refusal_reasons.specs.Places.{place_if, first_place, is_before, closed_place}
+use Rattle.refusal_reasons.specs.Places.{place_if, first_place}
 
 -- ---- places
 
-pub place_none : (test : ℕ → Bool) → first_place test 0 ≡ None
+none_below : (test : ℕ → Bool) (n : ℕ) → ((i : ℕ) → test i ≡ true → n ≤ i) → first_place test n ≡ None
 unfolding first_place earliest
-place_none test = refl
+none_below test zero late = refl
+none_below test (suc n) late =
+    let sooner = none_below test n (λ i holds. omega (arith, late i holds)) in
+    let fails : test n ≡ false = false_from_ne_true (test n) (λ holds. absurd (omega (arith, late n holds))) in
+    rw sooner (ap (λ b. cond b (Some n) None) fails)
 
-pub place_passed : (test : ℕ → Bool) (i : ℕ) → first_place test i ≡ None → test i ≡ false → first_place test (i + 1) ≡ None
+-- the test holds of the place, and of none before it
+pub first_is : (test : ℕ → Bool) (i n : ℕ) → test i ≡ true → ((j : ℕ) → test j ≡ true → i ≤ j) → i < n → first_place test n ≡ Some i
 unfolding first_place
-place_passed test i none fails = earliest_none_step (place_if test) i none (ap (λ b. cond b (Some i) None) fails)
+first_is test i n holds least within = earliest_found (place_if test) i i n (none_below test i least) (ap (λ b. cond b (Some i) None) holds) within
 
-pub place_found : (test : ℕ → Bool) (i n : ℕ) → first_place test i ≡ None → test i ≡ true → i < n → first_place test n ≡ Some i
-unfolding first_place
-place_found test i n none here within = earliest_found (place_if test) i i n none (ap (λ b. cond b (Some i) None) here) within
+-- the test holds of no place
+pub first_is_none : (test : ℕ → Bool) (n : ℕ) → ((i : ℕ) → test i ≡ true → ⊥) → first_place test n ≡ None
+first_is_none test n never = none_below test n (λ i holds. absurd (never i holds))
 
--- ---- what comes before the first place
-
-from_least : {A : Type 0} (p : A → Bool) (xs : List A) (n e : ℕ) → position_from p n xs ≡ Some e → n ≤ e
-from_least p [] n e at = absurd cc
-from_least p (x ∷ xs) n e at = by (p x) at (from_least p xs (n + 1) e)
-  where
-    by : (b : Bool) → cond b (Some n) (position_from p (n + 1) xs) ≡ Some e → (position_from p (n + 1) xs ≡ Some e → n + 1 ≤ e) → n ≤ e
-    by true at more = let same : n ≡ e = cc in omega (arith, same)
-    by false at more = omega (arith, more at)
-
-any_from : {A : Type 0} (p : A → Bool) (xs : List A) (n i : ℕ) → list_any p (take i xs) ≡ is_before (position_from p n xs) (n + i)
-any_from p [] n zero = refl
-any_from p [] n (suc i) = refl
-any_from p (x ∷ xs) n zero = by (p x) (position_from p (n + 1) xs) (from_least p xs (n + 1))
-  where
-    by : (b : Bool) (o : Option ℕ) → ((e : ℕ) → o ≡ Some e → n + 1 ≤ e) → false ≡ is_before (cond b (Some n) o) (n + 0)
-    by true o least = grind arith
-    by false None least = refl
-    by false (Some e) least = grind (arith, least e refl)
-any_from p (x ∷ xs) n (suc i) = by (p x) (any_from p xs (n + 1) i)
-  where
-    by : (b : Bool) → list_any p (take i xs) ≡ is_before (position_from p (n + 1) xs) (n + 1 + i) → (b || list_any p (take i xs)) ≡ is_before (cond b (Some n) (position_from p (n + 1) xs)) (n + suc i)
-    by true is = grind arith
-    by false is = is ∙ ap (is_before (position_from p (n + 1) xs)) (omega arith)
-
-any_before : {A : Type 0} (p : A → Bool) (xs : List A) (i : ℕ) → list_any p (take i xs) ≡ is_before (position p xs) i
-any_before p xs i = any_from p xs 0 i ∙ (ap (is_before (position_from p 0 xs)) (omega arith) ∙ ap (λ o. is_before o i) (sym (position_from-zero p xs)))
-
--- the scope was closed before the place just if the place of its close is an earlier one
-pub closed_by : (h : History) (s i : ℕ) (place : Option ℕ) → place ≡ closed_place h.events s → is_before place i ≡ closed (before h i) s
-unfolding closed
-closed_by h s i place is = ap (λ o. is_before o i) is ∙ sym (any_before (ends s) h.events i)
-
--- ---- the first place, by a walk over the places
-
--- none of no elements passes
-pub position_none : {A : Type 0} (p : A → Bool) (xs : List A) → list_any p (take 0 xs) ≡ false
-position_none p [] = refl
-position_none p (x ∷ xs) = refl
-
--- one more that does not pass
-pub position_passed : {A : Type 0} (p : A → Bool) (xs : List A) (i : ℕ) (x : A) → slice_get xs i ≡ Some x → list_any p (take i xs) ≡ false → p x ≡ false → list_any p (take (i + 1) xs) ≡ false
-position_passed p [] i x at none fails = absurd cc
-position_passed p (y ∷ ys) zero x at none fails = let same : y ≡ x = cc in rw same (ap (λ b. b || list_any p (take 0 ys)) fails ∙ position_none p ys)
-position_passed p (y ∷ ys) (suc i) x at none fails = let next : suc i + 1 ≡ suc (i + 1) = omega arith in rw next (by (p y) none (λ rest. position_passed p ys i x at rest fails))
-  where
-    by : (b : Bool) → (b || list_any p (take i ys)) ≡ false → (list_any p (take i ys) ≡ false → list_any p (take (i + 1) ys) ≡ false) → (b || list_any p (take (i + 1) ys)) ≡ false
-    by true none more = absurd cc
-    by false none more = more none
+-- ---- the first element that passes
 
 found_from : {A : Type 0} (p : A → Bool) (xs : List A) (n i : ℕ) (x : A) → slice_get xs i ≡ Some x → list_any p (take i xs) ≡ false → p x ≡ true → position_from p n xs ≡ Some (n + i)
 found_from p [] n i x at none holds = absurd cc
@@ -89,21 +43,9 @@ found_from p (y ∷ ys) n (suc i) x at none holds = by (p y) none (λ rest. foun
     by true none more = absurd cc
     by false none more = more none
 
-none_from : {A : Type 0} (p : A → Bool) (xs : List A) (n : ℕ) → list_any p xs ≡ false → position_from p n xs ≡ None
-none_from p [] n none = refl
-none_from p (y ∷ ys) n none = by (p y) none (none_from p ys (n + 1))
-  where
-    by : (b : Bool) → (b || list_any p ys) ≡ false → (list_any p ys ≡ false → position_from p (n + 1) ys ≡ None) → cond b (Some n) (position_from p (n + 1) ys) ≡ None
-    by true none more = absurd cc
-    by false none more = more none
-
 -- the first that passes
 pub position_found : {A : Type 0} (p : A → Bool) (xs : List A) (i : ℕ) (x : A) → slice_get xs i ≡ Some x → list_any p (take i xs) ≡ false → p x ≡ true → position p xs ≡ Some i
 position_found p xs i x at none holds = position_from-zero p xs ∙ (found_from p xs 0 i x at none holds ∙ ap Some (omega arith))
-
--- none of all passes
-pub position_all : {A : Type 0} (p : A → Bool) (xs : List A) (i : ℕ) → length xs ≤ i → list_any p (take i xs) ≡ false → position p xs ≡ None
-position_all p xs i all none = position_from-zero p xs ∙ none_from p xs 0 (ap (list_any p) (sym (take_whole xs i all)) ∙ none)
 
 -- ---- elements
 
@@ -136,35 +78,3 @@ find_found p (y ∷ ys) (suc i) x at none holds = by (p y) none (λ rest. find_f
 -- if the place has come to the number of all tasks, all tasks of the scope were passed
 pub all_passed : (p : ℕ → Bool) (h : History) (s i : ℕ) → tasks h ≤ i → find p (take i (tasks_of h s)) ≡ None → find p (tasks_of h s) ≡ None
 all_passed p h s i all none = ap (find p) (sym (take_whole (tasks_of h s) i (omega (arith, all, few_tasks h s)))) ∙ none
-
--- ---- openings before a place
-
--- what was opened later was not opened then
-pub opened_later : (h : History) (n s : ℕ) (o : Opening) → opening h s ≡ Some o → n ≤ o.place → opening (before h n) s ≡ None
-opened_later h n s o is later = by (opening (before h n) s) refl
-  where
-    by : (p : Option Opening) → opening (before h n) s ≡ p → p ≡ None
-    by None e = refl
-    by (Some q) e =
-        let same : q ≡ o = the_same (sym (opening_since h s n q e) ∙ is) in
-        absurd (omega (arith, opening_within (before h n) s q e, few, ap (λ (x : Opening). x.place) same, later))
-      where
-        the_same : Some q ≡ Some o → q ≡ o
-        the_same x = cc
-
-        few : length (take n h.events) ≤ n
-        few = omega (arith, length-take n h.events)
-
--- nor was what is not opened
-pub never_opened : (h : History) (n s : ℕ) → opening h s ≡ None → opening (before h n) s ≡ None
-never_opened h n s none = by (opening (before h n) s) refl
-  where
-    by : (p : Option Opening) → opening (before h n) s ≡ p → p ≡ None
-    by None e = refl
-    by (Some q) e = absurd (apart (sym none ∙ opening_since h s n q e))
-      where
-        apart : None ≡ Some q → ⊥
-        apart x = cc
-
-pub opened_before : (h : History) (n s : ℕ) (o : Opening) → opening h s ≡ Some o → o.place < n → opening (before h n) s ≡ Some o
-opened_before h n s o is later = opening_before h s n o is later

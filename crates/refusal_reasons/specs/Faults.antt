@@ -1,14 +1,13 @@
 -- Why a line is no command: the first of its fields that its form does not have there.
-use Rattle.std.specs.Prelude.{ℕ, ◌+◌, Bool, false, nat_lt, List, [], ◌∷◌, length, Option, Some, None, option_map, is_some, codes, if◌then◌else◌}
-use Rattle.std.specs.Option.{option_map_or}
+use Rattle.std.specs.Prelude.{ℕ, ◌+◌, Bool, nat_lt, List, [], ◌∷◌, length, Option, Some, None, option_map, is_some, codes, if◌then◌else◌}
 use Rattle.std.specs.Str.{bytes_eq}
 use Rattle.script_words.specs.declared.lines.TheConstants.{LINE_LIMIT}
 use Rattle.script_words.specs.Fields.{fields}
 use Rattle.script_words.specs.Forms.{new_deadline_said}
-use Rattle.script_words.specs.Joiners.{after, policy_said}
+use Rattle.script_words.specs.Joiners.{policy_said}
 use Rattle.script_words.specs.Keywords.{keyword_said}
 use Rattle.script_words.specs.Lines.{begins_comment}
-use Rattle.script_words.specs.Numbers.{small_said, moment_said, integer_said}
+use Rattle.script_words.specs.Numbers.{small_said, moment_said}
 use Rattle.script_words.specs.Openings.{policy_next, deadline_said, deadline_next, flag_next}
 use Rattle.script_words.specs.Words.{name_said, value_said}
 use Rattle.refusal_reasons.specs.declared.faults.WordFault.{WordFault}
@@ -28,13 +27,6 @@ is_kind kind.Moment word = is_some (moment_said word)
 is_kind kind.Deadline word = is_some (new_deadline_said word)
 is_kind kind.Name word = is_some (name_said word)
 is_kind kind.Value word = is_some (value_said word)
-
--- the word is the prefix and then a count, or a number
-abbrev pub is_small_after : List ℕ → List ℕ → Bool
-is_small_after prefix word = option_map_or (λ rest. is_some (small_said rest)) (after prefix word) false
-
-abbrev pub is_integer_after : List ℕ → List ℕ → Bool
-is_integer_after prefix word = option_map_or (λ rest. is_some (integer_said rest)) (after prefix word) false
 
 -- the first of these fields, counted from n, that is not of its kind, is missing or is too many
 unfoldable pub misfit : Shape → ℕ → List FieldKind → List (List ℕ) → Option WordFault

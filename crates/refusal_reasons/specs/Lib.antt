@@ -8,8 +8,8 @@ pub mod Shown
 pub mod Shapes
 pub mod Faults
 pub mod Causes
-pub mod Guesses
 pub mod FaultSentences
 pub mod LinePlaces
 pub mod FaultFits
 pub mod FirstWrong
+pub mod Called

@@ -1,9 +1,10 @@
 -- By which event a scope came to stand as it does. Places are counted from 0 since the base, events from 1.
-use Rattle.std.specs.Prelude.{ℕ, Bool, false, not, nat_lt, Option, Some, None, List, length, if◌then◌else◌}
+use Rattle.std.specs.Prelude.{ℕ, Bool, not, nat_lt, min, Option, Some, None, List, length, if◌then◌else◌}
 use Rattle.std.specs.List.{find, position}
 use Rattle.scope_rules.specs.declared.types.events.Event.{Event}
 use Rattle.scope_rules.specs.Search.{earliest}
 use Rattle.scope_rules.specs.History.{History}
+use Rattle.scope_rules.specs.Owed.{begin_mark, marks}
 use Rattle.scope_rules.specs.Scopes.{joins, ends, closing_at}
 use Rattle.scope_rules.specs.Tasks.{stage, is_settled}
 use Rattle.scope_rules.specs.Nests.{tasks_of}
@@ -24,14 +25,24 @@ closing_place h s = first_place (closing_at h s) (length h.events)
 abbrev pub closed_place : List Event → ℕ → Option ℕ
 closed_place events s = position (ends s) events
 
--- there is an earlier place, and it comes before place i
-abbrev pub is_before : Option ℕ → ℕ → Bool
-is_before None i = false
-is_before (Some earlier) i = nat_lt earlier i
+-- the place of the event that began the close of scope s itself
+abbrev pub begun_place : List Event → ℕ → Option ℕ
+begun_place events s = position (marks begin_mark s) events
 
 -- the place of the event that joined scope s
 abbrev pub joined_place : List Event → ℕ → Option ℕ
 joined_place events s = position (joins s) events
+
+-- the place, if it comes after place i
+abbrev pub if_after : ℕ → Option ℕ → Option ℕ
+if_after i None = None
+if_after i (Some place) = if nat_lt i place then Some place else None
+
+-- the earlier of two places
+abbrev pub earlier : Option ℕ → Option ℕ → Option ℕ
+earlier None right = right
+earlier (Some left) None = Some left
+earlier (Some left) (Some right) = Some (min left right)
 
 -- task k waits or runs
 abbrev pub is_pending : History → ℕ → Bool

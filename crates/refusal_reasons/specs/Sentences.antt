@@ -2,9 +2,9 @@
 use Rattle.std.specs.Prelude.{ℕ, zero, suc, ◌==◌, ◌-◌, List, ◌++◌, Option, None, Some, unwrap_or, slice_get, codes, if◌then◌else◌}
 use Rattle.std.specs.Fmt.{decimal}
 use Rattle.scope_rules.specs.Names.{text_of}
-use Rattle.scope_rules.specs.Texts.{fault_text, value_text}
+use Rattle.scope_rules.specs.Texts.{fault_text, stage_word, value_text}
 use Rattle.scope_rules.specs.declared.types.answers.Stage.{Stage}
-use Rattle.scope_rules.specs.declared.types.answers.Stage.TheVariants.{Never, Waiting, Running, Finished}
+use Rattle.scope_rules.specs.declared.types.answers.Stage.TheVariants.{Never, Finished}
 use Rattle.refusal_reasons.specs.declared.reasons.Reason.{Reason}
 use Rattle.refusal_reasons.specs.declared.reasons.Reason.TheVariants as reason
 use Rattle.refusal_reasons.specs.declared.reasons.ScopeObstacle.{ScopeObstacle}
@@ -29,9 +29,7 @@ actor_text (suc n) = codes "task " ++ decimal (suc n)
 -- what a task at the stage is
 abbrev pub stage_text : Stage → List ℕ
 stage_text Never = codes "without a thread"
-stage_text Waiting = codes "waiting"
-stage_text Running = codes "running"
-stage_text Finished = codes "finished"
+stage_text s = stage_word s
 
 abbrev pub innermost_text : ℕ → ℕ → Option ℕ → List ℕ
 innermost_text s a None = codes "all scopes of " ++ (actor_text a ++ codes " are closed")

@@ -1,6 +1,5 @@
 -- The shapes of forms: which fields stand behind the first word.
-use Rattle.std.specs.Prelude.{ℕ, List, [], ◌∷◌, Option, Some, None, if◌then◌else◌}
-use Rattle.std.specs.Str.{bytes_eq}
+use Rattle.std.specs.Prelude.{List, [], ◌∷◌}
 use Rattle.script_words.specs.declared.keywords.Keyword.{Keyword}
 use Rattle.script_words.specs.declared.keywords.Keyword.TheVariants as keyword
 use Rattle.script_words.specs.declared.keywords.OneNumber.TheVariants as one
@@ -51,8 +50,3 @@ kinds shape.Scope = kind.Scope ∷ []
 kinds shape.Task = kind.Task ∷ []
 kinds shape.ActorScope = kind.Actor ∷ kind.Scope ∷ []
 kinds shape.ActorTask = kind.Actor ∷ kind.Task ∷ []
-
--- the shape that a table has beside the word, in its first row with that word
-abbrev pub shape_beside : List (List ℕ × Shape) → List ℕ → Option Shape
-shape_beside [] word = None
-shape_beside (row ∷ rows) word = if bytes_eq word row.0 then Some row.1 else shape_beside rows word

@@ -1,14 +1,14 @@
 //! The twins of the checks: each passes, or says what is in the way.
 
-ghost use Rattle.std.specs.Prelude.{◌≡◌, ◌<◌, OnOk, length};
+ghost use Rattle.std.specs.Prelude.{◌≡◌, false, OnOk};
 ghost use Rattle.scope_rules.specs.Checks.{scope_check, task_check, actor_check, owner_check, refuse_closing};
-ghost use Rattle.scope_rules.specs.History.{History};
+ghost use Rattle.scope_rules.specs.Scopes.{closed};
 ghost use Rattle.scope_rules.specs.Table.{owns_task, task_joined};
 ghost use Rattle.scope_checks.specs.Passes.{Passes};
-ghost use Rattle.refusal_reasons.specs.Obstacles.{stopped_if, scope_known, task_known, waits, runs, acts, owner_of, scope_of, owned, task_owned, is_main, closing_reason, stands, not_closed, is_closing, not_joined, scope_joined, no_pending, may_join};
+ghost use Rattle.refusal_reasons.specs.Obstacles.{stopped_if, scope_known, task_known, waits, runs, acts, owner_of, scope_of, owned, task_owned, is_main, stands, not_closed, is_closing, not_joined, scope_joined, no_pending, may_join};
 
 use crate::events::Events;
-use crate::places::{closed_place, closing_place, joined_place, pending_task};
+use crate::places::{closing_place, pending_task};
 use crate::reasons::{ActorObstacle, Reason, ScopeObstacle, TaskObstacle};
 use scope_checks::{Readings, checks};
 use scope_rules::types::values::MAIN;
@@ -183,54 +183,47 @@ pub(crate) fn is_main(actor: Actor) -> Result<(), Reason>
 
 // ---- joins and closes
 
-/// Since when the scope, whose close began at the place, is closing or closed.
-fn closing_reason<E: Events>(events: &E, scope: ScopeId, place: usize) -> Reason
-    requires { place < length (E.events events.now) }
-    ensures { (h : History) → h.events ≡ E.events events.now → result ≡ closing_reason h scope place }
-{
-    let _fits = events.count();
-    let obstacle = match closed_place(events, scope) {
-        Some(place) => ScopeObstacle::Closed { event: place + 1 },
-        None => ScopeObstacle::Closing { event: place + 1 },
-    };
-    Reason::Scope { scope, obstacle }
-}
-
 /// The scope is not closing or closed.
-#[tactic(auto, using(crate::proofs::Fits::stands_passes, crate::proofs::Found::no_closing))]
+#[tactic(auto, using(crate::proofs::Fits::stands_passes, crate::proofs::Found::no_closing, crate::proofs::Found::stands_closed, crate::proofs::Found::stands_closing))]
 pub(crate) fn stands<R: Readings, E: Events>(
     readings: &R,
     events: &E,
     scope: ScopeId,
 ) -> Result<(), Reason>
-    requires { E.events events.now ≡ (R.history readings.now).events }
+    requires { E.history events.now ≡ R.history readings.now }
     ensures stands { result ≡ stands (R.history readings.now) scope }
     ensures passes { OnOk result (Passes (refuse_closing (R.history readings.now) scope)) }
 {
     if !readings.closing(scope) {
         return Ok(());
     }
+    let _fits = events.count();
+    not_closed(readings, events, scope)?;
     match closing_place(readings, events, scope) {
-        Some(place) => Err(closing_reason(events, scope, place)),
+        Some(place) => {
+            let obstacle = ScopeObstacle::Closing { event: place + 1 };
+            Err(Reason::Scope { scope, obstacle })
+        }
         None => Ok(()),
     }
 }
 
 /// The scope is not closed.
-#[tactic(auto, using(crate::proofs::Found::no_closed))]
+#[tactic(auto, using(crate::proofs::Found::no_closed, crate::proofs::Found::found_closed))]
 pub(crate) fn not_closed<R: Readings, E: Events>(
     readings: &R,
     events: &E,
     scope: ScopeId,
 ) -> Result<(), Reason>
-    requires { E.events events.now ≡ (R.history readings.now).events }
-    ensures { result ≡ not_closed (R.history readings.now) scope }
+    requires { E.history events.now ≡ R.history readings.now }
+    ensures not_closed { result ≡ not_closed (R.history readings.now) scope }
+    ensures passes { OnOk result (closed (R.history readings.now) scope ≡ false) }
 {
     let _fits = events.count();
     if !readings.closed(scope) {
         return Ok(());
     }
-    match closed_place(events, scope) {
+    match events.closed_place(scope) {
         Some(place) => {
             let obstacle = ScopeObstacle::Closed { event: place + 1 };
             Err(Reason::Scope { scope, obstacle })
@@ -254,14 +247,14 @@ pub(crate) fn not_joined<R: Readings, E: Events>(
     events: &E,
     scope: ScopeId,
 ) -> Result<(), Reason>
-    requires { E.events events.now ≡ (R.history readings.now).events }
+    requires { E.history events.now ≡ R.history readings.now }
     ensures { result ≡ not_joined (R.history readings.now) scope }
 {
     let _fits = events.count();
     if !readings.joined(scope) {
         return Ok(());
     }
-    match joined_place(events, scope) {
+    match events.joined_place(scope) {
         Some(place) => {
             let obstacle = ScopeObstacle::Joined { event: place + 1 };
             Err(Reason::Scope { scope, obstacle })

@@ -1,21 +1,36 @@
-//! The events of a history, by their places.
+//! The events by which the scopes of a legal history were joined and closed.
 
-ghost use Rattle.std.specs.Prelude.{◌≡◌, ◌<◌, Some, List, length, slice_get};
-ghost use Rattle.scope_rules.specs.declared.types.events.Event.{Event};
+ghost use Rattle.std.specs.Prelude.{◌≡◌, ◌<◌, IfSome, length};
+ghost use Rattle.scope_rules.specs.declared.types.capacity.Limits.{Limits};
+ghost use Rattle.scope_rules.specs.Legal.{Legal};
+ghost use Rattle.refusal_reasons.specs.Places.{joined_place, begun_place, closed_place};
 
-use scope_rules::Event;
+use scope_rules::ScopeId;
 
-/// Events that are asked for by their places, the first one's being 0.
+/// The events of a legal history, by their places, the first one's being 0.
 pub trait Events {
-    /// The events, in order.
-    ghost events: { Self → List Event };
+    ghost use Rattle.scope_rules.specs.History.{History};
 
-    /// How many events there are.
+    /// The history of the events.
+    ghost history: { Self → History };
+
+    /// How many events there are. It also says that their history is legal.
     fn count(&self) -> usize
-        ensures { result ≡ length (events self.now) };
+        ensures count { result ≡ length (history self.now).events }
+        ensures legal { (L : Limits) × Legal L (history self.now) };
 
-    /// The event at the place.
-    fn event(&self, place: usize) -> Event
-        requires { place < length (events self.now) }
-        ensures { slice_get (events self.now) place ≡ Some result };
+    /// The place of the event that joined the scope, if it is joined.
+    fn joined_place(&self, scope: ScopeId) -> Option<usize>
+        ensures place { result ≡ joined_place (history self.now).events scope }
+        ensures within { IfSome result (λ place. place < length (history self.now).events) };
+
+    /// The place of the event that began the close of this very scope, if there is one.
+    fn begun_place(&self, scope: ScopeId) -> Option<usize>
+        ensures place { result ≡ begun_place (history self.now).events scope }
+        ensures within { IfSome result (λ place. place < length (history self.now).events) };
+
+    /// The place of the event that closed the scope, if it is closed.
+    fn closed_place(&self, scope: ScopeId) -> Option<usize>
+        ensures place { result ≡ closed_place (history self.now).events scope }
+        ensures within { IfSome result (λ place. place < length (history self.now).events) };
 }

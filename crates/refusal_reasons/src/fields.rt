@@ -7,8 +7,8 @@ ghost use Rattle.refusal_reasons.specs.FaultSentences.{field_at};
 
 use crate::faults::WordFault;
 use crate::shapes::{FieldKind, Shape};
-use crate::words::{is_deadline, is_kind, is_policy};
-use script_words::next_field;
+use crate::words::is_kind;
+use script_words::{deadline, next_field, policy};
 
 /// The first field of the text, counted from the index, that is not of its kind, is missing or is too many.
 #[tactic(auto, unfolding(crate::specs::Faults::misfit))]
@@ -61,7 +61,7 @@ fn after_policy(text: &[u8]) -> &[u8]
     let Some((word, rest)) = next_field(text) else {
         return text;
     };
-    if is_policy(word) { rest } else { text }
+    if policy(word).is_some() { rest } else { text }
 }
 
 /// The text after a deadline, if one comes next, and else the text.
@@ -72,7 +72,7 @@ fn after_deadline(text: &[u8]) -> &[u8]
     let Some((word, rest)) = next_field(text) else {
         return text;
     };
-    if is_deadline(word) { rest } else { text }
+    if deadline(word).is_some() { rest } else { text }
 }
 
 /// The text after the flag, if it comes next, and else the text.
@@ -102,7 +102,7 @@ fn policies_next(text: &[u8]) -> usize
     ensures within { result ≤ 1 }
 {
     match next_field(text) {
-        Some((word, _)) => count_of(is_policy(word)),
+        Some((word, _)) => count_of(policy(word).is_some()),
         None => 0,
     }
 }
@@ -114,7 +114,7 @@ fn deadlines_next(text: &[u8]) -> usize
     ensures within { result ≤ 1 }
 {
     match next_field(text) {
-        Some((word, _)) => count_of(is_deadline(word)),
+        Some((word, _)) => count_of(deadline(word).is_some()),
         None => 0,
     }
 }

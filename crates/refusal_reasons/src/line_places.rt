@@ -6,7 +6,7 @@ ghost use Rattle.refusal_reasons.specs.LinePlaces.{behind_first, text_from, fiel
 
 use crate::faults::WordFault;
 use crate::line_shown::AllShown;
-use script_words::LINE_LIMIT;
+use script_words::{LINE_LIMIT, field_len, without_spaces};
 use std::fmt;
 
 /// Where a fault is in its line.
@@ -16,33 +16,6 @@ pub struct Place {
     pub column: usize,
     /// How many bytes it has.
     pub width: usize,
-}
-
-/// The text from its first byte that is no space.
-#[tactic(auto, unfolding(script_words::specs::Fields::without_spaces))]
-fn without_spaces(text: &[u8]) -> &[u8]
-    ensures is { result.now ≡ without_spaces text.now }
-    ensures within { length result.now ≤ length text.now }
-{
-    let mut rest = text;
-    while let [b' ', others @ ..] = rest {
-        rest = others;
-    }
-    rest
-}
-
-/// How many bytes stand before the first space.
-#[tactic(auto, using(script_words::proofs::FieldSteps::first_space))]
-fn field_len(text: &[u8]) -> usize
-    ensures value { result ≡ position_or_len is_space text.now }
-    ensures within { result ≤ length text.now }
-{
-    for (index, byte) in text.iter().enumerate() {
-        if *byte == b' ' {
-            return index;
-        }
-    }
-    text.len()
 }
 
 /// The text from its field of this index on; no bytes if there is none.

@@ -1,7 +1,8 @@
 //! The twins of the checks of nesting, of bindings, of room and time, and of results.
 
-ghost use Rattle.std.specs.Prelude.{◌≡◌};
+ghost use Rattle.std.specs.Prelude.{◌≡◌, false};
 ghost use Rattle.scope_rules.specs.Checks.{actor_check, owner_check, refuse_closing, task_check};
+ghost use Rattle.scope_rules.specs.Scopes.{closed};
 ghost use Rattle.scope_rules.specs.Tasks.{state};
 ghost use Rattle.scope_checks.specs.Passes.{Passes};
 ghost use Rattle.refusal_reasons.specs.Obstacles.{stands_around, innermost_stands, all_closed, innermost_is, has_level, pairs_of, bound_alike, has_pair, frees_pair, sees, load_fits, scope_fits, task_fits, is_later, shows_value, shows_fault};
@@ -16,7 +17,7 @@ use scope_rules::{Actor, Event, Limits, Name, ScopeId, State, TaskId};
 
 // ---- nesting
 
-/// The actor's innermost scope, this one, is not closing.
+/// The actor's innermost scope, this one, which is not closed, is not closing.
 #[tactic(auto, using(crate::proofs::Found::no_closing))]
 fn stands_around<R: Readings, E: Events>(
     readings: &R,
@@ -24,7 +25,8 @@ fn stands_around<R: Readings, E: Events>(
     actor: Actor,
     scope: ScopeId,
 ) -> Result<(), Reason>
-    requires { E.events events.now ≡ (R.history readings.now).events }
+    requires history { E.history events.now ≡ R.history readings.now }
+    requires unclosed { closed (R.history readings.now) scope ≡ false }
     ensures { result ≡ stands_around (R.history readings.now) actor scope }
 {
     let _fits = events.count();
@@ -44,12 +46,13 @@ fn stands_around<R: Readings, E: Events>(
 }
 
 /// The actor's innermost scope, if it has one, is not closing.
+#[tactic(auto, using(crate::proofs::Found::innermost_live))]
 pub(crate) fn innermost_stands<R: Readings, E: Events>(
     readings: &R,
     events: &E,
     actor: Actor,
 ) -> Result<(), Reason>
-    requires { E.events events.now ≡ (R.history readings.now).events }
+    requires { E.history events.now ≡ R.history readings.now }
     ensures { result ≡ innermost_stands (R.history readings.now) actor }
 {
     match readings.innermost(actor) {

@@ -1,174 +1,62 @@
-//! By which event a scope came to stand as it does, and which task it waits for.
+//! By which event a scope came to be closing, and which task it waits for.
 
-ghost use Rattle.std.specs.Prelude.{◌≡◌, ◌<◌, ℕ, IfSome, length};
+ghost use Rattle.std.specs.Prelude.{◌≡◌, ◌<◌, false, IfSome, length};
 ghost use Rattle.scope_rules.specs.Checks.{scope_check};
-ghost use Rattle.scope_rules.specs.History.{History, before, opening};
-ghost use Rattle.scope_rules.specs.Scopes.{joins, ends, closed, closing_at, begins_closing, have_one_opener, covers};
+ghost use Rattle.scope_rules.specs.Scopes.{closed};
 ghost use Rattle.scope_checks.specs.Passes.{Passes};
-ghost use Rattle.refusal_reasons.specs.Places.{closed_place, joined_place, closing_place, is_pending, pending_task};
+ghost use Rattle.refusal_reasons.specs.Places.{begun_place, closing_place, earlier, if_after, is_pending, pending_task};
 
 use crate::events::Events;
 use scope_checks::Readings;
-use scope_rules::types::records::Opening;
-use scope_rules::{Event, ScopeId, Stage, TaskId};
+use scope_rules::{ScopeId, Stage, TaskId};
 
-/// Whether the event joins the scope.
-fn joins(event: &Event, scope: ScopeId) -> bool
-    ensures { result ≡ joins scope event.now }
-{
-    match *event {
-        Event::Join { scope: joined, .. } => joined == scope,
-        _ => false,
-    }
-}
-
-/// Whether the event ends the close of the scope.
-fn ends(event: &Event, scope: ScopeId) -> bool
-    ensures { result ≡ ends scope event.now }
-{
-    match *event {
-        Event::EndClose { scope: closed, .. } => closed == scope,
-        _ => false,
-    }
-}
-
-/// The place of the event that joined the scope.
-#[tactic(auto, using(crate::proofs::Searched::position_passed, crate::proofs::Searched::position_none, crate::proofs::Searched::position_all))]
-pub(crate) fn joined_place<E: Events>(events: &E, scope: ScopeId) -> Option<usize>
-    ensures place { result ≡ joined_place (E.events events.now) scope }
-    ensures within { IfSome result (λ place. place < length (E.events events.now)) }
-{
-    for place in 0..events.count() {
-        if joins(&events.event(place), scope) {
-            return Some(place);
-        }
-    }
-    None
-}
-
-/// The place of the event that closed the scope.
-#[tactic(auto, using(crate::proofs::Searched::position_passed, crate::proofs::Searched::position_none, crate::proofs::Searched::position_all))]
-pub(crate) fn closed_place<E: Events>(events: &E, scope: ScopeId) -> Option<usize>
-    ensures place { result ≡ closed_place (E.events events.now) scope }
-    ensures within { IfSome result (λ place. place < length (E.events events.now)) }
-{
-    for place in 0..events.count() {
-        if ends(&events.event(place), scope) {
-            return Some(place);
-        }
-    }
-    None
-}
-
-/// The place of the event that began a close that covers the scope, the first such. It looks at each event at most
-/// twice.
-#[tactic(auto, using(crate::proofs::Searched::place_found, crate::proofs::Searched::place_passed, crate::proofs::Searched::place_none), unfolding(crate::specs::Places::closing_place))]
+/// The place of the event that began a close that covers the scope, the first such, if the scope is not closed.
+/// Such a close is its own or that of a scope around it by the same owner. So it looks at no more scopes than there
+/// are levels, and at no events but theirs.
 pub(crate) fn closing_place<R: Readings, E: Events>(
     readings: &R,
     events: &E,
     scope: ScopeId,
 ) -> Option<usize>
-    requires { E.events events.now ≡ (R.history readings.now).events }
+    requires history { E.history events.now ≡ R.history readings.now }
+    requires unclosed { closed (R.history readings.now) scope ≡ false }
     ensures place { result ≡ closing_place (R.history readings.now) scope }
-    ensures within { IfSome result (λ place. place < length (E.events events.now)) }
+    ensures within { IfSome result (λ place. place < length (E.history events.now).events) }
 {
-    let close = closed_place(events, scope);
-    for place in 0..events.count() {
-        if closing_at(readings, events, place, scope, close) {
-            return Some(place);
+    let _legal = events.count();
+    let Some(opened) = readings.opening(scope) else {
+        return None;
+    };
+    let mut first = None;
+    let mut next = readings.outermost(opened.actor);
+    while let Some(around) = next {
+        if scope < around {
+            return first;
         }
+        first = earlier(first, if_after(opened.place, events.begun_place(around)));
+        next = readings.inner(around);
     }
-    None
+    first
 }
 
-/// Whether the event at the place begins a close that covers the scope.
-fn closing_at<R: Readings, E: Events>(
-    readings: &R,
-    events: &E,
-    place: usize,
-    scope: ScopeId,
-    close: Option<usize>,
-) -> bool
-    requires within { place < length (E.events events.now) }
-    requires events { E.events events.now ≡ (R.history readings.now).events }
-    requires close { close ≡ closed_place (R.history readings.now).events scope }
-    ensures { result ≡ closing_at (R.history readings.now) scope place }
+/// The place, if it comes after this one.
+fn if_after(from: usize, place: Option<usize>) -> Option<usize>
+    ensures { result ≡ if_after from place }
 {
-    begins_closing(readings, place, &events.event(place), scope, close)
-}
-
-/// Whether the event, which stands at the place, begins a close that covers the scope.
-fn begins_closing<R: Readings>(
-    readings: &R,
-    place: usize,
-    event: &Event,
-    scope: ScopeId,
-    close: Option<usize>,
-) -> bool
-    requires { close ≡ closed_place (R.history readings.now).events scope }
-    ensures { result ≡ begins_closing (before (R.history readings.now) place) scope event.now }
-{
-    match *event {
-        Event::BeginClose { scope: closing, .. } => {
-            covers(readings, place, closing, scope, close)
-        }
-        _ => false,
+    match place {
+        Some(place) if from < place => Some(place),
+        _ => None,
     }
 }
 
-/// Whether the beginning of the close of the scope at the place covers the other one: it is that, or its
-/// owner opened it later and had not closed it.
-#[tactic(auto, unfolding(scope_rules::specs::Scopes::covers))]
-fn covers<R: Readings>(
-    readings: &R,
-    place: usize,
-    closing: ScopeId,
-    scope: ScopeId,
-    close: Option<usize>,
-) -> bool
-    requires { close ≡ closed_place (R.history readings.now).events scope }
-    ensures { result ≡ covers (before (R.history readings.now) place) closing scope }
-{
-    if closing == scope {
-        return true;
-    }
-    if scope <= closing || is_closed_by(close, place) {
-        return false;
-    }
-    have_one_opener(
-        opening_before(readings, place, closing),
-        opening_before(readings, place, scope),
-    )
-}
-
-/// Whether a scope that was closed there was closed before the place.
-fn is_closed_by(close: Option<usize>, place: usize) -> bool
-    ensures { (h : History) (s : ℕ) → close ≡ closed_place h.events s → result ≡ closed (before h place) s }
-{
-    match close {
-        Some(close) => close < place,
-        None => false,
-    }
-}
-
-/// Whether the two openings are of one actor.
-fn have_one_opener(left: Option<Opening>, right: Option<Opening>) -> bool
-    ensures { result ≡ have_one_opener left right }
+/// The earlier of two places.
+fn earlier(left: Option<usize>, right: Option<usize>) -> Option<usize>
+    ensures { result ≡ earlier left right }
 {
     match (left, right) {
-        (Some(left), Some(right)) => left.actor == right.actor,
-        _ => false,
-    }
-}
-
-/// The opening of the scope, if it was opened before the place.
-#[tactic(auto, using(crate::proofs::Searched::opened_before, crate::proofs::Searched::opened_later, crate::proofs::Searched::never_opened))]
-fn opening_before<R: Readings>(readings: &R, place: usize, scope: ScopeId) -> Option<Opening>
-    ensures { result ≡ opening (before (R.history readings.now) place) scope }
-{
-    match readings.opening(scope) {
-        Some(opening) if opening.place < place => Some(opening),
-        _ => None,
+        (Some(left), Some(right)) => Some(left.min(right)),
+        (Some(left), None) => Some(left),
+        (None, right) => right,
     }
 }
 

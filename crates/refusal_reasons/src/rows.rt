@@ -34,7 +34,7 @@ pub fn event_reason<R: Readings, E: Events>(
     limits: &Limits,
     event: &Event,
 ) -> Result<(), Reason>
-    requires { E.events events.now ≡ (R.history readings.now).events }
+    requires { E.history events.now ≡ R.history readings.now }
     ensures { result ≡ event_reason limits.now (R.history readings.now) event.now }
 {
     match *event {
@@ -61,7 +61,7 @@ fn open_row<R: Readings, E: Events>(
     limits: &Limits,
     actor: Actor,
 ) -> Result<(), Reason>
-    requires { E.events events.now ≡ (R.history readings.now).events }
+    requires { E.history events.now ≡ R.history readings.now }
     ensures { (policy : Policy) (options : Options) → result ≡ event_reason limits.now (R.history readings.now) (Event.Open actor policy options) }
 {
     acts(readings, actor)?;
@@ -80,7 +80,7 @@ fn fork_row<R: Readings, E: Events>(
     actor: Actor,
     scope: ScopeId,
 ) -> Result<(), Reason>
-    requires { E.events events.now ≡ (R.history readings.now).events }
+    requires { E.history events.now ≡ R.history readings.now }
     ensures { (label : Label) → result ≡ event_reason limits.now (R.history readings.now) (Event.Fork actor scope label) }
 {
     acts(readings, actor)?;
@@ -121,7 +121,7 @@ fn cancel_row<R: Readings, E: Events>(
     limits: &Limits,
     scope: ScopeId,
 ) -> Result<(), Reason>
-    requires { E.events events.now ≡ (R.history readings.now).events }
+    requires { E.history events.now ≡ R.history readings.now }
     ensures { result ≡ event_reason limits.now (R.history readings.now) (Event.Cancel scope) }
 {
     scope_known(readings, scope)?;
@@ -140,7 +140,7 @@ fn move_row<R: Readings, E: Events>(
     limits: &Limits,
     scope: ScopeId,
 ) -> Result<(), Reason>
-    requires { E.events events.now ≡ (R.history readings.now).events }
+    requires { E.history events.now ≡ R.history readings.now }
     ensures { (deadline : Option ℕ) → result ≡ event_reason limits.now (R.history readings.now) (Event.Move scope deadline) }
 {
     scope_known(readings, scope)?;
@@ -186,7 +186,7 @@ fn join_row<R: Readings, E: Events>(
     actor: Actor,
     scope: ScopeId,
 ) -> Result<(), Reason>
-    requires { E.events events.now ≡ (R.history readings.now).events }
+    requires { E.history events.now ≡ R.history readings.now }
     ensures { (limits : Limits) → result ≡ event_reason limits (R.history readings.now) (Event.Join actor scope) }
 {
     acts(readings, actor)?;
@@ -215,7 +215,7 @@ fn end_close_row<R: Readings, E: Events>(
     actor: Actor,
     scope: ScopeId,
 ) -> Result<(), Reason>
-    requires { E.events events.now ≡ (R.history readings.now).events }
+    requires { E.history events.now ≡ R.history readings.now }
     ensures { (limits : Limits) → result ≡ event_reason limits (R.history readings.now) (Event.EndClose actor scope) }
 {
     acts(readings, actor)?;
@@ -256,7 +256,7 @@ pub fn question_reason<R: Readings, E: Events>(
     events: &E,
     question: &Question,
 ) -> Result<(), Reason>
-    requires { E.events events.now ≡ (R.history readings.now).events }
+    requires { E.history events.now ≡ R.history readings.now }
     ensures { result ≡ question_reason (R.history readings.now) question.now }
 {
     match *question {

@@ -10,8 +10,7 @@ use crate::fields::field_at;
 use crate::guesses::nearest;
 use crate::line_shown::{ShownByte, ShownBytes};
 use crate::shapes::{FieldKind, Shape};
-use crate::words::{is_deadline, is_policy};
-use script_words::{LINE_LIMIT, next_field};
+use script_words::{LINE_LIMIT, deadline, next_field, policy};
 use std::fmt;
 
 /// The text behind the first field.
@@ -247,8 +246,8 @@ impl fmt::Display for ShownExtra<'_> {
 fn is_option(word: &[u8]) -> bool
     ensures { result ≡ is_option word.now }
 {
-    is_policy(word)
-        || is_deadline(word)
+    policy(word).is_some()
+        || deadline(word).is_some()
         || word == b"move-on".as_slice()
         || word == b"shield".as_slice()
 }

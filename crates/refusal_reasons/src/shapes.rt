@@ -1,7 +1,9 @@
 //! The shapes of forms: which fields stand behind the first word.
-ghost use Rattle.std.specs.Prelude.{◌≡◌, map, option_map};
+ghost use Rattle.std.specs.Prelude.{◌≡◌, option_map};
 ghost use Rattle.script_words.specs.Keywords.{keyword_said};
-ghost use Rattle.refusal_reasons.specs.Shapes.{shape_of, shape_beside, kinds};
+ghost use Rattle.refusal_reasons.specs.Shapes.{shape_of, kinds};
+
+use script_words::{Keyword, OneNumber, TwoNumbers, keyword_of};
 
 /// What a field is to be.
 #[derive(Clone, Copy)]
@@ -53,52 +55,55 @@ pub enum Shape {
     ActorTask,
 }
 
-/// Each word that a form begins with, and the form's shape.
-const SHAPES: [(&[u8], Shape); 23] = [
-    (b"ok", Shape::Succeed),
-    (b"start", Shape::Task),
-    (b"fork", Shape::Fork),
-    (b"tick", Shape::Tick),
-    (b"open", Shape::Open),
-    (b"counts", Shape::Scope),
-    (b"state", Shape::Task),
-    (b"cause", Shape::Scope),
-    (b"join", Shape::ActorScope),
-    (b"close", Shape::ActorScope),
-    (b"closed", Shape::ActorScope),
-    (b"cancel", Shape::Scope),
-    (b"bind", Shape::Bind),
-    (b"get", Shape::Get),
-    (b"fail", Shape::Fail),
-    (b"stage", Shape::Task),
-    (b"result", Shape::ActorTask),
-    (b"fault", Shape::ActorTask),
-    (b"until", Shape::Scope),
-    (b"move", Shape::Move),
-    (b"unbind", Shape::Actor),
-    (b"reject", Shape::Task),
-    (b"retire", Shape::Actor),
-];
-
 /// The shape of the form that begins with the word; `None` if none does.
 pub(crate) fn shape_of_word(word: &[u8]) -> Option<Shape>
     ensures { result ≡ option_map shape_of (keyword_said word.now) }
 {
-    shape_beside(&SHAPES, word)
+    match keyword_of(word) {
+        Some(keyword) => Some(shape_of(keyword)),
+        None => None,
+    }
 }
 
-/// The shape that the table has beside the word.
-fn shape_beside(table: &[(&[u8], Shape)], word: &[u8]) -> Option<Shape>
-    ensures { result ≡ shape_beside (map (λ row. (row.0.now, row.1)) table.now) word.now }
+/// The shape of the form with this keyword.
+fn shape_of(keyword: Keyword) -> Shape
+    ensures { result ≡ shape_of keyword }
 {
-    let mut rows = table;
-    while let [row, others @ ..] = rows {
-        if word == row.0 {
-            return Some(row.1);
-        }
-        rows = others;
+    match keyword {
+        Keyword::Open => Shape::Open,
+        Keyword::Fork => Shape::Fork,
+        Keyword::Succeed => Shape::Succeed,
+        Keyword::Fail => Shape::Fail,
+        Keyword::Move => Shape::Move,
+        Keyword::Tick => Shape::Tick,
+        Keyword::Bind => Shape::Bind,
+        Keyword::Get => Shape::Get,
+        Keyword::OneNumber(form) => shape_of_one(form),
+        Keyword::TwoNumbers(form) => shape_of_two(form),
     }
-    None
+}
+
+/// The shape of a form with one number.
+fn shape_of_one(form: OneNumber) -> Shape
+    ensures { result ≡ shape_of (Keyword.OneNumber form) }
+{
+    match form {
+        OneNumber::Cancel => Shape::Scope,
+        OneNumber::Cause | OneNumber::Until | OneNumber::Counts => Shape::Scope,
+        OneNumber::Unbind | OneNumber::Retire => Shape::Actor,
+        OneNumber::Reject | OneNumber::Start => Shape::Task,
+        OneNumber::State | OneNumber::Stage => Shape::Task,
+    }
+}
+
+/// The shape of a form with two numbers.
+fn shape_of_two(form: TwoNumbers) -> Shape
+    ensures { result ≡ shape_of (Keyword.TwoNumbers form) }
+{
+    match form {
+        TwoNumbers::Join | TwoNumbers::Close | TwoNumbers::Closed => Shape::ActorScope,
+        TwoNumbers::ResultOf | TwoNumbers::FaultOf => Shape::ActorTask,
+    }
 }
 
 /// What the fields of the shape are to be; of an open, the first of them.

@@ -60,9 +60,7 @@ impl fmt::Display for ShownStage {
     fn fmt<W: fmt::Write>(&self, f: &mut fmt::Formatter<W>) -> fmt::Result {
         f.write_str(match self.0 {
             Stage::Never => "without a thread",
-            Stage::Waiting => "waiting",
-            Stage::Running => "running",
-            Stage::Finished => "finished",
+            stage => stage.word(),
         })
     }
 }

@@ -6,4 +6,5 @@ pub mod LogPlaces
 pub mod EventRoom
 pub mod TrailSteps
 pub mod Trailed
+pub mod Latest
 pub mod Projected

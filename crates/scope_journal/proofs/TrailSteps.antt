@@ -175,13 +175,11 @@ last_read : (t : TrailTable) (s at x : ℕ) → at ≡ place_of t.before s → a
 last_read t s at x place within read = read ∙ (get_or_default_zero t.lasts at x within ∙ ap (λ i. get_or t.lasts i 0) place)
 
 -- a walk begins at the scope's last place
-pub walk_begins : (v t : TrailTable) (s at x : ℕ) (ps : List ℕ) → v ≡ t → at ≡ place_of t.before s → at < length t.lasts → x ≡ get_or v.lasts at x → ps ≡ [] → ahead t.links (Some x) ++ reverse ps ≡ trail_in t s
+pub walk_begins : (t : TrailTable) (s x : ℕ) (ps : List ℕ) → x ≡ last_in t s → ps ≡ [] → ahead t.links (Some x) ++ reverse ps ≡ trail_in t s
 unfolding trail_in
-walk_begins v t s at x ps same place within read none =
-    let last = last_read t s at x place within (read ∙ ap (λ (u : TrailTable). get_or u.lasts at x) same) in
-    rw none (append-nil (ahead t.links (Some x)) ∙ ap (trail_to t.links) last)
+walk_begins t s x ps last none = rw none (append-nil (ahead t.links (Some x)) ∙ ap (trail_to t.links) last)
 
--- what is read before a change is the scope's last place
+-- what is read is the scope's last place
 pub last_was : (v t : TrailTable) (s at x : ℕ) → v ≡ t → at ≡ place_of t.before s → at < length t.lasts → x ≡ get_or v.lasts at x → x ≡ last_in t s
 last_was v t s at x same there within read = last_read t s at x there within (read ∙ ap (λ (u : TrailTable). get_or u.lasts at x) same)
 

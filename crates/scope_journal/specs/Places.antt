@@ -1,5 +1,5 @@
 -- Which events of a history are of a scope, and their places.
-use Rattle.std.specs.Prelude.{ℕ, ◌+◌, Bool, false, Option, Some, None, option_map, List, [], ◌∷◌, length, slice_get, if◌then◌else◌}
+use Rattle.std.specs.Prelude.{◌≡◌, ℕ, ◌+◌, ◌<◌, Bool, true, false, Option, Some, None, option_map, List, [], ◌∷◌, length, slice_get, if◌then◌else◌}
 use Rattle.std.specs.Option.{option_map_or}
 use Rattle.std.specs.List.{flat_map, range_with_len}
 use Rattle.scope_rules.specs.declared.types.events.Event.{Event}
@@ -38,3 +38,8 @@ if_one b i = if b then i ∷ [] else []
 -- the places of the events of scope s, in order
 unfoldable pub places_of : History → ℕ → List ℕ
 places_of h s = flat_map (λ i. if_one (is_of_at h s i) i) (range_with_len 0 (length h.events))
+
+-- the place, if there is one, is that of the last event of scope s before place n
+abbrev pub IsLatest : History → ℕ → ℕ → Option ℕ → Type 0
+IsLatest h s n None = (j : ℕ) → j < n → is_of_at h s j ≡ false
+IsLatest h s n (Some i) = (i < n) × (is_of_at h s i ≡ true) × ((j : ℕ) → i < j → j < n → is_of_at h s j ≡ false)

@@ -1,4 +1,4 @@
-ghost use Rattle.std.specs.Prelude.{◌≡◌, ℕ, ◌+◌, ◌-◌, ◌≤◌, ◌<◌, [], false, Option, Some, IfOk, OnOk, OnErr, length};
+ghost use Rattle.std.specs.Prelude.{◌≡◌, ℕ, ◌+◌, ◌-◌, ◌≤◌, ◌<◌, [], true, false, Option, Some, IfOk, OnOk, OnErr, length};
 ghost use Rattle.scope_rules.specs.Origin.{Origin};
 ghost use Rattle.scope_rules.specs.declared.types.capacity.Limits.{Limits};
 ghost use Rattle.scope_rules.specs.declared.types.events.Event.{Event};
@@ -8,7 +8,7 @@ ghost use Rattle.scope_rules.specs.declared.types.joiners.Policy.{Policy};
 ghost use Rattle.scope_rules.specs.History.{History, followed, is_open};
 ghost use Rattle.scope_rules.specs.Legal.{Legal};
 ghost use Rattle.scope_rows.specs.Table.{place_of};
-ghost use Rattle.scope_journal.specs.Places.{places_of, scope_of_event};
+ghost use Rattle.scope_journal.specs.Places.{places_of, scope_of_event, is_of_at, IsLatest};
 ghost use Rattle.scope_journal.specs.TrailTable.{HasTrail, HasEventRoom, last_in, back, trail_in, no_trails, with_open, with_last, with_event};
 ghost use Rattle.scope_journal.specs.TrailsOf.{AreTrailsOf, HasLoadRoom};
 
@@ -63,13 +63,31 @@ impl Trails {
         ensures agrees { IfOk result (λ places. (h : History) → AreTrailsOf h self.now → places.items ≡ places_of h scope) }
     {
         let mut places = Vec::new(alloc);
-        let mut next = Some(self.lasts[self.place(scope)]);
+        let mut next = Some(self.last(scope));
         while let Some(place) = next {
             places.push(place)?;
             next = self.back(place);
         }
         places.reverse();
         Ok(places)
+    }
+
+    /// The place of the scope's last event.
+    pub fn last(&self, scope: ScopeId) -> u32
+        requires { HasTrail self.now scope }
+        ensures last { result ≡ last_in self.now scope }
+        ensures agrees { (h : History) → AreTrailsOf h self.now → IsLatest h scope (length h.events) (Some result) }
+    {
+        self.lasts[self.place(scope)]
+    }
+
+    /// The place of the event before this one of the same scope, if there is one.
+    pub fn back(&self, place: u32) -> Option<u32>
+        ensures link { result ≡ back self.now.links place }
+        ensures agrees { (h : History) (s : ℕ) → AreTrailsOf h self.now → HasTrail self.now s → is_of_at h s place ≡ true → IsLatest h s place result }
+    {
+        let link = *self.links.get(place as usize)?;
+        if link < place { Some(link) } else { None }
     }
 
     /// Makes room for a history of so much load.
@@ -138,14 +156,6 @@ impl Trails {
     {
         let at = self.place(scope);
         mem::replace(&mut self.lasts[at], place)
-    }
-
-    /// The place before this one on its trail, if there is one.
-    fn back(&self, place: u32) -> Option<u32>
-        ensures { result ≡ back self.now.links place }
-    {
-        let link = *self.links.get(place as usize)?;
-        if link < place { Some(link) } else { None }
     }
 
     /// Where the place of the scope's last event is.

@@ -1,18 +1,16 @@
 -- From what the book answers of a command to its reply.
 use Rattle.std.proofs.Common.{◌≡◌, ℕ, ◌&&◌, Bool, true, false, Result, Ok, Err, refl, ap, sym, ◌∙◌, ◌⊎◌, inl, inr}
-use Rattle.std.specs.Prelude.{Option, Some, MatchResult, not, is_ok, if◌then◌else◌}
+use Rattle.std.specs.Prelude.{Option, Some, not, is_ok, if◌then◌else◌}
 use Rattle.scope_rules.specs.declared.types.events.Event.{Event}
 use Rattle.scope_rules.specs.declared.types.events.Event.TheVariants as event
 use Rattle.scope_rules.specs.declared.types.refusals.Refusal.{Refusal}
 use Rattle.scope_rules.specs.declared.types.refusals.Refusal.TheVariants.{Memory}
-use Rattle.scope_rules.specs.declared.types.answers.Cancelling.{Cancelling}
-use Rattle.scope_rules.specs.declared.types.answers.Cancelling.TheVariants.{Recorded, Already}
 use Rattle.scope_rules.specs.declared.types.outcomes.Outcome.{Outcome}
 use Rattle.scope_rules.specs.History.{History}
 use Rattle.scope_rules.specs.Origin.{Origin}
 use Rattle.scope_rules.specs.Outcomes.{outcome}
 use Rattle.scope_rules.specs.Checks.{Checked}
-use Rattle.scope_rules.specs.Replies.{Realm, Answers, AnswersOrMemory, AnswersValue, with_event, after, after_recording, after_retiring, base_of, outcome_check}
+use Rattle.scope_rules.specs.Replies.{Realm, Answers, AnswersOrMemory, AnswersValue, with_event, after, after_retiring, base_of, outcome_check}
 use Rattle.script_words.specs.declared.commands.Command.TheVariants.{Do, Retire}
 use Rattle.script_words.specs.declared.reply.Reply.{Reply}
 use Rattle.script_words.specs.declared.reply.Reply.TheVariants as reply

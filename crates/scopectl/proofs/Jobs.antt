@@ -11,7 +11,9 @@ use Rattle.script_jobs.specs.Jobs.{NotedPartly, ReadSome, Replayed, ReplayedNote
 use Rattle.script_jobs.specs.declared.noting.NotedFault.{NotedFault}
 use Rattle.script_jobs.specs.declared.noting.NotedFault.TheVariants as noted
 use Rattle.scopectl.specs.Naming.{CameFrom, NamesFault, OfNotes}
-use Rattle.scopectl.specs.Program.{DidJob, DidPart, DidWhole, FailedAtEnd, Made, Makes, ToldNotes, WroteLate, noted_text, notes_on, notes_wanted, view_of}
+use Rattle.script_jobs.specs.Turns.{Turn}
+use Rattle.scopectl.specs.Runs.{Run}
+use Rattle.scopectl.specs.Program.{DidPart, DidReplay, DidWhole, FailedAtEnd, Made, Makes, ToldNotes, WroteLate, noted_text, notes_on, notes_wanted, view_of}
 use Rattle.script_jobs.specs.Notes.{notes_text}
 use Rattle.script_jobs.specs.declared.notes.Notes.{Notes}
 use Rattle.script_jobs.specs.declared.notes.Notes.TheVariants.{Refusals}
@@ -141,20 +143,16 @@ names_weaker said said_new failed ByReader ByWriter Sound OfPlan Plan weaker nam
 
 -- ---- a script's jobs
 
-module _ (script : ScriptOptions) (explain trace : Bool) (unread unread_new written written_new : Option (List ℕ)) where
-  pub noted_part : (failed : Bool) (said said_new : Option (List ℕ)) (notes : Notes) → ReplayedPartly unread unread_new written written_new said said_new script.limits notes → DidPart (line.Replay script explain trace) unread unread_new written written_new failed
-  noted_part failed said said_new notes run = record { bytes = run.script; read = run.read; wrote = run.wrote }
+-- what was said of the run by then
+abbrev pub turn_to : Run → Option (List ℕ) → Turn
+turn_to run mid = record { before = run.said.before; after = mid }
 
-  pub replayed_part : (failed : Bool) → RunsPartly unread unread_new written written_new Replies script.limits → DidPart (line.Replay script explain trace) unread unread_new written written_new failed
-  replayed_part failed run = record { bytes = run.script; read = run.read; wrote = run.replied }
+module _ (script : ScriptOptions) (explain trace : Bool) (run : Run) where
+  pub noted_part : (mid : Option (List ℕ)) (notes : Notes) → ReplayedPartly run.taken run.written (turn_to run mid) script.limits notes → DidPart (line.Replay script explain trace) run
+  noted_part mid notes it = record { bytes = it.script; read = it.read; wrote = it.wrote }
 
-  -- if all was written, so was a part
-  pub replayed_all : (failed : Bool) (count : Count) → Replayed unread unread_new written written_new script.limits count → DidPart (line.Replay script explain trace) unread unread_new written written_new failed
-  replayed_all failed count it = record {
-    bytes = it.script;
-    read = it.read;
-    wrote = record { part = _; rest = []; whole = sym (append-nil _); appended = it.wrote };
-  }
+  pub replayed_part : RunsPartly run.taken.before run.taken.after run.written.before run.written.after Replies script.limits → DidPart (line.Replay script explain trace) run
+  replayed_part it = record { bytes = it.script; read = it.read; wrote = it.replied }
 
 -- ---- a view
 
@@ -167,19 +165,9 @@ made v script lenient explain unread unread_new text count shown = record {
 
 -- ---- a text that is made of all that is read, and then written
 
-module _ (command : CommandLine) (unread unread_new written mid written_new : Option (List ℕ)) (text : List ℕ) (made : Made (Makes command) unread unread_new text) (unwritten : Appends written mid []) where
-  pub told : Appends mid written_new text → DidJob command unread unread_new written written_new
-  told wrote = record {
-    bytes = made.bytes;
-    read = made.whole.read;
-    all = made.whole.all;
-    text = text;
-    makes = made.makes;
-    wrote = Appends-trans written mid written_new [] text unwritten wrote;
-  }
-
-  failed_at_end : (failed : Bool) → AppendsPart mid written_new text → failed ≡ true → FailedAtEnd command made.bytes unread_new written written_new failed
-  failed_at_end failed wrote fails = record {
+module _ (command : CommandLine) (run : Run) (mid : Option (List ℕ)) (text : List ℕ) (made : Made (Makes command) run.taken.before run.taken.after text) (unwritten : Appends run.written.before mid []) where
+  failed_at_end : AppendsPart mid run.written.after text → run.ByWriter → FailedAtEnd command made.bytes run
+  failed_at_end wrote fails = record {
     all = made.whole.all;
     text = text;
     makes = made.makes;
@@ -187,81 +175,74 @@ module _ (command : CommandLine) (unread unread_new written mid written_new : Op
       part = wrote.part;
       rest = wrote.rest;
       whole = wrote.whole;
-      appended = Appends-trans written mid written_new [] wrote.part unwritten wrote.appended;
+      appended = Appends-trans run.written.before mid run.written.after [] wrote.part unwritten wrote.appended;
     };
     writer = fails;
   }
 
-  pub late : (failed : Bool) → AppendsPart mid written_new text → failed ≡ true → WroteLate command made.bytes unread_new written written_new failed
-  late failed wrote fails = inr (failed_at_end failed wrote fails)
+  pub late : AppendsPart mid run.written.after text → run.ByWriter → WroteLate command made.bytes run
+  late wrote fails = inr (failed_at_end wrote fails)
 
-module _ (v : ViewOptions) (script : ScriptOptions) (lenient explain : Bool) (unread unread_new written mid written_new : Option (List ℕ)) (failed : Bool) where
-  pub view_told_part : (text : List ℕ) → Made (Makes (line.Show script v lenient explain)) unread unread_new text → Appends written mid [] → AppendsPart mid written_new text → failed ≡ true
-      → DidPart (line.Show script v lenient explain) unread unread_new written written_new failed
-  view_told_part text made unwritten wrote fails = record {
+module _ (v : ViewOptions) (script : ScriptOptions) (lenient explain : Bool) (run : Run) where
+  pub view_told_part : (mid : Option (List ℕ)) (text : List ℕ) → Made (Makes (line.Show script v lenient explain)) run.taken.before run.taken.after text → Appends run.written.before mid [] → AppendsPart mid run.written.after text → run.ByWriter
+      → DidPart (line.Show script v lenient explain) run
+  view_told_part mid text made unwritten wrote fails = record {
     bytes = made.bytes;
     read = made.whole.read;
-    wrote = late (line.Show script v lenient explain) unread unread_new written mid written_new text made unwritten failed wrote fails;
+    wrote = late (line.Show script v lenient explain) run mid text made unwritten wrote fails;
   }
 
-pub view_stopped : (v : ViewOptions) (script : ScriptOptions) (lenient explain : Bool) (unread unread_new written written_new : Option (List ℕ)) (failed : Bool) → ReadSome unread unread_new → Appends written written_new []
-    → DidPart (line.Show script v lenient explain) unread unread_new written written_new failed
-view_stopped v script lenient explain unread unread_new written written_new failed some unwritten =
-    record { bytes = some.bytes; read = some.read; wrote = inl unwritten }
+  pub view_stopped : ReadSome run.taken.before run.taken.after → Appends run.written.before run.written.after [] → DidPart (line.Show script v lenient explain) run
+  view_stopped some unwritten = record { bytes = some.bytes; read = some.read; wrote = inl unwritten }
 
--- the same, with notes on the lines
-pub view_stopped_noted : (v : ViewOptions) (script : ScriptOptions) (lenient : Bool) (unread unread_new written written_new said said_new : Option (List ℕ)) (failed : Bool) → NotedPartly unread unread_new said said_new script.limits Refusals → Appends written written_new []
-    → DidPart (line.Show script v lenient true) unread unread_new written written_new failed
-view_stopped_noted v script lenient unread unread_new written written_new said said_new failed some unwritten =
-    record { bytes = some.script; read = some.read; wrote = inl unwritten }
+  -- the same, with notes on the lines
+  pub view_stopped_noted : (mid : Option (List ℕ)) → NotedPartly run.taken (turn_to run mid) script.limits Refusals → Appends run.written.before run.written.after [] → DidPart (line.Show script v lenient explain) run
+  view_stopped_noted mid some unwritten = record { bytes = some.script; read = some.read; wrote = inl unwritten }
 
 -- ---- a command that was done, with what was said of the lines that were refused
 
-module _ (Kept : Type 0) (unread unread_new written written_new said said_new : Option (List ℕ)) (failed : Bool) (result : ℕ) where
-  module _ (script : ScriptOptions) (count : Count) where
-    told_notes : (wanted wanted_so : Option Notes) → wanted_so ≡ wanted → (bytes : List ℕ) → ToldNotes wanted script bytes Kept said said_new failed → ToldNotes wanted_so script bytes Kept said said_new failed
-    told_notes wanted wanted_so same bytes it = subst (λ (w : Option Notes). ToldNotes w script bytes Kept said said_new failed) (sym same) it
+module _ (run : Run) (result : ℕ) (script : ScriptOptions) (count : Count) where
+  told_notes : (wanted wanted_so : Option Notes) → wanted_so ≡ wanted → (bytes : List ℕ) → ToldNotes wanted script bytes run → ToldNotes wanted_so script bytes run
+  told_notes wanted wanted_so same bytes it = subst (λ (w : Option Notes). ToldNotes w script bytes run) (sym same) it
 
-    module _ (status : result ≡ status_of script.strict true count) (explain trace : Bool) where
-      pub replay_noted : (notes : Notes) (mid : Option (List ℕ)) → notes_wanted explain trace ≡ Some notes → Noted script.quiet count (said_new ≡ mid) mid said_new failed → ReplayedNoted unread unread_new written written_new said mid script.limits notes count
-          → DidWhole (line.Replay script explain trace) Kept unread unread_new written written_new said said_new failed result
-      replay_noted notes mid same noted it = record {
-        did = record { bytes = it.replay.script; read = it.replay.read; all = it.replay.all; text = _; makes = refl; wrote = it.replay.wrote };
-        noted = told_notes (Some notes) (notes_wanted explain trace) same it.replay.script (record {
-          noted = mid;
-          notes_said = it.noted;
-          counted = subst (λ (t : Count). Noted script.quiet t (said_new ≡ mid) mid said_new failed) it.replay.counted noted;
-        });
-        status = status ∙ ap (status_of script.strict true) it.replay.counted;
-      }
+  module _ (status : result ≡ status_of script.strict true count) where
+    pub replay_noted : (notes : Notes) (mid : Option (List ℕ)) → Noted script.quiet count (run.said.after ≡ mid) mid run.said.after run.errors_failed
+        → ReplayedNoted run.taken run.written (turn_to run mid) script.limits notes count → DidReplay (Some notes) script run result
+    replay_noted notes mid noted it explain trace same = record {
+      did = record { bytes = it.replay.script; read = it.replay.read; all = it.replay.all; text = _; makes = refl; wrote = it.replay.wrote };
+      noted = told_notes (Some notes) (notes_wanted explain trace) same it.replay.script (record {
+        noted = mid;
+        notes_said = it.noted;
+        counted = subst (λ (t : Count). Noted script.quiet t (run.said.after ≡ mid) mid run.said.after run.errors_failed) it.replay.counted noted;
+      });
+      status = status ∙ ap (status_of script.strict true) it.replay.counted;
+    }
 
-      pub replay_whole : notes_wanted explain trace ≡ None → Noted script.quiet count Kept said said_new failed → Replayed unread unread_new written written_new script.limits count
-          → DidWhole (line.Replay script explain trace) Kept unread unread_new written written_new said said_new failed result
-      replay_whole same noted it = record {
-        did = record { bytes = it.script; read = it.read; all = it.all; text = _; makes = refl; wrote = it.wrote };
-        noted = told_notes None (notes_wanted explain trace) same it.script (subst (λ (t : Count). Noted script.quiet t Kept said said_new failed) it.counted noted);
-        status = status ∙ ap (status_of script.strict true) it.counted;
-      }
+    pub replay_whole : Noted script.quiet count run.ErrorsKept run.said.before run.said.after run.errors_failed → Replayed run.taken.before run.taken.after run.written.before run.written.after script.limits count → DidReplay None script run result
+    replay_whole noted it explain trace same = record {
+      did = record { bytes = it.script; read = it.read; all = it.all; text = _; makes = refl; wrote = it.wrote };
+      noted = told_notes None (notes_wanted explain trace) same it.script (subst (λ (t : Count). Noted script.quiet t run.ErrorsKept run.said.before run.said.after run.errors_failed) it.counted noted);
+      status = status ∙ ap (status_of script.strict true) it.counted;
+    }
 
+  module _ (v : ViewOptions) (lenient : Bool) (status : result ≡ status_of script.strict lenient count) (mid : Option (List ℕ)) (text : List ℕ) (unwritten : Appends run.written.before mid []) (wrote : Appends mid run.written.after text) where
     -- without notes
-    pub view_whole : (v : ViewOptions) (lenient : Bool) → result ≡ status_of script.strict lenient count → Noted script.quiet count Kept said said_new failed → (mid : Option (List ℕ)) (text : List ℕ) → Showed unread unread_new script.limits (view_of v) text count → Appends written mid [] → Appends mid written_new text
-        → DidWhole (line.Show script v lenient false) Kept unread unread_new written written_new said said_new failed result
-    view_whole v lenient status noted mid text it unwritten wrote = record {
-      did = record { bytes = it.script; read = it.read; all = it.all; text = text; makes = it.is; wrote = Appends-trans written mid written_new [] text unwritten wrote };
-      noted = subst (λ (t : Count). Noted script.quiet t Kept said said_new failed) it.counted noted;
+    pub view_whole : Noted script.quiet count run.ErrorsKept run.said.before run.said.after run.errors_failed → Showed run.taken.before run.taken.after script.limits (view_of v) text count → DidWhole (line.Show script v lenient false) run result
+    view_whole noted it = record {
+      did = record { bytes = it.script; read = it.read; all = it.all; text = text; makes = it.is; wrote = Appends-trans run.written.before mid run.written.after [] text unwritten wrote };
+      noted = subst (λ (t : Count). Noted script.quiet t run.ErrorsKept run.said.before run.said.after run.errors_failed) it.counted noted;
       status = status ∙ ap (status_of script.strict lenient) it.counted;
     }
 
     -- with notes on the refused lines
-    pub view_noted : (v : ViewOptions) (lenient : Bool) → result ≡ status_of script.strict lenient count → (told : Option (List ℕ)) → Noted script.quiet count (said_new ≡ told) told said_new failed → (mid : Option (List ℕ)) (text : List ℕ)
-        → ShowedNoted unread unread_new said told script.limits (view_of v) Refusals text count → Appends written mid [] → Appends mid written_new text
-        → DidWhole (line.Show script v lenient true) Kept unread unread_new written written_new said said_new failed result
-    view_noted v lenient status told noted mid text it unwritten wrote = record {
-      did = record { bytes = it.shown.script; read = it.shown.read; all = it.shown.all; text = text; makes = it.shown.is; wrote = Appends-trans written mid written_new [] text unwritten wrote };
+    pub view_noted : (said : Option (List ℕ)) → Noted script.quiet count (run.said.after ≡ said) said run.said.after run.errors_failed
+        → ShowedNoted run.taken (turn_to run said) script.limits (view_of v) Refusals text count → DidWhole (line.Show script v lenient true) run result
+    view_noted said noted it = record {
+      did = record { bytes = it.shown.script; read = it.shown.read; all = it.shown.all; text = text; makes = it.shown.is; wrote = Appends-trans run.written.before mid run.written.after [] text unwritten wrote };
       noted = record {
-        noted = told;
+        noted = said;
         notes_said = it.noted;
-        counted = subst (λ (t : Count). Noted script.quiet t (said_new ≡ told) told said_new failed) it.shown.counted noted;
+        counted = subst (λ (t : Count). Noted script.quiet t (run.said.after ≡ said) said run.said.after run.errors_failed) it.shown.counted noted;
       };
       status = status ∙ ap (status_of script.strict lenient) it.shown.counted;
     }

@@ -3,3 +3,4 @@ pub mod Saying
 pub mod Program
 pub mod Naming
 pub mod Acting
+pub mod Runs

@@ -1,5 +1,5 @@
 -- What a fault that is named on standard error says of the streams and of the plan.
-use Rattle.std.specs.Prelude.{◌≡◌, ◌⊎◌, ◌++◌, ◌||◌, nat_lt, length, ⊤, ℕ, Bool, true, not, Option, List, is_some}
+use Rattle.std.specs.Prelude.{◌≡◌, ◌⊎◌, ◌++◌, ◌||◌, nat_lt, length, ⊤, ℕ, Bool, true, false, not, Option, Some, List, is_some}
 use Rattle.quote_plan.specs.Passing.{NamesLine}
 use Rattle.quote_plan.specs.Plans.{PlanValue}
 use Rattle.quote_plan.specs.declared.reading.PlanFault.TheVariants as plan_fault
@@ -12,7 +12,11 @@ use Rattle.scopectl.specs.declared.fault.ProgramFault.TheVariants as program
 use Rattle.command_line.specs.CommandLine.{Says}
 use Rattle.command_line.specs.declared.lines.CommandLine.{CommandLine}
 use Rattle.scope_script.specs.Streams.{AppendsPart}
-use Rattle.scopectl.specs.Program.{ReadPlan, has_late, notes_on}
+use Rattle.script_jobs.specs.declared.notes.Notes.{Notes}
+use Rattle.command_line.specs.declared.settings.ScriptOptions.{ScriptOptions}
+use Rattle.scopectl.specs.Program.{ReadPlan, has_late, notes_on, notes_wanted}
+use Rattle.scopectl.specs.Runs.{HasEnded, Run}
+use Rattle.scope_script.specs.declared.streams.watched.Watched.{Watched}
 use Rattle.scopectl.specs.Saying.{IsSaid}
 use Rattle.scopectl.specs.Texts.{line_of}
 
@@ -77,11 +81,30 @@ CameFrom program.Write ByReader ByWriter Sound OfPlan = ByWriter
 CameFrom program.Memory ByReader ByWriter Sound OfPlan = Sound
 CameFrom other ByReader ByWriter Sound OfPlan = OfPlan other
 
+-- the fault came while this reader alone was used
+abbrev pub CameReading : {T : Type 0} → Watched T → (OfPlan : ProgramFault → Type 0) → ProgramFault → Type 0
+CameReading reader OfPlan fault = CameFrom fault (HasEnded reader) ⊥ (reader.failed ≡ false) OfPlan
+
 -- one line was said, which names a fault that came
 pub record NamesFault (said said_new : Option (List ℕ)) (failed : Bool) (ByReader ByWriter Sound : Type 0) (OfPlan : ProgramFault → Type 0) : Type 0 where
   pub fault : ProgramFault
   pub came : CameFrom fault ByReader ByWriter Sound OfPlan
   pub line : IsSaid (line_of fault) said said_new failed
+
+-- the same of a run: a line was said after what stood there before
+abbrev pub NamesFrom : (said : Option (List ℕ)) → Run → (OfPlan : ProgramFault → Type 0) → Type 0
+NamesFrom said run OfPlan = NamesFault said run.said.after run.errors_failed run.ByReader run.ByWriter run.Sound OfPlan
+
+abbrev pub Names : Run → (OfPlan : ProgramFault → Type 0) → Type 0
+Names run OfPlan = NamesFrom run.said.before run OfPlan
+
+-- a fault of a text that is written alone: nothing was to be read
+abbrev pub NamesAlone : (said said_new : Option (List ℕ)) (failed writer_failed : Bool) → Type 0
+NamesAlone said said_new failed writer_failed = NamesFault said said_new failed ⊥ (writer_failed ≡ true) (writer_failed ≡ false) (λ _. ⊥)
+
+-- a fault of a plan that is read
+abbrev pub NamesOfPlan : (deadline : Option ℕ) (after : List Delay) → Run → Type 0
+NamesOfPlan deadline after run = Names run (IsOfPlan deadline after run.taken.before run.taken.after)
 
 -- ---- behind notes
 
@@ -91,21 +114,27 @@ OfNotes Failed program.Notes = Failed
 OfNotes Failed other = ⊥
 
 -- one line was said, which names a fault that came, behind a beginning of the notes on what the command read
-pub record NamesAfter (command : CommandLine) (unread unread_new said said_new : Option (List ℕ)) (failed : Bool) (ByReader ByWriter Sound : Type 0) : Type 0 where
+pub record NamesAfter (command : CommandLine) (run : Run) : Type 0 where
   pub bytes : List ℕ
-  pub read : Consumes unread unread_new bytes
+  pub read : Consumes run.taken.before run.taken.after bytes
   pub noted : Option (List ℕ)
-  pub notes : AppendsPart said noted (notes_on command bytes)
-  pub names : NamesFault noted said_new failed ByReader ByWriter Sound (OfNotes (failed ≡ true))
+  pub notes : AppendsPart run.said.before noted (notes_on command bytes)
+  pub names : NamesFrom noted run (OfNotes (run.errors_failed ≡ true))
 
--- the same, of the command that the words say
-pub record NamesNoted (words : List (List ℕ)) (unread unread_new said said_new : Option (List ℕ)) (failed : Bool) (ByReader ByWriter Sound : Type 0) : Type 0 where
+-- so of a replay with these notes
+abbrev pub NamesAfterNotes : (notes : Notes) → ScriptOptions → Run → Type 0
+NamesAfterNotes notes script run = (explain trace : Bool) → notes_wanted explain trace ≡ Some notes → NamesAfter (line.Replay script explain trace) run
+
+-- one line was said, which names a fault that came: alone, or behind notes on what the command read
+abbrev pub NamesOf : (command : CommandLine) → Run → Type 0
+NamesOf command run = Names run (λ _. ⊥) ⊎ NamesAfter command run
+
+-- behind notes on what the command read that the words say
+pub record NamesNoted (words : List (List ℕ)) (run : Run) : Type 0 where
   pub command : CommandLine
   pub says : Says words command
-  pub names : NamesAfter command unread unread_new said said_new failed ByReader ByWriter Sound
+  pub names : NamesAfter command run
 
 -- one line was said, which names a fault that came; where notes are wanted it stands behind a beginning of them
-abbrev pub NamesAny : (words : List (List ℕ)) (unread unread_new said said_new : Option (List ℕ)) (failed : Bool) (ByReader ByWriter Sound : Type 0) → Type 0
-NamesAny words unread unread_new said said_new failed ByReader ByWriter Sound =
-    NamesFault said said_new failed ByReader ByWriter Sound (IsOfQuote words unread unread_new)
-    ⊎ NamesNoted words unread unread_new said said_new failed ByReader ByWriter Sound
+abbrev pub NamesAny : (words : List (List ℕ)) → Run → Type 0
+NamesAny words run = Names run (IsOfQuote words run.taken.before run.taken.after) ⊎ NamesNoted words run

@@ -10,6 +10,7 @@ use Rattle.script_jobs.specs.Notes.{notes_text}
 use Rattle.script_jobs.specs.Made.{IsScript}
 use Rattle.script_jobs.specs.declared.notes.Notes.{Notes}
 use Rattle.script_jobs.specs.declared.notes.Notes.TheVariants as notes
+use Rattle.scopectl.specs.Runs.{Run}
 use Rattle.scopectl.specs.Saying.{Noted, SaidNotes, status_of}
 use Rattle.script_jobs.specs.Jobs.{shown_text}
 use Rattle.script_jobs.specs.Times.{stamps_of_script}
@@ -66,17 +67,22 @@ abbrev pub Asks : List (List ℕ) → List ℕ → Type 0
 Asks words text = AsksFor words text ⊎ Generates words text
 
 -- it wrote exactly the text that the words ask for
-pub record GaveText (words : List (List ℕ)) (written written_new : Option (List ℕ)) : Type 0 where
+pub record GaveText (words : List (List ℕ)) (run : Run) : Type 0 where
   pub text : List ℕ
   pub asked : Asks words text
-  pub wrote : Appends written written_new text
+  pub wrote : Appends run.written.before run.written.after text
 
 -- the writer failed, and took a beginning of the text that the words ask for
-pub record GaveTextPartly (words : List (List ℕ)) (written written_new : Option (List ℕ)) (failed : Bool) : Type 0 where
+pub record GaveTextPartly (words : List (List ℕ)) (run : Run) : Type 0 where
   pub text : List ℕ
   pub asked : Asks words text
-  pub wrote : AppendsPart written written_new text
-  pub writer : failed ≡ true
+  pub wrote : AppendsPart run.written.before run.written.after text
+  pub writer : run.ByWriter
+
+-- the writer failed, and took a beginning of a random script
+abbrev pub WroteScriptPartly : (lines : Option ℕ) (written written_new : Option (List ℕ)) (failed : Bool) → Type 0
+WroteScriptPartly lines written written_new failed =
+    (text : List ℕ) × IsScript (lines_or lines) text × AppendsPart written written_new text × (failed ≡ true)
 
 -- the plan allows the line; or there is a deadline, and the line says some of the prices
 abbrev pub AllowedIn : Option ℕ → PlanValue → List ℕ → Type 0
@@ -147,13 +153,13 @@ Makes (line.Quote deadline after tree_after) bytes text = AnswersPlan deadline a
 Makes (line.Generate seed lines) bytes text = IsScript (lines_or lines) text
 
 -- the command was done: all bytes were read, and exactly a text that it makes of them was written
-pub record DidJob (command : CommandLine) (unread unread_new written written_new : Option (List ℕ)) : Type 0 where
+pub record DidJob (command : CommandLine) (run : Run) : Type 0 where
   pub bytes : List ℕ
-  pub read : Consumes unread unread_new bytes
-  pub all : IsAtEnd unread_new
+  pub read : Consumes run.taken.before run.taken.after bytes
+  pub all : IsAtEnd run.taken.after
   pub text : List ℕ
   pub makes : Makes command bytes text
-  pub wrote : Appends written written_new text
+  pub wrote : Appends run.written.before run.written.after text
 
 -- how many lines a command refuses of the bytes that it reads, and whether they look like a script: of a plan none
 abbrev pub no_count : Count
@@ -192,11 +198,11 @@ notes_wanted false true = Some notes.Replies
 notes_wanted true true = Some notes.All
 
 -- what was said of the lines of a script: the notes that are wanted, and how many were refused
-abbrev pub ToldNotes : Option Notes → ScriptOptions → (bytes : List ℕ) (ErrorsKept : Type 0) (said said_new : Option (List ℕ)) (errors_failed : Bool) → Type 0
-ToldNotes (Some wanted) script bytes ErrorsKept said said_new errors_failed =
-    SaidNotes (notes_text wanted script.limits bytes) script.quiet (count_of_script script.limits bytes) said said_new errors_failed
-ToldNotes None script bytes ErrorsKept said said_new errors_failed =
-    Noted script.quiet (count_of_script script.limits bytes) ErrorsKept said said_new errors_failed
+abbrev pub ToldNotes : Option Notes → ScriptOptions → (bytes : List ℕ) → Run → Type 0
+ToldNotes (Some wanted) script bytes run =
+    SaidNotes (notes_text wanted script.limits bytes) script.quiet (count_of_script script.limits bytes) run.said.before run.said.after run.errors_failed
+ToldNotes None script bytes run =
+    Noted script.quiet (count_of_script script.limits bytes) run.ErrorsKept run.said.before run.said.after run.errors_failed
 
 -- the notes that are wanted on the lines of the bytes that were read: those on the lines of a script, and no others
 abbrev pub noted_text : Option Notes → Limits → List ℕ → List ℕ
@@ -210,59 +216,57 @@ notes_on _ bytes = []
 
 -- what was said of the bytes that were read: the notes that are wanted on the lines of a script, and how many lines
 -- were refused
-abbrev pub Told : CommandLine → (bytes : List ℕ) (ErrorsKept : Type 0) (said said_new : Option (List ℕ)) (errors_failed : Bool) → Type 0
-Told (line.Replay script explain trace) bytes ErrorsKept said said_new errors_failed =
-    ToldNotes (notes_wanted explain trace) script bytes ErrorsKept said said_new errors_failed
-Told (line.Show script view lenient explain) bytes ErrorsKept said said_new errors_failed =
-    ToldNotes (notes_wanted explain false) script bytes ErrorsKept said said_new errors_failed
-Told command bytes ErrorsKept said said_new errors_failed =
-    Noted (is_quiet command) (count_of command bytes) ErrorsKept said said_new errors_failed
+abbrev pub Told : CommandLine → (bytes : List ℕ) → Run → Type 0
+Told (line.Replay script explain trace) bytes run = ToldNotes (notes_wanted explain trace) script bytes run
+Told (line.Show script view lenient explain) bytes run = ToldNotes (notes_wanted explain false) script bytes run
+Told command bytes run = Noted (is_quiet command) (count_of command bytes) run.ErrorsKept run.said.before run.said.after run.errors_failed
 
 -- the command was done, it was said how many lines were refused, with the notes that are wanted, and the status is as
 -- it should be
-pub record DidWhole (command : CommandLine) (ErrorsKept : Type 0) (unread unread_new written written_new said said_new : Option (List ℕ)) (errors_failed : Bool) (result : ℕ) : Type 0 where
-  pub did : DidJob command unread unread_new written written_new
-  pub noted : Told command did.bytes ErrorsKept said said_new errors_failed
+pub record DidWhole (command : CommandLine) (run : Run) (result : ℕ) : Type 0 where
+  pub did : DidJob command run
+  pub noted : Told command did.bytes run
   pub status : result ≡ status_of (is_strict command) (is_lenient command) (count_of command did.bytes)
 
+-- so was a replay with these notes, or without
+abbrev pub DidReplay : (notes : Option Notes) → ScriptOptions → Run → (result : ℕ) → Type 0
+DidReplay notes script run result = (explain trace : Bool) → notes_wanted explain trace ≡ notes → DidWhole (line.Replay script explain trace) run result
+
 -- all bytes were read, and the writer failed and took a beginning of a text that the command makes of them
-pub record FailedAtEnd (command : CommandLine) (bytes : List ℕ) (unread_new written written_new : Option (List ℕ)) (failed : Bool) : Type 0 where
-  pub all : IsAtEnd unread_new
+pub record FailedAtEnd (command : CommandLine) (bytes : List ℕ) (run : Run) : Type 0 where
+  pub all : IsAtEnd run.taken.after
   pub text : List ℕ
   pub makes : Makes command bytes text
-  pub wrote : AppendsPart written written_new text
-  pub writer : failed ≡ true
+  pub wrote : AppendsPart run.written.before run.written.after text
+  pub writer : run.ByWriter
 
 -- nothing was written, but where all bytes were read and the writer failed
-abbrev pub WroteLate : CommandLine → (bytes : List ℕ) (unread_new written written_new : Option (List ℕ)) (failed : Bool) → Type 0
-WroteLate command bytes unread_new written written_new failed =
-    Appends written written_new [] ⊎ FailedAtEnd command bytes unread_new written written_new failed
+abbrev pub WroteLate : CommandLine → (bytes : List ℕ) → Run → Type 0
+WroteLate command bytes run = Appends run.written.before run.written.after [] ⊎ FailedAtEnd command bytes run
 
 -- what was written of a command that a fault ended: a beginning of the replies to what was read, and else nothing
 -- before all was read
-abbrev pub WrotePart : CommandLine → (bytes : List ℕ) (unread_new written written_new : Option (List ℕ)) (failed : Bool) → Type 0
-WrotePart (line.Replay script explain trace) bytes unread_new written written_new failed =
-    AppendsPart written written_new (replies_of script.limits bytes)
-WrotePart command bytes unread_new written written_new failed =
-    WroteLate command bytes unread_new written written_new failed
+abbrev pub WrotePart : CommandLine → (bytes : List ℕ) → Run → Type 0
+WrotePart (line.Replay script explain trace) bytes run = AppendsPart run.written.before run.written.after (replies_of script.limits bytes)
+WrotePart command bytes run = WroteLate command bytes run
 
 -- a fault ended the command
-pub record DidPart (command : CommandLine) (unread unread_new written written_new : Option (List ℕ)) (failed : Bool) : Type 0 where
+pub record DidPart (command : CommandLine) (run : Run) : Type 0 where
   pub bytes : List ℕ
-  pub read : Consumes unread unread_new bytes
-  pub wrote : WrotePart command bytes unread_new written written_new failed
+  pub read : Consumes run.taken.before run.taken.after bytes
+  pub wrote : WrotePart command bytes run
 
 -- it did all that the words say
-pub record DidAsSaid (words : List (List ℕ)) (ErrorsKept : Type 0) (unread unread_new written written_new said said_new : Option (List ℕ)) (errors_failed : Bool) (result : ℕ) : Type 0 where
+pub record DidAsSaid (words : List (List ℕ)) (run : Run) (result : ℕ) : Type 0 where
   pub command : CommandLine
   pub says : Says words command
-  pub did : DidWhole command ErrorsKept unread unread_new written written_new said said_new errors_failed result
+  pub did : DidWhole command run result
 
 -- it did a part of what the words say
-pub record DidPartly (words : List (List ℕ)) (unread unread_new written written_new : Option (List ℕ)) (failed : Bool) : Type 0 where
+pub record DidPartly (words : List (List ℕ)) (run : Run) : Type 0 where
   pub command : CommandLine
   pub said : Says words command
-  pub did : DidPart command unread unread_new written written_new failed
+  pub did : DidPart command run
 
 -- ---- before anything is written
 

@@ -2,8 +2,10 @@
 ghost use Rattle.std.specs.Prelude.{◌≡◌, ◌≢◌, ◌≤◌, ◌⊎◌, Bool, List, ℕ, None, Some, false, true, map, string_bytes};
 ghost use Rattle.std.specs.Io.KnownBytes.{Appends};
 ghost use Rattle.scope_script.specs.Streams.{AppendsPart};
-ghost use Rattle.scopectl.specs.Naming.{IsOfPlan, NamesAfter, NamesAny, NamesFault};
-ghost use Rattle.scopectl.specs.Program.{DidAsSaid, DidJob, DidPart, DidPartly, DidWhole, GaveText, GaveTextPartly, IsNotUnderstood, lines_or, notes_wanted, place_or, seen_of, tree_part, view_of};
+ghost use Rattle.scopectl.specs.Acting.{DidAll, DidNothing, DidSome};
+ghost use Rattle.scopectl.specs.Naming.{Names, NamesAfter, NamesAfterNotes, NamesAlone, NamesAny, NamesOf, NamesOfPlan};
+ghost use Rattle.scopectl.specs.Program.{DidJob, DidPart, DidReplay, DidWhole, WroteScriptPartly, lines_or, notes_wanted, place_or, seen_of, tree_part, view_of};
+ghost use Rattle.scopectl.specs.Runs.{IsSound, run};
 ghost use Rattle.script_jobs.specs.Made.{IsScript};
 ghost use Rattle.scopectl.specs.Saying.{IsSaid, Noted, SaidSome, count_text, is_silent, status_of, three_if_some};
 ghost use Rattle.scopectl.specs.Texts.{line_of, not_utf8_line};
@@ -11,6 +13,7 @@ ghost use Rattle.scopectl.specs.Texts.{line_of, not_utf8_line};
 use crate::fault::{ProgramFault, count_text};
 use crate::looks::Looker;
 use crate::quoting::quoted;
+use crate::streams::Streams;
 use command_line::{
     CommandLine, Delay, DumpFormat, LineFault, PictureOptions, ScriptOptions, TreeOptions,
     VERSION_LINE, ViewOptions, help_of, line,
@@ -50,8 +53,7 @@ pub const NOT_UNDERSTOOD: u8 = 2;
 pub const LINES_REFUSED: u8 = 3;
 
 /// Does what the words say, of which the first is the program's name, and answers the exit status.
-/// What is read comes from `reader`, what is written goes to `writer`, and what is said of faults to
-/// `errors`, whose own failing is passed over. The threads of a plan's jobs are the spawner's, and the seed
+/// What is read, written and said of faults goes over the streams. The threads of a plan's jobs are the spawner's, and the seed
 /// is that of the realm that they run in; else neither is used. That realm is looked at by `looks`, if that was asked for;
 /// what it writes is in no clause.
 ///
@@ -95,26 +97,15 @@ pub fn act<
     spawner: S,
     looks: &mut Looker<'_>,
     words: &'a [&'a str],
-    reader: &mut Watched<R>,
-    writer: &mut Watched<W>,
-    errors: &mut Watched<E>,
+    streams: &mut Streams<'_, R, W, E>,
 ) -> u8
     requires named { seed ≡ N.table }
-    requires reader { reader.old.failed ≡ false }
-    requires writer { writer.old.failed ≡ false }
+    requires sound { IsSound streams.old }
     ensures status { result ≤ 3 }
-    ensures done { result ≢ 1 → result ≢ 2 → ((result ≡ 0) × (reader.new ≡ reader.old) × (errors.new ≡ errors.old)
-        × GaveText (map (λ word. word.now) words.now) (W.contents writer.old.inner) (W.contents writer.new.inner))
-        ⊎ DidAsSaid (map (λ word. word.now) words.now) (errors.new ≡ errors.old) (R.remaining reader.old.inner) (R.remaining reader.new.inner) (W.contents writer.old.inner) (W.contents writer.new.inner) (E.contents errors.old.inner) (E.contents errors.new.inner) errors.new.failed result }
-    ensures fault { result ≡ 1 → ((reader.new ≡ reader.old) × (writer.new ≡ writer.old))
-        ⊎ (((reader.new ≡ reader.old)
-        × GaveTextPartly (map (λ word. word.now) words.now) (W.contents writer.old.inner) (W.contents writer.new.inner) writer.new.failed)
-        ⊎ DidPartly (map (λ word. word.now) words.now) (R.remaining reader.old.inner) (R.remaining reader.new.inner) (W.contents writer.old.inner) (W.contents writer.new.inner) writer.new.failed) }
-    ensures named { result ≡ 1 → NamesAny (map (λ word. word.now) words.now) (R.remaining reader.old.inner) (R.remaining reader.new.inner) (E.contents errors.old.inner) (E.contents errors.new.inner) errors.new.failed ((reader.new.failed ≡ true) ⊎ (reader.new.reads ≡ u64.MAX)) (writer.new.failed ≡ true)
-        ((reader.new.failed ≡ false) × (writer.new.failed ≡ false)) }
-    ensures not_understood { result ≡ 2 → IsNotUnderstood (map (λ word. word.now) words.now)
-        × (reader.new ≡ reader.old) × (writer.new ≡ writer.old)
-        × SaidSome (E.contents errors.old.inner) (E.contents errors.new.inner) errors.new.failed }
+    ensures done { result ≢ 1 → result ≢ 2 → DidAll (map (λ word. word.now) words.now) (run R.remaining W.contents E.contents streams.old streams.new) result }
+    ensures fault { result ≡ 1 → DidSome (map (λ word. word.now) words.now) (run R.remaining W.contents E.contents streams.old streams.new) }
+    ensures named { result ≡ 1 → NamesAny (map (λ word. word.now) words.now) (run R.remaining W.contents E.contents streams.old streams.new) }
+    ensures not_understood { result ≡ 2 → DidNothing (map (λ word. word.now) words.now) (run R.remaining W.contents E.contents streams.old streams.new) }
 {
     match line(alloc, words) {
         Ok(
@@ -123,7 +114,7 @@ pub fn act<
                 explain,
                 trace,
             },
-        ) => replay(alloc, script, explain, trace, reader, writer, errors),
+        ) => replay(alloc, script, explain, trace, streams),
         Ok(
             CommandLine::Show {
                 script,
@@ -131,9 +122,7 @@ pub fn act<
                 lenient,
                 explain,
             },
-        ) => show(
-            alloc, script, view, lenient, explain, reader, writer, errors,
-        ),
+        ) => show(alloc, script, view, lenient, explain, streams),
         Ok(
             CommandLine::Quote {
                 deadline,
@@ -141,13 +130,15 @@ pub fn act<
                 tree_after,
             },
         ) => quote::<N, S, T, R, W, E>(
-            rt, alloc, seed, spawner, looks, deadline, after, tree_after, reader, writer, errors,
+            rt, alloc, seed, spawner, looks, deadline, after, tree_after, streams,
         ),
-        Ok(CommandLine::Generate { seed, lines }) => generate(alloc, seed, lines, writer, errors),
-        Err(LineFault::Help) => tell(help_of(words), writer, errors),
-        Err(LineFault::Version) => tell(VERSION_LINE, writer, errors),
-        Err(LineFault::Usage(text)) => refuse_line(&text, errors),
-        Err(LineFault::Memory) => fail(ProgramFault::Memory, errors),
+        Ok(CommandLine::Generate { seed, lines }) => {
+            generate(alloc, seed, lines, &mut streams.writer, streams.errors)
+        }
+        Err(LineFault::Help) => tell(help_of(words), &mut streams.writer, streams.errors),
+        Err(LineFault::Version) => tell(VERSION_LINE, &mut streams.writer, streams.errors),
+        Err(LineFault::Usage(text)) => refuse_line(&text, streams.errors),
+        Err(LineFault::Memory) => fail(ProgramFault::Memory, streams.errors),
     }
 }
 
@@ -197,21 +188,17 @@ fn replay<R: Read + Drop, W: Write + Drop, E: Write + Drop>(
     script: ScriptOptions,
     explain: bool,
     trace: bool,
-    reader: &mut Watched<R>,
-    writer: &mut Watched<W>,
-    errors: &mut Watched<E>,
+    streams: &mut Streams<'_, R, W, E>,
 ) -> u8
-    requires reader { reader.old.failed ≡ false }
-    requires writer { writer.old.failed ≡ false }
+    requires { IsSound streams.old }
     ensures status { (result ≤ 3) × (result ≢ 2) }
-    ensures done { result ≢ 1 → DidWhole (CommandLine.Replay script explain trace) (errors.new ≡ errors.old) (R.remaining reader.old.inner) (R.remaining reader.new.inner) (W.contents writer.old.inner) (W.contents writer.new.inner) (E.contents errors.old.inner) (E.contents errors.new.inner) errors.new.failed result }
-    ensures fault { result ≡ 1 → DidPart (CommandLine.Replay script explain trace) (R.remaining reader.old.inner) (R.remaining reader.new.inner) (W.contents writer.old.inner) (W.contents writer.new.inner) writer.new.failed }
-    ensures named { result ≡ 1 → NamesFault (E.contents errors.old.inner) (E.contents errors.new.inner) errors.new.failed ((reader.new.failed ≡ true) ⊎ (reader.new.reads ≡ u64.MAX)) (writer.new.failed ≡ true) ((reader.new.failed ≡ false) × (writer.new.failed ≡ false)) (λ _. ⊥)
-        ⊎ NamesAfter (CommandLine.Replay script explain trace) (R.remaining reader.old.inner) (R.remaining reader.new.inner) (E.contents errors.old.inner) (E.contents errors.new.inner) errors.new.failed ((reader.new.failed ≡ true) ⊎ (reader.new.reads ≡ u64.MAX)) (writer.new.failed ≡ true) ((reader.new.failed ≡ false) × (writer.new.failed ≡ false)) }
+    ensures done { result ≢ 1 → DidWhole (CommandLine.Replay script explain trace) (run R.remaining W.contents E.contents streams.old streams.new) result }
+    ensures fault { result ≡ 1 → DidPart (CommandLine.Replay script explain trace) (run R.remaining W.contents E.contents streams.old streams.new) }
+    ensures named { result ≡ 1 → NamesOf (CommandLine.Replay script explain trace) (run R.remaining W.contents E.contents streams.old streams.new) }
 {
     match notes_wanted(explain, trace) {
-        Some(notes) => replay_noted(alloc, script, notes, reader, writer, errors),
-        None => replay_plainly(alloc, script, reader, writer, errors),
+        Some(notes) => replay_noted(alloc, script, notes, streams),
+        None => replay_plainly(alloc, script, streams),
     }
 }
 
@@ -219,22 +206,24 @@ fn replay<R: Read + Drop, W: Write + Drop, E: Write + Drop>(
 fn replay_plainly<R: Read + Drop, W: Write + Drop, E: Write + Drop>(
     alloc: Global,
     script: ScriptOptions,
-    reader: &mut Watched<R>,
-    writer: &mut Watched<W>,
-    errors: &mut Watched<E>,
+    streams: &mut Streams<'_, R, W, E>,
 ) -> u8
-    requires reader { reader.old.failed ≡ false }
-    requires writer { writer.old.failed ≡ false }
+    requires { IsSound streams.old }
     ensures status { (result ≤ 3) × (result ≢ 2) }
-    ensures done { (explain trace : Bool) → notes_wanted explain trace ≡ None → result ≢ 1 → DidWhole (CommandLine.Replay script explain trace) (errors.new ≡ errors.old) (R.remaining reader.old.inner) (R.remaining reader.new.inner) (W.contents writer.old.inner) (W.contents writer.new.inner) (E.contents errors.old.inner) (E.contents errors.new.inner) errors.new.failed result }
-    ensures fault { (explain trace : Bool) → result ≡ 1 → DidPart (CommandLine.Replay script explain trace) (R.remaining reader.old.inner) (R.remaining reader.new.inner) (W.contents writer.old.inner) (W.contents writer.new.inner) writer.new.failed }
-    ensures named { result ≡ 1 → NamesFault (E.contents errors.old.inner) (E.contents errors.new.inner) errors.new.failed ((reader.new.failed ≡ true) ⊎ (reader.new.reads ≡ u64.MAX)) (writer.new.failed ≡ true) ((reader.new.failed ≡ false) × (writer.new.failed ≡ false)) (λ _. ⊥) }
+    ensures done { result ≢ 1 → DidReplay None script (run R.remaining W.contents E.contents streams.old streams.new) result }
+    ensures fault { (explain trace : Bool) → result ≡ 1 → DidPart (CommandLine.Replay script explain trace) (run R.remaining W.contents E.contents streams.old streams.new) }
+    ensures named { result ≡ 1 → Names (run R.remaining W.contents E.contents streams.old streams.new) (λ _. ⊥) }
 {
-    let fault = match replayed(alloc, script.limits, reader, writer) {
-        Ok(count) => return note(script, true, count, errors),
+    let fault = match replayed(
+        alloc,
+        script.limits,
+        &mut streams.reader,
+        &mut streams.writer,
+    ) {
+        Ok(count) => return note(script, true, count, streams.errors),
         Err(fault) => fault,
     };
-    fail(ProgramFault::of_run(fault), errors)
+    fail(ProgramFault::of_run(fault), streams.errors)
 }
 
 /// Replays the script that is read, and says the note on each of its lines as it is answered.
@@ -242,20 +231,24 @@ fn replay_noted<R: Read + Drop, W: Write + Drop, E: Write + Drop>(
     alloc: Global,
     script: ScriptOptions,
     notes: Notes,
-    reader: &mut Watched<R>,
-    writer: &mut Watched<W>,
-    errors: &mut Watched<E>,
+    streams: &mut Streams<'_, R, W, E>,
 ) -> u8
-    requires reader { reader.old.failed ≡ false }
-    requires writer { writer.old.failed ≡ false }
+    requires { IsSound streams.old }
     ensures status { (result ≤ 3) × (result ≢ 2) }
-    ensures done { (explain trace : Bool) → notes_wanted explain trace ≡ Some notes → result ≢ 1 → DidWhole (CommandLine.Replay script explain trace) (errors.new ≡ errors.old) (R.remaining reader.old.inner) (R.remaining reader.new.inner) (W.contents writer.old.inner) (W.contents writer.new.inner) (E.contents errors.old.inner) (E.contents errors.new.inner) errors.new.failed result }
-    ensures fault { (explain trace : Bool) → result ≡ 1 → DidPart (CommandLine.Replay script explain trace) (R.remaining reader.old.inner) (R.remaining reader.new.inner) (W.contents writer.old.inner) (W.contents writer.new.inner) writer.new.failed }
-    ensures named { (explain trace : Bool) → notes_wanted explain trace ≡ Some notes → result ≡ 1 → NamesAfter (CommandLine.Replay script explain trace) (R.remaining reader.old.inner) (R.remaining reader.new.inner) (E.contents errors.old.inner) (E.contents errors.new.inner) errors.new.failed ((reader.new.failed ≡ true) ⊎ (reader.new.reads ≡ u64.MAX)) (writer.new.failed ≡ true) ((reader.new.failed ≡ false) × (writer.new.failed ≡ false)) }
+    ensures done { result ≢ 1 → DidReplay (Some notes) script (run R.remaining W.contents E.contents streams.old streams.new) result }
+    ensures fault { (explain trace : Bool) → result ≡ 1 → DidPart (CommandLine.Replay script explain trace) (run R.remaining W.contents E.contents streams.old streams.new) }
+    ensures named { result ≡ 1 → NamesAfterNotes notes script (run R.remaining W.contents E.contents streams.old streams.new) }
 {
-    match replayed_noted(alloc, script.limits, notes, reader, writer, errors) {
-        Ok(count) => note(script, true, count, errors),
-        Err(reason) => fail(ProgramFault::of_noted(reason), errors),
+    match replayed_noted(
+        alloc,
+        script.limits,
+        notes,
+        &mut streams.reader,
+        &mut streams.writer,
+        streams.errors,
+    ) {
+        Ok(count) => note(script, true, count, streams.errors),
+        Err(reason) => fail(ProgramFault::of_noted(reason), streams.errors),
     }
 }
 
@@ -271,8 +264,9 @@ fn generate<W: Write + Drop, E: Write + Drop>(
     ensures status { result ≤ 1 }
     ensures done { result ≡ 0 → (text : List ℕ) × IsScript (lines_or lines) text × Appends (W.contents writer.old.inner) (W.contents writer.new.inner) text }
     ensures silent { result ≡ 0 → errors.new ≡ errors.old }
-    ensures fault { result ≡ 1 → (writer.new ≡ writer.old) ⊎ ((text : List ℕ) × IsScript (lines_or lines) text × AppendsPart (W.contents writer.old.inner) (W.contents writer.new.inner) text × (writer.new.failed ≡ true)) }
-    ensures named { result ≡ 1 → NamesFault (E.contents errors.old.inner) (E.contents errors.new.inner) errors.new.failed ⊥ (writer.new.failed ≡ true) (writer.new.failed ≡ false) (λ _. ⊥) }
+    ensures fault { result ≡ 1 → (writer.new ≡ writer.old)
+        ⊎ WroteScriptPartly lines (W.contents writer.old.inner) (W.contents writer.new.inner) writer.new.failed }
+    ensures named { result ≡ 1 → NamesAlone (E.contents errors.old.inner) (E.contents errors.new.inner) errors.new.failed writer.new.failed }
 {
     match script_by(alloc, seed.unwrap_or(SEED), lines.unwrap_or(LINES)) {
         Ok(text) => tell(&text, writer, errors),
@@ -287,22 +281,18 @@ fn show<R: Read + Drop, W: Write + Drop, E: Write + Drop>(
     view: ViewOptions,
     lenient: bool,
     explain: bool,
-    reader: &mut Watched<R>,
-    writer: &mut Watched<W>,
-    errors: &mut Watched<E>,
+    streams: &mut Streams<'_, R, W, E>,
 ) -> u8
-    requires reader { reader.old.failed ≡ false }
-    requires writer { writer.old.failed ≡ false }
+    requires { IsSound streams.old }
     ensures status { (result ≤ 3) × (result ≢ 2) }
-    ensures done { result ≢ 1 → DidWhole (CommandLine.Show script view lenient explain) (errors.new ≡ errors.old) (R.remaining reader.old.inner) (R.remaining reader.new.inner) (W.contents writer.old.inner) (W.contents writer.new.inner) (E.contents errors.old.inner) (E.contents errors.new.inner) errors.new.failed result }
-    ensures fault { result ≡ 1 → DidPart (CommandLine.Show script view lenient explain) (R.remaining reader.old.inner) (R.remaining reader.new.inner) (W.contents writer.old.inner) (W.contents writer.new.inner) writer.new.failed }
-    ensures named { result ≡ 1 → NamesFault (E.contents errors.old.inner) (E.contents errors.new.inner) errors.new.failed ((reader.new.failed ≡ true) ⊎ (reader.new.reads ≡ u64.MAX)) (writer.new.failed ≡ true) ((reader.new.failed ≡ false) × (writer.new.failed ≡ false)) (λ _. ⊥)
-        ⊎ NamesAfter (CommandLine.Show script view lenient explain) (R.remaining reader.old.inner) (R.remaining reader.new.inner) (E.contents errors.old.inner) (E.contents errors.new.inner) errors.new.failed ((reader.new.failed ≡ true) ⊎ (reader.new.reads ≡ u64.MAX)) (writer.new.failed ≡ true) ((reader.new.failed ≡ false) × (writer.new.failed ≡ false)) }
+    ensures done { result ≢ 1 → DidWhole (CommandLine.Show script view lenient explain) (run R.remaining W.contents E.contents streams.old streams.new) result }
+    ensures fault { result ≡ 1 → DidPart (CommandLine.Show script view lenient explain) (run R.remaining W.contents E.contents streams.old streams.new) }
+    ensures named { result ≡ 1 → NamesOf (CommandLine.Show script view lenient explain) (run R.remaining W.contents E.contents streams.old streams.new) }
 {
     if explain {
-        show_noted(alloc, script, view, lenient, reader, writer, errors)
+        show_noted(alloc, script, view, lenient, streams)
     } else {
-        show_plainly(alloc, script, view, lenient, reader, writer, errors)
+        show_plainly(alloc, script, view, lenient, streams)
     }
 }
 
@@ -312,20 +302,23 @@ fn show_plainly<R: Read + Drop, W: Write + Drop, E: Write + Drop>(
     script: ScriptOptions,
     view: ViewOptions,
     lenient: bool,
-    reader: &mut Watched<R>,
-    writer: &mut Watched<W>,
-    errors: &mut Watched<E>,
+    streams: &mut Streams<'_, R, W, E>,
 ) -> u8
-    requires reader { reader.old.failed ≡ false }
-    requires writer { writer.old.failed ≡ false }
+    requires { IsSound streams.old }
     ensures status { (result ≤ 3) × (result ≢ 2) }
-    ensures done { result ≢ 1 → DidWhole (CommandLine.Show script view lenient false) (errors.new ≡ errors.old) (R.remaining reader.old.inner) (R.remaining reader.new.inner) (W.contents writer.old.inner) (W.contents writer.new.inner) (E.contents errors.old.inner) (E.contents errors.new.inner) errors.new.failed result }
-    ensures fault { result ≡ 1 → DidPart (CommandLine.Show script view lenient false) (R.remaining reader.old.inner) (R.remaining reader.new.inner) (W.contents writer.old.inner) (W.contents writer.new.inner) writer.new.failed }
-    ensures named { result ≡ 1 → NamesFault (E.contents errors.old.inner) (E.contents errors.new.inner) errors.new.failed ((reader.new.failed ≡ true) ⊎ (reader.new.reads ≡ u64.MAX)) (writer.new.failed ≡ true) ((reader.new.failed ≡ false) × (writer.new.failed ≡ false)) (λ _. ⊥) }
+    ensures done { result ≢ 1 → DidWhole (CommandLine.Show script view lenient false) (run R.remaining W.contents E.contents streams.old streams.new) result }
+    ensures fault { result ≡ 1 → DidPart (CommandLine.Show script view lenient false) (run R.remaining W.contents E.contents streams.old streams.new) }
+    ensures named { result ≡ 1 → Names (run R.remaining W.contents E.contents streams.old streams.new) (λ _. ⊥) }
 {
-    match shown(alloc, script.limits, view_of(view), reader, writer) {
-        Ok(shown) => tell_shown(script, lenient, &shown, writer, errors),
-        Err(cause) => fail(ProgramFault::of_run(cause), errors),
+    match shown(
+        alloc,
+        script.limits,
+        view_of(view),
+        &mut streams.reader,
+        &mut streams.writer,
+    ) {
+        Ok(shown) => tell_shown(script, lenient, &shown, &mut streams.writer, streams.errors),
+        Err(cause) => fail(ProgramFault::of_run(cause), streams.errors),
     }
 }
 
@@ -335,16 +328,13 @@ fn show_noted<R: Read + Drop, W: Write + Drop, E: Write + Drop>(
     script: ScriptOptions,
     view: ViewOptions,
     lenient: bool,
-    reader: &mut Watched<R>,
-    writer: &mut Watched<W>,
-    errors: &mut Watched<E>,
+    streams: &mut Streams<'_, R, W, E>,
 ) -> u8
-    requires reader { reader.old.failed ≡ false }
-    requires writer { writer.old.failed ≡ false }
+    requires { IsSound streams.old }
     ensures status { (result ≤ 3) × (result ≢ 2) }
-    ensures done { result ≢ 1 → DidWhole (CommandLine.Show script view lenient true) (errors.new ≡ errors.old) (R.remaining reader.old.inner) (R.remaining reader.new.inner) (W.contents writer.old.inner) (W.contents writer.new.inner) (E.contents errors.old.inner) (E.contents errors.new.inner) errors.new.failed result }
-    ensures fault { result ≡ 1 → DidPart (CommandLine.Show script view lenient true) (R.remaining reader.old.inner) (R.remaining reader.new.inner) (W.contents writer.old.inner) (W.contents writer.new.inner) writer.new.failed }
-    ensures named { result ≡ 1 → NamesAfter (CommandLine.Show script view lenient true) (R.remaining reader.old.inner) (R.remaining reader.new.inner) (E.contents errors.old.inner) (E.contents errors.new.inner) errors.new.failed ((reader.new.failed ≡ true) ⊎ (reader.new.reads ≡ u64.MAX)) (writer.new.failed ≡ true) ((reader.new.failed ≡ false) × (writer.new.failed ≡ false)) }
+    ensures done { result ≢ 1 → DidWhole (CommandLine.Show script view lenient true) (run R.remaining W.contents E.contents streams.old streams.new) result }
+    ensures fault { result ≡ 1 → DidPart (CommandLine.Show script view lenient true) (run R.remaining W.contents E.contents streams.old streams.new) }
+    ensures named { result ≡ 1 → NamesAfter (CommandLine.Show script view lenient true) (run R.remaining W.contents E.contents streams.old streams.new) }
 {
     let wanted = Notes::Refusals;
     match shown_noted(
@@ -352,12 +342,12 @@ fn show_noted<R: Read + Drop, W: Write + Drop, E: Write + Drop>(
         script.limits,
         view_of(view),
         wanted,
-        reader,
-        writer,
-        errors,
+        &mut streams.reader,
+        &mut streams.writer,
+        streams.errors,
     ) {
-        Ok(shown) => tell_shown(script, lenient, &shown, writer, errors),
-        Err(reason) => fail(ProgramFault::of_noted(reason), errors),
+        Ok(shown) => tell_shown(script, lenient, &shown, &mut streams.writer, streams.errors),
+        Err(reason) => fail(ProgramFault::of_noted(reason), streams.errors),
     }
 }
 
@@ -452,24 +442,29 @@ fn quote<
     deadline: Option<u32>,
     after: Vec<Delay>,
     tree_after: Option<u32>,
-    reader: &mut Watched<R>,
-    writer: &mut Watched<W>,
-    errors: &mut Watched<E>,
+    streams: &mut Streams<'_, R, W, E>,
 ) -> u8
     requires named { seed ≡ N.table }
-    requires reader { reader.old.failed ≡ false }
-    requires writer { writer.old.failed ≡ false }
+    requires sound { IsSound streams.old }
     ensures status { result ≤ 1 }
-    ensures done { result ≡ 0 → DidJob (CommandLine.Quote deadline after tree_after) (R.remaining reader.old.inner) (R.remaining reader.new.inner) (W.contents writer.old.inner) (W.contents writer.new.inner) }
-    ensures silent { result ≡ 0 → errors.new ≡ errors.old }
-    ensures fault { result ≡ 1 → DidPart (CommandLine.Quote deadline after tree_after) (R.remaining reader.old.inner) (R.remaining reader.new.inner) (W.contents writer.old.inner) (W.contents writer.new.inner) writer.new.failed }
-    ensures named { result ≡ 1 → NamesFault (E.contents errors.old.inner) (E.contents errors.new.inner) errors.new.failed ((reader.new.failed ≡ true) ⊎ (reader.new.reads ≡ u64.MAX)) (writer.new.failed ≡ true) ((reader.new.failed ≡ false) × (writer.new.failed ≡ false)) (IsOfPlan deadline after.items (R.remaining reader.old.inner) (R.remaining reader.new.inner)) }
+    ensures done { result ≡ 0 → DidJob (CommandLine.Quote deadline after tree_after) (run R.remaining W.contents E.contents streams.old streams.new) }
+    ensures silent { result ≡ 0 → streams.new.errors.now ≡ streams.old.errors.now }
+    ensures fault { result ≡ 1 → DidPart (CommandLine.Quote deadline after tree_after) (run R.remaining W.contents E.contents streams.old streams.new) }
+    ensures named { result ≡ 1 → NamesOfPlan deadline after.items (run R.remaining W.contents E.contents streams.old streams.new) }
 {
     match quoted::<N, S, T, R>(
-        rt, alloc, seed, spawner, looks, deadline, &after, tree_after, reader,
+        rt,
+        alloc,
+        seed,
+        spawner,
+        looks,
+        deadline,
+        &after,
+        tree_after,
+        &mut streams.reader,
     ) {
-        Ok(answer) => tell(&answer, writer, errors),
-        Err(reason) => fail(reason, errors),
+        Ok(answer) => tell(&answer, &mut streams.writer, streams.errors),
+        Err(reason) => fail(reason, streams.errors),
     }
 }
 

@@ -10,6 +10,7 @@ mod looks;
 mod opening;
 mod pipes;
 mod quoting;
+mod streams;
 mod threads;
 
 use colours::Coloured;

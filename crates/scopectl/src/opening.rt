@@ -2,6 +2,7 @@
 use crate::act::{FAULT, LINES_REFUSED, NOT_UNDERSTOOD, fail, note, refuse_words};
 use crate::fault::ProgramFault;
 use crate::looks::Looker;
+use crate::streams::Streams;
 use crate::threads::act_on;
 use command_line::{CommandLine, ScriptOptions, line};
 use scope_script::Watched;
@@ -134,9 +135,8 @@ fn act_from<'a, T: CrewRuntime + SystemTime, R: Read + Drop, W: Write + Drop, E:
     output: W,
     errors: &mut Watched<E>,
 ) -> u8 {
-    let mut reader = Watched::new(input);
-    let mut writer = Watched::new(output);
-    act_on(rt, alloc, looks, words, &mut reader, &mut writer, errors)
+    let mut streams = Streams::new(input, output, errors);
+    act_on(rt, alloc, looks, words, &mut streams)
 }
 
 /// With what the replies are to be compared.
@@ -189,12 +189,12 @@ pub fn act_compared<'a, T: CrewRuntime + SystemTime, R: Read + Drop, E: Write + 
     expected: &[u8],
     errors: &mut Watched<E>,
 ) -> u8 {
-    let mut reader = Watched::new(input);
-    let mut writer = Watched::new(Vec::new(alloc));
-    let status = act_on(rt, alloc, looks, words, &mut reader, &mut writer, errors);
+    let mut streams = Streams::new(input, Vec::new(alloc), errors);
+    let status = act_on(rt, alloc, looks, words, &mut streams);
     if status == FAULT || status == NOT_UNDERSTOOD {
         return status;
     }
+    let Streams { writer, errors, .. } = streams;
     let replies = writer.into_inner();
     let Some(difference) = first_difference(expected, &replies) else {
         return status;

@@ -8,7 +8,7 @@ ghost use Rattle.std.specs.List.{list_any};
 ghost use Rattle.scope_rules.specs.Names.{same_name};
 ghost use Rattle.scopectl.specs.Program.{AllowedIn, AnswersPlan, Made, ReadPlan, SaysAllowed, has_late};
 ghost use Rattle.script_jobs.specs.Jobs.{ReadSome};
-ghost use Rattle.scopectl.specs.Naming.{CameFrom, IsBadLine, IsOfPlan, MayEndPlan, is_timed};
+ghost use Rattle.scopectl.specs.Naming.{CameReading, IsBadLine, IsOfPlan, MayEndPlan, is_timed};
 
 use crate::fault::ProgramFault;
 use crate::looks::Looker;
@@ -55,7 +55,7 @@ pub fn quoted<
     requires reader { reader.old.failed ≡ false }
     ensures ok { IfOk result (λ text. Made (AnswersPlan deadline after.now) (R.remaining reader.old.inner) (R.remaining reader.new.inner) (string_bytes text)) }
     ensures part { OnErr result (ReadSome (R.remaining reader.old.inner) (R.remaining reader.new.inner)) }
-    ensures came { IfErr result (λ fault. CameFrom fault ((reader.new.failed ≡ true) ⊎ (reader.new.reads ≡ u64.MAX)) ⊥ (reader.new.failed ≡ false) (IsOfPlan deadline after.now (R.remaining reader.old.inner) (R.remaining reader.new.inner))) }
+    ensures came { IfErr result (CameReading reader.new (IsOfPlan deadline after.now (R.remaining reader.old.inner) (R.remaining reader.new.inner))) }
 {
     match read_from(alloc, reader) {
         Ok(plan) => answered::<N, S, T>(
@@ -71,7 +71,7 @@ fn read_from<R: Read + Drop>(alloc: Global, reader: &mut Watched<R>) -> Result<P
     ensures sound { OnOk result (reader.new.failed ≡ false) }
     ensures plan { IfOk result (ReadPlan (R.remaining reader.old.inner) (R.remaining reader.new.inner)) }
     ensures part { OnErr result (ReadSome (R.remaining reader.old.inner) (R.remaining reader.new.inner)) }
-    ensures came { IfErr result (λ fault. CameFrom fault ((reader.new.failed ≡ true) ⊎ (reader.new.reads ≡ u64.MAX)) ⊥ (reader.new.failed ≡ false) (IsBadLine (R.remaining reader.old.inner) (R.remaining reader.new.inner))) }
+    ensures came { IfErr result (CameReading reader.new (IsBadLine (R.remaining reader.old.inner) (R.remaining reader.new.inner))) }
 {
     let mut plan = PlanReader::new(alloc);
     let mut piece = [0; PIECE];

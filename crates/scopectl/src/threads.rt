@@ -1,16 +1,17 @@
 //! The threads of a plan's jobs, which there are only if the words say a quote.
-ghost use Rattle.std.specs.Prelude.{◌≡◌, ◌⊎◌, false, true, map, IfOk};
+ghost use Rattle.std.specs.Prelude.{◌≡◌, map, IfOk};
 ghost use Rattle.std.specs.String.{string_bytes};
 ghost use Rattle.scopectl.specs.Acting.{Acts};
+ghost use Rattle.scopectl.specs.Runs.{IsSound, run};
 
 use crate::act::{act, refuse_words};
 use crate::looks::Looker;
+use crate::streams::Streams;
 use command_line::Job;
 use job_runner::JobWork;
 use quote_gateway::LateJob;
 use realm_lock::{RealmName, Seed};
 use scope_rules::Due;
-use scope_script::Watched;
 use std::alloc::{AllocError, Global};
 use std::io::{ErrorKind, Read, Write};
 use std::marker::Brand;
@@ -27,21 +28,18 @@ pub fn act_on<'a, T: CrewRuntime + SystemTime, R: Read + Drop, W: Write + Drop, 
     alloc: Global,
     looks: &mut Looker<'_>,
     words: &'a [&'a str],
-    reader: &mut Watched<R>,
-    writer: &mut Watched<W>,
-    errors: &mut Watched<E>,
+    streams: &mut Streams<'_, R, W, E>,
 ) -> u8
-    requires reader { reader.old.failed ≡ false }
-    requires writer { writer.old.failed ≡ false }
-    ensures acts { Acts (map (λ word. word.now) words.now) (reader.new ≡ reader.old) (writer.new ≡ writer.old) (errors.new ≡ errors.old) ((reader.new.failed ≡ true) ⊎ (reader.new.reads ≡ u64.MAX)) ((reader.new.failed ≡ false) × (writer.new.failed ≡ false)) (R.remaining reader.old.inner) (R.remaining reader.new.inner) (W.contents writer.old.inner) (W.contents writer.new.inner) (E.contents errors.old.inner) (E.contents errors.new.inner) writer.new.failed errors.new.failed result }
+    requires { IsSound streams.old }
+    ensures { Acts (map (λ word. word.now) words.now) (run R.remaining W.contents E.contents streams.old streams.new) result }
 {
     let Ok(seed) = Seed::new(alloc) else {
-        return refuse_words(ErrorKind::OutOfMemory, errors);
+        return refuse_words(ErrorKind::OutOfMemory, streams.errors);
     };
     if needs_threads(words) {
-        act_with_crew::<Brand, T, R, W, E>(rt, alloc, seed, looks, words, reader, writer, errors)
+        act_with_crew::<Brand, T, R, W, E>(rt, alloc, seed, looks, words, streams)
     } else {
-        act_alone::<Brand, T, R, W, E>(rt, alloc, seed, looks, words, reader, writer, errors)
+        act_alone::<Brand, T, R, W, E>(rt, alloc, seed, looks, words, streams)
     }
 }
 
@@ -78,18 +76,13 @@ fn act_alone<
     seed: Seed,
     looks: &mut Looker<'_>,
     words: &'a [&'a str],
-    reader: &mut Watched<R>,
-    writer: &mut Watched<W>,
-    errors: &mut Watched<E>,
+    streams: &mut Streams<'_, R, W, E>,
 ) -> u8
     requires named { seed ≡ N.table }
-    requires reader { reader.old.failed ≡ false }
-    requires writer { writer.old.failed ≡ false }
-    ensures acts { Acts (map (λ word. word.now) words.now) (reader.new ≡ reader.old) (writer.new ≡ writer.old) (errors.new ≡ errors.old) ((reader.new.failed ≡ true) ⊎ (reader.new.reads ≡ u64.MAX)) ((reader.new.failed ≡ false) × (writer.new.failed ≡ false)) (R.remaining reader.old.inner) (R.remaining reader.new.inner) (W.contents writer.old.inner) (W.contents writer.new.inner) (E.contents errors.old.inner) (E.contents errors.new.inner) writer.new.failed errors.new.failed result }
+    requires sound { IsSound streams.old }
+    ensures { Acts (map (λ word. word.now) words.now) (run R.remaining W.contents E.contents streams.old streams.new) result }
 {
-    act::<N, Nobody, T, R, W, E>(
-        rt, alloc, seed, Nobody, looks, words, reader, writer, errors,
-    )
+    act::<N, Nobody, T, R, W, E>(rt, alloc, seed, Nobody, looks, words, streams)
 }
 
 /// Does what the words say with a crew of threads, which is closed then. Where the crew's own thread is
@@ -107,21 +100,16 @@ fn act_with_crew<
     seed: Seed,
     looks: &mut Looker<'_>,
     words: &'a [&'a str],
-    reader: &mut Watched<R>,
-    writer: &mut Watched<W>,
-    errors: &mut Watched<E>,
+    streams: &mut Streams<'_, R, W, E>,
 ) -> u8
     requires named { seed ≡ N.table }
-    requires reader { reader.old.failed ≡ false }
-    requires writer { writer.old.failed ≡ false }
-    ensures acts { Acts (map (λ word. word.now) words.now) (reader.new ≡ reader.old) (writer.new ≡ writer.old) (errors.new ≡ errors.old) ((reader.new.failed ≡ true) ⊎ (reader.new.reads ≡ u64.MAX)) ((reader.new.failed ≡ false) × (writer.new.failed ≡ false)) (R.remaining reader.old.inner) (R.remaining reader.new.inner) (W.contents writer.old.inner) (W.contents writer.new.inner) (E.contents errors.old.inner) (E.contents errors.new.inner) writer.new.failed errors.new.failed result }
+    requires sound { IsSound streams.old }
+    ensures { Acts (map (λ word. word.now) words.now) (run R.remaining W.contents E.contents streams.old streams.new) result }
 {
     let Ok(crew) = Crew::<N, JobWork<Due, N, LateJob<T>>>::open(rt, alloc, KEPT) else {
-        return act_alone::<N, T, R, W, E>(rt, alloc, seed, looks, words, reader, writer, errors);
+        return act_alone::<N, T, R, W, E>(rt, alloc, seed, looks, words, streams);
     };
-    let status = act_over::<N, T, R, W, E>(
-        rt, alloc, seed, &crew, looks, words, reader, writer, errors,
-    );
+    let status = act_over::<N, T, R, W, E>(rt, alloc, seed, &crew, looks, words, streams);
     crew.close(rt);
     status
 }
@@ -142,19 +130,16 @@ fn act_over<
     crew: &Crew<N, JobWork<Due, N, LateJob<T>>>,
     looks: &mut Looker<'_>,
     words: &'a [&'a str],
-    reader: &mut Watched<R>,
-    writer: &mut Watched<W>,
-    errors: &mut Watched<E>,
+    streams: &mut Streams<'_, R, W, E>,
 ) -> u8
     requires named { seed ≡ N.table }
-    requires reader { reader.old.failed ≡ false }
-    requires writer { writer.old.failed ≡ false }
-    ensures acts { Acts (map (λ word. word.now) words.now) (reader.new ≡ reader.old) (writer.new ≡ writer.old) (errors.new ≡ errors.old) ((reader.new.failed ≡ true) ⊎ (reader.new.reads ≡ u64.MAX)) ((reader.new.failed ≡ false) × (writer.new.failed ≡ false)) (R.remaining reader.old.inner) (R.remaining reader.new.inner) (W.contents writer.old.inner) (W.contents writer.new.inner) (E.contents errors.old.inner) (E.contents errors.new.inner) writer.new.failed errors.new.failed result }
+    requires sound { IsSound streams.old }
+    ensures { Acts (map (λ word. word.now) words.now) (run R.remaining W.contents E.contents streams.old streams.new) result }
 {
     match crew.threads() {
         Ok(threads) => act::<N, OsThreads<N, JobWork<Due, N, LateJob<T>>>, T, R, W, E>(
-            rt, alloc, seed, threads, looks, words, reader, writer, errors,
+            rt, alloc, seed, threads, looks, words, streams,
         ),
-        Err(_) => act_alone::<N, T, R, W, E>(rt, alloc, seed, looks, words, reader, writer, errors),
+        Err(_) => act_alone::<N, T, R, W, E>(rt, alloc, seed, looks, words, streams),
     }
 }

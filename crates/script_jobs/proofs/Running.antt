@@ -1,5 +1,6 @@
 -- How a replay with notes comes on: what it has read, written and noted.
-use Rattle.std.proofs.Common.{◌≡◌, ℕ, Option, List, [], ◌++◌, ap, sym, ◌∙◌, subst, append_assoc, append-nil, take}
+use Rattle.std.proofs.Common.{◌≡◌, ℕ, Option, Ok, Err, Result, List, [], ◌++◌, ap, sym, ◌∙◌, subst, append_assoc, append-nil, take}
+use Rattle.std.specs.Prelude.{OnErr}
 use Rattle.std.specs.Io.KnownBytes.{Appends, Consumes, IsAtEnd, Keeps}
 use Rattle.std.proofs.KnownBytes.{Appends-trans, Appends-nil, Consumes-trans, Consumes-nil, Consumes-kept}
 use Rattle.scope_rules.specs.declared.types.capacity.Limits.{Limits}
@@ -14,6 +15,7 @@ use Rattle.script_jobs.specs.Counts.{count_in}
 use Rattle.script_jobs.specs.declared.counting.Count.{Count}
 use Rattle.script_jobs.specs.Jobs.{ReplayedNoted, ReplayedPartly}
 use Rattle.script_jobs.specs.Notes.{NoteSession, noted_bytes, bytes_note, end_note, notes_begin, notes_text}
+use Rattle.script_jobs.specs.Turns.{Turn}
 use Rattle.script_jobs.specs.declared.notes.Notes.{Notes}
 use Rattle.script_jobs.proofs.ByBytes.{script_notes, noted_append, note_append, noted_none, note_none}
 use Rattle.script_jobs.proofs.Runs.{count_is}
@@ -35,6 +37,9 @@ part_after a b c xs ys first then_part = record {
   whole = ap (λ y. xs ++ y) then_part.whole ∙ sym (append_assoc xs then_part.part then_part.rest);
   appended = Appends-trans a b c xs then_part.part first then_part.appended;
 }
+
+abbrev pub turn_of : (before after : Option (List ℕ)) → Turn
+turn_of before after = record { before = before; after = after }
 
 module _ (wanted : Notes) (L : Limits) where
   abbrev start : Session
@@ -73,7 +78,7 @@ module _ (wanted : Notes) (L : Limits) where
     }
 
     -- it stops within a piece
-    pub stops_within : AppendsPart y z (bytes_reply s piece) → AppendsPart f g (bytes_note wanted u piece) → ReplayedPartly a c x z e g L wanted
+    pub stops_within : AppendsPart y z (bytes_reply s piece) → AppendsPart f g (bytes_note wanted u piece) → ReplayedPartly (turn_of a c) (turn_of x z) (turn_of e g) L wanted
     stops_within wrote told = record {
       script = run.script ++ piece;
       read = Consumes-trans a b c run.script piece run.read read;
@@ -83,7 +88,7 @@ module _ (wanted : Notes) (L : Limits) where
 
   module _ (a b x y e f : Option (List ℕ)) (s : Session) (u : NoteSession) (run : UnderWay a b x y e f wanted L s u) where
     -- it stops if a read fails
-    pub stops_reading : (c : Option (List ℕ)) → Keeps b c → ReplayedPartly a c x y e f L wanted
+    pub stops_reading : (c : Option (List ℕ)) → Keeps b c → ReplayedPartly (turn_of a c) (turn_of x y) (turn_of e f) L wanted
     stops_reading c same = record {
       script = run.script;
       read = Consumes-kept a b c run.script run.read same;
@@ -98,7 +103,7 @@ module _ (wanted : Notes) (L : Limits) where
     all_noted = ap (λ (r : NoteSession). bytes_note wanted notes_start run.script ++ end_note wanted r) run.noted_is ∙ script_notes wanted L run.script
 
     -- it stops at the end of the script
-    pub stops_ending : (z g : Option (List ℕ)) → AppendsPart y z (end_reply s) → AppendsPart f g (end_note wanted u) → ReplayedPartly a b x z e g L wanted
+    pub stops_ending : (z g : Option (List ℕ)) → AppendsPart y z (end_reply s) → AppendsPart f g (end_note wanted u) → ReplayedPartly (turn_of a b) (turn_of x z) (turn_of e g) L wanted
     stops_ending z g wrote told = record {
       script = run.script;
       read = run.read;
@@ -108,7 +113,7 @@ module _ (wanted : Notes) (L : Limits) where
 
     -- it ends
     pub ends_run : (z g : Option (List ℕ)) (ended : Session) (count : Count) → IsAtEnd b → Appends y z (end_reply s) → Appends f g (end_note wanted u) → ended.realm ≡ s.realm → ended.tally ≡ end_tally s
-        → count ≡ count_in ended.tally ended.realm.history → ReplayedNoted a b x z e g L wanted count
+        → count ≡ count_in ended.tally ended.realm.history → ReplayedNoted (turn_of a b) (turn_of x z) (turn_of e g) L wanted count
     ends_run z g ended count end wrote told left counted is = record {
       replay = record {
         script = run.script;
@@ -132,3 +137,8 @@ module _ (wanted : Notes) (L : Limits) where
           plain_is = run.plain_is;
           noted_is = run.noted_is;
         }
+
+-- what is known after a fault may be said with less
+pub on_err_then : {T E : Type 0} (r : Result T E) (P Q : Type 0) → (P → Q) → OnErr r P → OnErr r Q
+on_err_then (Ok x) P Q weaker it = tt
+on_err_then (Err e) P Q weaker it = weaker it

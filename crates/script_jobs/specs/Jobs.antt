@@ -17,6 +17,7 @@ use Rattle.run_picture.specs.Stamps.{open_times, start_times}
 use Rattle.run_picture.specs.Trace.{trace_text}
 use Rattle.script_jobs.specs.Notes.{notes_text}
 use Rattle.script_jobs.specs.Times.{Stamps, stamps_of_script}
+use Rattle.script_jobs.specs.Turns.{Turn}
 use Rattle.script_jobs.specs.declared.notes.Notes.{Notes}
 use Rattle.script_jobs.specs.declared.showing.View.{View}
 use Rattle.script_jobs.specs.declared.showing.View.TheVariants.{Dump, TimedDump, Tree, Timeline, TraceEvents}
@@ -31,16 +32,16 @@ pub record Replayed (unread unread_new written written_new : Option (List ℕ)) 
   pub counted : count ≡ count_of_script limits script
 
 -- the same, and exactly the notes on the script's lines were said
-pub record ReplayedNoted (unread unread_new written written_new said said_new : Option (List ℕ)) (limits : Limits) (notes : Notes) (count : Count) : Type 0 where
-  pub replay : Replayed unread unread_new written written_new limits count
-  pub noted : Appends said said_new (notes_text notes limits replay.script)
+pub record ReplayedNoted (taken written said : Turn) (limits : Limits) (notes : Notes) (count : Count) : Type 0 where
+  pub replay : Replayed taken.before taken.after written.before written.after limits count
+  pub noted : Appends said.before said.after (notes_text notes limits replay.script)
 
 -- a fault ended the replay: a beginning of the replies to what was read was written, and one of the notes on it was said
-pub record ReplayedPartly (unread unread_new written written_new said said_new : Option (List ℕ)) (limits : Limits) (notes : Notes) : Type 0 where
+pub record ReplayedPartly (taken written said : Turn) (limits : Limits) (notes : Notes) : Type 0 where
   pub script : List ℕ
-  pub read : Consumes unread unread_new script
-  pub wrote : AppendsPart written written_new (replies_of limits script)
-  pub noted : AppendsPart said said_new (notes_text notes limits script)
+  pub read : Consumes taken.before taken.after script
+  pub wrote : AppendsPart written.before written.after (replies_of limits script)
+  pub noted : AppendsPart said.before said.after (notes_text notes limits script)
 
 -- the clock of a tree: without times there is none
 abbrev pub clock_by : History → Stamps → List ℕ → Clock
@@ -73,15 +74,15 @@ pub record Showed (unread unread_new : Option (List ℕ)) (limits : Limits) (vie
   pub counted : count ≡ count_of_script limits script
 
 -- the same, and exactly the notes on the script's lines were said
-pub record ShowedNoted (unread unread_new said said_new : Option (List ℕ)) (limits : Limits) (view : View) (wanted : Notes) (text : List ℕ) (count : Count) : Type 0 where
-  pub shown : Showed unread unread_new limits view text count
-  pub noted : Appends said said_new (notes_text wanted limits shown.script)
+pub record ShowedNoted (taken said : Turn) (limits : Limits) (view : View) (wanted : Notes) (text : List ℕ) (count : Count) : Type 0 where
+  pub shown : Showed taken.before taken.after limits view text count
+  pub noted : Appends said.before said.after (notes_text wanted limits shown.script)
 
 -- some bytes were read, and a beginning of the notes on them was said
-pub record NotedPartly (unread unread_new said said_new : Option (List ℕ)) (limits : Limits) (wanted : Notes) : Type 0 where
+pub record NotedPartly (taken said : Turn) (limits : Limits) (wanted : Notes) : Type 0 where
   pub script : List ℕ
-  pub read : Consumes unread unread_new script
-  pub noted : AppendsPart said said_new (notes_text wanted limits script)
+  pub read : Consumes taken.before taken.after script
+  pub noted : AppendsPart said.before said.after (notes_text wanted limits script)
 
 -- some bytes were read
 pub record ReadSome (unread unread_new : Option (List ℕ)) : Type 0 where

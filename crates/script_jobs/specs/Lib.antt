@@ -12,3 +12,4 @@ pub mod NoteLaws
 pub mod LineLaws
 pub mod Times
 pub mod Made
+pub mod Turns

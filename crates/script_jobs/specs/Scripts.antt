@@ -6,6 +6,10 @@ use Rattle.scope_script.specs.ByBytes.{Session, the_beginning}
 use Rattle.scope_script.specs.KeptLines.{kept}
 use Rattle.script_jobs.specs.Noting.{Noting}
 use Rattle.script_jobs.specs.Notes.{NoteSession, notes_begin}
+use Rattle.script_jobs.specs.Jobs.{ReplayedNoted, ReplayedPartly}
+use Rattle.script_jobs.specs.Turns.{Turn}
+use Rattle.script_jobs.specs.declared.counting.Count.{Count}
+use Rattle.script_jobs.specs.declared.notes.Notes.{Notes}
 use Rattle.script_jobs.specs.declared.session.NotedScript.{NotedScript}
 
 -- the script under way as it is for its replies
@@ -22,3 +26,10 @@ noted_of script = record { noting = noting_of script; begun = script.begun }
 -- the script begins, on a fresh realm of these limits
 abbrev pub begins : {g : _} {f : _} {m : _} → NotedScript g f m → Limits → Type 0
 begins script L = (plain_of script ≡ the_beginning L) × (noted_of script ≡ notes_begin L)
+
+-- a script that begins was replayed whole with these notes, or partly, whatever the limits of its realm
+abbrev pub ReplaysFrom : {g : _} {f : _} {m : _} → NotedScript g f m → Notes → (read written said : Turn) → Count → Type 0
+ReplaysFrom script notes read written said count = (L : Limits) → begins script L → ReplayedNoted read written said L notes count
+
+abbrev pub StopsFrom : {g : _} {f : _} {m : _} → NotedScript g f m → Notes → (read written said : Turn) → Type 0
+StopsFrom script notes read written said = (L : Limits) → begins script L → ReplayedPartly read written said L notes

@@ -3,6 +3,7 @@ ghost use Rattle.std.specs.Prelude.{◌≡◌, ◌⊎◌, [], false, true, IfOk,
 ghost use Rattle.std.specs.Io.KnownBytes.{Appends};
 ghost use Rattle.script_jobs.specs.Jobs.{NotedPartly, ShowedNoted};
 ghost use Rattle.script_jobs.specs.Notes.{notes_text};
+ghost use Rattle.script_jobs.specs.Turns.{turn};
 
 use crate::Notes;
 use crate::noting::NotedFault;
@@ -31,8 +32,8 @@ pub fn shown_noted<R: Read + Drop, W: Write + Drop, E: Write + Drop>(
 ) -> Result<Rendering, NotedFault>
     requires reader { reader.old.failed ≡ false }
     requires writer { writer.old.failed ≡ false }
-    ensures ok { IfOk result (λ s. ShowedNoted (R.remaining reader.old.inner) (R.remaining reader.new.inner) (E.contents errors.old.inner) (E.contents errors.new.inner) limits view wanted (string_bytes s.text) s.count) }
-    ensures part { OnErr result (NotedPartly (R.remaining reader.old.inner) (R.remaining reader.new.inner) (E.contents errors.old.inner) (E.contents errors.new.inner) limits wanted) }
+    ensures ok { IfOk result (λ s. ShowedNoted (turn R.remaining reader.old reader.new) (turn E.contents errors.old errors.new) limits view wanted (string_bytes s.text) s.count) }
+    ensures part { OnErr result (NotedPartly (turn R.remaining reader.old reader.new) (turn E.contents errors.old errors.new) limits wanted) }
     ensures unwritten { Appends (W.contents writer.old.inner) (W.contents writer.new.inner) [] }
     ensures read { IsErrOf result (NotedFault.Run ScriptFault.Read) → (reader.new.failed ≡ true) ⊎ (reader.new.reads ≡ u64.MAX) }
     ensures read_failed { reader.new.failed ≡ true → IsErrOf result (NotedFault.Run ScriptFault.Read) }

@@ -2,13 +2,13 @@
 ghost use Rattle.std.specs.Prelude.{◌≡◌, ◌⊎◌, ◌<◌, [], false, true, length, IfOk, OnOk, OnErr, IsErrOf};
 ghost use Rattle.std.specs.Io.KnownBytes.{Appends};
 ghost use Rattle.scope_book.specs.Books.{history_of};
-ghost use Rattle.scope_rules.specs.declared.types.capacity.Limits.{Limits};
 ghost use Rattle.scope_script.specs.ByBytes.{after_bytes, bytes_reply, end_reply, end_tally};
 ghost use Rattle.scope_script.specs.Streams.{AppendsPart};
 ghost use Rattle.script_jobs.specs.Counts.{count_in};
 ghost use Rattle.script_jobs.specs.Jobs.{ReplayedNoted, ReplayedPartly};
 ghost use Rattle.script_jobs.specs.Notes.{bytes_note, end_note, noted_bytes, notes_begin};
-ghost use Rattle.script_jobs.specs.Scripts.{begins, noted_of, plain_of};
+ghost use Rattle.script_jobs.specs.Scripts.{ReplaysFrom, StopsFrom, noted_of, plain_of};
+ghost use Rattle.script_jobs.specs.Turns.{turn};
 
 use crate::Notes;
 use crate::counting::Count;
@@ -50,8 +50,8 @@ pub fn replayed_noted<R: Read + Drop, W: Write + Drop, E: Write + Drop>(
 ) -> Result<Count, NotedFault>
     requires reader { reader.old.failed ≡ false }
     requires writer { writer.old.failed ≡ false }
-    ensures ok { IfOk result (ReplayedNoted (R.remaining reader.old.inner) (R.remaining reader.new.inner) (W.contents writer.old.inner) (W.contents writer.new.inner) (E.contents errors.old.inner) (E.contents errors.new.inner) limits wanted) }
-    ensures fault { OnErr result (ReplayedPartly (R.remaining reader.old.inner) (R.remaining reader.new.inner) (W.contents writer.old.inner) (W.contents writer.new.inner) (E.contents errors.old.inner) (E.contents errors.new.inner) limits wanted) }
+    ensures ok { IfOk result (ReplayedNoted (turn R.remaining reader.old reader.new) (turn W.contents writer.old writer.new) (turn E.contents errors.old errors.new) limits wanted) }
+    ensures fault { OnErr result (ReplayedPartly (turn R.remaining reader.old reader.new) (turn W.contents writer.old writer.new) (turn E.contents errors.old errors.new) limits wanted) }
     ensures read { IsErrOf result (NotedFault.Run ScriptFault.Read) → (reader.new.failed ≡ true) ⊎ (reader.new.reads ≡ u64.MAX) }
     ensures read_failed { reader.new.failed ≡ true → IsErrOf result (NotedFault.Run ScriptFault.Read) }
     ensures write { IsErrOf result (NotedFault.Run ScriptFault.Write) → writer.new.failed ≡ true }
@@ -92,8 +92,8 @@ fn read_pieces<R: Read + Drop, W: Write + Drop, E: Write + Drop>(
     requires notes { notes.old.items ≡ [] }
     requires reader { reader.old.failed ≡ false }
     requires writer { writer.old.failed ≡ false }
-    ensures ok { (L : Limits) → begins script.old L → IfOk result (ReplayedNoted (R.remaining reader.old.inner) (R.remaining reader.new.inner) (W.contents writer.old.inner) (W.contents writer.new.inner) (E.contents errors.old.inner) (E.contents errors.new.inner) L wanted) }
-    ensures fault { (L : Limits) → begins script.old L → OnErr result (ReplayedPartly (R.remaining reader.old.inner) (R.remaining reader.new.inner) (W.contents writer.old.inner) (W.contents writer.new.inner) (E.contents errors.old.inner) (E.contents errors.new.inner) L wanted) }
+    ensures ok { IfOk result (ReplaysFrom script.old wanted (turn R.remaining reader.old reader.new) (turn W.contents writer.old writer.new) (turn E.contents errors.old errors.new)) }
+    ensures fault { OnErr result (StopsFrom script.old wanted (turn R.remaining reader.old reader.new) (turn W.contents writer.old writer.new) (turn E.contents errors.old errors.new)) }
     ensures read { IsErrOf result (NotedFault.Run ScriptFault.Read) → (reader.new.failed ≡ true) ⊎ (reader.new.reads ≡ u64.MAX) }
     ensures read_failed { reader.new.failed ≡ true → IsErrOf result (NotedFault.Run ScriptFault.Read) }
     ensures write { IsErrOf result (NotedFault.Run ScriptFault.Write) → writer.new.failed ≡ true }

@@ -172,7 +172,8 @@ fn shown_of_run(
     script: &[u8],
     ran: &Ran,
 ) -> Result<Rendering, ScriptFault>
-    ensures ok { IfOk result (λ s. (string_bytes s.text ≡ shown_text view limits (history_of ran.now.book) (stamps_of_script limits script.now)) × (s.count ≡ count_in ran.now.tally (history_of ran.now.book))) }
+    ensures text { IfOk result (λ s. string_bytes s.text ≡ shown_text view limits (history_of ran.now.book) (stamps_of_script limits script.now)) }
+    ensures count { IfOk result (λ s. s.count ≡ count_in ran.now.tally (history_of ran.now.book)) }
     ensures memory { IfErr result (λ fault. fault ≡ ScriptFault.Memory) }
 {
     let Ok(times) = times_of(alloc, script, limits) else {

@@ -9,7 +9,7 @@ use refusal_reasons::{
     retire_reason,
 };
 use scope_book::BookState;
-use scope_rules::{AnyEnd, Event};
+use scope_rules::{AnyEnd, ScopeId};
 use scope_script::Command;
 use std::fmt;
 
@@ -31,14 +31,23 @@ struct RealmEvents<'a> {
 }
 
 impl Events for RealmEvents<'_> {
-    ghost events = { λ e. e.realm.now.history.events };
+    ghost history = { λ e. e.realm.now.history };
 
     fn count(&self) -> usize {
+        let _legal = self.realm.limits();
         self.realm.event_count()
     }
 
-    fn event(&self, place: usize) -> Event {
-        self.realm.event(place)
+    fn joined_place(&self, scope: ScopeId) -> Option<usize> {
+        self.realm.joined_place(scope)
+    }
+
+    fn begun_place(&self, scope: ScopeId) -> Option<usize> {
+        self.realm.begun_place(scope)
+    }
+
+    fn closed_place(&self, scope: ScopeId) -> Option<usize> {
+        self.realm.closed_place(scope)
     }
 }
 

@@ -1,4 +1,3 @@
-pub mod Printable
 pub mod Words
 pub mod PlayedLines
 pub mod Accepted

@@ -21,7 +21,7 @@ use Rattle.scope_rules.specs.Origin.{Origin}
 use Rattle.scope_rules.specs.Texts.{value_text}
 use Rattle.scope_log.specs.LogText.{joiner_text, limit_text, expiry_text, shield_text}
 use Rattle.script_words.specs.Printable.{is_printable}
-use Rattle.script_journal.proofs.Printable.{Shows, decimal_shows, signed_shows, name_shows}
+use Rattle.script_words.proofs.PrintableText.{Shows, decimal_shows, signed_shows, name_shows}
 use Rattle.script_journal.specs.Script.{pair_text, event_line, moment_text, binds_text, events_text, script_text}
 use Rattle.scope_script.specs.Cutting.{ended_lines, begun_line}
 use Rattle.script_journal.specs.Journals.{moment_lines, NoLineIsLost}

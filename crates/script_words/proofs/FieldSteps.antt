@@ -1,5 +1,5 @@
 -- How the fields of a text begin.
-use Rattle.std.proofs.Common.{◌≡◌, ◌≢◌, ℕ, suc, ◌<◌, ◌≤◌, Bool, true, false, List, [], ◌∷◌, length, get_or, take, drop, Some, None, refl, sym, ◌∙◌, ap, arith}
+use Rattle.std.proofs.Common.{◌≡◌, ◌≢◌, ℕ, zero, suc, ◌<◌, ◌≤◌, Bool, true, false, List, [], ◌∷◌, length, get_or, take, drop, Some, None, refl, sym, ◌∙◌, ap, arith}
 use Rattle.std.specs.List.{filter, slice_split, position_or_len, onto_first}
 use Rattle.std.proofs.lemmas.List.Sums.{position_or_len_is}
 use Rattle.std.proofs.lemmas.Bool.Decides.{nat_tests}
@@ -100,3 +100,12 @@ pub first_space : (text : List ℕ) (n : ℕ) → n ≤ length text → ((k : �
 first_space text n within before here =
     let at : n < length text → is_space (get_or text n 0) ≡ true = λ h. let e = here h in rw e refl in
     sym (position_or_len_is is_space text n 0 within (λ k h. no_space _ (before k h)) at)
+
+-- the first space is behind as many bytes as are none
+pub no_space_before : (text : List ℕ) (n : ℕ) → n ≤ length text → ((k : ℕ) → k < n → get_or text k 0 ≢ 32) → n ≤ position_or_len is_space text
+no_space_before text zero within none = omega arith
+no_space_before [] (suc n) within none = absurd (omega (arith, within))
+no_space_before (b ∷ bs) (suc n) within none =
+    let place = place_no b bs (no_space b (none 0 (omega arith))) in
+    let others = no_space_before bs n (omega (arith, within)) (λ k h. none (suc k) (omega (arith, h))) in
+    omega (arith, place, others)

@@ -1,7 +1,11 @@
+pub mod KeywordLengths
 pub mod NameWords
 pub mod FieldCounts
 pub mod FieldSteps
 pub mod Numerals
+pub mod NumberFields
+pub mod DigitsAhead
+pub mod NumberForms
 pub mod OpeningSteps
 pub mod Printed
 pub mod PrintedIntegers
@@ -11,4 +15,4 @@ pub mod JoinedFields
 pub mod PlainWords
 pub mod SpelledLines
 mod PrintableLines
-mod PrintableText
+pub mod PrintableText

@@ -41,6 +41,13 @@ number_and_two said also_said made args = do
   third ← also_said words.2
   Some (made number second third)
 
+-- the two arguments, the first as a number
+unfoldable pub number_and_word : List (List ℕ) → Option (ℕ × List ℕ)
+number_and_word args = do
+  words ← just_two args
+  number ← small_said words.0
+  Some (number, words.1)
+
 -- the numbers that are the two arguments
 unfoldable pub two_numbers : List (List ℕ) → Option (ℕ × ℕ)
 two_numbers args = number_and small_said (λ first second. (first, second)) args

@@ -6,8 +6,10 @@ pub mod Joiners
 pub mod Keywords
 pub mod Openings
 pub mod Forms
+pub mod Written
 pub mod Lines
 pub mod NumberLaws
 pub mod Spelling
 pub mod ReplyText
 pub mod Printable
+pub mod Near

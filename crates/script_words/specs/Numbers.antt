@@ -1,9 +1,10 @@
 -- Numbers as words: decimal digits, with no needless zero in front.
-use Rattle.std.specs.Prelude.{ℕ, ◌-◌, ℤ, pos, negsuc, Bool, true, false, ◌&&◌, ◌==◌, nat_le, List, [], ◌∷◌, Option, Some, None, option_map, if◌then◌else◌}
+use Rattle.std.specs.Prelude.{ℕ, ◌-◌, ℤ, pos, negsuc, Bool, true, false, ◌&&◌, ◌==◌, nat_le, List, [], ◌∷◌, take, Option, Some, None, option_map, if◌then◌else◌}
 use Rattle.std.specs.Char.{is_ascii_digit}
-use Rattle.std.specs.List.{list_all}
+use Rattle.std.specs.List.{list_all, position_or_len}
 use Rattle.std.specs.Str.Parse.{digits_value}
 use Rattle.script_words.specs.Steps.{◌>>=◌}
+use Rattle.script_words.specs.Fields.{is_space, first_and_rest}
 
 -- one digit, or a first one that is no `0`
 abbrev pub has_no_needless_zero : List ℕ → Bool
@@ -26,6 +27,17 @@ small_said word = number_said 4294967295 word
 -- a moment: it has 64 bits
 abbrev pub moment_said : List ℕ → Option ℕ
 moment_said word = number_said 18446744073709551615 word
+
+-- the bytes before the first space
+abbrev pub word_ahead : List ℕ → List ℕ
+word_ahead text = take (position_or_len is_space text) text
+
+-- the number that the first field says, and the other fields
+unfoldable pub number_first : ℕ → List (List ℕ) → Option (ℕ × List (List ℕ))
+number_first limit fs = first_and_rest fs >>= (λ found. option_map (λ n. (n, found.1)) (number_said limit found.0))
+
+abbrev pub small_first : List (List ℕ) → Option (ℕ × List (List ℕ))
+small_first fs = number_first 4294967295 fs
 
 -- the number below 0 with these digits: it is -9223372036854775808 at the least
 unfoldable pub negative_said : List ℕ → Option ℤ

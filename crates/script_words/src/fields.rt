@@ -16,8 +16,9 @@ pub fn next_field(text: &[u8]) -> Option<(&[u8], &[u8])>
 
 /// The text from its first byte that is no space.
 #[tactic(auto, unfolding(crate::specs::Fields::without_spaces))]
-fn without_spaces(text: &[u8]) -> &[u8]
-    ensures { result.now ≡ without_spaces text.now }
+pub fn without_spaces(text: &[u8]) -> &[u8]
+    ensures is { result.now ≡ without_spaces text.now }
+    ensures within { length result.now ≤ length text.now }
 {
     let mut rest = text;
     while let [b' ', others @ ..] = rest {
@@ -28,7 +29,7 @@ fn without_spaces(text: &[u8]) -> &[u8]
 
 /// How many bytes are before the first space.
 #[tactic(auto, using(crate::proofs::FieldSteps::first_space))]
-fn field_len(text: &[u8]) -> usize
+pub fn field_len(text: &[u8]) -> usize
     ensures value { result ≡ position_or_len is_space text.now }
     ensures within { result ≤ length text.now }
 {

@@ -1,143 +1,196 @@
-ghost use Rattle.std.specs.Prelude.{◌≡◌};
+ghost use Rattle.std.specs.Prelude.{◌≡◌, option_map};
 ghost use Rattle.script_words.specs.Fields.{fields};
-ghost use Rattle.script_words.specs.Forms.{number_alone, two_numbers, fork_said, ok_said, fail_said, new_deadline_said, move_said, tick_said, bind_said, get_said, one_number_said, two_numbers_said, form_said};
+ghost use Rattle.script_words.specs.Forms.{number_alone, two_numbers, number_and_word, fork_said, ok_said, fail_said, new_deadline_said, move_said, tick_said, bind_said, get_said, one_number_said, two_numbers_said, form_said};
+ghost use Rattle.script_words.specs.Written.{Writes};
 
-use crate::commands::{Command, Question};
-use crate::fields::{just_one, just_three, just_two};
+use crate::commands::{Command, Line, Question};
+use crate::fields::{just_one, just_two, next_field};
 use crate::keywords::{Keyword, OneNumber, TwoNumbers};
-use crate::numbers::{moment, small};
+use crate::numbers::{moment, next_moment, next_small};
 use crate::openings::open;
 use crate::words::{name, value};
 use scope_rules::{Binding, Event, Fault, Label};
 
-/// The command with this keyword and these arguments.
+/// Writes the command with this keyword and these arguments to the line. It is wide, so no function hands it on
+/// by value.
 #[tactic(auto, unfolding(crate::specs::Forms::form_said))]
-pub fn form(keyword: Keyword, args: &[u8]) -> Option<Command>
-    ensures { result ≡ form_said keyword (fields args.now) }
+pub fn form(keyword: Keyword, args: &[u8], line: &mut Line) -> Option<()>
+    ensures { Writes result line.new (form_said keyword (fields args.now)) }
 {
     match keyword {
-        Keyword::Open => open(args),
-        Keyword::Fork => fork(args),
-        Keyword::Succeed => succeed(args),
-        Keyword::Fail => fail(args),
-        Keyword::Move => move_deadline(args),
-        Keyword::Tick => tick(args),
-        Keyword::Bind => bind(args),
-        Keyword::Get => get(args),
-        Keyword::OneNumber(form) => Some(one_number(form, number_alone(args)?)),
+        Keyword::Open => open(args, line),
+        Keyword::Fork => fork(args, line),
+        Keyword::Succeed => succeed(args, line),
+        Keyword::Fail => fail(args, line),
+        Keyword::Move => move_deadline(args, line),
+        Keyword::Tick => tick(args, line),
+        Keyword::Bind => bind(args, line),
+        Keyword::Get => get(args, line),
+        Keyword::OneNumber(form) => {
+            one_number(form, number_alone(args)?, line);
+            Some(())
+        }
         Keyword::TwoNumbers(form) => {
             let (first, second) = two_numbers_alone(args)?;
-            Some(two_numbers(form, first, second))
+            two_numbers(form, first, second, line);
+            Some(())
         }
     }
 }
 
-/// The command of a form with this number.
+/// Writes that the event is told.
+#[inline(always)]
+pub(crate) fn tell(line: &mut Line, event: Event)
+    ensures { line.new ≡ Line.Command (Command.Do event) }
+{
+    *line = Line::Command(Command::Do(event));
+}
+
+/// Writes that the question is asked.
+#[inline(always)]
+fn ask(line: &mut Line, question: Question)
+    ensures { line.new ≡ Line.Command (Command.Ask question) }
+{
+    *line = Line::Command(Command::Ask(question));
+}
+
+/// Writes the command of a form with this number.
 #[tactic(auto, unfolding(crate::specs::Forms::one_number_said))]
-fn one_number(form: OneNumber, number: u32) -> Command
-    ensures { result ≡ one_number_said form number }
+fn one_number(form: OneNumber, number: u32, line: &mut Line)
+    ensures { line.new ≡ Line.Command (one_number_said form number) }
 {
     match form {
-        OneNumber::Reject => Command::Do(Event::Reject { task: number }),
-        OneNumber::Start => Command::Do(Event::Start { task: number }),
-        OneNumber::Cancel => Command::Do(Event::Cancel { scope: number }),
-        OneNumber::Unbind => Command::Do(Event::Unbind { actor: number }),
-        OneNumber::Retire => Command::Retire { actor: number },
-        OneNumber::State => Command::Ask(Question::State { task: number }),
-        OneNumber::Stage => Command::Ask(Question::Stage { task: number }),
-        OneNumber::Cause => Command::Ask(Question::Cause { scope: number }),
-        OneNumber::Until => Command::Ask(Question::Until { scope: number }),
-        OneNumber::Counts => Command::Ask(Question::Counts { scope: number }),
+        OneNumber::Reject => tell(line, Event::Reject { task: number }),
+        OneNumber::Start => tell(line, Event::Start { task: number }),
+        OneNumber::Cancel => tell(line, Event::Cancel { scope: number }),
+        OneNumber::Unbind => tell(line, Event::Unbind { actor: number }),
+        OneNumber::Retire => *line = Line::Command(Command::Retire { actor: number }),
+        OneNumber::State => ask(line, Question::State { task: number }),
+        OneNumber::Stage => ask(line, Question::Stage { task: number }),
+        OneNumber::Cause => ask(line, Question::Cause { scope: number }),
+        OneNumber::Until => ask(line, Question::Until { scope: number }),
+        OneNumber::Counts => ask(line, Question::Counts { scope: number }),
     }
 }
 
-/// The command of a form with these numbers, the first of which is the actor.
+/// Writes the command of a form with these numbers, the first of which is the actor.
 #[tactic(auto, unfolding(crate::specs::Forms::two_numbers_said))]
-fn two_numbers(form: TwoNumbers, actor: u32, number: u32) -> Command
-    ensures { result ≡ two_numbers_said form actor number }
+fn two_numbers(form: TwoNumbers, actor: u32, number: u32, line: &mut Line)
+    ensures { line.new ≡ Line.Command (two_numbers_said form actor number) }
 {
     let (scope, task) = (number, number);
     match form {
-        TwoNumbers::Join => Command::Do(Event::Join { actor, scope }),
-        TwoNumbers::Close => Command::Do(Event::BeginClose { actor, scope }),
-        TwoNumbers::Closed => Command::Do(Event::EndClose { actor, scope }),
-        TwoNumbers::ResultOf => Command::Ask(Question::Result { actor, task }),
-        TwoNumbers::FaultOf => Command::Ask(Question::Fault { actor, task }),
+        TwoNumbers::Join => tell(line, Event::Join { actor, scope }),
+        TwoNumbers::Close => tell(line, Event::BeginClose { actor, scope }),
+        TwoNumbers::Closed => tell(line, Event::EndClose { actor, scope }),
+        TwoNumbers::ResultOf => ask(line, Question::Result { actor, task }),
+        TwoNumbers::FaultOf => ask(line, Question::Fault { actor, task }),
     }
 }
 
 /// The number that is the only argument.
-#[tactic(auto, unfolding(crate::specs::Forms::number_alone))]
+#[tactic(auto, using(crate::proofs::NumberForms::alone_by_steps))]
 fn number_alone(args: &[u8]) -> Option<u32>
     ensures { result ≡ number_alone (fields args.now) }
 {
-    small(just_one(args)?)
+    let (number, rest) = next_small(args)?;
+    match next_field(rest) {
+        Some(_) => None,
+        None => Some(number),
+    }
 }
 
 /// The numbers that are the two arguments.
-#[tactic(auto, unfolding(crate::specs::Forms::two_numbers))]
+#[tactic(auto, using(crate::proofs::NumberForms::two_by_steps))]
 fn two_numbers_alone(args: &[u8]) -> Option<(u32, u32)>
     ensures { result ≡ two_numbers (fields args.now) }
 {
-    let (first, second) = just_two(args)?;
-    Some((small(first)?, small(second)?))
+    let (first, rest) = next_small(args)?;
+    Some((first, number_alone(rest)?))
+}
+
+/// The arguments, if they are a number and a word more.
+#[inline(always)]
+#[tactic(auto, using(crate::proofs::NumberForms::word_by_steps))]
+fn number_and_word(args: &[u8]) -> Option<(u32, &[u8])>
+    ensures { option_map (λ found. (found.0, found.1.now)) result ≡ number_and_word (fields args.now) }
+{
+    let (number, rest) = next_small(args)?;
+    Some((number, just_one(rest)?))
 }
 
 /// `fork A S NAME`
-#[tactic(auto, unfolding(crate::specs::Forms::fork_said))]
-fn fork(args: &[u8]) -> Option<Command>
-    ensures { result ≡ fork_said (fields args.now) }
+#[tactic(auto, unfolding(crate::specs::Forms::number_and_word), using(crate::proofs::NumberForms::fork_by_steps))]
+fn fork(args: &[u8], line: &mut Line) -> Option<()>
+    ensures { Writes result line.new (fork_said (fields args.now)) }
 {
-    let (actor, scope, name_word) = just_three(args)?;
-    Some(Command::Do(Event::Fork {
-        actor: small(actor)?,
-        scope: small(scope)?,
-        label: Label {
-            name: name(name_word)?,
-            due: None,
+    let (actor, rest) = next_small(args)?;
+    let (scope, name_word) = number_and_word(rest)?;
+    tell(
+        line,
+        Event::Fork {
+            actor,
+            scope,
+            label: Label {
+                name: name(name_word)?,
+                due: None,
+            },
         },
-    }))
+    );
+    Some(())
 }
 
 /// `ok K VALUE`
-#[tactic(auto, unfolding(crate::specs::Forms::ok_said))]
-fn succeed(args: &[u8]) -> Option<Command>
-    ensures { result ≡ ok_said (fields args.now) }
+#[tactic(auto, unfolding(crate::specs::Forms::ok_said, crate::specs::Forms::number_and_word))]
+fn succeed(args: &[u8], line: &mut Line) -> Option<()>
+    ensures { Writes result line.new (ok_said (fields args.now)) }
 {
-    let (task, word) = just_two(args)?;
-    Some(Command::Do(Event::Finish {
-        task: small(task)?,
-        end: Ok(value(word)?),
-    }))
+    let (task, word) = number_and_word(args)?;
+    tell(
+        line,
+        Event::Finish {
+            task,
+            end: Ok(value(word)?),
+        },
+    );
+    Some(())
 }
 
 /// `fail K NAME`
-#[tactic(auto, unfolding(crate::specs::Forms::fail_said))]
-fn fail(args: &[u8]) -> Option<Command>
-    ensures { result ≡ fail_said (fields args.now) }
+#[tactic(auto, unfolding(crate::specs::Forms::fail_said, crate::specs::Forms::number_and_word))]
+fn fail(args: &[u8], line: &mut Line) -> Option<()>
+    ensures { Writes result line.new (fail_said (fields args.now)) }
 {
-    let (task, word) = just_two(args)?;
-    Some(Command::Do(Event::Finish {
-        task: small(task)?,
-        end: Err(Fault(name(word)?)),
-    }))
+    let (task, word) = number_and_word(args)?;
+    tell(
+        line,
+        Event::Finish {
+            task,
+            end: Err(Fault(name(word)?)),
+        },
+    );
+    Some(())
 }
 
 /// `move S N`, or `move S never`
-#[tactic(auto, unfolding(crate::specs::Forms::move_said))]
-fn move_deadline(args: &[u8]) -> Option<Command>
-    ensures { result ≡ move_said (fields args.now) }
+#[tactic(auto, unfolding(crate::specs::Forms::move_said, crate::specs::Forms::number_and_word))]
+fn move_deadline(args: &[u8], line: &mut Line) -> Option<()>
+    ensures { Writes result line.new (move_said (fields args.now)) }
 {
-    let (scope, word) = just_two(args)?;
-    Some(Command::Do(Event::Move {
-        scope: small(scope)?,
-        deadline: new_deadline(word)?,
-    }))
+    let (scope, word) = number_and_word(args)?;
+    tell(
+        line,
+        Event::Move {
+            scope,
+            deadline: new_deadline(word)?,
+        },
+    );
+    Some(())
 }
 
 /// The deadline that the word is, or none for `never`.
 #[tactic(auto, unfolding(crate::specs::Forms::new_deadline_said))]
-fn new_deadline(word: &[u8]) -> Option<Option<u64>>
+pub fn new_deadline(word: &[u8]) -> Option<Option<u64>>
     ensures { result ≡ new_deadline_said word.now }
 {
     if word == b"never".as_slice() {
@@ -147,37 +200,50 @@ fn new_deadline(word: &[u8]) -> Option<Option<u64>>
 }
 
 /// `tick N`
-#[tactic(auto, unfolding(crate::specs::Forms::tick_said))]
-fn tick(args: &[u8]) -> Option<Command>
-    ensures { result ≡ tick_said (fields args.now) }
+#[tactic(auto, using(crate::proofs::NumberForms::tick_by_steps))]
+fn tick(args: &[u8], line: &mut Line) -> Option<()>
+    ensures { Writes result line.new (tick_said (fields args.now)) }
 {
-    let now = moment(just_one(args)?)?;
-    Some(Command::Do(Event::Tick { now }))
+    let (now, rest) = next_moment(args)?;
+    if next_field(rest).is_some() {
+        return None;
+    }
+    tell(line, Event::Tick { now });
+    Some(())
 }
 
 /// `bind A NAME VALUE`
-#[tactic(auto, unfolding(crate::specs::Forms::bind_said))]
-fn bind(args: &[u8]) -> Option<Command>
-    ensures { result ≡ bind_said (fields args.now) }
+#[tactic(auto, using(crate::proofs::NumberForms::bind_by_steps))]
+fn bind(args: &[u8], line: &mut Line) -> Option<()>
+    ensures { Writes result line.new (bind_said (fields args.now)) }
 {
-    let (actor, key, word) = just_three(args)?;
-    Some(Command::Do(Event::Bind {
-        actor: small(actor)?,
-        binding: Binding {
-            key: name(key)?,
-            value: value(word)?,
+    let (actor, rest) = next_small(args)?;
+    let (key, word) = just_two(rest)?;
+    tell(
+        line,
+        Event::Bind {
+            actor,
+            binding: Binding {
+                key: name(key)?,
+                value: value(word)?,
+            },
         },
-    }))
+    );
+    Some(())
 }
 
 /// `get A NAME`
-#[tactic(auto, unfolding(crate::specs::Forms::get_said))]
-fn get(args: &[u8]) -> Option<Command>
-    ensures { result ≡ get_said (fields args.now) }
+#[tactic(auto, unfolding(crate::specs::Forms::get_said, crate::specs::Forms::number_and_word))]
+fn get(args: &[u8], line: &mut Line) -> Option<()>
+    ensures { Writes result line.new (get_said (fields args.now)) }
 {
-    let (actor, key) = just_two(args)?;
-    Some(Command::Ask(Question::Get {
-        actor: small(actor)?,
-        key: name(key)?,
-    }))
+    let (actor, key) = number_and_word(args)?;
+    ask(
+        line,
+        Question::Get {
+            actor,
+            key: name(key)?,
+        },
+    );
+    Some(())
 }

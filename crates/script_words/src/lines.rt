@@ -1,8 +1,9 @@
 ghost use Rattle.std.specs.Prelude.{◌≡◌};
 ghost use Rattle.script_words.specs.Fields.{fields};
 ghost use Rattle.script_words.specs.Lines.{command_said, fields_said, line_said};
+ghost use Rattle.script_words.specs.Written.{Writes};
 
-use crate::commands::{Command, Line};
+use crate::commands::Line;
 use crate::fields::next_field;
 use crate::forms::form;
 use crate::keywords::keyword_of;
@@ -12,37 +13,48 @@ pub const LINE_LIMIT: usize = 200;
 
 /// What the line says; it comes without its line feed. One of more than `LINE_LIMIT` bytes is in no
 /// form.
-#[tactic(auto, unfolding(crate::specs::Lines::line_said))]
 pub fn read_line(line: &[u8]) -> Line
     ensures { result ≡ line_said line.now }
 {
-    if line.len() > LINE_LIMIT {
-        return Line::BadWord;
-    }
-    read_fields(line)
+    let mut said = Line::Silent;
+    read_line_into(line, &mut said);
+    said
 }
 
-/// What the fields of the text say.
+/// Writes what the line says to where it is to stand: a command is wide, and is not moved from there.
+#[tactic(auto, unfolding(crate::specs::Lines::line_said))]
+pub fn read_line_into(line: &[u8], said: &mut Line)
+    ensures { said.new ≡ line_said line.now }
+{
+    if line.len() > LINE_LIMIT {
+        *said = Line::BadWord;
+        return;
+    }
+    read_fields(line, said);
+}
+
+/// Writes what the fields of the text say.
 #[tactic(auto, unfolding(crate::specs::Lines::fields_said))]
-fn read_fields(text: &[u8]) -> Line
-    ensures { result ≡ fields_said (fields text.now) }
+fn read_fields(text: &[u8], said: &mut Line)
+    ensures { said.new ≡ fields_said (fields text.now) }
 {
     let Some((word, args)) = next_field(text) else {
-        return Line::Silent;
+        *said = Line::Silent;
+        return;
     };
     if let [b'#', ..] = word {
-        return Line::Silent;
+        *said = Line::Silent;
+        return;
     }
-    match read_command(word, args) {
-        Some(command) => Line::Command(command),
-        None => Line::BadWord,
+    if read_command(word, args, said).is_none() {
+        *said = Line::BadWord;
     }
 }
 
-/// The command with this first word and these arguments.
+/// Writes the command with this first word and these arguments.
 #[tactic(auto, unfolding(crate::specs::Lines::command_said))]
-fn read_command(word: &[u8], args: &[u8]) -> Option<Command>
-    ensures { result ≡ command_said word.now (fields args.now) }
+fn read_command(word: &[u8], args: &[u8], said: &mut Line) -> Option<()>
+    ensures { Writes result said.new (command_said word.now (fields args.now)) }
 {
-    form(keyword_of(word)?, args)
+    form(keyword_of(word)?, args, said)
 }

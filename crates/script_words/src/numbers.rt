@@ -1,8 +1,11 @@
-ghost use Rattle.std.specs.Prelude.{◌≡◌, ◌≤◌, ◌^◌, true, IfSome, IsNone};
+ghost use Rattle.std.specs.Prelude.{◌≡◌, ◌≤◌, ◌^◌, true, length, option_map, IfSome, IsNone};
 ghost use Rattle.std.specs.Char.{is_ascii_digit};
-ghost use Rattle.std.specs.List.{list_all};
+ghost use Rattle.std.specs.List.{list_all, position_or_len};
 ghost use Rattle.std.specs.Str.Parse.{digits_value};
-ghost use Rattle.script_words.specs.Numbers.{has_no_needless_zero, number_said, small_said, moment_said, negative_said, integer_said};
+ghost use Rattle.script_words.specs.Fields.{fields, is_space};
+ghost use Rattle.script_words.specs.Numbers.{has_no_needless_zero, number_said, small_said, moment_said, negative_said, integer_said, word_ahead, number_first, small_first};
+
+use crate::fields::without_spaces;
 
 /// The number that the word says, at most `u32::MAX`: of a scope, a task or an actor, or a count.
 pub fn small(word: &[u8]) -> Option<u32>
@@ -17,6 +20,68 @@ pub fn moment(word: &[u8]) -> Option<u64>
     ensures { result ≡ moment_said word.now }
 {
     number(word, u64::MAX)
+}
+
+/// The number that the first field of the text says, at most `u32::MAX`, and the text after it.
+pub fn next_small(text: &[u8]) -> Option<(u32, &[u8])>
+    ensures { option_map (λ found. (found.0, fields found.1.now)) result ≡ small_first (fields text.now) }
+{
+    let (number, rest) = next_number(text, u64::from(u32::MAX))?;
+    Some((number as u32, rest))
+}
+
+/// The moment that the first field of the text says, and the text after it.
+pub fn next_moment(text: &[u8]) -> Option<(u64, &[u8])>
+    ensures { option_map (λ found. (found.0, fields found.1.now)) result ≡ number_first u64.MAX (fields text.now) }
+{
+    next_number(text, u64::MAX)
+}
+
+/// The number that the first field of the text says, if it is at most the limit, and the text after it. The field is
+/// walked once.
+#[tactic(auto, using(crate::proofs::NumberFields::first_found, crate::proofs::NumberFields::first_refused))]
+fn next_number(text: &[u8], limit: u64) -> Option<(u64, &[u8])>
+    ensures value { option_map (λ found. (found.0, fields found.1.now)) result ≡ number_first limit (fields text.now) }
+    ensures within { IfSome result (λ found. found.0 ≤ limit) }
+{
+    let text = without_spaces(text);
+    let (number, len) = numeral_ahead(text, limit)?;
+    Some((number, text.split_at(len).1))
+}
+
+/// The number that the bytes before the first space say, if it is at most the limit, and how many they are.
+#[tactic(auto, unfolding(crate::specs::Numbers::number_said, crate::specs::Numbers::is_numeral))]
+fn numeral_ahead(text: &[u8], limit: u64) -> Option<(u64, usize)>
+    ensures value { option_map (λ found. found.0) result ≡ number_said limit (word_ahead text.now) }
+    ensures place { IfSome result (λ found. found.1 ≡ position_or_len is_space text.now) }
+    ensures within { IfSome result (λ found. (found.0 ≤ limit) × (found.1 ≤ length text.now)) }
+{
+    let (number, len) = digits_ahead(text)?;
+    if number <= limit && has_no_needless_zero(text.split_at(len).0) {
+        Some((number, len))
+    } else {
+        None
+    }
+}
+
+/// The number with the decimal digits before the first space, and how many they are; `None` if another byte is
+/// among them, or if the number is greater than `u64::MAX`.
+fn digits_ahead(text: &[u8]) -> Option<(u64, usize)>
+    ensures none { IsNone result → list_all is_ascii_digit (word_ahead text.now) ≡ true → 2 ^ 64 ≤ digits_value 10 (word_ahead text.now) }
+    ensures some { IfSome result (λ found. (list_all is_ascii_digit (word_ahead text.now) ≡ true) × (found.0 ≡ digits_value 10 (word_ahead text.now)) × (found.1 ≡ position_or_len is_space text.now)) }
+    ensures within { IfSome result (λ found. found.1 ≤ length text.now) }
+{
+    let mut value: u64 = 0;
+    for (index, byte) in text.iter().enumerate() {
+        if byte.is_ascii_digit() {
+            value = value.checked_mul(10)?.checked_add(u64::from(*byte - b'0'))?;
+        } else if *byte == b' ' {
+            return Some((value, index));
+        } else {
+            return None;
+        }
+    }
+    Some((value, text.len()))
 }
 
 /// The number that the word says, of an `i64`; a `-` may be in front.
@@ -47,17 +112,16 @@ fn negative(digits: &[u8]) -> Option<i64>
 }
 
 /// The number that the word says, if it is at most the limit.
-#[tactic(auto, unfolding(crate::specs::Numbers::number_said, crate::specs::Numbers::is_numeral))]
+#[tactic(auto, using(crate::proofs::NumberFields::said_whole, crate::proofs::NumberFields::not_said, crate::proofs::NumberFields::not_whole))]
 fn number(word: &[u8], limit: u64) -> Option<u64>
     ensures value { result ≡ number_said limit word.now }
     ensures within { IfSome result (λ number. number ≤ limit) }
 {
-    if !has_no_needless_zero(word) {
-        return None;
-    }
-    match value_of_digits(word) {
-        Some(number) if number <= limit => Some(number),
-        _ => None,
+    let (number, len) = numeral_ahead(word, limit)?;
+    if len == word.len() {
+        Some(number)
+    } else {
+        None
     }
 }
 
@@ -70,20 +134,4 @@ fn has_no_needless_zero(word: &[u8]) -> bool
         [_] => true,
         [first, ..] => *first != b'0',
     }
-}
-
-/// The number with these decimal digits; `None` if a byte is no digit, or if the number is greater
-/// than `u64::MAX`.
-fn value_of_digits(digits: &[u8]) -> Option<u64>
-    ensures none { IsNone result → list_all is_ascii_digit digits.now ≡ true → 2 ^ 64 ≤ digits_value 10 digits.now }
-    ensures some { IfSome result (λ number. (list_all is_ascii_digit digits.now ≡ true) × (number ≡ digits_value 10 digits.now)) }
-{
-    let mut value: u64 = 0;
-    for byte in digits {
-        if !byte.is_ascii_digit() {
-            return None;
-        }
-        value = value.checked_mul(10)?.checked_add(u64::from(*byte - b'0'))?;
-    }
-    Some(value)
 }

@@ -1,27 +1,29 @@
 ghost use Rattle.std.specs.Prelude.{◌≡◌, codes};
 ghost use Rattle.script_words.specs.Fields.{fields};
 ghost use Rattle.script_words.specs.Openings.{policy_next, deadline_said, deadline_next, flag_next, expiry_of, opened, open_said};
+ghost use Rattle.script_words.specs.Written.{Writes};
 
-use crate::commands::Command;
+use crate::commands::Line;
 use crate::fields::next_field;
+use crate::forms::tell;
 use crate::joiners::{after, policy};
-use crate::numbers::{moment, small};
+use crate::numbers::{moment, next_small};
 use scope_rules::{Actor, Event, Expiry, Options, Policy};
 
-/// The command that `open` and this text are.
-#[tactic(auto, unfolding(crate::specs::Openings::open_said))]
-pub fn open(text: &[u8]) -> Option<Command>
-    ensures { result ≡ open_said (fields text.now) }
+/// Writes the command that `open` and this text are.
+#[tactic(auto, unfolding(crate::specs::Openings::open_said, crate::specs::Numbers::number_first))]
+pub fn open(text: &[u8], line: &mut Line) -> Option<()>
+    ensures { Writes result line.new (open_said (fields text.now)) }
 {
-    let (actor, rest) = next_field(text)?;
-    opened(small(actor)?, rest)
+    let (actor, rest) = next_small(text)?;
+    opened(actor, rest, line)
 }
 
-/// The command with what is after the actor: a joiner, a deadline, `move-on` and `shield`, each
+/// Writes the command with what is after the actor: a joiner, a deadline, `move-on` and `shield`, each
 /// or not, and no more.
 #[tactic(auto, unfolding(crate::specs::Openings::opened))]
-fn opened(actor: Actor, text: &[u8]) -> Option<Command>
-    ensures { result ≡ opened actor (fields text.now) }
+fn opened(actor: Actor, text: &[u8], line: &mut Line) -> Option<()>
+    ensures { Writes result line.new (opened actor (fields text.now)) }
 {
     let (policy, rest) = policy_next(text);
     let (deadline, rest) = deadline_next(rest);
@@ -35,11 +37,15 @@ fn opened(actor: Actor, text: &[u8]) -> Option<Command>
         shield,
         expiry: expiry_of(moves_on),
     };
-    Some(Command::Do(Event::Open {
-        actor,
-        policy,
-        options,
-    }))
+    tell(
+        line,
+        Event::Open {
+            actor,
+            policy,
+            options,
+        },
+    );
+    Some(())
 }
 
 /// The joiner, if one comes next and else `await-ok`, and the text after it.
@@ -71,7 +77,7 @@ fn deadline_next(text: &[u8]) -> (Option<u64>, &[u8])
 }
 
 /// The deadline that the word is.
-fn deadline(word: &[u8]) -> Option<u64>
+pub fn deadline(word: &[u8]) -> Option<u64>
     ensures { result ≡ deadline_said word.now }
 {
     moment(after(b"deadline=", word)?)

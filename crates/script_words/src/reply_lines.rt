@@ -1,13 +1,13 @@
 //! The line of a reply.
-ghost use Rattle.std.specs.Prelude.{◌≡◌, ◌++◌, ◌∷◌, ◌+◌, ◌≤◌, [], Some, IfSome, OnOk, OnErr, length};
-ghost use Rattle.arrayvec.specs.ArrayString.{array_string_len};
-ghost use Rattle.script_words.specs.ReplyText.{reply_text};
+ghost use Rattle.std.specs.Prelude.{◌≡◌, ◌++◌, ◌∷◌, ◌+◌, ◌≤◌, [], true, false, Some, OnOk, OnErr, length, vec_len, vec_capacity};
+ghost use Rattle.std.specs.Fmt.{decimal};
+ghost use Rattle.script_words.specs.ReplyText.{counts_line, reply_text};
 
 use crate::parts::ShownCounts;
 use crate::reply::Reply;
 use arrayvec::ArrayString;
 use itoa::{Buffer, Integer};
-use scope_rules::{Effective, ForkReply, Stage, State, Verdict};
+use scope_rules::{Counts, Effective, ForkReply, Stage, State, Verdict};
 use std::alloc::AllocError;
 use std::fmt;
 use std::fmt::{Display, Write};
@@ -55,8 +55,8 @@ impl fmt::Display for Reply {
     }
 }
 
-/// How many bytes a line may have, with its line feed, that is put together in place. Counts take at
-/// most 82; only the lists of tasks that a join gives may be longer.
+/// How many bytes a line may have, with its line feed, that is put together with no memory of its own. Counts
+/// take at most 82; only the lists of tasks that a join gives may be longer.
 const SHORT_LINE: usize = 96;
 
 /// Appends the line of the reply, and its line feed. If memory is refused, nothing is appended.
@@ -64,83 +64,146 @@ pub fn append_line(text: &mut Vec<u8>, reply: &Reply) -> Result<(), AllocError>
     ensures ok { OnOk result (text.new.items ≡ text.old.items ++ reply_text reply.now ++ 10 ∷ []) }
     ensures err { OnErr result (text.new.items ≡ text.old.items) }
 {
-    if let Some(line) = fixed_line(reply) {
-        return text.extend_from_slice(line);
+    text.reserve(SHORT_LINE)?;
+    if push_usual_line(text, reply) {
+        return Ok(());
     }
-    if let Some(line) = numbered_line(reply) {
-        return text.extend_from_slice(line.as_bytes());
+    append_written_line(text, reply)
+}
+
+/// Appends the line, with its line feed, of a reply that is words and numbers of its own, and says that it did. Of
+/// a rare one, and of any other, it appends nothing.
+#[tactic(auto, unfolding(crate::specs::ReplyText::reply_text))]
+fn push_usual_line(text: &mut Vec<u8>, reply: &Reply) -> bool
+    requires room { vec_len text.old + SHORT_LINE ≤ vec_capacity text.old }
+    ensures appended { result ≡ true → text.new.items ≡ text.old.items ++ reply_text reply.now ++ 10 ∷ [] }
+    ensures kept { result ≡ false → text.new.items ≡ text.old.items }
+{
+    match reply {
+        Reply::Started => pushed(text, b"started\n"),
+        Reply::Finished => pushed(text, b"finished\n"),
+        Reply::Cancelled => pushed(text, b"cancelled\n"),
+        Reply::Moved => pushed(text, b"moved\n"),
+        Reply::Bound => pushed(text, b"bound\n"),
+        Reply::Unbound => pushed(text, b"unbound\n"),
+        Reply::Closing => pushed(text, b"closing\n"),
+        Reply::Closed(Verdict::Plain) => pushed(text, b"closed\n"),
+        Reply::Cause(None) => pushed(text, b"live\n"),
+        Reply::State(State::Unavailable) => pushed(text, b"state unavailable\n"),
+        Reply::State(State::Success(_)) => pushed(text, b"state success\n"),
+        Reply::State(State::Failed(_)) => pushed(text, b"state failed\n"),
+        Reply::Stage(Stage::Waiting) => pushed(text, b"stage waiting\n"),
+        Reply::Stage(Stage::Running) => pushed(text, b"stage running\n"),
+        Reply::Stage(Stage::Finished) => pushed(text, b"stage finished\n"),
+        Reply::Scope(scope) => {
+            push_number(text, b"scope ", *scope);
+            pushed(text, b"\n")
+        }
+        Reply::Moment(moment) => {
+            push_number(text, b"moment ", *moment);
+            pushed(text, b"\n")
+        }
+        Reply::Task(ForkReply::Thread(task)) => {
+            push_number(text, b"task ", *task);
+            pushed(text, b" thread\n")
+        }
+        Reply::Task(ForkReply::Never(task)) => {
+            push_number(text, b"task ", *task);
+            pushed(text, b" none\n")
+        }
+        Reply::Counts(counts) => {
+            push_counts(text, counts);
+            true
+        }
+        _ => false,
     }
+}
+
+/// Appends the end of a line, for which there must be room, and says so.
+#[inline(always)]
+fn pushed(text: &mut Vec<u8>, bytes: &[u8]) -> bool
+    requires room { vec_len text.old + length bytes.now ≤ vec_capacity text.old }
+    ensures done { result ≡ true }
+    ensures bytes { text.new.items ≡ text.old.items ++ bytes.now }
+{
+    push_bytes(text, bytes);
+    true
+}
+
+/// Appends the line of the counts, with its line feed. There must be room for it.
+fn push_counts(text: &mut Vec<u8>, counts: &Counts)
+    requires room { vec_len text.old + SHORT_LINE ≤ vec_capacity text.old }
+    ensures { text.new.items ≡ text.old.items ++ counts_line counts.now ++ 10 ∷ [] }
+{
+    push_count(text, b"counts never=", counts.never);
+    push_count(text, b" waiting=", counts.waiting);
+    push_count(text, b" running=", counts.running);
+    push_count(text, b" finished=", counts.finished);
+    push_bytes(text, b"\n");
+}
+
+/// Appends the words, and then the count, which is often one digit. There must be room for both.
+#[inline(always)]
+#[tactic(auto, using(std::proofs::lemmas::Fmt::decimal_digit))]
+fn push_count(text: &mut Vec<u8>, words: &[u8], count: u32)
+    requires room { vec_len text.old + length words.now + 10 ≤ vec_capacity text.old }
+    ensures bytes { text.new.items ≡ text.old.items ++ words.now ++ decimal count }
+    ensures len { vec_len text.new ≤ vec_len text.old + length words.now + 10 }
+    ensures capacity { vec_capacity text.old ≤ vec_capacity text.new }
+{
+    if count >= 10 {
+        push_number(text, words, count);
+        return;
+    }
+    push_bytes(text, words);
+    text.push_reserved(b'0' + count as u8);
+}
+
+/// Appends the words, and then the number. There must be room for both.
+#[inline(always)]
+fn push_number<I: Integer>(text: &mut Vec<u8>, words: &[u8], number: I)
+    requires room { vec_len text.old + length words.now + I.MAX_STR_LEN ≤ vec_capacity text.old }
+    ensures bytes { text.new.items ≡ text.old.items ++ words.now ++ I.text number }
+    ensures len { vec_len text.new ≤ vec_len text.old + length words.now + I.MAX_STR_LEN }
+    ensures capacity { vec_capacity text.old ≤ vec_capacity text.new }
+{
+    push_bytes(text, words);
+    push_digits(text, number);
+}
+
+/// Appends the number. There must be room for it.
+#[inline(never)]
+fn push_digits<I: Integer>(text: &mut Vec<u8>, number: I)
+    requires room { vec_len text.old + I.MAX_STR_LEN ≤ vec_capacity text.old }
+    ensures bytes { text.new.items ≡ text.old.items ++ I.text number }
+    ensures len { vec_len text.new ≤ vec_len text.old + I.MAX_STR_LEN }
+    ensures capacity { vec_capacity text.old ≤ vec_capacity text.new }
+{
+    push_bytes(text, Buffer::new().format(number).as_bytes());
+}
+
+/// Appends the bytes. There must be room for them.
+#[inline(always)]
+fn push_bytes(text: &mut Vec<u8>, bytes: &[u8])
+    requires room { vec_len text.old + length bytes.now ≤ vec_capacity text.old }
+    ensures bytes { text.new.items ≡ text.old.items ++ bytes.now }
+    ensures len { vec_len text.new ≡ vec_len text.old + length bytes.now }
+    ensures capacity { vec_capacity text.old ≤ vec_capacity text.new }
+{
+    let _there_is_room = text.extend_from_slice(bytes);
+}
+
+/// Appends the line of the reply, whichever it is, and its line feed.
+#[inline(never)]
+fn append_written_line(text: &mut Vec<u8>, reply: &Reply) -> Result<(), AllocError>
+    ensures ok { OnOk result (text.new.items ≡ text.old.items ++ reply_text reply.now ++ 10 ∷ []) }
+    ensures err { OnErr result (text.new.items ≡ text.old.items) }
+{
     let mut line = ArrayString::<SHORT_LINE>::new();
     match writeln!(line, "{reply}") {
         Ok(()) => text.extend_from_slice(line.as_bytes()),
         Err(_) => append_long_line(text, reply),
     }
-}
-
-/// The line, with its line feed, of a reply that is the same each time; `None` of a rare one, and of one
-/// that tells something.
-#[tactic(auto, unfolding(crate::specs::ReplyText::reply_text))]
-fn fixed_line(reply: &Reply) -> Option<&'static [u8]>
-    ensures { IfSome result (λ line. line.now ≡ reply_text reply.now ++ 10 ∷ []) }
-{
-    match reply {
-        Reply::Started => Some(b"started\n"),
-        Reply::Finished => Some(b"finished\n"),
-        Reply::Cancelled => Some(b"cancelled\n"),
-        Reply::Moved => Some(b"moved\n"),
-        Reply::Bound => Some(b"bound\n"),
-        Reply::Unbound => Some(b"unbound\n"),
-        Reply::Closing => Some(b"closing\n"),
-        Reply::Closed(Verdict::Plain) => Some(b"closed\n"),
-        Reply::Cause(None) => Some(b"live\n"),
-        Reply::State(State::Unavailable) => Some(b"state unavailable\n"),
-        Reply::State(State::Success(_)) => Some(b"state success\n"),
-        Reply::State(State::Failed(_)) => Some(b"state failed\n"),
-        Reply::Stage(Stage::Waiting) => Some(b"stage waiting\n"),
-        Reply::Stage(Stage::Running) => Some(b"stage running\n"),
-        Reply::Stage(Stage::Finished) => Some(b"stage finished\n"),
-        _ => None,
-    }
-}
-
-/// The line, with its line feed, of a reply that is words and numbers of its own; `None` of a rare one, and
-/// of any other. Digits are appended without a formatter.
-#[tactic(auto, unfolding(crate::specs::ReplyText::reply_text))]
-fn numbered_line(reply: &Reply) -> Option<ArrayString<SHORT_LINE>>
-    ensures { IfSome result (λ line. line.bytes ≡ reply_text reply.now ++ 10 ∷ []) }
-{
-    let mut line = ArrayString::<SHORT_LINE>::new();
-    match reply {
-        Reply::Scope(scope) => push_number(&mut line, "scope ", *scope),
-        Reply::Moment(moment) => push_number(&mut line, "moment ", *moment),
-        Reply::Task(ForkReply::Thread(task)) => {
-            push_number(&mut line, "task ", *task);
-            line.push_str(" thread");
-        }
-        Reply::Task(ForkReply::Never(task)) => {
-            push_number(&mut line, "task ", *task);
-            line.push_str(" none");
-        }
-        Reply::Counts(counts) => {
-            push_number(&mut line, "counts never=", counts.never);
-            push_number(&mut line, " waiting=", counts.waiting);
-            push_number(&mut line, " running=", counts.running);
-            push_number(&mut line, " finished=", counts.finished);
-        }
-        _ => return None,
-    }
-    line.push_str("\n");
-    Some(line)
-}
-
-/// Appends the words, and then the number. There must be room for both.
-fn push_number<I: Integer>(line: &mut ArrayString<SHORT_LINE>, words: &str, number: I)
-    requires room { array_string_len line.old + length words.now + I.MAX_STR_LEN ≤ SHORT_LINE }
-    ensures bytes { line.new.bytes ≡ line.old.bytes ++ words.now ++ I.text number }
-    ensures len { array_string_len line.new ≤ array_string_len line.old + length words.now + I.MAX_STR_LEN }
-{
-    line.push_str(words);
-    line.push_str(Buffer::new().format(number));
 }
 
 /// Appends the line of the reply, of any length, and its line feed.

@@ -16,7 +16,7 @@ use Rattle.scope_rules.specs.Nests.{tasks_of}
 use Rattle.scope_rules.specs.Tasks.{stage, is_at, is_stage, counts}
 use Rattle.scope_rules.specs.Names.{text_of}
 use Rattle.scope_rules.specs.Texts.{stage_word, state_word}
-use Rattle.script_words.specs.Spelling.{policy_word}
+use Rattle.scope_log.specs.LogText.{joiner_text}
 use Rattle.tree_dump.specs.Objects.{number_or_null, with_since, cause_or_null, scope_object, task_object}
 use Rattle.tree_dump.specs.Words.{expiry_word, scope_stage_word}
 use Rattle.tree_dump.specs.declared.told.TaskTold.{TaskTold}
@@ -55,7 +55,7 @@ pub scope_sent : (i : ScopeInfo) (since : Option (Option ℕ)) (inside : Data) (
     expiry ≡ expiry_word i.expiry → how ≡ scope_stage_word i.stage → Logs old l0 (map_begins (Some (count_since since 11))) →
     SendsMember (codes "cause") (cause_or_null i.cause) l0 l1 → SendsMember (codes "deadline") (number_or_null i.deadline) l1 l2 →
     SendsMember (codes "expiry") (string expiry) l2 l3 → SendsMember (codes "id") (number (unsigned i.scope)) l3 l4 → SendsMember (codes "inner") inside l4 l5 →
-    SendsMember (codes "joined") (boolean i.joined) l5 l6 → SendsMember (codes "joiner") (string (policy_word i.policy)) l6 l7 →
+    SendsMember (codes "joined") (boolean i.joined) l5 l6 → SendsMember (codes "joiner") (string (joiner_text i.policy)) l6 l7 →
     SendsMember (codes "owner") (number (unsigned i.owner)) l7 l8 → SendsMember (codes "shield") (boolean i.shield) l8 l9 → SendsSince since l9 l10 →
     SendsMember (codes "stage") (string how) l10 l11 → SendsMember (codes "tasks") (array tasks) l11 l12 → Logs l12 new map_ends →
     SendsValue (scope_object i since inside tasks) old new

@@ -4,7 +4,7 @@ use Rattle.scope_rules.specs.Names.{text_of}
 use Rattle.scope_rules.specs.Texts.{kind_word, stage_word, state_word}
 use Rattle.scope_rules.specs.declared.types.answers.Cause.{Cause}
 use Rattle.scope_rules.specs.declared.types.infos.ScopeInfo.{ScopeInfo}
-use Rattle.script_words.specs.Spelling.{policy_word}
+use Rattle.scope_log.specs.LogText.{joiner_text}
 use Rattle.serde_json.specs.Data.{Data, null, boolean, number, unsigned, string, array, object, Items, Members, member, no_members}
 use Rattle.tree_dump.specs.Words.{expiry_word, scope_stage_word}
 use Rattle.tree_dump.specs.declared.told.TaskTold.{TaskTold}
@@ -35,7 +35,7 @@ scope_object info since inner tasks =
     (member (codes "id") (number (unsigned info.scope))
     (member (codes "inner") inner
     (member (codes "joined") (boolean info.joined)
-    (member (codes "joiner") (string (policy_word info.policy))
+    (member (codes "joiner") (string (joiner_text info.policy))
     (member (codes "owner") (number (unsigned info.owner))
     (member (codes "shield") (boolean info.shield)
     (with_since since

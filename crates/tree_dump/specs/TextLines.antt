@@ -14,9 +14,8 @@ use Rattle.scope_rules.specs.declared.types.answers.State.{State}
 use Rattle.scope_rules.specs.declared.types.events.Expiry.{Expiry}
 use Rattle.scope_rules.specs.declared.types.events.Expiry.TheVariants.{Fail, MoveOn}
 use Rattle.scope_rules.specs.declared.types.infos.ScopeInfo.{ScopeInfo}
-use Rattle.scope_rules.specs.declared.types.infos.ScopeStage.{ScopeStage}
-use Rattle.scope_rules.specs.declared.types.infos.ScopeStage.TheVariants.{Open, Closing, Closed}
 use Rattle.scope_rules.specs.declared.types.names.Name.{Name}
+use Rattle.tree_dump.specs.Words.{scope_stage_word}
 
 -- two spaces for each level
 abbrev pub indent : ℕ → List ℕ
@@ -27,12 +26,6 @@ indent (suc n) = indent n ++ codes "  "
 abbrev pub owner_text : ℕ → List ℕ
 owner_text zero = codes "main"
 owner_text (suc n) = codes "task " ++ decimal (suc n)
-
--- how far the scope has come
-abbrev pub stage_text : ScopeStage → List ℕ
-stage_text Open = codes "open"
-stage_text Closing = codes "closing"
-stage_text Closed = codes "closed"
 
 abbrev pub joined_text : Bool → List ℕ
 joined_text false = []
@@ -64,7 +57,7 @@ abbrev pub awaits_text : Counts → List ℕ
 awaits_text c = codes ", awaits " ++ decimal (c.waiting + c.running) ++ codes " of " ++ decimal (c.waiting + c.running + (c.never + c.finished))
 
 abbrev pub head_text : ScopeInfo → List ℕ
-head_text i = codes "scope " ++ decimal i.scope ++ codes " " ++ stage_text i.stage ++ codes ", of " ++ owner_text i.owner ++ codes ", joins " ++ joiner_text i.policy
+head_text i = codes "scope " ++ decimal i.scope ++ codes " " ++ scope_stage_word i.stage ++ codes ", of " ++ owner_text i.owner ++ codes ", joins " ++ joiner_text i.policy
 
 -- the line of a scope, by itself and by how many tasks it has at each stage
 abbrev pub scope_text : ScopeInfo → Counts → List ℕ

@@ -4,7 +4,7 @@ ghost use Rattle.serde_json.specs.Data.{boolean, number, unsigned, string};
 ghost use Rattle.serde_json.specs.Events.{SendsValue};
 ghost use Rattle.tree_dump.specs.Sent.{SendsMember, SendsSince, count_since};
 ghost use Rattle.tree_dump.specs.Objects.{number_or_null, cause_or_null};
-ghost use Rattle.script_words.specs.Spelling.{policy_word};
+ghost use Rattle.scope_log.specs.LogText.{joiner_text};
 
 use crate::words::joiner_word;
 use scope_rules::{Cause, Policy};
@@ -108,7 +108,7 @@ pub(crate) fn send_joiner<S: Serializer>(
     key: &str,
     policy: Policy,
 ) -> Result<(), S::Error>
-    ensures { OnOk result (SendsMember key.now (string (policy_word policy)) (S.written out.old) (S.written out.new)) }
+    ensures { OnOk result (SendsMember key.now (string (joiner_text policy)) (S.written out.old) (S.written out.new)) }
 {
     match joiner_word(alloc, policy) {
         Ok(word) => send_text(out, key, word.as_str()),

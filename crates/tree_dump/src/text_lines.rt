@@ -1,11 +1,12 @@
 //! The lines of a tree, without their indents.
 ghost use Rattle.std.specs.Prelude.{◌≡◌, ◌+◌, ◌<◌, ◌^◌, Some};
 ghost use Rattle.tree_dump.specs.TextTree.{aged_scope};
-ghost use Rattle.tree_dump.specs.TextLines.{awaits_text, cause_text, deadline_text, head_text, indent, joined_text, kind_text, owner_text, progress_text, scope_text, shield_text, stage_text, task_text};
+ghost use Rattle.tree_dump.specs.TextLines.{awaits_text, cause_text, deadline_text, head_text, indent, joined_text, kind_text, owner_text, progress_text, scope_text, shield_text, task_text};
 
 use crate::ages::ShownAged;
+use crate::words::scope_stage_word;
 use scope_log::ShownJoiner;
-use scope_rules::types::infos::{ScopeInfo, ScopeStage};
+use scope_rules::types::infos::ScopeInfo;
 use scope_rules::{Actor, Cause, CauseKind, Counts, Expiry, Name, Stage, State, TaskId};
 use std::fmt;
 
@@ -99,7 +100,7 @@ impl fmt::Display for ShownHead {
     ghost output = { λ h. Some (head_text h.0) };
 
     fn fmt<W: fmt::Write>(&self, f: &mut fmt::Formatter<W>) -> fmt::Result {
-        let stage = stage_text(self.0.stage);
+        let stage = scope_stage_word(self.0.stage);
         let owner = ShownOwner(self.0.owner);
         let joiner = ShownJoiner(self.0.policy);
         write!(
@@ -207,17 +208,6 @@ fn added(some: u32, others: u32) -> u64
     ensures small { result < 2 ^ 33 }
 {
     u64::from(some) + u64::from(others)
-}
-
-/// How far the scope has come.
-fn stage_text(stage: ScopeStage) -> &'static str
-    ensures { result.now ≡ stage_text stage }
-{
-    match stage {
-        ScopeStage::Open => "open",
-        ScopeStage::Closing => "closing",
-        ScopeStage::Closed => "closed",
-    }
 }
 
 /// Whether the scope is joined.

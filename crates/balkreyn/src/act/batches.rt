@@ -47,6 +47,16 @@ impl<J: Yields> Batch<J> {
 
 /// What does one job of a batch after the other, until there is none left, or one fails. It is a job of the service,
 /// whose type is made of it (`From`).
+///
+/// The arm of a service's jobs in which `map_at_most` forks its workers:
+///
+/// ```rust
+/// impl From<Worker<AskStock>> for Shop {
+///     fn from(worker: Worker<AskStock>) -> Shop {
+///         Shop::Stocks(worker)
+///     }
+/// }
+/// ```
 #[derive(Drop)]
 pub struct Worker<J: Yields> {
     name: Name,

@@ -80,6 +80,24 @@ pub fn shielded<
 }
 
 /// How a body that fails is tried again.
+///
+/// A body that is tried four times, a millisecond apart:
+///
+/// ```rust
+/// fn tried_until<X: Acts<Shop>>(cx: &mut X, enough: u32) -> Result<u32, Refusal> {
+///     let backoff = Backoff {
+///         retries: 3,
+///         pause: 1,
+///     };
+///     retry(cx, backoff, |_cx, number| {
+///         if number >= enough {
+///             Ok(number)
+///         } else {
+///             Err(Refusal::Unavailable)
+///         }
+///     })
+/// }
+/// ```
 #[derive(Clone, Copy)]
 pub struct Backoff {
     /// How many times at most, behind the first.

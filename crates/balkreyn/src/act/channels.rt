@@ -13,6 +13,23 @@ use std::sync::{Mutex, Wait};
 
 /// A queue between jobs, which holds so many values at most and gives them in the order in which they were sent (Trio, a
 /// memory channel). Jobs share it in an `Arc`.
+///
+/// A job that sends numbers, and then closes the channel:
+///
+/// ```rust
+/// impl Task for Counts {
+///     fn run<X: Acts<Counts>>(self, cx: &mut X) -> End {
+///         for number in 0..100u32 {
+///             match send(cx, &self.into, number) {
+///                 Ok(Sent::Done) => {}
+///                 _ => return Err(Fault(named(b"unsent"))),
+///             }
+///         }
+///         self.into.close(cx);
+///         Ok(Value::Num(100))
+///     }
+/// }
+/// ```
 #[derive(Drop)]
 pub struct Channel<T> {
     queue: Mutex<Queue<T>>,
@@ -27,6 +44,17 @@ struct Queue<T> {
 }
 
 /// What a send answers.
+///
+/// A value that wasn't sent comes back:
+///
+/// ```rust
+/// fn back(sent: &Sent<u32>) -> Option<u32> {
+///     match sent {
+///         Sent::Done => None,
+///         Sent::Closed(number) | Sent::Cancelled(number) => Some(*number),
+///     }
+/// }
+/// ```
 #[derive(Drop)]
 pub enum Sent<T> {
     /// The value is in the channel.
@@ -38,6 +66,23 @@ pub enum Sent<T> {
 }
 
 /// What a receive answers.
+///
+/// A receive that a deadline ends gives `Cancelled`:
+///
+/// ```rust
+/// fn waited_for<X: Acts<Counts>>(
+///     cx: &mut X,
+///     channel: &Channel<u32>,
+/// ) -> Result<Received<u32>, Refusal> {
+///     let options = cx.move_on_after(50);
+///     scope(
+///         cx,
+///         Joiner::AwaitAll,
+///         options,
+///         |cx, _scope| receive(cx, channel),
+///     )
+/// }
+/// ```
 #[derive(Drop)]
 pub enum Received<T> {
     /// The value that was sent first of those in the channel.

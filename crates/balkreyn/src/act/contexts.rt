@@ -27,6 +27,20 @@ use thread_crew::Spawner;
 ///
 /// It is a handle to wait by (`Wait`), and has no associated type: the check passes no closure over a context whose trait
 /// has one.
+///
+/// Three shops are asked, and the first answer is taken:
+///
+/// ```rust
+/// fn first_of<X: Acts<Shop>>(cx: &mut X) -> Result<Option<i64>, Refusal> {
+///     let options = cx.fail_after(60_000);
+///     scope(cx, Joiner::Any, options, |cx, scope| {
+///         for (price, after) in [(1, 60_000), (2, 10), (3, 60_000)] {
+///             cx.fork(scope, named(b"shop"), Shop::Answers { price, after })?;
+///         }
+///         price_at(cx, scope)
+///     })
+/// }
+/// ```
 pub trait Acts<W>: Scopes + Wait {
     ghost use Rattle.std.specs.Prelude.{◌≡◌, ℕ, Err, Option};
     ghost use Rattle.join_rules.specs.Joiners.{policy_of};
@@ -148,6 +162,21 @@ pub trait Acts<W>: Scopes + Wait {
 }
 
 /// The context of a task, with the clock of its realm, the hooks of its service, and what it told the observer.
+///
+/// A helper that needs no clock and no runtime, since the context has both:
+///
+/// ```rust
+/// fn hung<X: Acts<Shop>>(cx: &mut X) -> Result<bool, Refusal> {
+///     let options = cx.fail_after(200);
+///     scope(cx, Joiner::All, options, |cx, scope| {
+///         cx.fork(scope, named(b"shop"), Shop::Hangs)?;
+///         match &cx.join(scope)?.outcome {
+///             Outcome::Timeout => Ok(true),
+///             _ => Ok(false),
+///         }
+///     })
+/// }
+/// ```
 #[derive(Drop)]
 pub struct Cx<'a, K, O, S: Spawner<N>, N: RealmName> {
     pub(crate) alloc: Global,

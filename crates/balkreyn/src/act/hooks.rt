@@ -12,6 +12,30 @@ use std::sync::atomic::{AtomicU64, Ordering};
 use std::sync::{Arc, Wait};
 
 /// What happened to a job, or a scope.
+///
+/// An observer that counts what it sees:
+///
+/// ```rust
+/// impl Observes for Counts {
+///     fn saw<R: Wait>(&self, _rt: &R, _moment: u64, what: Happening) {
+///         let counter = match what {
+///             Happening::Forked { .. } => &self.forked,
+///             Happening::Refused {
+///                 refusal: Refusal::Memory,
+///                 ..
+///             } => &self.refused,
+///             Happening::Started { .. } => &self.started,
+///             Happening::Ended {
+///                 fault: Some(_fault),
+///                 ..
+///             } => &self.failed,
+///             Happening::Cancelled { .. } => &self.cancelled,
+///             _ => return,
+///         };
+///         counter.fetch_add(1, Ordering::SeqCst);
+///     }
+/// }
+/// ```
 #[derive(Clone, Copy, PartialEq, Eq)]
 pub enum Happening {
     /// A job of this name was forked in the scope; by a scope that is cancelled it is never begun.
@@ -54,6 +78,20 @@ pub enum Happening {
 ///   report one close, and none does if it cuts off nothing.
 ///
 /// A scope is itself cancelled once, so two reports of one scope are of one cancel. The time is that of the report.
+///
+/// An observer of cancels alone:
+///
+/// ```rust
+/// impl Observes for Heard {
+///     fn saw<R: Wait>(&self, _rt: &R, _moment: u64, what: Happening) {
+///         let counter = match what {
+///             Happening::Cancelled { kind, .. } => self.counter(kind),
+///             _ => return,
+///         };
+///         counter.fetch_add(1, Ordering::SeqCst);
+///     }
+/// }
+/// ```
 pub trait Observes: Drop {
     /// Takes note of it. The start of a job may be seen before its fork. Of the watches of a service, which are jobs named
     /// `stop` and `watch`, only start and end are reported, and the call by which a stop cancels.
@@ -75,6 +113,28 @@ impl Observes for () {
 }
 
 /// How many jobs a service has at hand, from their fork to their end, and how many it may have. Each holds a thread.
+///
+/// At most two jobs are at hand, and the counters are read behind the service:
+///
+/// ```rust
+/// fn hooked<R: CrewRuntime + SystemTime>(
+///     rt: &R,
+///     alloc: Global,
+/// ) -> Result<((u64, u64, u64, u64, u64), (u64, u64, u64), bool), Refusal> {
+///     let load = Arc::new(alloc, Load::at_most(2))?;
+///     let observer = Arc::new(alloc, Counts::new())?;
+///     let hooks = Hooks {
+///         stop: None,
+///         watch: None,
+///         load: Arc::try_clone(&load)?,
+///         observer: Arc::try_clone(&observer)?,
+///     };
+///     let served = serve_with::<Lasts, Counts, Three, R>(rt, alloc, 2, hooks, Three);
+///     let wanted = matches!(served, Ok((None, None, Some(Refusal::Memory))));
+///     let counted = (load.at_hand(), load.forked(), load.refused());
+///     Ok((observer.all(), counted, wanted))
+/// }
+/// ```
 #[derive(Drop)]
 pub struct Load {
     most: u64,
@@ -150,6 +210,20 @@ impl Drop for AtHand {
 }
 
 /// The hooks of a service. Who looks at the counters, or asks for the stop, has a share of its own.
+///
+/// A stop, a watch, no cap and no observer:
+///
+/// ```rust
+/// fn hooks_of(io: HostRuntime, stop: Arc<Stop, Global>) -> Result<Hooks<()>, Refusal> {
+///     let alloc = io.alloc();
+///     Ok(Hooks {
+///         stop: Some(stop),
+///         watch: Some(watch_of(io, "stopped-tree", 2, 60)?),
+///         load: Arc::new(alloc, Load::at_most(u64::MAX))?,
+///         observer: Arc::new(alloc, ())?,
+///     })
+/// }
+/// ```
 #[derive(Drop)]
 pub struct Hooks<O> {
     /// What stops it, if anything may.

@@ -8,6 +8,18 @@ use scope_rules::Refusal;
 use std::sync::{Mutex, Wait};
 
 /// So many permits, each held by one at a time (Trio, `CapacityLimiter`). Jobs share it in an `Arc`.
+///
+/// A wait for a permit, which a deadline ends:
+///
+/// ```rust
+/// fn waited_for<X: Acts<Shop>>(cx: &mut X, limiter: &Limiter) -> Result<bool, Refusal> {
+///     let options = cx.move_on_after(50);
+///     scope(cx, Joiner::AwaitAll, options, |cx, _scope| {
+///         let second = limited(cx, limiter, |_cx| Ok::<u32, Refusal>(1))?;
+///         Ok(second.is_none())
+///     })
+/// }
+/// ```
 #[derive(Drop)]
 pub struct Limiter {
     free: Mutex<u32>,

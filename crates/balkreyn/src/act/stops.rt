@@ -10,6 +10,18 @@ use std::alloc::Global;
 use std::sync::{Arc, Mutex, Wait};
 
 /// A stop of a service. Who may ask for it and `serve_until` share it in an `Arc`.
+///
+/// A service that asks for its own stop, and finishes behind a shield:
+///
+/// ```rust
+/// impl Serves<Work> for Stopping {
+///     fn serve<X: Acts<Work>>(self, cx: &mut X) -> Result<(), ServiceError> {
+///         self.0.ask(cx);
+///         let hung: Result<(), Refusal> = shielded(cx, |cx, _scope| hang(cx, 200));
+///         Ok(hung?)
+///     }
+/// }
+/// ```
 #[derive(Drop)]
 pub struct Stop {
     asked: Mutex<bool>,

@@ -24,6 +24,19 @@ use thread_crew::{CrewRuntime, OsThreads};
 
 /// What a thread runs that acts by one value (JEP 505 has callables in its place). A scope that it leaves open is
 /// closed after it, and its task then ends with the fault `left-open`.
+///
+/// A job that lasts a minute, unless a cancel ends it:
+///
+/// ```rust
+/// impl Task for Lasts {
+///     fn run<X: Acts<Lasts>>(self, cx: &mut X) -> End {
+///         match cx.sleep(60_000) {
+///             Ok(None) => Ok(Value::Num(1)),
+///             _ => Err(Fault(named(b"ended-early"))),
+///         }
+///     }
+/// }
+/// ```
 pub trait Task: Drop + Sized {
     ghost use Rattle.scope_rules.specs.Ends.{EndValue};
 
@@ -99,6 +112,16 @@ impl<K: Handle, N: RealmName, W: Task, O: Observes, S: Forks<AnyEnd, N, Timed<K,
 }
 
 /// A service that acts by one value, and forks jobs of type `W`.
+///
+/// A service that hangs for so many milliseconds:
+///
+/// ```rust
+/// impl Serves<Work> for Hanging {
+///     fn serve<X: Acts<Work>>(self, cx: &mut X) -> Result<(), ServiceError> {
+///         Ok(hang(cx, self.0)?)
+///     }
+/// }
+/// ```
 pub trait Serves<W>: Promises {
     /// Serves. What is left open is closed behind it.
     fn serve<X: Acts<W>>(self, cx: &mut X) -> Result<Self::Answer, Self::Error>

@@ -17,6 +17,20 @@ use join_rules::Joiner;
 use scope_rules::{End, Name, Options, Outcome, Refusal, ScopeId, TaskId, Value};
 
 /// A job that answers a value of a type of its own, and acts by one value (JEP 505 has a `Callable` of that type).
+///
+/// A job with a value and an error of its own:
+///
+/// ```rust
+/// impl TypedTask<Shop> for AskStock {
+///     fn run_typed<X: Acts<Shop>>(self, cx: &mut X, _name: Name) -> Result<Stock, NoStock> {
+///         match (cx.sleep(self.after)?, self.pieces) {
+///             (Some(_mark), _) => Err(NoStock::TooLate),
+///             (None, 0) => Err(NoStock::Empty),
+///             (None, pieces) => Ok(Stock { pieces }),
+///         }
+///     }
+/// }
+/// ```
 pub trait TypedTask<W>: Yields {
     /// Does the job, which was forked under the name.
     fn run_typed<X: Acts<W>>(self, cx: &mut X, name: Name) -> Result<Self::Value, Self::Error>

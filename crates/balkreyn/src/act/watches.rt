@@ -13,6 +13,27 @@ use std::rt::HostRuntime;
 /// two files if nothing has happened for too long, once each time, or if somebody asks. `serve_watched` runs one beside a
 /// service. By hand fork it in a scope around what it watches; the close of that scope ends it. A file that can't be
 /// written is passed over.
+///
+/// A service under a watch, which writes once nothing has happened for 60 milliseconds:
+///
+/// ```rust
+/// fn watched<R: CrewRuntime + SystemTime>(
+///     rt: &R,
+///     io: HostRuntime,
+///     service: Hanging,
+/// ) -> Result<(), ServiceError> {
+///     let alloc = io.alloc();
+///     let watch = Watch {
+///         io,
+///         tree: String::from_str(alloc, "tree")?,
+///         journal: String::from_str(alloc, "journal")?,
+///         ask: String::from_str(alloc, "ask")?,
+///         every: 2,
+///         late: 60,
+///     };
+///     serve_watched::<Work, Hanging, R>(rt, alloc, 2, watch, service)
+/// }
+/// ```
 #[derive(Drop)]
 pub struct Watch {
     /// By which it reaches its files.

@@ -2,7 +2,7 @@ ghost use Rattle.std.specs.Prelude.{◌≡◌, [], Some};
 ghost use Rattle.scope_script.specs.KeptLines.{grown_by, said, is_blank};
 
 use arrayvec::ArrayVec;
-use script_words::{LINE_LIMIT, Line, read_line};
+use script_words::{LINE_LIMIT, Line, read_line_into};
 use std::marker::Model;
 
 /// The line that is begun: its bytes, or nothing but that they are more than a line may have. It
@@ -53,32 +53,32 @@ impl BegunLine {
         }
     }
 
-    /// What the line says that ends with the bytes; the next begins. A line that comes whole is read
+    /// Writes what the line says that ends with the bytes; the next begins. A line that comes whole is read
     /// where it stands.
     #[tactic(auto, using(crate::proofs::Growing::said_whole))]
-    pub(crate) fn end_with(&mut self, bytes: &[u8]) -> Line
-        ensures said { result ≡ said (grown_by self.old bytes.now) }
+    pub(crate) fn end_with(&mut self, bytes: &[u8], line: &mut Line)
+        ensures said { line.new ≡ said (grown_by self.old bytes.now) }
         ensures next { self.new ≡ Some [] }
     {
         if self.is_empty() {
-            return read_line(bytes);
+            read_line_into(bytes, line);
+            return;
         }
         self.extend(bytes);
-        self.end()
+        self.end(line);
     }
 
-    /// What the line says, now that it is ended; the next begins.
-    fn end(&mut self) -> Line
-        ensures said { result ≡ said self.old }
+    /// Writes what the line says, now that it is ended; the next begins.
+    fn end(&mut self, line: &mut Line)
+        ensures said { line.new ≡ said self.old }
         ensures next { self.new ≡ Some [] }
     {
-        let line = if self.overlong {
-            Line::BadWord
+        if self.overlong {
+            *line = Line::BadWord;
         } else {
-            read_line(&self.bytes)
-        };
+            read_line_into(&self.bytes, line);
+        }
         self.bytes.clear();
         self.overlong = false;
-        line
     }
 }

@@ -51,9 +51,10 @@ impl Script {
         ensures err { OnErr result (AppendsPart (Some replies.old.items) (Some replies.new.items) (shown mode (bytes_reply (session_of self.old) bytes.now))) }
     {
         let mut rest = bytes;
+        let mut said = Line::Silent;
         while let Some((line, others)) = first_line(rest) {
-            let said = self.begun.end_with(line);
-            match self.answer(mode, said, replies) {
+            self.begun.end_with(line, &mut said);
+            match self.answer(mode, &said, replies) {
                 Ok(()) => rest = others,
                 Err(error) => return Err(error),
             }
@@ -64,11 +65,11 @@ impl Script {
 
     /// Answers a line. If memory is refused, `replies` stays as it is.
     #[tactic(auto, unfolding(crate::specs::Sessions::line_reply, crate::specs::Sessions::realm_after_line, crate::specs::Tallies::tally_after_line))]
-    fn answer(&mut self, mode: Mode, line: Line, replies: &mut Vec<u8>) -> Result<(), AllocError>
-        ensures realm { OnOk result (realm_of self.new.book ≡ realm_after_line (realm_of self.old.book) line) }
-        ensures tally { OnOk result (self.new.tally ≡ tally_after_line self.old.tally (realm_of self.old.book) line) }
+    fn answer(&mut self, mode: Mode, line: &Line, replies: &mut Vec<u8>) -> Result<(), AllocError>
+        ensures realm { OnOk result (realm_of self.new.book ≡ realm_after_line (realm_of self.old.book) line.now) }
+        ensures tally { OnOk result (self.new.tally ≡ tally_after_line self.old.tally (realm_of self.old.book) line.now) }
         ensures begun { self.new.begun ≡ self.old.begun }
-        ensures ok { OnOk result (replies.new.items ≡ replies.old.items ++ shown mode (line_reply (realm_of self.old.book) line)) }
+        ensures ok { OnOk result (replies.new.items ≡ replies.old.items ++ shown mode (line_reply (realm_of self.old.book) line.now)) }
         ensures err { OnErr result (replies.new.items ≡ replies.old.items) }
     {
         match line {
@@ -78,7 +79,7 @@ impl Script {
                 tell(mode, &Reply::Refused(Refusal::BadWord), replies)
             }
             Line::Command(command) => {
-                let reply = perform(&mut self.book, &command)?;
+                let reply = perform(&mut self.book, command)?;
                 self.tally = self.tally.with_reply(&reply);
                 tell(mode, &reply, replies)
             }

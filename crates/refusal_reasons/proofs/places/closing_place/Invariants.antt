@@ -1,8 +1,9 @@
--- No place so far began such a close.
-use Rattle.std.proofs.Common.{◌≡◌, None}
-use Rattle.scope_rules.specs.Scopes.{closing_at}
-use Rattle.refusal_reasons.specs.Places.{first_place}
+-- The scopes so far are seen.
+use Rattle.refusal_reasons.proofs.Closings.{Seen, numbers_left}
 use Rattle.refusal_reasons.proofs.places.closing_place.Given as goal
 
-abbrev pub invariant-loop-place : goal.invariant-loop-place
-invariant-loop-place g l = first_place (closing_at (g.R.Readings.history l.readings) l.scope) l.place ≡ None
+abbrev pub invariant-loop-next : goal.invariant-loop-next
+invariant-loop-next g l = Seen (g.R.Readings.history l.readings) l.scope l.opened l.next l.first
+
+abbrev pub decreases-loop-next : goal.decreases-loop-next
+decreases-loop-next g l = numbers_left l.scope l.next

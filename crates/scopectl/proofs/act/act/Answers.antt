@@ -110,7 +110,7 @@ returns-in-Ok-Generate-clause-fault g c = λ e. elim (c.generate.ensures.fault e
 ]
 
 pub returns-in-Ok-Generate-clause-named : goal.returns-in-Ok-Generate-clause-named
-returns-in-Ok-Generate-clause-named g c = λ e. inl (names_alone _ _ _ _ _ _ _ _ (λ sound. (c.requires.reader, sound)) (c.generate.ensures.named e))
+returns-in-Ok-Generate-clause-named g c = λ e. inl (names_alone _ _ _ _ _ _ _ _ (λ sound. (c.requires.sound.0, sound)) (c.generate.ensures.named e))
 
 pub returns-clause-named : goal.returns-clause-named
-returns-clause-named g c = λ e. inl (record { fault = Memory; came = (c.requires.reader, c.requires.writer); line = c.fail.ensures.named })
+returns-clause-named g c = λ e. inl (record { fault = Memory; came = c.requires.sound; line = c.fail.ensures.named })

@@ -5,10 +5,10 @@ use Rattle.scopectl.proofs.Jobs.{came_of, read_is_other, replay_whole, replayed_
 use Rattle.scopectl.proofs.act.replay_plainly.Goals as goal
 
 pub returns-in-Ok-clause-done : goal.returns-in-Ok-clause-done
-returns-in-Ok-clause-done g c = λ explain trace same e. replay_whole _ _ _ _ _ _ _ _ _ _ _ c.note.ensures.status explain trace same c.note.ensures.noted c.in-Ok.ensures.ok
+returns-in-Ok-clause-done g c = λ e. replay_whole _ _ _ _ c.note.ensures.status c.note.ensures.noted c.in-Ok.ensures.ok
 
 pub returns-clause-fault : goal.returns-clause-fault
-returns-clause-fault g c = λ explain trace e. replayed_part _ explain trace _ _ _ _ _ c.in-Err.ensures.fault
+returns-clause-fault g c = λ explain trace e. replayed_part _ explain trace _ c.in-Err.ensures.fault
 
 pub returns-clause-named : goal.returns-clause-named
 returns-clause-named g c = λ e. record {

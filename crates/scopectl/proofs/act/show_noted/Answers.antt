@@ -4,6 +4,7 @@ use Rattle.scopectl.specs.declared.fault.ProgramFault.{ProgramFault}
 use Rattle.scopectl.specs.declared.fault.ProgramFault.TheVariants.{Write}
 use Rattle.scope_rules.specs.declared.types.capacity.Limits.{Limits}
 use Rattle.script_jobs.specs.Jobs.{ShowedNoted}
+use Rattle.script_jobs.specs.Turns.{Turn}
 use Rattle.script_jobs.specs.declared.counting.Count.{Count}
 use Rattle.script_jobs.specs.declared.notes.Notes.TheVariants.{Refusals}
 use Rattle.script_jobs.specs.declared.showing.View.{View}
@@ -11,21 +12,21 @@ use Rattle.scopectl.proofs.Jobs.{came_of_noted, made, noted_kept, read_no_memory
 use Rattle.scopectl.proofs.act.show_noted.Goals as goal
 
 -- the view that was shown is the one that the words ask for
-shown_as : (a b : View) (unread unread_new said said_new : Option (List ℕ)) (limits : Limits) (text : List ℕ) (count : Count) → a ≡ b → ShowedNoted unread unread_new said said_new limits a Refusals text count → ShowedNoted unread unread_new said said_new limits b Refusals text count
-shown_as a b unread unread_new said said_new limits text count same it = subst (λ (v : View). ShowedNoted unread unread_new said said_new limits v Refusals text count) same it
+shown_as : (a b : View) (taken said : Turn) (limits : Limits) (text : List ℕ) (count : Count) → a ≡ b → ShowedNoted taken said limits a Refusals text count → ShowedNoted taken said limits b Refusals text count
+shown_as a b taken said limits text count same it = subst (λ (v : View). ShowedNoted taken said limits v Refusals text count) same it
 
 pub returns-in-Ok-clause-done : goal.returns-in-Ok-clause-done
 returns-in-Ok-clause-done g c =
-    λ e. view_noted _ _ _ _ _ _ _ _ _ _ _ c.args.view c.args.lenient (c.tell_shown.ensures.told e) (g.E.Write.contents c.shown_noted.new.errors.inner)
+    λ e. view_noted _ _ _ _ c.args.view c.args.lenient (c.tell_shown.ensures.told e) _ _ c.shown_noted.ensures.unwritten (c.tell_shown.ensures.done e) (g.E.Write.contents c.shown_noted.new.errors.inner)
     (noted_kept c.args.script.quiet c.in-Ok.shown.count (c.tell_shown.new.errors ≡ c.shown_noted.new.errors) (g.E.Write.contents c.tell_shown.new.errors.inner ≡ g.E.Write.contents c.shown_noted.new.errors.inner) (g.E.Write.contents c.shown_noted.new.errors.inner) (g.E.Write.contents c.tell_shown.new.errors.inner) c.tell_shown.new.errors.failed (λ kept. cc) (c.tell_shown.ensures.noted e))
-    _ _ (shown_as _ _ _ _ _ _ _ _ _ c.view_of.ensures c.in-Ok.ensures.ok) c.shown_noted.ensures.unwritten (c.tell_shown.ensures.done e)
+    (shown_as _ _ _ _ _ _ _ c.view_of.ensures c.in-Ok.ensures.ok)
 
 pub returns-in-Ok-clause-fault : goal.returns-in-Ok-clause-fault
 returns-in-Ok-clause-fault g c =
-    λ e. view_told_part c.args.view _ c.args.lenient true _ _ _ _ _ _ _ (made c.args.view c.args.script c.args.lenient true _ _ _ _ (shown_as _ _ _ _ _ _ _ _ _ c.view_of.ensures c.in-Ok.ensures.ok).shown) c.shown_noted.ensures.unwritten (c.tell_shown.ensures.fault e) (c.tell_shown.ensures.failed e)
+    λ e. view_told_part c.args.view _ c.args.lenient true _ _ _ (made c.args.view c.args.script c.args.lenient true _ _ _ _ (shown_as _ _ _ _ _ _ _ c.view_of.ensures c.in-Ok.ensures.ok).shown) c.shown_noted.ensures.unwritten (c.tell_shown.ensures.fault e) (c.tell_shown.ensures.failed e)
 
 pub returns-in-Err-clause-fault : goal.returns-in-Err-clause-fault
-returns-in-Err-clause-fault g c = λ e. view_stopped_noted c.args.view _ c.args.lenient _ _ _ _ _ _ _ c.in-Err.ensures.part c.shown_noted.ensures.unwritten
+returns-in-Err-clause-fault g c = λ e. view_stopped_noted c.args.view _ c.args.lenient true _ _ c.in-Err.ensures.part c.shown_noted.ensures.unwritten
 
 pub returns-in-Ok-clause-named : goal.returns-in-Ok-clause-named
 returns-in-Ok-clause-named g c = λ e. record {

@@ -15,14 +15,14 @@ shown_as a b unread unread_new limits text count same it = subst (λ (v : View).
 
 pub returns-in-Ok-clause-done : goal.returns-in-Ok-clause-done
 returns-in-Ok-clause-done g c =
-    λ e. view_whole _ _ _ _ _ _ _ _ _ _ _ c.args.view c.args.lenient (c.tell_shown.ensures.told e) (c.tell_shown.ensures.noted e) _ _ (shown_as _ _ _ _ _ _ _ c.view_of.ensures c.in-Ok.ensures.ok) c.shown.ensures.unwritten (c.tell_shown.ensures.done e)
+    λ e. view_whole _ _ _ _ c.args.view c.args.lenient (c.tell_shown.ensures.told e) _ _ c.shown.ensures.unwritten (c.tell_shown.ensures.done e) (c.tell_shown.ensures.noted e) (shown_as _ _ _ _ _ _ _ c.view_of.ensures c.in-Ok.ensures.ok)
 
 pub returns-in-Ok-clause-fault : goal.returns-in-Ok-clause-fault
 returns-in-Ok-clause-fault g c =
-    λ e. view_told_part c.args.view _ c.args.lenient false _ _ _ _ _ _ _ (made c.args.view c.args.script c.args.lenient false _ _ _ _ (shown_as _ _ _ _ _ _ _ c.view_of.ensures c.in-Ok.ensures.ok)) c.shown.ensures.unwritten (c.tell_shown.ensures.fault e) (c.tell_shown.ensures.failed e)
+    λ e. view_told_part c.args.view _ c.args.lenient false _ _ _ (made c.args.view c.args.script c.args.lenient false _ _ _ _ (shown_as _ _ _ _ _ _ _ c.view_of.ensures c.in-Ok.ensures.ok)) c.shown.ensures.unwritten (c.tell_shown.ensures.fault e) (c.tell_shown.ensures.failed e)
 
 pub returns-in-Err-clause-fault : goal.returns-in-Err-clause-fault
-returns-in-Err-clause-fault g c = λ e. view_stopped c.args.view _ c.args.lenient false _ _ _ _ _ c.in-Err.ensures.part c.shown.ensures.unwritten
+returns-in-Err-clause-fault g c = λ e. view_stopped c.args.view _ c.args.lenient false _ c.in-Err.ensures.part c.shown.ensures.unwritten
 
 pub returns-in-Ok-clause-named : goal.returns-in-Ok-clause-named
 returns-in-Ok-clause-named g c =

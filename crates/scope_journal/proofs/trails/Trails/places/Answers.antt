@@ -6,13 +6,13 @@ use Rattle.scope_journal.proofs.TrailWalks.{ahead, walked}
 use Rattle.scope_journal.proofs.trails.Trails.places.Goals as goal
 
 pub loop-next-init : goal.loop-next-init
-loop-next-init c = walk_begins _ c.args.self.now c.args.scope c.place.result c.index.result.now c.new-places.result.items c.self.view_is c.place.ensures.place c.place.ensures.within c.index.ensures c.new-places.ensures.items
+loop-next-init c = walk_begins c.args.self.now c.args.scope c.last.result c.new-places.result.items c.last.ensures.last c.new-places.ensures.items
 
 pub loop-next-preserved : goal.loop-next-preserved
 loop-next-preserved c =
     let links = c.args.self.now.links in
     let so_far = c.loop-next.places.items in
-    ap (λ o. ahead links o ++ reverse c.push.new.self.items) c.back-next.ensures
+    ap (λ o. ahead links o ++ reverse c.push.new.self.items) c.back-next.ensures.link
     ∙ (ap (λ ps. ahead links (back links c.in-Some.place) ++ reverse ps) (c.in_ok-push.ensures.items)
     ∙ (walked links so_far c.in-Some.place
     ∙ (ap (λ o. ahead links o ++ reverse so_far) (sym c.in-Some.is) ∙ c.loop-next.invariant)))

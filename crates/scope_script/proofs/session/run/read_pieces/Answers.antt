@@ -1,4 +1,4 @@
-use Rattle.std.proofs.Common.{rules, refl}
+use Rattle.std.proofs.Common.{rules}
 use Rattle.std.proofs.KnownBytes.{Keeps-refl}
 use Rattle.scope_script.specs.Books.{session_of}
 use Rattle.scope_script.proofs.Progress.{begins_run, goes_on, ends_tallied, stops_reading, stops_ending, stops_within, reads_none}

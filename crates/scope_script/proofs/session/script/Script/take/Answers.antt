@@ -8,8 +8,8 @@ loop-line-init g c = takes_none c.args.mode (session_of c.args.self.now) c.args.
 
 pub loop-line-preserved : goal.loop-line-preserved
 loop-line-preserved g c =
-    takes_line c.args.mode _ (session_of c.loop-line.self) (session_of c.answer.new.self) _ c.loop-line.rest.now c.in-Some.line.now c.in-Some.others.now _ c.loop-line.replies.items _ c.end_with-said.result
-    c.loop-line.invariant c.in-Some.ensures c.end_with-said.ensures.said c.in-Ok.ensures.realm c.in-Ok.ensures.tally (c.in-Ok.ensures.begun ∙ c.end_with-said.ensures.next) c.in-Ok.ensures.ok
+    takes_line c.args.mode _ (session_of c.loop-line.self) (session_of c.answer.new.self) _ c.loop-line.rest.now c.in-Some.line.now c.in-Some.others.now _ c.loop-line.replies.items _ c.end_with.new.line
+    c.loop-line.invariant c.in-Some.ensures c.end_with.ensures.said c.in-Ok.ensures.realm c.in-Ok.ensures.tally (c.in-Ok.ensures.begun ∙ c.end_with.ensures.next) c.in-Ok.ensures.ok
 
 pub returns-in-Err-clause-err : goal.returns-in-Err-clause-err
 returns-in-Err-clause-err g c =

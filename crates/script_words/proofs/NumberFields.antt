@@ -1,0 +1,57 @@
+-- A number that is read from a field as the field is walked.
+use Rattle.std.proofs.Common.{◌≡◌, ◌≢◌, ℕ, ◌<◌, ◌≤◌, Bool, true, false, List, [], ◌∷◌, length, get_or, drop, nat_le, Some, None, refl, sym, ◌∙◌, ap, arith}
+use Rattle.std.specs.List.{list_all, position_or_len}
+use Rattle.std.specs.Char.{is_ascii_digit}
+use Rattle.std.proofs.lemmas.Bool.Decides.{nat_tests}
+use Rattle.std.proofs.lemmas.List.{take_all}
+use Rattle.std.proofs.lemmas.List.Folds.{list_all_at}
+use Rattle.std.proofs.lemmas.List.Sums.{passes_at_first}
+use Rattle.script_words.specs.Fields.{is_space, fields, without_spaces}
+use Rattle.script_words.specs.Numbers.{is_numeral, number_said, number_first, word_ahead}
+use Rattle.script_words.proofs.FieldSteps.{next_none, next_some}
+
+-- no field, or a first one that is no number
+pub first_refused : (text rest : List ℕ) (limit : ℕ) → rest ≡ without_spaces text → None ≡ number_said limit (word_ahead rest) → None ≡ number_first limit (fields text)
+unfolding number_first
+first_refused text [] limit is none = rw (sym (next_none text [] is refl)) refl
+first_refused text (b ∷ bs) limit is none =
+    let found = next_some text (b ∷ bs) _ _ _ is (λ e. absurd (omega (arith, e))) refl refl refl in
+    rw (sym found) (rw (sym none) refl)
+
+-- a first field that is a number
+pub first_found : (text rest back : List ℕ) (limit n place : ℕ) → rest ≡ without_spaces text → Some n ≡ number_said limit (word_ahead rest) → place ≡ position_or_len is_space rest → back ≡ drop place rest → Some (n, fields back) ≡ number_first limit (fields text)
+unfolding number_first number_said is_numeral
+first_found text [] back limit n place is some here tail = absurd cc
+first_found text (b ∷ bs) back limit n place is some here tail =
+    let found = next_some text (b ∷ bs) _ back place is (λ e. absurd (omega (arith, e))) here refl tail in
+    rw (sym found) (rw (here, sym some) refl)
+
+-- a text without a space is its first word
+whole : (text : List ℕ) → length text ≡ position_or_len is_space text → word_ahead text ≡ text
+whole text all = take_all (position_or_len is_space text) text (omega (arith, all))
+
+pub said_whole : (text : List ℕ) (limit : ℕ) → length text ≡ position_or_len is_space text → number_said limit text ≡ number_said limit (word_ahead text)
+said_whole text limit all = ap (number_said limit) (sym (whole text all))
+
+-- one with a space is no number
+spaced : (text : List ℕ) (limit : ℕ) → position_or_len is_space text < length text → None ≡ number_said limit text
+unfolding number_said is_numeral
+spaced text limit some =
+    let first : is_space (get_or text (position_or_len is_space text) 0) ≡ true = passes_at_first is_space text 0 some in
+    let space : get_or text (position_or_len is_space text) 0 ≡ 32 = grind (arith, nat_tests) in
+    let other : is_ascii_digit (get_or text (position_or_len is_space text) 0) ≡ false = rw space refl in
+    let digits : list_all is_ascii_digit text ≡ false = list_all_at is_ascii_digit text (position_or_len is_space text) 0 some other in
+    grind (arith, digits)
+
+-- with a first word that says none, or with more words, a text says none
+not_said_at : (text : List ℕ) (limit : ℕ) (ends : Bool) → nat_le (length text) (position_or_len is_space text) ≡ ends → None ≡ number_said limit (word_ahead text) → None ≡ number_said limit text
+not_said_at text limit true is none =
+    let all : length text ≤ position_or_len is_space text = grind (arith, nat_tests) in
+    none ∙ ap (number_said limit) (take_all (position_or_len is_space text) text all)
+not_said_at text limit false is none = spaced text limit (grind (arith, nat_tests))
+
+pub not_said : (text : List ℕ) (limit : ℕ) → None ≡ number_said limit (word_ahead text) → None ≡ number_said limit text
+not_said text limit none = not_said_at text limit (nat_le (length text) (position_or_len is_space text)) refl none
+
+pub not_whole : (text : List ℕ) (limit place : ℕ) → place ≡ position_or_len is_space text → place ≤ length text → length text ≢ place → None ≡ number_said limit text
+not_whole text limit place here within other = spaced text limit (omega (arith, here, other, within))
