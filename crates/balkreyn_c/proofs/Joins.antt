@@ -9,7 +9,7 @@ use Rattle.scope_rules.specs.History.{History, followed}
 use Rattle.scope_rules.specs.Scopes.{joins, joined}
 use Rattle.scope_rules.specs.Outcomes.{outcome}
 use Rattle.scope_rules.specs.Checks.{Checked, checks, then_check}
-use Rattle.scope_rules.specs.Table.{check_of}
+use Rattle.scope_rules.specs.Table.{check_of, row_check}
 use Rattle.scope_rules.specs.Replies.{Realm, with_event, after, outcome_check}
 use Rattle.scope_rules.proofs.Accepted.{checks_at}
 use Rattle.scope_rules.proofs.Nesting.{IsOpened}
@@ -24,7 +24,7 @@ use Rattle.scope_kept.specs.Bare.{bare_of}
 use Rattle.balkreyn_c.specs.Joining.{AnswersBare}
 
 joins_opened : (L : Limits) (h : History) (a s : ℕ) → check_of L h (Join a s) ≡ Ok tt → IsOpened h s
-unfolding check_of
+unfolding row_check
 joins_opened L h a s passed = scope_passed h s (checks_at _ 1 _ passed refl)
 
 passes : (L : Limits) (h : History) (a s : ℕ) → check_of L h (Join a s) ≡ Ok tt → outcome_check (followed h (Join a s)) s ≡ Ok tt

@@ -13,7 +13,7 @@ use Rattle.scope_rules.specs.History.{History, before, opening}
 use Rattle.scope_rules.specs.Legal.{Accepts, Legal}
 use Rattle.scope_rules.specs.Owed.{begin_mark, marks}
 use Rattle.scope_rules.specs.Scopes.{joined, closed}
-use Rattle.scope_rules.specs.Table.{check_of}
+use Rattle.scope_rules.specs.Table.{row_check}
 use Rattle.scope_rules.proofs.Accepted.{checks_at, not_refused, lacks_begin}
 use Rattle.scope_rules.proofs.Earlier.{get_take, opening_since}
 use Rattle.scope_rules.proofs.Nesting.{IsOpened, opened_some}
@@ -54,7 +54,7 @@ owned : (h : History) (a s : ℕ) → IsOwner h a s → IsOpened h s
 owned h a s owner = record { opened = owner.opened; is = owner.is }
 
 join_finds : (L : Limits) (h : History) (a s : ℕ) → Accepts L h (Join a s) → FindsStep h s step.Join
-unfolding check_of joined
+unfolding row_check joined
 join_finds L h a s ok = record {
   untaken = not_refused _ _ (checks_at _ 4 _ ok.passed refl);
   opened = owned h a s (owner_passed h a s (checks_at _ 2 _ ok.passed refl));

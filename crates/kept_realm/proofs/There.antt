@@ -9,7 +9,7 @@ use Rattle.scope_rules.specs.declared.types.values.Label.{Label}
 use Rattle.scope_rules.specs.History.{History, opening, forking, forking_of}
 use Rattle.scope_rules.specs.Legal.{Legal}
 use Rattle.scope_rules.specs.Scopes.{joined, surrounding}
-use Rattle.scope_rules.specs.Checks.{actor_check, scope_check, task_check}
+use Rattle.scope_rules.specs.Checks.{actor_check, scope_check, task_check, known_task}
 use Rattle.scope_rules.specs.Replies.{outcome_check}
 use Rattle.scope_rules.proofs.Accepted.{checks_at, not_refused, not_not}
 use Rattle.scope_rules.proofs.Earlier.{forking_event, forking_within}
@@ -87,7 +87,7 @@ joined_forks h t s are passed = opened_has_forks h t s are (scope_passed h s (ch
 
 -- a task that passes was forked
 pub task_there : (h : History) (k : ℕ) → Passes (task_check h k) → forking h k ≡ None → ⊥
-unfolding task_check
+unfolding known_task
 task_there h k passed none =
     let some : is_some (forking h k) ≡ true = not_not _ (not_refused _ _ (if_refused _ _ _ passed)) in
     absurd (cc (some, ap is_some none))

@@ -39,7 +39,7 @@ impl KeptRealm {
         ensures { AnswersValue (check_of self.now.limits self.now.history (Event.Join actor scope)) (preview self.now.history actor scope) result }
     {
         let _legal = self.limits();
-        table::join_row(self, actor, scope)?;
+        table::join_row::<_, Refusal>(self, actor, scope)?;
         let log = self.log(scope)?;
         match log.into_preview(self.allocator(), actor) {
             Ok(preview) => Ok(preview),

@@ -6,7 +6,7 @@ use Rattle.scope_rules.specs.declared.types.capacity.Limits.{Limits}
 use Rattle.scope_rules.specs.declared.types.events.Event.{Event}
 use Rattle.scope_rules.specs.declared.types.events.Event.TheVariants.{Tick, EndClose}
 use Rattle.scope_rules.specs.History.{History, followed, moment}
-use Rattle.scope_rules.specs.Table.{check_of}
+use Rattle.scope_rules.specs.Table.{row_check}
 use Rattle.scope_rules.specs.Legal.{Accepts}
 use Rattle.scope_rules.proofs.Accepted.{checks_at, not_refused}
 use Rattle.scope_rules.proofs.Timed.{moment_grows}
@@ -25,7 +25,7 @@ use Rattle.quote_gateway.proofs.Going.{history_added, shapes_find, walked}
 
 -- a tick that is accepted is not back
 not_back : (L : Limits) (h : History) (now : ℕ) → Accepts L h (Tick now) → moment h ≤ now
-unfolding check_of
+unfolding row_check
 not_back L h now ok = ltb-false now (moment h) (not_refused _ _ (checks_at _ 0 _ ok.passed refl))
 
 -- so the moment never falls

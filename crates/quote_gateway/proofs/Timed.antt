@@ -11,7 +11,7 @@ use Rattle.scope_rules.specs.Checks.{checks, then_check}
 use Rattle.scope_rules.specs.Ends.{LabelValue}
 use Rattle.scope_rules.specs.History.{History, moment}
 use Rattle.scope_rules.specs.Load.{over_load}
-use Rattle.scope_rules.specs.Table.{check_of}
+use Rattle.scope_rules.specs.Table.{check_of, row_check}
 use Rattle.share_ledger.specs.declared.steps.Ask.TheVariants.{Tick}
 use Rattle.share_ledger.specs.declared.steps.RealmStep.TheVariants.{Asked}
 use Rattle.share_ledger.specs.Steps.{IsLegal, history_of}
@@ -145,7 +145,7 @@ turned_call Why fault.Strange it = it
 
 -- a tick is refused as back only if the moment has come further
 back : (L : Limits) (h : History) (now : ℕ) → check_of L h (event.Tick now) ≡ Err ClockBack → now ≤ moment h
-unfolding check_of checks then_check
+unfolding row_check checks then_check
 back L h now is = by (nat_lt now (moment h)) refl (over_load L h STEP_LOAD) refl
   where
     by : (b : Bool) → nat_lt now (moment h) ≡ b → (c : Bool) → over_load L h STEP_LOAD ≡ c → now ≤ moment h

@@ -8,7 +8,7 @@ use Rattle.scope_rules.specs.History.{History, followed}
 use Rattle.scope_rules.specs.Scopes.{joins, joined}
 use Rattle.scope_rules.specs.Outcomes.{outcome}
 use Rattle.scope_rules.specs.Checks.{checks, then_check}
-use Rattle.scope_rules.specs.Table.{check_of}
+use Rattle.scope_rules.specs.Table.{check_of, row_check}
 use Rattle.scope_rules.specs.Legal.{Accepts}
 use Rattle.scope_rules.specs.Replies.{Realm, Answers, outcome_check}
 use Rattle.scope_rules.proofs.Accepted.{checks_at}
@@ -35,7 +35,7 @@ join_accepted : (L : Limits) (h : History) (a s : ℕ) → Answers (check_of L h
 join_accepted L h a s said = record { passed = (answered _ (tt {0}) (tt {0}) (answers_so _ (tt {0}) (Ok tt) said)).0; recorded = refl }
 
 joins_opened : (L : Limits) (h : History) (a s : ℕ) → check_of L h (Join a s) ≡ Ok tt → IsOpened h s
-unfolding check_of
+unfolding row_check
 joins_opened L h a s passed = scope_passed h s (checks_at _ 1 _ passed refl)
 
 -- the scope can be asked for its outcome then

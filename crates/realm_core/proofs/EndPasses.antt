@@ -6,8 +6,8 @@ use Rattle.scope_rules.specs.declared.types.events.Event.TheVariants.{EndClose}
 use Rattle.scope_rules.specs.declared.types.refusals.Refusal.TheVariants.{WrongStage}
 use Rattle.scope_rules.specs.History.{History}
 use Rattle.scope_rules.specs.Tasks.{stage, is_running}
-use Rattle.scope_rules.specs.Checks.{Checked, checks, then_check, refuse_if, task_check, actor_check, owns, is_innermost}
-use Rattle.scope_rules.specs.Table.{check_of}
+use Rattle.scope_rules.specs.Checks.{Checked, checks, then_check, refuse_if, task_check, actor_check, owns, is_innermost, known_actor}
+use Rattle.scope_rules.specs.Table.{check_of, row_check}
 use Rattle.scope_rules.specs.Legal.{Legal}
 use Rattle.scope_rules.proofs.PassedRows.{IsActor}
 use Rattle.scope_rules.proofs.Stages.{running_forked}
@@ -26,7 +26,7 @@ either_way true c so = refl
 either_way false c so = so
 
 pub actor_passes : (h : History) (a : ℕ) → IsActor h a → actor_check h a ≡ Ok tt
-unfolding actor_check
+unfolding known_actor
 actor_passes h a acts =
     elim acts [
       | inl main ↦ rw main refl
@@ -34,7 +34,7 @@ actor_passes h a acts =
     ]
 
 pub end_passes : (L : Limits) (h : History) (a s : ℕ) → Legal L h → CanEnd h a s → check_of L h (EndClose a s) ≡ Ok tt
-unfolding check_of checks then_check owns is_innermost
+unfolding row_check checks then_check owns is_innermost
 end_passes L h a s legal can =
     let acts = subst (IsActor h) can.by (owners_act L h s can.opened legal can.is can.unclosed) in
     let owner : (can.opened.actor == a) ≡ true = eq-eqb can.opened.actor a can.by in

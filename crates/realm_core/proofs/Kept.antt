@@ -12,7 +12,7 @@ use Rattle.scope_rules.specs.declared.types.refusals.Refusal.{Refusal}
 use Rattle.scope_rules.specs.History.{History, followed}
 use Rattle.scope_rules.specs.Scopes.{closed, closing, covers, ends}
 use Rattle.scope_rules.specs.Checks.{checks, then_check, owns}
-use Rattle.scope_rules.specs.Table.{check_of}
+use Rattle.scope_rules.specs.Table.{check_of, row_check}
 use Rattle.scope_rules.specs.Legal.{Accepts, Legal}
 use Rattle.scope_rules.proofs.Accepted.{checks_at}
 use Rattle.scope_rules.proofs.ClosingOwners.{owners_act, live_is_unclosed}
@@ -90,7 +90,7 @@ begun_still L a s = still L a (λ h. IsBegun h a s) (λ h x. begun_step L h a s 
 
 -- an own scope that is not closed can be begun to be closed
 pub begin_passes : (L : Limits) (h : History) (a s : ℕ) → Legal L h → IsOpenOf h a s → check_of L h (BeginClose a s) ≡ Ok tt
-unfolding check_of checks then_check owns
+unfolding row_check checks then_check owns
 begin_passes L h a s legal it =
     let acts = subst (IsActor h) it.by (owners_act L h s it.opened legal it.is it.unclosed) in
     let owner : (it.opened.actor == a) ≡ true = eq-eqb it.opened.actor a it.by in
@@ -106,7 +106,7 @@ covers_itself h s = rw (eq-eqb s s refl) refl
 
 -- once it is recorded, the close has begun
 begun_by : (L : Limits) (h : History) (a s : ℕ) → Legal L h → Accepts L h (BeginClose a s) → IsBegun (followed h (BeginClose a s)) a s
-unfolding check_of
+unfolding row_check
 begun_by L h a s legal ok =
     let owner = owner_passed h a s (checks_at _ 2 _ ok.passed refl) in
     let e = BeginClose a s in
@@ -157,7 +157,7 @@ begun_asked old new s q it begun =
 
 -- if it was begun before, and isn't over, it is so too
 pub begun_already : (old new : OwnerValue) (s : ℕ) → FoundSo old new (BeginClose old.actor s) → closed (history_seen new) s ≡ false → IsBegun (history_seen new) old.actor s
-unfolding check_of
+unfolding row_check
 begun_already old new s it unclosed =
     let owner = owner_passed (history_seen new) old.actor s (checks_at _ 2 _ it.passed refl) in
     record { of = record { opened = owner.opened; is = owner.is; by = owner.by; unclosed = unclosed }; begun = it.already }

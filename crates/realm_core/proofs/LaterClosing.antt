@@ -11,7 +11,7 @@ use Rattle.scope_rules.specs.Search.{earliest}
 use Rattle.scope_rules.specs.History.{History, followed, opening, opening_of, is_open, scopes}
 use Rattle.scope_rules.specs.Scopes.{closed, closing, covers, begins_closing, have_one_opener, innermost}
 use Rattle.scope_rules.specs.Checks.{in_closing}
-use Rattle.scope_rules.specs.Table.{check_of}
+use Rattle.scope_rules.specs.Table.{row_check}
 use Rattle.scope_rules.proofs.Accepted.{checks_at, not_refused}
 use Rattle.scope_rules.proofs.Owing.{count_push}
 use Rattle.scope_rules.specs.Legal.{Accepts, Legal}
@@ -65,7 +65,7 @@ begins_more h _ s t o x is it same less still so = absurd cc
 
 -- an opener's innermost scope is not closing
 opens_live : (L : Limits) (h : History) (a s : ℕ) (policy options : _) → Accepts L h (Open a policy options) → innermost h a ≡ Some s → closing h s ≡ false
-unfolding check_of in_closing
+unfolding row_check in_closing
 opens_live L h a s policy options ok is = rw is at (not_refused _ _ (checks_at _ 1 _ ok.passed refl))
 
 opened_live : (L : Limits) (h : History) (i : ℕ) (e : Event) (x : Opening) (s : ℕ) → opening_of i e ≡ Some x → Accepts L h e → innermost h x.actor ≡ Some s → closing h s ≡ false

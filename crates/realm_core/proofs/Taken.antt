@@ -14,7 +14,7 @@ use Rattle.scope_rules.specs.Scopes.{innermost}
 use Rattle.scope_rules.specs.Cancels.{cancelled_before}
 use Rattle.scope_rules.specs.Tasks.{stage}
 use Rattle.scope_rules.specs.Checks.{checks, then_check, refuse_if}
-use Rattle.scope_rules.specs.Table.{check_of}
+use Rattle.scope_rules.specs.Table.{check_of, row_check}
 use Rattle.scope_rules.specs.Legal.{Accepts}
 use Rattle.scope_rules.specs.Replies.{Realm, Answers}
 use Rattle.scope_rules.proofs.Forkings.{forked_after}
@@ -38,13 +38,13 @@ use Rattle.realm_core.proofs.Steps.{stepped, tied_next, adds_now}
 
 -- a task that waits may be started, and rejected
 pub may_start : (L : Limits) (h : History) (k : ℕ) → stage h k ≡ Waiting → check_of L h (Start k) ≡ Ok tt
-unfolding check_of checks then_check
+unfolding row_check checks then_check
 may_start L h k waits =
     let it = waiting_forked h k (rw waits refl) in
     rw (task_passes h k it.forked it.is, waits) refl
 
 pub may_reject : (L : Limits) (h : History) (k : ℕ) → stage h k ≡ Waiting → check_of L h (Reject k) ≡ Ok tt
-unfolding check_of checks then_check
+unfolding row_check checks then_check
 may_reject L h k waits =
     let it = waiting_forked h k (rw waits refl) in
     rw (task_passes h k it.forked it.is, waits) refl
@@ -56,7 +56,7 @@ structure_alone false r is = absurd cc
 
 -- the end of a task that runs is refused for its scopes alone
 pub only_structure : (L : Limits) (h : History) (k : ℕ) (end : EndValue) (r : Refusal) → stage h k ≡ Running → check_of L h (Finish k end) ≡ Err r → r ≡ Structure
-unfolding check_of checks
+unfolding row_check checks
 only_structure L h k end r runs refusing =
     let it = running_forked h k (rw runs refl) in
     structure_alone (is_some (innermost h k)) r (rw (task_passes h k it.forked it.is, runs) at refusing)

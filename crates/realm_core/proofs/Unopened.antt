@@ -12,7 +12,7 @@ use Rattle.scope_rules.specs.History.{History, followed}
 use Rattle.scope_rules.specs.Scopes.{closed, innermost}
 use Rattle.scope_rules.specs.Tasks.{stage}
 use Rattle.scope_rules.specs.Checks.{checks, then_check}
-use Rattle.scope_rules.specs.Table.{check_of}
+use Rattle.scope_rules.specs.Table.{check_of, row_check}
 use Rattle.scope_rules.specs.Legal.{Accepts, Legal}
 use Rattle.scope_rules.proofs.ClosingScopes.{nothing_open}
 use Rattle.scope_rules.proofs.Innermosts.{opened_after, innermost_unclosed, innermost_is_none}
@@ -71,7 +71,7 @@ innermost_still L a old new agrees lawful =
 
 -- the end of a task that runs and has no open scope
 pub may_finish : (L : Limits) (h : History) (k : ℕ) (end : EndValue) → stage h k ≡ Running → innermost h k ≡ None → check_of L h (Finish k end) ≡ Ok tt
-unfolding check_of checks then_check
+unfolding row_check checks then_check
 may_finish L h k end runs none =
     let it = running_forked h k (rw runs refl) in
     rw (task_passes h k it.forked it.is, runs, none) refl

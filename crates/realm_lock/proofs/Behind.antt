@@ -11,7 +11,7 @@ use Rattle.scope_rules.specs.declared.types.records.Opening.{Opening}
 use Rattle.scope_rules.specs.declared.types.refusals.Refusal.{Refusal}
 use Rattle.scope_rules.specs.Origin.{Origin}
 use Rattle.scope_rules.specs.declared.types.refusals.Refusal.TheVariants.{NoScope, Retired}
-use Rattle.scope_rules.specs.Checks.{refuse_if, scope_check}
+use Rattle.scope_rules.specs.Checks.{refuse_if, scope_check, known_scope}
 use Rattle.scope_rules.specs.History.{History, followed, is_open, opening}
 use Rattle.scope_rules.proofs.Innermosts.{opened_after}
 use Rattle.scope_rules.specs.Replies.{next_scope}
@@ -189,7 +189,7 @@ marks_retired (Err refusal) core token marks ok same is none zeroed = absurd cc
 
 -- a scope that is there has the place of one of the setters
 pub scope_place : (h : History) (s : ℕ) (marks : MarksValue) → AreMarks h marks → scope_check h s ≡ Ok tt → (i : ℕ) × (i < length marks.setters) × (h.base.scopes + 1 + i ≡ s)
-unfolding scope_check
+unfolding known_scope
 scope_place h s marks are ok = by (opening h s) refl
   where
     found : (b : Bool) → cond b (Err Retired) (refuse_if true NoScope) ≡ Ok tt → ⊥

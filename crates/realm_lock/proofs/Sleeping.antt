@@ -9,8 +9,8 @@ use Rattle.scope_rules.specs.History.{History, moment, opening, forking}
 use Rattle.scope_rules.specs.Cancels.{is_cancelled}
 use Rattle.scope_rules.specs.Scopes.{closing, joined}
 use Rattle.scope_rules.specs.Tasks.{is_running, ready, settled, stage}
-use Rattle.scope_rules.specs.Checks.{Checked, actor_check, checks, owns, refuse_if, scope_check, task_check, then_check}
-use Rattle.scope_rules.specs.Table.{check_of}
+use Rattle.scope_rules.specs.Checks.{Checked, actor_check, checks, owns, refuse_if, scope_check, task_check, then_check, known_actor, known_scope, known_task}
+use Rattle.scope_rules.specs.Table.{check_of, row_check}
 use Rattle.scope_rules.proofs.Timed.{moment_grows}
 use Rattle.share_ledger.specs.declared.steps.Ask.TheVariants as ask
 use Rattle.share_ledger.specs.declared.steps.RealmStep.{RealmStep}
@@ -54,7 +54,7 @@ unfolding checks
 alone c apart it = let none : checks [] ≡ Err NotReady = behind_check c [] apart it in absurd cc
 
 task_passes : (h : History) (a : ℕ) → task_check h a ≡ Err NotReady → ⊥
-unfolding task_check
+unfolding known_task
 task_passes h a it = numbered (nat_lt 0 a && nat_le a h.base.tasks) (not (is_some (forking h a))) NoTask (λ same. absurd cc) it
 
 runs : (h : History) (a : ℕ) → checks (task_check h a ∷ refuse_if (not (is_running (stage h a))) WrongStage ∷ []) ≡ Err NotReady → ⊥
@@ -67,7 +67,7 @@ acts_by true c apart it = absurd cc
 acts_by false c apart it = apart it
 
 acts : (h : History) (a : ℕ) → actor_check h a ≡ Err NotReady → ⊥
-unfolding actor_check
+unfolding known_actor
 acts h a is = acts_by (a == 0) (checks (task_check h a ∷ refuse_if (not (is_running (stage h a))) WrongStage ∷ [])) (runs h a) is
 
 last_check : (b : Bool) → checks (refuse_if b NotReady ∷ []) ≡ Err NotReady → b ≡ true
@@ -77,7 +77,7 @@ last_check false is = absurd cc
 
 -- if a join is not ready, a task of the scope waits or runs
 pub unready : (L : Limits) (h : History) (a s : ℕ) → check_of L h (Join a s) ≡ Err NotReady → settled h s ≡ false
-unfolding check_of scope_check ready
+unfolding row_check known_scope ready
 unready L h a s is =
     let one = behind_check (actor_check h a) _ (acts h a) is in
     let two = behind_check (scope_check h s) _ (λ it. numbered (nat_lt 0 s && nat_le s h.base.scopes) (not (is_some (opening h s))) NoScope (λ same. absurd cc) it) one in

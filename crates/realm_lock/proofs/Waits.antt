@@ -12,7 +12,7 @@ use Rattle.scope_rules.specs.declared.types.refusals.Refusal.TheVariants.{Memory
 use Rattle.scope_rules.specs.History.{History, moment}
 use Rattle.scope_rules.specs.Load.{over_load}
 use Rattle.scope_rules.specs.Checks.{checks, then_check}
-use Rattle.scope_rules.specs.Table.{check_of}
+use Rattle.scope_rules.specs.Table.{check_of, row_check}
 use Rattle.share_ledger.specs.declared.steps.Ask.TheVariants as ask
 use Rattle.share_ledger.specs.declared.steps.RealmStep.{RealmStep}
 use Rattle.share_ledger.specs.declared.steps.RealmStep.TheVariants.{Asked}
@@ -33,7 +33,7 @@ use Rattle.realm_lock.specs.Waits.{HasCome, JoinsBy, Ticks, TickRefused, Waited,
 
 -- a tick that is due is refused by the rules for the load alone
 full : (L : Limits) (h : History) (now : ℕ) (r : Refusal) → HasCome h now → check_of L h (Tick now) ≡ Err r → r ≡ TooMany
-unfolding check_of checks then_check
+unfolding row_check checks then_check
 full L h now r due is = by (over_load L h STEP_LOAD) refl
   where
     forward : nat_lt now (moment h) ≡ false

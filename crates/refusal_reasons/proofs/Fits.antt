@@ -1,93 +1,125 @@
--- Each check is that of its twin: it refuses just if the twin has a reason, which is of that refusal.
-use Rattle.std.proofs.Common.{◌≡◌, ℕ, ◌+◌, ◌==◌, ◌&&◌, Bool, true, false, not, cond, is_some, nat_le, nat_lt, Option, Some, None, Ok, Err, List, [], ◌∷◌, refl, ap, sym, ◌∙◌}
+-- A command has a reason just if it is refused, and the reason is of that refusal.
+use Rattle.std.proofs.Common.{◌≡◌, ℕ, Bool, true, false, not, cond, is_some, nat_le, Option, Some, None, Ok, Err, ok_or, Result, refl, ap, sym, ◌∙◌}
 use Rattle.std.specs.Option.{option_map_or}
+use Rattle.scope_rules.specs.declared.types.answers.State.{State}
+use Rattle.scope_rules.specs.declared.types.answers.State.TheVariants as state_is
+use Rattle.scope_rules.specs.declared.types.capacity.Limits.{Limits}
+use Rattle.scope_rules.specs.declared.types.checks.Failed.{Failed}
+use Rattle.scope_rules.specs.declared.types.checks.Failed.TheVariants as failed
+use Rattle.scope_rules.specs.declared.types.names.Name.{Name}
 use Rattle.scope_rules.specs.declared.types.refusals.Refusal.{Refusal}
 use Rattle.scope_rules.specs.declared.types.refusals.Refusal.TheVariants as refusal
-use Rattle.scope_rules.specs.History.{History, opening, forking, scopes, tasks}
-use Rattle.scope_rules.specs.Tasks.{stage, is_running}
-use Rattle.scope_rules.specs.Checks.{Checked, refuse_if, then_check, checks, scope_check, task_check, actor_check, owns, owner_check, refuse_closing}
+use Rattle.scope_rules.specs.declared.types.values.Value.{Value}
+use Rattle.scope_rules.specs.Bindings.{bindings, bound_to}
+use Rattle.scope_rules.specs.Checks.{Tried, Checked, remade, refusal_of, refuse_if, checks, then_check}
+use Rattle.scope_rules.specs.History.{History, opened_count, forked_count}
+use Rattle.scope_rules.specs.Replies.{result_reply, fault_reply, binding_reply}
+use Rattle.scope_rules.specs.Scopes.{closed, innermost}
+use Rattle.scope_rules.specs.Table.{retire_check, reading_check, until_check, value_shown, fault_shown, checked_then}
+use Rattle.scope_rules.specs.Tasks.{state}
+use Rattle.scope_checks.proofs.Remade.{row_remade, retire_remade, reading_remade, until_remade, scope_remade, task_remade, actor_remade}
+use Rattle.script_words.specs.declared.commands.Question.{Question}
+use Rattle.script_words.specs.declared.commands.Question.TheVariants as question
 use Rattle.refusal_reasons.specs.declared.reasons.Reason.{Reason}
 use Rattle.refusal_reasons.specs.declared.reasons.Reason.TheVariants as reason
-use Rattle.refusal_reasons.specs.declared.reasons.ScopeObstacle.TheVariants as scope_is
-use Rattle.refusal_reasons.specs.declared.reasons.TaskObstacle.TheVariants as task_is
-use Rattle.refusal_reasons.specs.Places.{closing_place, closed_place}
-use Rattle.refusal_reasons.specs.Obstacles.{Explained, stopped_if, stopped_by, then_reason, first_reason, scope_known, task_known, runs, acts, owned, closing_reason, stands}
-use Rattle.refusal_reasons.specs.Fits.{refusal_of, refusing}
-use Rattle.refusal_reasons.proofs.Found.{closing_is}
+use Rattle.refusal_reasons.specs.declared.reasons.ActorObstacle.TheVariants as actor_is
+use Rattle.refusal_reasons.specs.declared.reasons.RoomObstacle.{RoomObstacle}
+use Rattle.refusal_reasons.specs.Places.{pending_task}
+use Rattle.refusal_reasons.specs.Reasons.{Explained, reason_of, explained, event_reason, retire_reason, reading_reason, question_reason, shows_value, shows_fault, sees}
+use Rattle.refusal_reasons.specs.Fits.{reason_refusal, room_refusal, refusing, refused_alone, question_check, EventsFit, RetirementsFit, QuestionsFit}
 
--- ---- the forms of checks
+either_fits : (b : Bool) (x y : Reason) (r : Refusal) → reason_refusal x ≡ r → reason_refusal y ≡ r → reason_refusal (cond b x y) ≡ r
+either_fits true x y r is also = is
+either_fits false x y r is also = also
 
-pub fits_if : (b : Bool) (x : Reason) (r : Refusal) → refusal_of x ≡ r → refuse_if b r ≡ refusing (stopped_if b x)
-fits_if true x r is = ap Err (sym is)
-fits_if false x r is = refl
+found_fits : (o : Option ℕ) (why : ℕ → Reason) (x : Reason) (r : Refusal) → ((n : ℕ) → reason_refusal (why n) ≡ r) → reason_refusal x ≡ r → reason_refusal (option_map_or why o x) ≡ r
+found_fits None why x r same also = also
+found_fits (Some n) why x r same also = same n
 
--- one of two, the first before the second
-pub fits_either : (b c : Bool) (x y : Reason) (r q : Refusal) → refusal_of x ≡ r → refusal_of y ≡ q → cond b (Err r) (refuse_if c q) ≡ refusing (cond b (Err x) (stopped_if c y))
-fits_either true c x y r q is also = ap Err (sym is)
-fits_either false c x y r q is also = fits_if c y q also
+room_fits : (b : Bool) (x y : RoomObstacle) → room_refusal x ≡ refusal.TooMany → room_refusal y ≡ refusal.TooMany → room_refusal (cond b x y) ≡ refusal.TooMany
+room_fits true x y is also = is
+room_fits false x y is also = also
 
-pub fits_by : (found : Option ℕ) (why : ℕ → Reason) (r : Refusal) → ((n : ℕ) → refusal_of (why n) ≡ r) → refuse_if (is_some found) r ≡ refusing (stopped_by found why)
-fits_by None why r same = refl
-fits_by (Some n) why r same = ap Err (sym (same n))
+-- what is said of a check that failed is of its refusal
+reason_fits : (L : Limits) (h : History) (f : Failed) → reason_refusal (reason_of L h f) ≡ refusal_of f
+reason_fits L h (failed.ScopeRetired scope) = refl
+reason_fits L h (failed.ScopeUnknown scope) = refl
+reason_fits L h (failed.TaskRetired task) = refl
+reason_fits L h (failed.TaskUnknown task) = refl
+reason_fits L h (failed.NotRunning task) = refl
+reason_fits L h (failed.NotWaiting task) = refl
+reason_fits L h (failed.NotOwner actor scope) = refl
+reason_fits L h (failed.NotTaskOwner actor task) = refl
+reason_fits L h (failed.NotMain actor) = refl
+reason_fits L h (failed.Closing scope) = either_fits (closed h scope) _ _ refusal.Closed refl refl
+reason_fits L h (failed.Closed scope) = refl
+reason_fits L h (failed.NotClosing scope) = refl
+reason_fits L h (failed.ClosingAround actor) = found_fits (innermost h actor) _ _ refusal.Closed (λ s. refl) refl
+reason_fits L h (failed.Joined scope) = refl
+reason_fits L h (failed.NotJoined task) = refl
+reason_fits L h (failed.Pending scope) = found_fits (pending_task h scope) _ _ refusal.NotReady (λ k. refl) refl
+reason_fits L h (failed.Unclosed actor) = found_fits (innermost h actor) _ _ refusal.Structure (λ s. refl) refl
+reason_fits L h (failed.NotInnermost actor scope) = refl
+reason_fits L h (failed.BoundOtherwise actor scope) = refl
+reason_fits L h (failed.NoBinding actor) = refl
+reason_fits L h (failed.HeldBinding actor) = refl
+reason_fits L h (failed.ClockBack now) = refl
+reason_fits L h (failed.TooDeep actor) = refl
+reason_fits L h failed.Scopes = room_fits (nat_le L.scopes (opened_count h)) _ _ refl refl
+reason_fits L h failed.Tasks = room_fits (nat_le L.tasks (forked_count h)) _ _ refl refl
+reason_fits L h (failed.Load units) = refl
 
-fits_then : (x y : Explained) → then_check (refusing x) (refusing y) ≡ refusing (then_reason x y)
-unfolding then_check then_reason
-fits_then (Ok done) y = refl
-fits_then (Err r) y = refl
+-- so is what explains a check
+explained_fits : (L : Limits) (h : History) (x : Tried Failed) → remade refusal_of x ≡ refusing (explained L h x)
+explained_fits L h (Ok done) = refl
+explained_fits L h (Err f) = ap Err (sym (reason_fits L h f))
 
-pub fits_end : checks [] ≡ refusing (first_reason [])
-unfolding checks first_reason
-fits_end = refl
+pub events_fit : EventsFit
+unfolding event_reason
+events_fit L h e = row_remade refusal_of L h e ∙ explained_fits L h _
 
-pub fits_more : (c : Checked) (x : Explained) (cs : List Checked) (xs : List Explained) → c ≡ refusing x → checks cs ≡ refusing (first_reason xs) → checks (c ∷ cs) ≡ refusing (first_reason (x ∷ xs))
-unfolding checks first_reason
-fits_more c x cs xs first rest = ap (λ d. then_check d (checks cs)) first ∙ (ap (then_check (refusing x)) rest ∙ fits_then x (first_reason xs))
+pub retirements_fit : RetirementsFit
+unfolding retire_check retire_reason
+retirements_fit L h a = retire_remade refusal_of h a ∙ explained_fits L h _
 
--- what passes by its twin passes
-passes_by : (c : Checked) (x : Explained) → c ≡ refusing x → x ≡ Ok tt → c ≡ Ok tt
-passes_by c x fits passes = fits ∙ ap refusing passes
+-- ---- of questions
 
--- ---- numbers, stages and owners
+-- the first that fails refuses
+then_fits : (c d : Checked) (x y : Explained) → c ≡ refusing x → d ≡ refusing y → then_check c d ≡ refusing (then_check x y)
+unfolding then_check
+then_fits c d (Ok done) y first next = rw first next
+then_fits c d (Err r) y first next = rw first refl
 
-pub scope_known_fits : (h : History) (s : ℕ) → scope_check h s ≡ refusing (scope_known h s)
-unfolding scope_check scope_known
-scope_known_fits h s = fits_either (nat_lt 0 s && nat_le s h.base.scopes) (not (is_some (opening h s))) (reason.Scope s (scope_is.LetGo h.base.scopes)) (reason.Scope s (scope_is.Unknown (scopes h))) refusal.Retired refusal.NoScope refl refl
+alone : {A : Type 0} (c : Checked) (answer : Result A Refusal) → refused_alone (checked_then c answer) ≡ then_check c (refused_alone answer)
+unfolding then_check
+alone (Ok done) answer = refl
+alone (Err r) answer = refl
 
-pub task_known_fits : (h : History) (k : ℕ) → task_check h k ≡ refusing (task_known h k)
-unfolding task_check task_known
-task_known_fits h k = fits_either (nat_lt 0 k && nat_le k h.base.tasks) (not (is_some (forking h k))) (reason.Task k (task_is.LetGo h.base.tasks)) (reason.Task k (task_is.Unknown (tasks h))) refusal.Retired refusal.NoTask refl refl
+value_fits : (h : History) (k : ℕ) (x : State) → refused_alone (value_shown x) ≡ refusing (shows_value h k x)
+value_fits h k state_is.Unavailable = refl
+value_fits h k (state_is.Success value) = refl
+value_fits h k (state_is.Failed fault) = refl
 
-pub acts_fits : (h : History) (a : ℕ) → actor_check h a ≡ refusing (acts h a)
-unfolding actor_check acts
-acts_fits h a = by (a == 0)
-  where
-    row : checks (task_check h a ∷ refuse_if (not (is_running (stage h a))) refusal.WrongStage ∷ []) ≡ refusing (first_reason (task_known h a ∷ runs h a ∷ []))
-    row = fits_more _ _ _ _ (task_known_fits h a) (fits_more _ _ _ _ (fits_if _ _ _ refl) fits_end)
+fault_fits : (h : History) (k : ℕ) (x : State) → refused_alone (fault_shown x) ≡ refusing (shows_fault h k x)
+fault_fits h k state_is.Unavailable = refl
+fault_fits h k (state_is.Success value) = refl
+fault_fits h k (state_is.Failed fault) = refl
 
-    by : (b : Bool) → cond b (Ok tt) (checks (task_check h a ∷ refuse_if (not (is_running (stage h a))) refusal.WrongStage ∷ [])) ≡ refusing (cond b (Ok tt) (first_reason (task_known h a ∷ runs h a ∷ [])))
-    by true = refl
-    by false = row
+reading_fits : (L : Limits) (h : History) (a k : ℕ) → reading_check h a k ≡ refusing (reading_reason L h a k)
+unfolding reading_check
+reading_fits L h a k = reading_remade refusal_of h a k ∙ explained_fits L h _
 
-pub acts_passes : (h : History) (a : ℕ) → acts h a ≡ Ok tt → actor_check h a ≡ Ok tt
-acts_passes h a passes = passes_by (actor_check h a) (acts h a) (acts_fits h a) passes
+sees_fits : (h : History) (a : ℕ) (key : Name) (o : Option Value) → refused_alone (ok_or o refusal.NotBound) ≡ refusing (refuse_if (not (is_some o)) (reason.Actor a (actor_is.Unbound key)))
+sees_fits h a key None = refl
+sees_fits h a key (Some value) = refl
 
-pub owned_fits : (h : History) (a s : ℕ) → owner_check h a s ≡ refusing (owned h a s)
-owned_fits h a s = fits_if (not (owns h a s)) _ refusal.NotOwner refl
-
-pub owned_passes : (h : History) (a s : ℕ) → owned h a s ≡ Ok tt → owner_check h a s ≡ Ok tt
-owned_passes h a s passes = passes_by (owner_check h a s) (owned h a s) (owned_fits h a s) passes
-
--- ---- joins and closes
-
-pub stands_fits : (h : History) (s : ℕ) → refuse_closing h s ≡ refusing (stands h s)
-stands_fits h s = ap (λ b. refuse_if b refusal.Closed) (closing_is h s) ∙ fits_by (closing_place h s) (closing_reason h s) refusal.Closed why
-  where
-    by : (n : ℕ) (o : Option ℕ) → refusal_of (option_map_or (λ at. reason.Scope s (scope_is.Closed (at + 1))) o (reason.Scope s (scope_is.Closing (n + 1)))) ≡ refusal.Closed
-    by n None = refl
-    by n (Some at) = refl
-
-    why : (n : ℕ) → refusal_of (closing_reason h s n) ≡ refusal.Closed
-    why n = by n (closed_place h.events s)
-
-pub stands_passes : (h : History) (s : ℕ) → stands h s ≡ Ok tt → refuse_closing h s ≡ Ok tt
-stands_passes h s passes = passes_by (refuse_closing h s) (stands h s) (stands_fits h s) passes
+pub questions_fit : QuestionsFit
+unfolding question_check question_reason result_reply fault_reply binding_reply until_check
+questions_fit L h (question.State task) = task_remade refusal_of h task ∙ explained_fits L h _
+questions_fit L h (question.Stage task) = task_remade refusal_of h task ∙ explained_fits L h _
+questions_fit L h (question.Result actor task) = alone _ _ ∙ then_fits _ _ _ _ (reading_fits L h actor task) (value_fits h task (state h task))
+questions_fit L h (question.Fault actor task) = alone _ _ ∙ then_fits _ _ _ _ (reading_fits L h actor task) (fault_fits h task (state h task))
+questions_fit L h (question.Cause scope) = scope_remade refusal_of h scope ∙ explained_fits L h _
+questions_fit L h (question.Until scope) = until_remade refusal_of h scope ∙ explained_fits L h _
+questions_fit L h (question.Counts scope) = scope_remade refusal_of h scope ∙ explained_fits L h _
+questions_fit L h (question.Get actor key) = alone _ _ ∙ then_fits _ _ _ _ (actor_remade refusal_of h actor ∙ explained_fits L h _) (sees_fits h actor key (bound_to key (bindings h actor)))

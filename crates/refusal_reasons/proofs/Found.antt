@@ -11,10 +11,6 @@ use Rattle.scope_rules.specs.Nests.{tasks_of}
 use Rattle.scope_rules.specs.Scopes.{joins, ends, joined, closed, closing, closing_at, innermost}
 use Rattle.scope_rules.specs.Tasks.{settled}
 use Rattle.scope_rules.proofs.Innermosts.{innermost_unclosed}
-use Rattle.refusal_reasons.specs.declared.reasons.Reason.{Reason}
-use Rattle.refusal_reasons.specs.declared.reasons.Reason.TheVariants as reason
-use Rattle.refusal_reasons.specs.declared.reasons.ScopeObstacle.TheVariants as scope_is
-use Rattle.refusal_reasons.specs.Obstacles.{stopped_by, stands, not_closed}
 use Rattle.refusal_reasons.specs.Places.{place_if, first_place, closing_place, closed_place, joined_place, is_pending, pending_task}
 
 moved : (m n : ℕ) → nat_lt m n ≡ nat_lt (1 + m) (suc n)
@@ -70,44 +66,6 @@ any_is_in_filter p q (x ∷ xs) = by (p x) (q x) refl (any_is_in_filter p q xs)
 pub settled_is : (h : History) (s : ℕ) → settled h s ≡ not (is_some (pending_task h s))
 unfolding settled pending_task tasks_of
 settled_is h s = ap not (any_is_in_filter (is_task_of h s) (is_pending h) (task_numbers h))
-
--- ---- so nothing is found if the test fails
-
-none_if : (o : Option ℕ) → is_some o ≡ false → o ≡ None
-none_if None none = refl
-none_if (Some x) none = absurd cc
-
-pub no_closing : (h : History) (s : ℕ) → closing h s ≡ false → closing_place h s ≡ None
-no_closing h s fails = none_if (closing_place h s) (sym (closing_is h s) ∙ fails)
-
-pub no_closed : (h : History) (s : ℕ) → closed h s ≡ false → closed_place h.events s ≡ None
-no_closed h s fails = none_if (closed_place h.events s) (sym (closed_is h s) ∙ fails)
-
-pub no_joined : (h : History) (s : ℕ) → joined h s ≡ false → joined_place h.events s ≡ None
-no_joined h s fails = none_if (joined_place h.events s) (sym (joined_is h s) ∙ fails)
-
-pub no_pending_task : (h : History) (s : ℕ) → settled h s ≡ true → pending_task h s ≡ None
-no_pending_task h s holds = none_if (pending_task h s) (by (is_some (pending_task h s)) (sym (settled_is h s) ∙ holds))
-  where
-    by : (b : Bool) → not b ≡ true → b ≡ false
-    by true so = absurd cc
-    by false so = refl
-
--- ---- what is found of a scope that is closing
-
-pub found_closed : (h : History) (s : ℕ) → closed_place h.events s ≡ None → closed h s ≡ false
-found_closed h s none = closed_is h s ∙ ap is_some none
-
-pub stands_closed : (h : History) (s : ℕ) (r : Reason) → closing h s ≡ true → not_closed h s ≡ Err r → stands h s ≡ Err r
-stands_closed h s r so is = by (closing_place h s) (closed_place h.events s) (sym (closing_is h s) ∙ so) is
-  where
-    by : (o c : Option ℕ) → is_some o ≡ true → stopped_by c (λ at. reason.Scope s (scope_is.Closed (at + 1))) ≡ Err r → stopped_by o (λ place. option_map_or (λ at. reason.Scope s (scope_is.Closed (at + 1))) c (reason.Scope s (scope_is.Closing (place + 1)))) ≡ Err r
-    by None c none is = absurd cc
-    by (Some place) None some is = absurd cc
-    by (Some place) (Some at) some is = is
-
-pub stands_closing : (h : History) (s place : ℕ) → closed h s ≡ false → closing_place h s ≡ Some place → stands h s ≡ Err (reason.Scope s (scope_is.Closing (place + 1)))
-stands_closing h s place unclosed is = rw is (ap (λ (c : Option ℕ). Err (option_map_or (λ at. reason.Scope s (scope_is.Closed (at + 1))) c (reason.Scope s (scope_is.Closing (place + 1))))) (no_closed h s unclosed))
 
 -- an actor's innermost scope is not closed
 pub innermost_live : (h : History) (a s : ℕ) → innermost h a ≡ Some s → closed h s ≡ false

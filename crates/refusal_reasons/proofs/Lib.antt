@@ -2,9 +2,8 @@ mod Searched
 mod Found
 mod Closings
 mod Fits
-mod RowsFit
 mod Truth
-mod RowsTrue
+mod Explained
 mod Ascii
 mod Options
 mod FaultsFit

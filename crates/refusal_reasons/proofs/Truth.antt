@@ -1,5 +1,5 @@
--- Each twin of a check says what is so of the history.
-use Rattle.std.proofs.Common.{◌≡◌, ℕ, zero, suc, ◌+◌, ◌==◌, ◌<◌, ◌&&◌, Bool, true, false, not, cond, is_some, nat_le, nat_lt, Option, Some, None, Ok, Err, List, [], ◌∷◌, length, slice_get, IfSome, inl, inr, refl, ap, sym, ◌∙◌, subst, arith}
+-- What is said of a check that fails is so of the history, check by check and row by row.
+use Rattle.std.proofs.Common.{◌≡◌, ℕ, zero, suc, ◌+◌, ◌==◌, ◌<◌, ◌&&◌, ◌||◌, Bool, true, false, not, cond, is_some, nat_le, nat_lt, Option, Some, None, Ok, Err, List, [], ◌∷◌, length, slice_get, IfSome, inl, inr, refl, ap, sym, ◌∙◌, subst, arith}
 use Rattle.std.proofs.lemmas.Bool.{not-true}
 use Rattle.std.proofs.lemmas.Bool.Decides.{nat_tests}
 use Rattle.std.proofs.lemmas.List.Quantifiers.{position-Some}
@@ -8,84 +8,80 @@ use Rattle.std.specs.List.{find, position}
 use Rattle.std.specs.Option.{option_map_or}
 use Rattle.scope_rules.specs.declared.types.answers.Stage.{Stage}
 use Rattle.scope_rules.specs.declared.types.answers.Stage.TheVariants as stage_is
-use Rattle.scope_rules.specs.declared.types.answers.State.{State}
-use Rattle.scope_rules.specs.declared.types.answers.State.TheVariants as state_is
 use Rattle.scope_rules.specs.declared.types.capacity.Limits.{Limits}
-use Rattle.scope_rules.specs.declared.types.capacity.TheConstants.{LEVEL_LIMIT, GREATEST_NUMBER}
+use Rattle.scope_rules.specs.declared.types.capacity.TheConstants.{LEVEL_LIMIT, GREATEST_NUMBER, OPEN_LOAD, FORK_LOAD, STEP_LOAD}
 use Rattle.scope_rules.specs.declared.types.events.Event.{Event}
-use Rattle.scope_rules.specs.declared.types.events.Event.TheVariants.{Tick}
-use Rattle.scope_rules.specs.declared.types.names.Name.{Name}
+use Rattle.scope_rules.specs.declared.types.events.Event.TheVariants.{Open, Fork, Reject, Start, Finish, Cancel, Move, Tick, Bind, Unbind, Join, BeginClose, EndClose}
 use Rattle.scope_rules.specs.declared.types.records.Opening.{Opening}
 use Rattle.scope_rules.specs.declared.types.records.Forking.{Forking}
 use Rattle.scope_rules.proofs.Earlier.{earliest_first}
-use Rattle.scope_rules.specs.Bindings.{stack, bindings, bound_to, bound_as_opened, holds_last}
+use Rattle.scope_checks.proofs.Remade.{scope_passes, actor_passes}
+use Rattle.scope_rules.specs.Bindings.{stack, bound_as_opened, holds_last}
 use Rattle.scope_rules.specs.Cancels.{is_cancelled}
-use Rattle.scope_rules.specs.Checks.{owns, is_innermost}
+use Rattle.scope_rules.specs.declared.types.checks.Failed.{Failed}
+use Rattle.scope_rules.specs.declared.types.checks.Failed.TheVariants as failed
+use Rattle.scope_rules.specs.Checks.{Tried, refuse_if, checks, then_check, known_scope, known_task, known_actor, owns, owned, not_closing, not_joined, load_fits, in_closing, is_innermost}
 use Rattle.scope_rules.specs.History.{History, before, opening, forking, moment, scopes, tasks, opened_count, forked_count}
-use Rattle.scope_rules.specs.Load.{load, over_load}
+use Rattle.scope_rules.specs.Load.{load, weight, over_scopes, over_tasks}
 use Rattle.scope_rules.specs.Nests.{tasks_of}
 use Rattle.scope_rules.specs.Scopes.{joins, joined, ends, closed, closing, begins_closing, closing_at, innermost, next_level}
-use Rattle.scope_rules.specs.Table.{owns_task, task_joined}
-use Rattle.scope_rules.specs.Tasks.{stage, state, is_waiting, is_running}
-use Rattle.refusal_reasons.specs.declared.reasons.Reason.{Reason}
+use Rattle.scope_rules.specs.Table.{row_check, retire_row, reading_row, until_row, owns_task, task_joined}
+use Rattle.scope_rules.specs.Tasks.{stage, is_waiting, is_running, settled, ready}
 use Rattle.refusal_reasons.specs.declared.reasons.Reason.TheVariants as reason
 use Rattle.refusal_reasons.specs.declared.reasons.ScopeObstacle.TheVariants as scope_is
-use Rattle.refusal_reasons.specs.declared.reasons.TaskObstacle.TheVariants as task_is
-use Rattle.refusal_reasons.specs.declared.reasons.ActorObstacle.TheVariants as actor_is
 use Rattle.refusal_reasons.specs.declared.reasons.RoomObstacle.TheVariants as room_is
-use Rattle.refusal_reasons.specs.Obstacles.{Explained, stopped_if, stopped_by, then_reason, first_reason, scope_known, task_known, waits, runs, acts, owned, owner_of, scope_of, task_owned, is_main, closing_reason, stands, not_closed, is_closing, not_joined, scope_joined, no_pending, may_join, stands_around, innermost_stands, all_closed, innermost_is, has_level, bound_alike, has_pair, frees_pair, sees, load_fits, scope_fits, task_fits, is_later, shows_value, shows_fault}
+use Rattle.refusal_reasons.specs.Reasons.{Presupposed, owner_of, scope_of, event_at, closed_reason, reason_of}
 use Rattle.refusal_reasons.specs.Places.{place_if, first_place, closing_place, closed_place, joined_place, is_pending, pending_task}
-use Rattle.refusal_reasons.specs.Truth.{IsEvent, BeginsClose, IsFirstPending, IsForkedIn, IsSo}
-use Rattle.refusal_reasons.proofs.Found.{closed_is}
+use Rattle.refusal_reasons.specs.Truth.{IsEvent, BeginsClose, IsFirstPending, IsForkedIn, IsSo, asker}
+use Rattle.refusal_reasons.proofs.Found.{joined_is, closed_is, closing_is, settled_is}
 
--- ---- the forms of explanations
+-- whatever check fails has P
+pub record Says (P : Failed → Type 0) (x : Tried Failed) : Type 0 where
+  pub of : (f : Failed) → x ≡ Err f → P f
 
--- whatever reason is given has P
-abbrev pub Says : (Reason → Type 0) → Explained → Type 0
-Says P x = (r : Reason) → x ≡ Err r → P r
+module _ (P : Failed → Type 0) where
+  says_ok : Says P (Ok tt)
+  says_ok = record { of = λ f e. absurd cc }
 
-pub says_ok : (P : Reason → Type 0) → Says P (Ok tt)
-says_ok P r e = absurd cc
+  says_err : (f : Failed) → P f → Says P (Err f)
+  says_err f is = record { of = λ g e. let same : f ≡ g = cc in subst P same is }
 
-says_err : (P : Reason → Type 0) (x : Reason) → P x → Says P (Err x)
-says_err P x is r e = let same : x ≡ r = cc in subst P same is
+  says_if : (b : Bool) (f : Failed) → (b ≡ true → P f) → Says P (refuse_if b f)
+  says_if true f is = says_err f (is refl)
+  says_if false f is = says_ok
 
-says_if : (P : Reason → Type 0) (b : Bool) (x : Reason) → (b ≡ true → P x) → Says P (stopped_if b x)
-says_if P true x is = says_err P x (is refl)
-says_if P false x is = says_ok P
+  -- one of two, the first before the second
+  says_either : (b c : Bool) (f g : Failed) → (b ≡ true → P f) → (c ≡ true → P g) → Says P (cond b (Err f) (refuse_if c g))
+  says_either true c f g is also = says_err f (is refl)
+  says_either false c f g is also = says_if c g also
 
-says_by : (P : Reason → Type 0) (found : Option ℕ) (why : ℕ → Reason) → ((n : ℕ) → found ≡ Some n → P (why n)) → Says P (stopped_by found why)
-says_by P None why is = says_ok P
-says_by P (Some n) why is = says_err P (why n) (is n refl)
+  says_unless : (b : Bool) (x : Tried Failed) → Says P x → Says P (cond b (Ok tt) x)
+  says_unless true x says = says_ok
+  says_unless false x says = says
 
--- one of two, the first before the second
-says_either : (P : Reason → Type 0) (b c : Bool) (x y : Reason) → (b ≡ true → P x) → (c ≡ true → P y) → Says P (cond b (Err x) (stopped_if c y))
-says_either P true c x y is also = says_err P x (is refl)
-says_either P false c x y is also = says_if P c y also
+  says_end : Says P (checks [])
+  unfolding checks
+  says_end = says_ok
 
-pub says_end : (P : Reason → Type 0) → Says P (first_reason [])
-unfolding first_reason
-says_end P = says_ok P
+  -- the first says so, and if it passes the others do
+  says_more : (x : Tried Failed) (xs : List (Tried Failed)) → Says P x → (x ≡ Ok tt → Says P (checks xs)) → Says P (checks (x ∷ xs))
+  unfolding checks then_check
+  says_more (Ok tt) xs first others = others refl
+  says_more (Err f) xs first others = first
 
--- the first says so, and where it passes the others do
-pub says_more : (P : Reason → Type 0) (x : Explained) (xs : List Explained) → Says P x → (x ≡ Ok tt → Says P (first_reason xs)) → Says P (first_reason (x ∷ xs))
-unfolding first_reason then_reason
-says_more P (Ok tt) xs first others = others refl
-says_more P (Err y) xs first others = first
-
-pub first_passes : (x : Explained) (xs : List Explained) → first_reason (x ∷ xs) ≡ Ok tt → x ≡ Ok tt
-unfolding first_reason then_reason
+pub first_passes : (x : Tried Failed) (xs : List (Tried Failed)) → checks (x ∷ xs) ≡ Ok tt → x ≡ Ok tt
+unfolding checks then_check
 first_passes (Ok tt) xs passes = refl
-first_passes (Err r) xs passes = absurd cc
+first_passes (Err f) xs passes = absurd cc
 
-pub rest_passes : (x : Explained) (xs : List Explained) → first_reason (x ∷ xs) ≡ Ok tt → first_reason xs ≡ Ok tt
-unfolding first_reason then_reason
+pub rest_passes : (x : Tried Failed) (xs : List (Tried Failed)) → checks (x ∷ xs) ≡ Ok tt → checks xs ≡ Ok tt
+unfolding checks then_check
 rest_passes (Ok tt) xs passes = passes
-rest_passes (Err r) xs passes = absurd cc
+rest_passes (Err f) xs passes = absurd cc
 
 -- ---- what is found
 
-none_of : {A : Type 0} (o : Option A) → not (is_some o) ≡ true → o ≡ None
+pub none_of : {A : Type 0} (o : Option A) → not (is_some o) ≡ true → o ≡ None
 none_of None e = refl
 none_of (Some x) e = absurd cc
 
@@ -143,35 +139,42 @@ first_pending h s k at = found_first (is_pending h) (tasks_of h s) k at
 pub forked_in : (h : History) (k : ℕ) (f : Forking) → forking h k ≡ Some f → IsForkedIn h k (scope_of h k)
 forked_in h k f at = (f, at, sym (ap (λ o. option_map_or (λ g. g.scope) o 0) at))
 
+event_of : (h : History) (p : Event → Bool) (o : Option ℕ) → position p h.events ≡ o → is_some o ≡ true → IsEvent h (λ _. p) (event_at o)
+event_of h p None at e = absurd cc
+event_of h p (Some i) at e = event_found h p i at
+
+closed_at : (h : History) (s : ℕ) → closed h s ≡ true → IsEvent h (λ _. ends s) (event_at (closed_place h.events s))
+closed_at h s e = event_of h (ends s) (closed_place h.events s) refl (sym (closed_is h s) ∙ e)
+
+joined_at : (h : History) (s : ℕ) → joined h s ≡ true → IsEvent h (λ _. joins s) (event_at (joined_place h.events s))
+joined_at h s e = event_of h (joins s) (joined_place h.events s) refl (sym (joined_is h s) ∙ e)
+
+begun_at : (h : History) (s : ℕ) → closing h s ≡ true → BeginsClose h s (event_at (closing_place h s))
+begun_at h s e = by (closing_place h s) refl (sym (closing_is h s) ∙ e)
+  where
+    by : (o : Option ℕ) → closing_place h s ≡ o → is_some o ≡ true → BeginsClose h s (event_at o)
+    by None at e = absurd cc
+    by (Some i) at e = begins_close h s i at
+
 -- ---- numbers and stages
 
 both : (b c : Bool) → (b && c) ≡ true → (b ≡ true) × (c ≡ true)
 both true c e = (refl, e)
 both false c e = absurd cc
 
-pub scope_known_says : (L : Limits) (h : History) (a cost s : ℕ) → Says (IsSo L h a cost) (scope_known h s)
-unfolding scope_known
-scope_known_says L h a cost s = says_either (IsSo L h a cost) (nat_lt 0 s && nat_le s h.base.scopes) (not (is_some (opening h s))) (reason.Scope s (scope_is.LetGo h.base.scopes)) (reason.Scope s (scope_is.Unknown (scopes h)))
-    (λ e. let bs = both (nat_lt 0 s) (nat_le s h.base.scopes) e in (grind (arith, nat_tests, bs.0), grind (arith, nat_tests, bs.1), refl)) (λ e. (none_of (opening h s) e, refl))
-
-pub task_known_says : (L : Limits) (h : History) (a cost k : ℕ) → Says (IsSo L h a cost) (task_known h k)
-unfolding task_known
-task_known_says L h a cost k = says_either (IsSo L h a cost) (nat_lt 0 k && nat_le k h.base.tasks) (not (is_some (forking h k))) (reason.Task k (task_is.LetGo h.base.tasks)) (reason.Task k (task_is.Unknown (tasks h)))
-    (λ e. let bs = both (nat_lt 0 k) (nat_le k h.base.tasks) e in (grind (arith, nat_tests, bs.0), grind (arith, nat_tests, bs.1), refl)) (λ e. (none_of (forking h k) e, refl))
-
 -- what is known is there
-known : (b c : Bool) (x y : Reason) → (cond b (Err x) (stopped_if c y)) ≡ Ok tt → c ≡ false
-known true c x y e = absurd cc
-known false true x y e = absurd cc
-known false false x y e = refl
+known : (b c : Bool) (f g : Failed) → (cond b (Err f) (refuse_if c g)) ≡ Ok tt → c ≡ false
+known true c f g e = absurd cc
+known false true f g e = absurd cc
+known false false f g e = refl
 
-pub opened : (h : History) (s : ℕ) → scope_known h s ≡ Ok tt → (o : Opening) × (opening h s ≡ Some o)
-unfolding scope_known
-opened h s e = some_of (opening h s) (known (nat_lt 0 s && nat_le s h.base.scopes) (not (is_some (opening h s))) (reason.Scope s (scope_is.LetGo h.base.scopes)) (reason.Scope s (scope_is.Unknown (scopes h))) e)
+opened : (h : History) (s : ℕ) → known_scope (λ f. f) h s ≡ Ok tt → (o : Opening) × (opening h s ≡ Some o)
+unfolding known_scope
+opened h s e = some_of (opening h s) (known (nat_lt 0 s && nat_le s h.base.scopes) (not (is_some (opening h s))) (failed.ScopeRetired s) (failed.ScopeUnknown s) e)
 
-pub forked : (h : History) (k : ℕ) → task_known h k ≡ Ok tt → (f : Forking) × (forking h k ≡ Some f)
-unfolding task_known
-forked h k e = some_of (forking h k) (known (nat_lt 0 k && nat_le k h.base.tasks) (not (is_some (forking h k))) (reason.Task k (task_is.LetGo h.base.tasks)) (reason.Task k (task_is.Unknown (tasks h))) e)
+pub forked : (h : History) (k : ℕ) → known_task (λ f. f) h k ≡ Ok tt → (f : Forking) × (forking h k ≡ Some f)
+unfolding known_task
+forked h k e = some_of (forking h k) (known (nat_lt 0 k && nat_le k h.base.tasks) (not (is_some (forking h k))) (failed.TaskRetired k) (failed.TaskUnknown k) e)
 
 not_waiting : (x : Stage) → not (is_waiting x) ≡ true → x ≡ stage_is.Waiting → ⊥
 not_waiting x e same = let waits : is_waiting x ≡ true = ap is_waiting same in absurd cc
@@ -179,166 +182,199 @@ not_waiting x e same = let waits : is_waiting x ≡ true = ap is_waiting same in
 not_running : (x : Stage) → not (is_running x) ≡ true → x ≡ stage_is.Running → ⊥
 not_running x e same = let runs : is_running x ≡ true = ap is_running same in absurd cc
 
-pub waits_says : (L : Limits) (h : History) (a cost k : ℕ) → Says (IsSo L h a cost) (waits h k)
-waits_says L h a cost k = says_if (IsSo L h a cost) (not (is_waiting (stage h k))) (reason.Task k (task_is.AtStage (stage h k) stage_is.Waiting)) (λ e. (refl, not_waiting (stage h k) e))
-
-pub runs_says : (L : Limits) (h : History) (a cost k : ℕ) → Says (IsSo L h a cost) (runs h k)
-runs_says L h a cost k = says_if (IsSo L h a cost) (not (is_running (stage h k))) (reason.Task k (task_is.AtStage (stage h k) stage_is.Running)) (λ e. (refl, not_running (stage h k) e))
-
-pub acts_says : (L : Limits) (h : History) (a cost : ℕ) → Says (IsSo L h a cost) (acts h a)
-unfolding acts
-acts_says L h a cost = by (a == 0)
-  where
-    by : (b : Bool) → Says (IsSo L h a cost) (cond b (Ok tt) (first_reason (task_known h a ∷ runs h a ∷ [])))
-    by true = says_ok (IsSo L h a cost)
-    by false = says_more (IsSo L h a cost) (task_known h a) (runs h a ∷ []) (task_known_says L h a cost a) (λ _. says_more (IsSo L h a cost) (runs h a) [] (runs_says L h a cost a) (λ _. says_end (IsSo L h a cost)))
-
--- ---- owners
-
 not_same : (m n : ℕ) → (m == n) ≡ false → m ≡ n → ⊥
 not_same m n e same = absurd (grind (arith, nat_tests, e, same))
 
-pub owned_says : (L : Limits) (h : History) (a cost s : ℕ) → scope_known h s ≡ Ok tt → Says (IsSo L h a cost) (owned h a s)
-unfolding owns
-owned_says L h a cost s passes = says_if (IsSo L h a cost) (not (owns h a s)) (reason.Scope s (scope_is.Owned (owner_of h s) a)) (λ e.
-    let o = opened h s passes in
-    let owner : owner_of h s ≡ o.0.actor = ap (λ x. option_map_or (λ y. y.actor) x 0) o.1 in
-    (refl, (λ same. other o.0 o.1 (not-true (owns h a s) e) (sym owner ∙ same)), o.0, o.1, sym owner))
-  where
-    other : (o : Opening) → opening h s ≡ Some o → owns h a s ≡ false → o.actor ≡ a → ⊥
-    other o at e same = absurd (not_same o.actor a (ap (λ x. option_map_or (λ y. y.actor == a) x false) (sym at) ∙ e) same)
-
-pub task_owned_says : (L : Limits) (h : History) (a cost k : ℕ) → task_known h k ≡ Ok tt → Says (IsSo L h a cost) (task_owned h a k)
-unfolding owns
-task_owned_says L h a cost k passes = says_if (IsSo L h a cost) (not (owns_task h a k)) (reason.Task k (task_is.Owned (scope_of h k) (owner_of h (scope_of h k)) a)) (λ e.
-    let f = forked h k passes in
-    (refl, forked_in h k f.0 f.1, other f.0 f.1 (not-true (owns_task h a k) e)))
-  where
-    of_opening : (s : ℕ) (o : Option Opening) → opening h s ≡ o → owns h a s ≡ false → IfSome o (λ o. (o.actor ≡ owner_of h s) × ((owner_of h s ≡ a) → ⊥))
-    of_opening s None at e = tt
-    of_opening s (Some o) at e =
-        let owner : owner_of h s ≡ o.actor = ap (λ x. option_map_or (λ y. y.actor) x 0) at in
-        (sym owner, λ same. absurd (not_same o.actor a (ap (λ x. option_map_or (λ y. y.actor == a) x false) (sym at) ∙ e) (sym owner ∙ same)))
-
-    other : (f : Forking) → forking h k ≡ Some f → owns_task h a k ≡ false → IfSome (opening h (scope_of h k)) (λ o. (o.actor ≡ owner_of h (scope_of h k)) × ((owner_of h (scope_of h k) ≡ a) → ⊥))
-    other f at e =
-        let scope : scope_of h k ≡ f.scope = ap (λ x. option_map_or (λ g. g.scope) x 0) at in
-        let owns : owns h a (scope_of h k) ≡ false = ap (owns h a) scope ∙ (ap (λ x. option_map_or (λ g. owns h a g.scope) x false) (sym at) ∙ e) in
-        of_opening (scope_of h k) (opening h (scope_of h k)) refl owns
-
-pub is_main_says : (L : Limits) (h : History) (a cost : ℕ) → Says (IsSo L h a cost) (is_main a)
-is_main_says L h a cost = says_if (IsSo L h a cost) (not (a == 0)) (reason.Actor a actor_is.NotMain) (λ e. (refl, not_same a 0 (not-true (a == 0) e)))
-
-pub main_acts : (a : ℕ) → is_main a ≡ Ok tt → a ≡ 0
+main_acts : (a : ℕ) → refuse_if (not (a == 0)) (failed.NotMain a) ≡ Ok tt → a ≡ 0
 main_acts a passes = by (a == 0) refl passes
   where
-    by : (b : Bool) → (a == 0) ≡ b → stopped_if (not b) (reason.Actor a actor_is.NotMain) ≡ Ok tt → a ≡ 0
+    by : (b : Bool) → (a == 0) ≡ b → refuse_if (not b) (failed.NotMain a) ≡ Ok tt → a ≡ 0
     by true e passes = grind (arith, nat_tests, e)
     by false e passes = absurd cc
 
--- ---- joins and closes
+-- what is said of a check that failed is so, and the checks passed that the saying goes by
+abbrev pub IsTrueOf : Limits → History → ℕ → ℕ → Failed → Type 0
+IsTrueOf L h a cost f = Presupposed h f × IsSo L h a cost (reason_of L h f)
 
-closed_says : (L : Limits) (h : History) (a cost s place : ℕ) → BeginsClose h s (place + 1) → IsSo L h a cost (closing_reason h s place)
-closed_says L h a cost s place begun = by (closed_place h.events s) refl (closed_is h s)
-  where
-    by : (o : Option ℕ) → closed_place h.events s ≡ o → closed h s ≡ is_some (closed_place h.events s) → IsSo L h a cost (option_map_or (λ at. reason.Scope s (scope_is.Closed (at + 1))) o (reason.Scope s (scope_is.Closing (place + 1))))
-    by None at is = (begun, is ∙ ap is_some at)
-    by (Some i) at is = event_found h (ends s) i at
+module _ (L : Limits) (h : History) (a cost : ℕ) where
+  pub scope_says : (s : ℕ) → Says (IsTrueOf L h a cost) (known_scope (λ f. f) h s)
+  unfolding known_scope
+  scope_says s = says_either (IsTrueOf L h a cost) (nat_lt 0 s && nat_le s h.base.scopes) (not (is_some (opening h s))) (failed.ScopeRetired s) (failed.ScopeUnknown s)
+      (λ e. let bs = both (nat_lt 0 s) (nat_le s h.base.scopes) e in (tt, (grind (arith, nat_tests, bs.0), grind (arith, nat_tests, bs.1), refl))) (λ e. (tt, (none_of (opening h s) e, refl)))
 
-pub stands_says : (L : Limits) (h : History) (a cost s : ℕ) → Says (IsSo L h a cost) (stands h s)
-stands_says L h a cost s = says_by (IsSo L h a cost) (closing_place h s) (closing_reason h s) (λ i at. closed_says L h a cost s i (begins_close h s i at))
+  pub task_says : (k : ℕ) → Says (IsTrueOf L h a cost) (known_task (λ f. f) h k)
+  unfolding known_task
+  task_says k = says_either (IsTrueOf L h a cost) (nat_lt 0 k && nat_le k h.base.tasks) (not (is_some (forking h k))) (failed.TaskRetired k) (failed.TaskUnknown k)
+      (λ e. let bs = both (nat_lt 0 k) (nat_le k h.base.tasks) e in (tt, (grind (arith, nat_tests, bs.0), grind (arith, nat_tests, bs.1), refl))) (λ e. (tt, (none_of (forking h k) e, refl)))
 
-pub not_closed_says : (L : Limits) (h : History) (a cost s : ℕ) → Says (IsSo L h a cost) (not_closed h s)
-not_closed_says L h a cost s = says_by (IsSo L h a cost) (closed_place h.events s) (λ at. reason.Scope s (scope_is.Closed (at + 1))) (λ i at. event_found h (ends s) i at)
+  waits_says : (k : ℕ) → Says (IsTrueOf L h a cost) (refuse_if (not (is_waiting (stage h k))) (failed.NotWaiting k))
+  waits_says k = says_if _ _ _ (λ e. (tt, (refl, not_waiting (stage h k) e)))
 
-pub is_closing_says : (L : Limits) (h : History) (a cost s : ℕ) → Says (IsSo L h a cost) (is_closing h s)
-is_closing_says L h a cost s = says_if (IsSo L h a cost) (not (closing h s)) (reason.Scope s scope_is.NotClosing) (λ e. not-true (closing h s) e)
+  runs_says : (k : ℕ) → Says (IsTrueOf L h a cost) (refuse_if (not (is_running (stage h k))) (failed.NotRunning k))
+  runs_says k = says_if _ _ _ (λ e. (tt, (refl, not_running (stage h k) e)))
 
-pub not_joined_says : (L : Limits) (h : History) (a cost s : ℕ) → Says (IsSo L h a cost) (not_joined h s)
-not_joined_says L h a cost s = says_by (IsSo L h a cost) (joined_place h.events s) (λ at. reason.Scope s (scope_is.Joined (at + 1))) (λ i at. event_found h (joins s) i at)
+  pub actor_says : Says (IsTrueOf L h a cost) (known_actor (λ f. f) h a)
+  unfolding known_actor
+  actor_says = says_unless _ (a == 0) _ (says_more _ _ _ (task_says a) (λ _. says_more _ _ _ (runs_says a) (λ _. says_end _)))
 
-pub scope_joined_says : (L : Limits) (h : History) (a cost k : ℕ) → task_known h k ≡ Ok tt → Says (IsSo L h a cost) (scope_joined h k)
-scope_joined_says L h a cost k passes = says_if (IsSo L h a cost) (not (task_joined h k)) (reason.Task k (task_is.NotJoined (scope_of h k))) (λ e.
-    let f = forked h k passes in
-    let scope : scope_of h k ≡ f.0.scope = ap (λ x. option_map_or (λ g. g.scope) x 0) f.1 in
-    (forked_in h k f.0 f.1, ap (joined h) scope ∙ (ap (λ x. option_map_or (λ g. joined h g.scope) x false) (sym f.1) ∙ not-true (task_joined h k) e)))
+  -- ---- owners
 
-pub no_pending_says : (L : Limits) (h : History) (a cost s : ℕ) → Says (IsSo L h a cost) (no_pending h s)
-no_pending_says L h a cost s = says_by (IsSo L h a cost) (pending_task h s) (λ k. reason.Scope s (scope_is.Awaits k (stage h k))) (λ k at. (first_pending h s k at, refl))
+  owned_says : (s : ℕ) → known_scope (λ f. f) h s ≡ Ok tt → Says (IsTrueOf L h a cost) (owned (λ f. f) h a s)
+  unfolding owns
+  owned_says s passes = says_if (IsTrueOf L h a cost) (not (owns h a s)) (failed.NotOwner a s) (λ e.
+      let o = opened h s passes in
+      let owner : owner_of h s ≡ o.0.actor = ap (λ x. option_map_or (λ y. y.actor) x 0) o.1 in
+      (tt, (refl, (λ same. other o.0 o.1 (not-true (owns h a s) e) (sym owner ∙ same)), o.0, o.1, sym owner)))
+    where
+      other : (o : Opening) → opening h s ≡ Some o → owns h a s ≡ false → o.actor ≡ a → ⊥
+      other o at e same = absurd (not_same o.actor a (ap (λ x. option_map_or (λ y. y.actor == a) x false) (sym at) ∙ e) same)
 
-pub may_join_says : (L : Limits) (h : History) (a cost s : ℕ) → Says (IsSo L h a cost) (may_join h s)
-may_join_says L h a cost s = by (is_cancelled h s)
-  where
-    by : (b : Bool) → Says (IsSo L h a cost) (cond b (Ok tt) (no_pending h s))
-    by true = says_ok (IsSo L h a cost)
-    by false = no_pending_says L h a cost s
+  task_owned_says : (k : ℕ) → known_task (λ f. f) h k ≡ Ok tt → Says (IsTrueOf L h a cost) (refuse_if (not (owns_task h a k)) (failed.NotTaskOwner a k))
+  unfolding owns
+  task_owned_says k passes = says_if (IsTrueOf L h a cost) (not (owns_task h a k)) (failed.NotTaskOwner a k) (λ e.
+      let f = forked h k passes in
+      (tt, (refl, forked_in h k f.0 f.1, other f.0 f.1 (not-true (owns_task h a k) e))))
+    where
+      of_opening : (s : ℕ) (o : Option Opening) → opening h s ≡ o → owns h a s ≡ false → IfSome o (λ o. (o.actor ≡ owner_of h s) × ((owner_of h s ≡ a) → ⊥))
+      of_opening s None at e = tt
+      of_opening s (Some o) at e =
+          let owner : owner_of h s ≡ o.actor = ap (λ x. option_map_or (λ y. y.actor) x 0) at in
+          (sym owner, λ same. absurd (not_same o.actor a (ap (λ x. option_map_or (λ y. y.actor == a) x false) (sym at) ∙ e) (sym owner ∙ same)))
 
--- ---- nesting
+      other : (f : Forking) → forking h k ≡ Some f → owns_task h a k ≡ false → IfSome (opening h (scope_of h k)) (λ o. (o.actor ≡ owner_of h (scope_of h k)) × ((owner_of h (scope_of h k) ≡ a) → ⊥))
+      other f at e =
+          let scope : scope_of h k ≡ f.scope = ap (λ x. option_map_or (λ g. g.scope) x 0) at in
+          let owns : owns h a (scope_of h k) ≡ false = ap (owns h a) scope ∙ (ap (λ x. option_map_or (λ g. owns h a g.scope) x false) (sym at) ∙ e) in
+          of_opening (scope_of h k) (opening h (scope_of h k)) refl owns
 
-pub innermost_stands_says : (L : Limits) (h : History) (a cost : ℕ) → Says (IsSo L h a cost) (innermost_stands h a)
-innermost_stands_says L h a cost = by (innermost h a) refl
-  where
-    by : (o : Option ℕ) → innermost h a ≡ o → Says (IsSo L h a cost) (option_map_or (stands_around h a) o (Ok tt))
-    by None at = says_ok (IsSo L h a cost)
-    by (Some s) at = says_by (IsSo L h a cost) (closing_place h s) (λ i. reason.Scope s (scope_is.ClosingAround a (i + 1))) (λ i found. (refl, at, begins_close h s i found))
+  main_says : Says (IsTrueOf L h a cost) (refuse_if (not (a == 0)) (failed.NotMain a))
+  main_says = says_if _ _ _ (λ e. (tt, (refl, not_same a 0 (not-true (a == 0) e))))
 
-pub all_closed_says : (L : Limits) (h : History) (a cost b : ℕ) → b ≡ a → Says (IsSo L h a cost) (all_closed h b)
-all_closed_says L h a cost b same = says_by (IsSo L h a cost) (innermost h b) (λ s. reason.Scope s (scope_is.Unclosed b)) (λ s at. (same, ap (innermost h) (sym same) ∙ at))
+  -- ---- joins and closes
 
-pub innermost_is_says : (L : Limits) (h : History) (a cost s : ℕ) → Says (IsSo L h a cost) (innermost_is h a s)
-unfolding is_innermost
-innermost_is_says L h a cost s = says_if (IsSo L h a cost) (not (is_innermost h a s)) (reason.Scope s (scope_is.NotInnermost a (innermost h a))) (λ e. (refl, refl, other (innermost h a) refl (not-true (is_innermost h a s) e)))
-  where
-    other : (o : Option ℕ) → innermost h a ≡ o → is_innermost h a s ≡ false → innermost h a ≡ Some s → ⊥
-    other o at e same = absurd (not_same s s (ap (λ x. option_map_or (λ t. t == s) x false) (sym same) ∙ e) refl)
+  closing_says : (s : ℕ) → Says (IsTrueOf L h a cost) (not_closing (λ f. f) h s)
+  closing_says s = says_if _ _ _ (λ e. (tt, by (closed h s) refl e))
+    where
+      by : (b : Bool) → closed h s ≡ b → closing h s ≡ true → IsSo L h a cost (cond b (closed_reason h s) (reason.Scope s (scope_is.Closing (event_at (closing_place h s)))))
+      by true at e = closed_at h s at
+      by false at e = (begun_at h s e, at)
 
-pub has_level_says : (L : Limits) (h : History) (a cost : ℕ) → Says (IsSo L h a cost) (has_level h a)
-has_level_says L h a cost = says_if (IsSo L h a cost) (nat_lt LEVEL_LIMIT (next_level h a)) (reason.Room (room_is.Levels (next_level h a))) (λ e. (refl, grind (arith, nat_tests, e)))
+  closed_says : (s : ℕ) → Says (IsTrueOf L h a cost) (refuse_if (closed h s) (failed.Closed s))
+  closed_says s = says_if _ _ _ (λ e. (tt, closed_at h s e))
 
--- ---- bindings
+  begun_says : (s : ℕ) → Says (IsTrueOf L h a cost) (refuse_if (not (closing h s)) (failed.NotClosing s))
+  begun_says s = says_if _ _ _ (λ e. (tt, not-true (closing h s) e))
 
-pub bound_alike_says : (L : Limits) (h : History) (a cost s : ℕ) → Says (IsSo L h a cost) (bound_alike h a s)
-bound_alike_says L h a cost s = says_if (IsSo L h a cost) (not (bound_as_opened h a s)) (reason.Scope s (scope_is.BoundOtherwise a (length (stack h a)))) (λ e. (refl, refl, not-true (bound_as_opened h a s) e))
+  joined_says : (s : ℕ) → Says (IsTrueOf L h a cost) (not_joined (λ f. f) h s)
+  joined_says s = says_if _ _ _ (λ e. (tt, joined_at h s e))
 
-pub has_pair_says : (L : Limits) (h : History) (a cost : ℕ) → Says (IsSo L h a cost) (has_pair h a)
-has_pair_says L h a cost = says_if (IsSo L h a cost) (length (stack h a) == 0) (reason.Actor a actor_is.NoPair) (λ e. (refl, grind (arith, nat_tests, e)))
+  task_joined_says : (k : ℕ) → known_task (λ f. f) h k ≡ Ok tt → Says (IsTrueOf L h a cost) (refuse_if (not (task_joined h k)) (failed.NotJoined k))
+  task_joined_says k passes = says_if _ _ _ (λ e.
+      let f = forked h k passes in
+      let scope : scope_of h k ≡ f.0.scope = ap (λ x. option_map_or (λ g. g.scope) x 0) f.1 in
+      (tt, (forked_in h k f.0 f.1, ap (joined h) scope ∙ (ap (λ x. option_map_or (λ g. joined h g.scope) x false) (sym f.1) ∙ not-true (task_joined h k) e))))
 
-pub frees_pair_says : (L : Limits) (h : History) (a cost : ℕ) → Says (IsSo L h a cost) (frees_pair h a)
-frees_pair_says L h a cost = says_if (IsSo L h a cost) (holds_last h a) (reason.Actor a (actor_is.HeldPair (length (stack h a)))) (λ e. (refl, refl, e))
+  pending_so : (s : ℕ) → known_scope (λ f. f) h s ≡ Ok tt → settled h s ≡ false → IsTrueOf L h a cost (failed.Pending s)
+  pending_so s passes e = (scope_passes (λ f. f) h s passes, by (pending_task h s) refl (settled_is h s))
+    where
+      by : (o : Option ℕ) → pending_task h s ≡ o → settled h s ≡ not (is_some (pending_task h s)) → IsSo L h a cost (option_map_or (λ k. reason.Scope s (scope_is.Awaits k (stage h k))) o (reason.Scope s (scope_is.Awaits 0 stage_is.Never)))
+      by None at is = let none : settled h s ≡ true = is ∙ ap (λ o. not (is_some o)) at in absurd cc
+      by (Some k) at is = (first_pending h s k at, refl)
 
-pub sees_says : (L : Limits) (h : History) (a cost : ℕ) (key : Name) → Says (IsSo L h a cost) (sees h a key)
-sees_says L h a cost key = says_if (IsSo L h a cost) (not (is_some (bound_to key (bindings h a)))) (reason.Actor a (actor_is.Unbound key)) (λ e. (refl, none_of (bound_to key (bindings h a)) e))
+  settled_says : (s : ℕ) → known_scope (λ f. f) h s ≡ Ok tt → Says (IsTrueOf L h a cost) (refuse_if (not (settled h s)) (failed.Pending s))
+  settled_says s passes = says_if _ _ _ (λ e. pending_so s passes (not-true (settled h s) e))
 
--- ---- room and time
+  ready_says : (s : ℕ) → known_scope (λ f. f) h s ≡ Ok tt → Says (IsTrueOf L h a cost) (refuse_if (not (ready h s)) (failed.Pending s))
+  unfolding ready
+  ready_says s passes = says_if (IsTrueOf L h a cost) (not (is_cancelled h s || settled h s)) (failed.Pending s) (λ e. pending_so s passes (neither (is_cancelled h s) (settled h s) e))
+    where
+      neither : (b c : Bool) → not (b || c) ≡ true → c ≡ false
+      neither true c e = absurd cc
+      neither false c e = not-true c e
 
-pub load_fits_says : (L : Limits) (h : History) (a cost : ℕ) → Says (IsSo L h a cost) (load_fits L h cost)
-load_fits_says L h a cost = says_if (IsSo L h a cost) (over_load L h cost) (reason.Room (room_is.Load (load h) L.load cost)) (λ e. (refl, refl, refl, grind (arith, nat_tests, e)))
+  -- ---- nesting
 
-pub scope_fits_says : (L : Limits) (h : History) (a cost : ℕ) → Says (IsSo L h a cost) (scope_fits L h)
-scope_fits_says L h a cost = says_either (IsSo L h a cost) (nat_le L.scopes (opened_count h)) (nat_le GREATEST_NUMBER (scopes h)) (reason.Room (room_is.Scopes (opened_count h) L.scopes)) (reason.Room room_is.ScopeNumbers)
-    (λ e. (refl, refl, grind (arith, nat_tests, e))) (λ e. grind (arith, nat_tests, e))
+  around_says : Says (IsTrueOf L h a cost) (refuse_if (in_closing h a) (failed.ClosingAround a))
+  unfolding in_closing
+  around_says = says_if (IsTrueOf L h a cost) (in_closing h a) (failed.ClosingAround a) (λ e. (tt, by (innermost h a) refl e))
+    where
+      by : (o : Option ℕ) → innermost h a ≡ o → option_map_or (closing h) o false ≡ true → IsSo L h a cost (option_map_or (λ s. reason.Scope s (scope_is.ClosingAround a (event_at (closing_place h s)))) o (reason.Scope 0 (scope_is.ClosingAround a 0)))
+      by None at e = absurd cc
+      by (Some s) at e = (refl, at, begun_at h s e)
 
-pub task_fits_says : (L : Limits) (h : History) (a cost : ℕ) → Says (IsSo L h a cost) (task_fits L h)
-task_fits_says L h a cost = says_either (IsSo L h a cost) (nat_le L.tasks (forked_count h)) (nat_le GREATEST_NUMBER (tasks h)) (reason.Room (room_is.Tasks (forked_count h) L.tasks)) (reason.Room room_is.TaskNumbers)
-    (λ e. (refl, refl, grind (arith, nat_tests, e))) (λ e. grind (arith, nat_tests, e))
+  unclosed_says : (b : ℕ) → b ≡ a → Says (IsTrueOf L h a cost) (refuse_if (is_some (innermost h b)) (failed.Unclosed b))
+  unclosed_says b same = says_if _ _ _ (λ e. (tt, by (innermost h b) refl e))
+    where
+      by : (o : Option ℕ) → innermost h b ≡ o → is_some o ≡ true → IsSo L h a cost (option_map_or (λ s. reason.Scope s (scope_is.Unclosed b)) o (reason.Scope 0 (scope_is.Unclosed b)))
+      by None at e = absurd cc
+      by (Some s) at e = (same, ap (innermost h) (sym same) ∙ at)
 
-pub is_later_says : (L : Limits) (h : History) (a cost now : ℕ) → Says (IsSo L h a cost) (is_later h now)
-is_later_says L h a cost now = says_if (IsSo L h a cost) (nat_lt now (moment h)) (reason.ClockBack now (moment h)) (λ e. (refl, grind (arith, nat_tests, e)))
+  innermost_says : (s : ℕ) → Says (IsTrueOf L h a cost) (refuse_if (not (is_innermost h a s)) (failed.NotInnermost a s))
+  unfolding is_innermost
+  innermost_says s = says_if (IsTrueOf L h a cost) (not (is_innermost h a s)) (failed.NotInnermost a s) (λ e. (tt, (refl, refl, other (not-true (is_innermost h a s) e))))
+    where
+      other : is_innermost h a s ≡ false → innermost h a ≡ Some s → ⊥
+      other e same = absurd (not_same s s (ap (λ x. option_map_or (λ t. t == s) x false) (sym same) ∙ e) refl)
 
--- ---- results
+  level_says : known_actor (λ f. f) h a ≡ Ok tt → Says (IsTrueOf L h a cost) (refuse_if (nat_lt LEVEL_LIMIT (next_level h a)) (failed.TooDeep a))
+  level_says passes = says_if _ _ _ (λ e. (actor_passes (λ f. f) h a passes, (refl, grind (arith, nat_tests, e))))
 
-pub shows_value_says : (L : Limits) (h : History) (a cost k : ℕ) → task_known h k ≡ Ok tt → Says (IsSo L h a cost) (shows_value h k (state h k))
-shows_value_says L h a cost k passes = by (state h k) refl
-  where
-    by : (x : State) → state h k ≡ x → Says (IsSo L h a cost) (shows_value h k x)
-    by state_is.Unavailable at = let f = forked h k passes in says_err (IsSo L h a cost) (reason.Task k (task_is.Unreadable (scope_of h k) (stage h k))) (forked_in h k f.0 f.1, refl, at)
-    by (state_is.Success value) at = says_ok (IsSo L h a cost)
-    by (state_is.Failed fault) at = says_err (IsSo L h a cost) (reason.Task k (task_is.Failed fault)) at
+  -- ---- bindings
 
-pub shows_fault_says : (L : Limits) (h : History) (a cost k : ℕ) → task_known h k ≡ Ok tt → Says (IsSo L h a cost) (shows_fault h k (state h k))
-shows_fault_says L h a cost k passes = by (state h k) refl
-  where
-    by : (x : State) → state h k ≡ x → Says (IsSo L h a cost) (shows_fault h k x)
-    by state_is.Unavailable at = let f = forked h k passes in says_err (IsSo L h a cost) (reason.Task k (task_is.Unreadable (scope_of h k) (stage h k))) (forked_in h k f.0 f.1, refl, at)
-    by (state_is.Success value) at = says_err (IsSo L h a cost) (reason.Task k (task_is.Succeeded value)) at
-    by (state_is.Failed fault) at = says_ok (IsSo L h a cost)
+  alike_says : (s : ℕ) → known_actor (λ f. f) h a ≡ Ok tt → Says (IsTrueOf L h a cost) (refuse_if (not (bound_as_opened h a s)) (failed.BoundOtherwise a s))
+  alike_says s passes = says_if _ _ _ (λ e. (actor_passes (λ f. f) h a passes, (refl, refl, not-true (bound_as_opened h a s) e)))
+
+  pair_says : Says (IsTrueOf L h a cost) (refuse_if (length (stack h a) == 0) (failed.NoBinding a))
+  pair_says = says_if _ _ _ (λ e. (tt, (refl, grind (arith, nat_tests, e))))
+
+  held_says : known_actor (λ f. f) h a ≡ Ok tt → Says (IsTrueOf L h a cost) (refuse_if (holds_last h a) (failed.HeldBinding a))
+  held_says passes = says_if _ _ _ (λ e. (actor_passes (λ f. f) h a passes, (refl, refl, e)))
+
+  -- ---- room and time
+
+  load_says : Says (IsTrueOf L h a cost) (load_fits (λ f. f) L h cost)
+  load_says = says_if _ _ _ (λ e. (tt, (refl, refl, refl, grind (arith, nat_tests, e))))
+
+  scopes_say : Says (IsTrueOf L h a cost) (refuse_if (over_scopes L h) failed.Scopes)
+  scopes_say = says_if _ _ _ (λ e. (tt, by (nat_le L.scopes (opened_count h)) refl e))
+    where
+      by : (b : Bool) → nat_le L.scopes (opened_count h) ≡ b → (b || nat_le GREATEST_NUMBER (scopes h)) ≡ true → IsSo L h a cost (reason.Room (cond b (room_is.Scopes (opened_count h) L.scopes) room_is.ScopeNumbers))
+      by true at e = (refl, refl, grind (arith, nat_tests, at))
+      by false at e = grind (arith, nat_tests, e)
+
+  tasks_say : Says (IsTrueOf L h a cost) (refuse_if (over_tasks L h) failed.Tasks)
+  tasks_say = says_if _ _ _ (λ e. (tt, by (nat_le L.tasks (forked_count h)) refl e))
+    where
+      by : (b : Bool) → nat_le L.tasks (forked_count h) ≡ b → (b || nat_le GREATEST_NUMBER (tasks h)) ≡ true → IsSo L h a cost (reason.Room (cond b (room_is.Tasks (forked_count h) L.tasks) room_is.TaskNumbers))
+      by true at e = (refl, refl, grind (arith, nat_tests, at))
+      by false at e = grind (arith, nat_tests, e)
+
+  later_says : (now : ℕ) → Says (IsTrueOf L h a cost) (refuse_if (nat_lt now (moment h)) (failed.ClockBack now))
+  later_says now = says_if _ _ _ (λ e. (tt, (refl, grind (arith, nat_tests, e))))
+
+-- ---- the rows
+
+pub event_says : (L : Limits) (h : History) (e : Event) → Says (IsTrueOf L h (asker e) (weight e)) (row_check (λ f. f) L h e)
+unfolding row_check
+event_says L h (Open actor policy options) = says_more _ _ _ (actor_says L h actor OPEN_LOAD) (λ acts. says_more _ _ _ (around_says L h actor OPEN_LOAD) (λ _. says_more _ _ _ (level_says L h actor OPEN_LOAD acts) (λ _. says_more _ _ _ (scopes_say L h actor OPEN_LOAD) (λ _. says_more _ _ _ (load_says L h actor OPEN_LOAD) (λ _. says_end _)))))
+event_says L h (Fork actor scope label) = says_more _ _ _ (actor_says L h actor FORK_LOAD) (λ acts. says_more _ _ _ (scope_says L h actor FORK_LOAD scope) (λ there. says_more _ _ _ (owned_says L h actor FORK_LOAD scope there) (λ _. says_more _ _ _ (closing_says L h actor FORK_LOAD scope) (λ _. says_more _ _ _ (joined_says L h actor FORK_LOAD scope) (λ _. says_more _ _ _ (alike_says L h actor FORK_LOAD scope acts) (λ _. says_more _ _ _ (tasks_say L h actor FORK_LOAD) (λ _. says_more _ _ _ (load_says L h actor FORK_LOAD) (λ _. says_end _))))))))
+event_says L h (Reject task) = says_more _ _ _ (task_says L h task 0 task) (λ _. says_more _ _ _ (waits_says L h task 0 task) (λ _. says_end _))
+event_says L h (Start task) = says_more _ _ _ (task_says L h task 0 task) (λ _. says_more _ _ _ (waits_says L h task 0 task) (λ _. says_end _))
+event_says L h (Finish task end) = says_more _ _ _ (task_says L h task 0 task) (λ _. says_more _ _ _ (runs_says L h task 0 task) (λ _. says_more _ _ _ (unclosed_says L h task 0 task refl) (λ _. says_end _)))
+event_says L h (Cancel scope) = says_more _ _ _ (scope_says L h 0 STEP_LOAD scope) (λ _. says_more _ _ _ (closing_says L h 0 STEP_LOAD scope) (λ _. says_more _ _ _ (says_unless _ (is_cancelled h scope) _ (load_says L h 0 STEP_LOAD)) (λ _. says_end _)))
+event_says L h (Move scope deadline) = says_more _ _ _ (scope_says L h 0 STEP_LOAD scope) (λ _. says_more _ _ _ (closing_says L h 0 STEP_LOAD scope) (λ _. says_more _ _ _ (joined_says L h 0 STEP_LOAD scope) (λ _. says_more _ _ _ (load_says L h 0 STEP_LOAD) (λ _. says_end _))))
+event_says L h (Tick now) = says_more _ _ _ (later_says L h 0 STEP_LOAD now) (λ _. says_more _ _ _ (load_says L h 0 STEP_LOAD) (λ _. says_end _))
+event_says L h (Bind actor pair) = says_more _ _ _ (actor_says L h actor STEP_LOAD) (λ _. says_more _ _ _ (load_says L h actor STEP_LOAD) (λ _. says_end _))
+event_says L h (Unbind actor) = says_more _ _ _ (actor_says L h actor STEP_LOAD) (λ acts. says_more _ _ _ (pair_says L h actor STEP_LOAD) (λ _. says_more _ _ _ (held_says L h actor STEP_LOAD acts) (λ _. says_more _ _ _ (load_says L h actor STEP_LOAD) (λ _. says_end _))))
+event_says L h (Join actor scope) = says_more _ _ _ (actor_says L h actor 0) (λ _. says_more _ _ _ (scope_says L h actor 0 scope) (λ there. says_more _ _ _ (owned_says L h actor 0 scope there) (λ _. says_more _ _ _ (closing_says L h actor 0 scope) (λ _. says_more _ _ _ (joined_says L h actor 0 scope) (λ _. says_more _ _ _ (ready_says L h actor 0 scope there) (λ _. says_end _))))))
+event_says L h (BeginClose actor scope) = says_more _ _ _ (actor_says L h actor 0) (λ _. says_more _ _ _ (scope_says L h actor 0 scope) (λ there. says_more _ _ _ (owned_says L h actor 0 scope there) (λ _. says_end _)))
+event_says L h (EndClose actor scope) = says_more _ _ _ (actor_says L h actor 0) (λ _. says_more _ _ _ (scope_says L h actor 0 scope) (λ there. says_more _ _ _ (owned_says L h actor 0 scope there) (λ _. says_more _ _ _ (begun_says L h actor 0 scope) (λ _. says_more _ _ _ (closed_says L h actor 0 scope) (λ _. says_more _ _ _ (innermost_says L h actor 0 scope) (λ _. says_more _ _ _ (settled_says L h actor 0 scope there) (λ _. says_end _)))))))
+
+pub retire_says : (L : Limits) (h : History) (a : ℕ) → Says (IsTrueOf L h a 0) (checks (retire_row (λ f. f) h a))
+retire_says L h a = says_more _ _ _ (actor_says L h a 0) (λ _. says_more _ _ _ (main_says L h a 0) (λ main. says_more _ _ _ (unclosed_says L h a 0 0 (sym (main_acts a main))) (λ _. says_end _)))
+
+pub reading_says : (L : Limits) (h : History) (a k : ℕ) → Says (IsTrueOf L h a 0) (checks (reading_row (λ f. f) h a k))
+reading_says L h a k = says_more _ _ _ (actor_says L h a 0) (λ _. says_more _ _ _ (task_says L h a 0 k) (λ there. says_more _ _ _ (task_owned_says L h a 0 k there) (λ _. says_more _ _ _ (task_joined_says L h a 0 k there) (λ _. says_end _))))
+
+pub until_says : (L : Limits) (h : History) (s : ℕ) → Says (IsTrueOf L h 0 0) (checks (until_row (λ f. f) h s))
+until_says L h s = says_more _ _ _ (scope_says L h 0 0 s) (λ _. says_more _ _ _ (closed_says L h 0 0 s) (λ _. says_end _))

@@ -20,8 +20,7 @@ use Rattle.refusal_reasons.specs.declared.reasons.ActorObstacle.{ActorObstacle}
 use Rattle.refusal_reasons.specs.declared.reasons.ActorObstacle.TheVariants as actor_is
 use Rattle.refusal_reasons.specs.declared.reasons.RoomObstacle.{RoomObstacle}
 use Rattle.refusal_reasons.specs.declared.reasons.RoomObstacle.TheVariants as room_is
-use Rattle.refusal_reasons.specs.Obstacles.{Explained}
-use Rattle.refusal_reasons.specs.Rows.{event_reason, retire_reason, question_reason}
+use Rattle.refusal_reasons.specs.Reasons.{Explained, event_reason, retire_reason, question_reason}
 
 abbrev pub scope_refusal : ScopeObstacle → Refusal
 scope_refusal (scope_is.Unknown opened) = refusal.NoScope
@@ -58,17 +57,17 @@ room_refusal (room_is.Levels level) = refusal.TooDeep
 room_refusal _ = refusal.TooMany
 
 -- the refusal that the reason is of
-abbrev pub refusal_of : Reason → Refusal
-refusal_of (reason.Scope scope obstacle) = scope_refusal obstacle
-refusal_of (reason.Task task obstacle) = task_refusal obstacle
-refusal_of (reason.Actor actor obstacle) = actor_refusal obstacle
-refusal_of (reason.Room obstacle) = room_refusal obstacle
-refusal_of (reason.ClockBack wanted present) = refusal.ClockBack
+abbrev pub reason_refusal : Reason → Refusal
+reason_refusal (reason.Scope scope obstacle) = scope_refusal obstacle
+reason_refusal (reason.Task task obstacle) = task_refusal obstacle
+reason_refusal (reason.Actor actor obstacle) = actor_refusal obstacle
+reason_refusal (reason.Room obstacle) = room_refusal obstacle
+reason_refusal (reason.ClockBack wanted present) = refusal.ClockBack
 
 -- what a check is that is refused for such a reason, or passes
 abbrev pub refusing : Explained → Checked
 refusing (Ok done) = Ok done
-refusing (Err r) = Err (refusal_of r)
+refusing (Err r) = Err (reason_refusal r)
 
 -- what is refused, whatever else is answered
 abbrev pub refused_alone : {A : Type 0} → Result A Refusal → Checked
@@ -92,8 +91,8 @@ EventsFit = (L : Limits) (h : History) (e : Event) → check_of L h e ≡ refusi
 
 -- and so has a retirement
 abbrev pub RetirementsFit : Type 0
-RetirementsFit = (h : History) (a : ℕ) → retire_check h a ≡ refusing (retire_reason h a)
+RetirementsFit = (L : Limits) (h : History) (a : ℕ) → retire_check h a ≡ refusing (retire_reason L h a)
 
 -- and so has a question
 abbrev pub QuestionsFit : Type 0
-QuestionsFit = (h : History) (q : Question) → question_check h q ≡ refusing (question_reason h q)
+QuestionsFit = (L : Limits) (h : History) (q : Question) → question_check h q ≡ refusing (question_reason L h q)

@@ -1,6 +1,5 @@
 pub mod Places
-pub mod Obstacles
-pub mod Rows
+pub mod Reasons
 pub mod Sentences
 pub mod Fits
 pub mod Truth

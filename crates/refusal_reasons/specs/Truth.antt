@@ -26,7 +26,7 @@ use Rattle.refusal_reasons.specs.declared.reasons.ActorObstacle.TheVariants as a
 use Rattle.refusal_reasons.specs.declared.reasons.RoomObstacle.{RoomObstacle}
 use Rattle.refusal_reasons.specs.declared.reasons.RoomObstacle.TheVariants as room_is
 use Rattle.refusal_reasons.specs.Places.{is_pending}
-use Rattle.refusal_reasons.specs.Rows.{event_reason, retire_reason, question_reason}
+use Rattle.refusal_reasons.specs.Reasons.{event_reason, retire_reason, question_reason}
 
 -- who asks for the event
 abbrev pub asker : Event → ℕ
@@ -121,8 +121,8 @@ EventsAreTrue = (L : Limits) (h : History) (e : Event) (r : Reason) → event_re
 
 -- and of a refused retirement
 abbrev pub RetirementsAreTrue : Type 0
-RetirementsAreTrue = (L : Limits) (h : History) (a : ℕ) (r : Reason) → retire_reason h a ≡ Err r → IsSo L h a 0 r
+RetirementsAreTrue = (L : Limits) (h : History) (a : ℕ) (r : Reason) → retire_reason L h a ≡ Err r → IsSo L h a 0 r
 
 -- and of a refused question
 abbrev pub QuestionsAreTrue : Type 0
-QuestionsAreTrue = (L : Limits) (h : History) (q : Question) (r : Reason) → question_reason h q ≡ Err r → IsSo L h (questioner q) 0 r
+QuestionsAreTrue = (L : Limits) (h : History) (q : Question) (r : Reason) → question_reason L h q ≡ Err r → IsSo L h (questioner q) 0 r

@@ -5,7 +5,7 @@ ghost use Rattle.refusal_reasons.specs.Truth.{EventsAreTrue, RetirementsAreTrue,
 
 /// A command has a reason just if its checks refuse it, whatever the history, and the reason is of that
 /// refusal.
-#[tactic(auto, using(crate::proofs::RowsFit::events_fit, crate::proofs::RowsFit::retirements_fit, crate::proofs::RowsFit::questions_fit))]
+#[tactic(auto, using(crate::proofs::Fits::events_fit, crate::proofs::Fits::retirements_fit, crate::proofs::Fits::questions_fit))]
 pub fn reasons_fit()
     ensures events { EventsFit }
     ensures retirements { RetirementsFit }
@@ -13,7 +13,7 @@ pub fn reasons_fit()
 {}
 
 /// Whatever a reason says is so of the history, for every command and every history.
-#[tactic(auto, using(crate::proofs::RowsTrue::events_true, crate::proofs::RowsTrue::retirements_true, crate::proofs::RowsTrue::questions_true))]
+#[tactic(auto, using(crate::proofs::Explained::events_true, crate::proofs::Explained::retirements_true, crate::proofs::Explained::questions_true))]
 pub fn reasons_are_true()
     ensures events { EventsAreTrue }
     ensures retirements { RetirementsAreTrue }

@@ -2,17 +2,17 @@
 //! line that is no command: which field of which form is wrong, for what cause, and where, as one sentence and
 //! a picture of the line.
 //!
-//! A command meets the checks of its row in their order (`scope_checks`). Each check has a twin here that says
-//! what is in the way if the check refuses, and the reason of a command is that of the first such twin.
-//! The law of `laws` says that a command has a reason just where it is refused, and that the reason is of that
-//! refusal. Events are counted from 1 since the base. At which of them a scope was joined or closed, the caller
+//! A command meets the checks of its row in their order, and the first that fails says so (`scope_checks`). Its refusal
+//! and its reason are two functions of that check: `failures` has a case for each. The law of `laws` says that a command
+//! has a reason just if it is refused, that the reason is of that refusal, and that what it says is so. Events are counted from 1 since the base. At which of them a scope was joined or closed, the caller
 //! finds (`Events`). A sentence names an event by the line of a script whose command recorded it: the list of these
 //! lines is the caller's too.
 #![tactic(auto)]
 
 mod causes;
-mod checks;
 mod events;
+pub mod explaining;
+mod failures;
 pub mod fault_laws;
 mod faults;
 mod fields;
@@ -20,21 +20,19 @@ mod guesses;
 pub mod laws;
 mod line_places;
 mod line_shown;
-mod nesting;
 mod places;
 pub mod reasons;
-pub mod rows;
 mod sentences;
 mod shapes;
 mod shown;
 mod words;
 
 pub use events::Events;
+pub use explaining::{event_reason, question_reason, retire_reason};
 pub use faults::{WordFault, fault_of};
 pub use line_places::{Place, ShownPlace, place_of};
 pub use line_shown::ShownBytes;
 pub use reasons::{ActorObstacle, Reason, RoomObstacle, ScopeObstacle, TaskObstacle};
-pub use rows::{event_reason, question_reason, retire_reason};
 pub use sentences::ShownFault;
 pub use shapes::{FieldKind, Shape};
 pub use shown::ShownReason;

@@ -5,7 +5,7 @@ use Rattle.scope_rules.specs.declared.types.refusals.Refusal.TheVariants.{NoScop
 use Rattle.scope_rules.specs.declared.types.records.Opening.{Opening}
 use Rattle.scope_rules.specs.declared.types.records.Forking.{Forking}
 use Rattle.scope_rules.specs.History.{History, opening, forking}
-use Rattle.scope_rules.specs.Checks.{refuse_if, scope_check, task_check}
+use Rattle.scope_rules.specs.Checks.{refuse_if, scope_check, task_check, known_scope, known_task}
 use Rattle.scope_rules.proofs.Innermosts.{opened_after}
 use Rattle.scope_rules.proofs.Forkings.{forked_after}
 
@@ -18,7 +18,7 @@ not_retired n b after = ap (λ x. nat_lt 0 n && x) (lt-leb n b after) ∙ by (na
 
 -- an opened scope passes
 pub scope_passes : (h : History) (s : ℕ) (o : Opening) → opening h s ≡ Some o → scope_check h s ≡ Ok tt
-unfolding scope_check
+unfolding known_scope
 scope_passes h s o is =
     let number = opened_after h s o is in
     ap (λ b. cond b (Err Retired) (refuse_if (not (is_some (opening h s))) NoScope)) (not_retired s h.base.scopes (omega (arith, number.2)))
@@ -26,7 +26,7 @@ scope_passes h s o is =
 
 -- a forked task passes
 pub task_passes : (h : History) (k : ℕ) (f : Forking) → forking h k ≡ Some f → task_check h k ≡ Ok tt
-unfolding task_check
+unfolding known_task
 task_passes h k f is =
     let number = forked_after h k f is in
     ap (λ b. cond b (Err Retired) (refuse_if (not (is_some (forking h k))) NoTask)) (not_retired k h.base.tasks (omega (arith, number.2)))

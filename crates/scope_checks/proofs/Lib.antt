@@ -1,2 +1,3 @@
+pub mod Remade
 pub mod PassedReadings
 pub mod Checked

@@ -1,18 +1,24 @@
 //! Every question that is asked of a realm, once: what it is refused for, and what it answers. None of them
 //! changes anything.
 
-ghost use Rattle.std.specs.Prelude.{◌≡◌, ℕ, Some, max, option_map};
+ghost use Rattle.std.specs.Prelude.{◌≡◌, ℕ, OnOk, Some, max, option_map};
 ghost use Rattle.scope_rules.specs.Cancels.{cause, cancelled_at, effective};
-ghost use Rattle.scope_rules.specs.Checks.{scope_check, task_check};
+ghost use Rattle.scope_rules.specs.Checks.{checks, scope_check, task_check};
 ghost use Rattle.scope_rules.specs.Nests.{inner_reply, task_inner_reply, task_at_reply, label_reply, info, info_reply, scope_stage};
 ghost use Rattle.scope_rules.specs.Outcomes.{outcome};
 ghost use Rattle.scope_rules.specs.Replies.{AnswersValue, result_reply, fault_reply, binding_reply, outcome_check};
-ghost use Rattle.scope_rules.specs.Table.{answering, owns_task, task_joined, reading_check, until_check};
+ghost use Rattle.scope_rules.specs.Table.{answering, owns_task, task_joined, reading_row, reading_check, until_row, until_check};
 ghost use Rattle.scope_rules.specs.Tasks.{stage, state, counts};
+ghost use Rattle.scope_checks.specs.Passes.{Passes};
 ghost use Rattle.scope_checks.specs.Questions.{cancellation};
 
-use crate::checks::{actor_check, owns, refuse_if, scope_check, task_check};
+use crate::checks::{
+    actor_check, fail_if, known_actor, known_scope, known_task, owns, refuse_if, scope_check,
+    task_check,
+};
+use crate::failures::FromFailed;
 use crate::readings::Readings;
+use scope_rules::Failed;
 use scope_rules::types::answers::{Cause, Counts, Effective, Stage, State};
 use scope_rules::types::infos::{ScopeInfo, ScopeStage};
 use scope_rules::types::names::Name;
@@ -70,15 +76,29 @@ pub fn fault<R: Readings>(readings: &R, actor: Actor, task: TaskId) -> Result<Fa
 }
 
 /// The state of the task, if the actor may read it: the owner of its scope, after the join.
-#[tactic(auto, unfolding(scope_rules::specs::Table::reading_check, scope_rules::specs::Checks::checks, scope_rules::specs::Checks::then_check))]
+#[tactic(auto, unfolding(scope_rules::specs::Table::reading_check))]
 fn readable<R: Readings>(readings: &R, actor: Actor, task: TaskId) -> Result<State, Refusal>
     ensures { result ≡ answering (reading_check (R.history readings.now) actor task) (state (R.history readings.now) task) }
 {
-    actor_check(readings, actor)?;
-    task_check(readings, task)?;
-    refuse_if(!owns_task(readings, actor, task), Refusal::NotOwner)?;
-    refuse_if(!task_joined(readings, task), Refusal::NotJoined)?;
+    reading_row::<R, Refusal>(readings, actor, task)?;
     Ok(readings.state(task))
+}
+
+/// Whether the actor may read the state of the task.
+#[tactic(auto, unfolding(scope_rules::specs::Checks::checks, scope_rules::specs::Checks::then_check))]
+pub fn reading_row<R: Readings, F: FromFailed>(
+    readings: &R,
+    actor: Actor,
+    task: TaskId,
+) -> Result<(), F>
+    ensures row { result ≡ checks (reading_row F.made (R.history readings.now) actor task) }
+    ensures passes { OnOk result (Passes (task_check (R.history readings.now) task)) }
+{
+    known_actor::<R, F>(readings, actor)?;
+    known_task::<R, F>(readings, task)?;
+    let owned = owns_task(readings, actor, task);
+    fail_if::<F>(!owned, Failed::NotTaskOwner { actor, task })?;
+    fail_if(!task_joined(readings, task), Failed::NotJoined(task))
 }
 
 /// Whether the actor opened the scope of the task.
@@ -158,13 +178,22 @@ pub fn cancellation<R: Readings>(readings: &R, scope: ScopeId) -> Option<(usize,
 
 /// The earliest deadline in effect for the scope (Trio, `current_effective_deadline`), in
 /// milliseconds. Refused for a scope that is unknown (`NoScope`, `Retired`) or closed (`Closed`).
-#[tactic(auto, unfolding(scope_rules::specs::Table::until_check, scope_rules::specs::Checks::checks, scope_rules::specs::Checks::then_check))]
+#[tactic(auto, unfolding(scope_rules::specs::Table::until_check))]
 pub fn effective_deadline<R: Readings>(readings: &R, scope: ScopeId) -> Result<Effective, Refusal>
     ensures { result ≡ answering (until_check (R.history readings.now) scope) (effective (R.history readings.now) scope) }
 {
-    scope_check(readings, scope)?;
-    refuse_if(readings.closed(scope), Refusal::Closed)?;
+    until_row::<R, Refusal>(readings, scope)?;
     Ok(readings.effective(scope))
+}
+
+/// Whether the deadline in effect for the scope may be asked.
+#[tactic(auto, unfolding(scope_rules::specs::Checks::checks, scope_rules::specs::Checks::then_check))]
+pub fn until_row<R: Readings, F: FromFailed>(readings: &R, scope: ScopeId) -> Result<(), F>
+    ensures row { result ≡ checks (until_row F.made (R.history readings.now) scope) }
+    ensures passes { OnOk result (Passes (scope_check (R.history readings.now) scope)) }
+{
+    known_scope::<R, F>(readings, scope)?;
+    fail_if(readings.closed(scope), Failed::Closed(scope))
 }
 
 /// How many tasks of the scope are at each stage. Refused for an unknown scope (`NoScope`,

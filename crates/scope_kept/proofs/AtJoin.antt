@@ -10,7 +10,7 @@ use Rattle.scope_rules.specs.History.{History, before, followed, tasks}
 use Rattle.scope_rules.specs.Scopes.{joins, joined}
 use Rattle.scope_rules.specs.Outcomes.{first_read, joining}
 use Rattle.scope_rules.specs.Tasks.{state, ready}
-use Rattle.scope_rules.specs.Table.{check_of}
+use Rattle.scope_rules.specs.Table.{row_check}
 use Rattle.scope_rules.specs.Legal.{Accepts, Legal}
 use Rattle.scope_rules.proofs.Answered.{joining_entry}
 use Rattle.scope_rules.proofs.Forkings.{IsTask}
@@ -49,7 +49,7 @@ like_next L g s h e legal ok none was = record {
 
 -- no task is forked in a joined scope
 no_fork_joined : (L : Limits) (h : History) (e : Event) (s : ℕ) → Accepts L h e → joined h s ≡ true → forks_for s e ≡ false
-unfolding check_of
+unfolding row_check
 no_fork_joined L h (Fork a n label) s ok is =
     false_from_ne_true (n == s) (λ same. both_ways (joined h n) (not_refused _ _ (checks_at _ 4 _ ok.passed refl)) (ap (joined h) (eqb-true n s same) ∙ is))
 no_fork_joined L h e s ok is = refl
@@ -77,7 +77,7 @@ join_at h s i is = let it = joining_entry h s i is in join_by h s i it.0 it.2 it
 
 -- what is accepted to be joined was opened, and is ready
 pub join_wants : (L : Limits) (h : History) (a s : ℕ) → Accepts L h (Join a s) → IsOpened h s × (ready h s ≡ true)
-unfolding check_of
+unfolding row_check
 join_wants L h a s ok = (scope_passed h s (checks_at _ 1 _ ok.passed refl), not_not _ (not_refused _ _ (checks_at _ 5 _ ok.passed refl)))
 
 -- the history is like what stood before the join

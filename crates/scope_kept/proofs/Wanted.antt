@@ -10,7 +10,7 @@ use Rattle.scope_rules.specs.declared.types.joiners.Policy.{Policy}
 use Rattle.scope_rules.specs.declared.types.events.Options.{Options}
 use Rattle.scope_rules.specs.History.{History, moment}
 use Rattle.scope_rules.specs.Scopes.{joined, surrounding, next_level}
-use Rattle.scope_rules.specs.Table.{check_of}
+use Rattle.scope_rules.specs.Table.{row_check}
 use Rattle.scope_rules.specs.Legal.{Legal, Accepts}
 use Rattle.scope_rules.proofs.Accepted.{checks_at, not_refused}
 use Rattle.scope_rules.proofs.NewScopes.{scope_passed}
@@ -30,7 +30,7 @@ use Rattle.scope_kept.specs.Events.{IsReadyFor, IsReadyAt}
 -- ---- what accepted events say
 
 pub cancel_opened : (L : Limits) (h : History) (s : ℕ) → Accepts L h (Cancel s) → IsOpened h s
-unfolding check_of
+unfolding row_check
 cancel_opened L h s ok = scope_passed h s (checks_at _ 0 _ ok.passed refl)
 
 pub record MoveRow (h : History) (s : ℕ) : Type 0 where
@@ -38,26 +38,26 @@ pub record MoveRow (h : History) (s : ℕ) : Type 0 where
   pub unjoined : joined h s ≡ false
 
 pub move_passed : (L : Limits) (h : History) (s : ℕ) (d : Option ℕ) → Accepts L h (Move s d) → MoveRow h s
-unfolding check_of
+unfolding row_check
 move_passed L h s d ok = record {
   opened = scope_passed h s (checks_at _ 0 _ ok.passed refl);
   unjoined = not_refused _ _ (checks_at _ 2 _ ok.passed refl);
 }
 
 pub tick_passed : (L : Limits) (h : History) (now : ℕ) → Accepts L h (Tick now) → moment h ≤ now
-unfolding check_of
+unfolding row_check
 tick_passed L h now ok = ltb-false now (moment h) (not_refused _ _ (checks_at _ 0 _ ok.passed refl))
 
 pub bind_passed : (L : Limits) (h : History) (a : ℕ) (pair : _) → Accepts L h (Bind a pair) → IsActor h a
-unfolding check_of
+unfolding row_check
 bind_passed L h a pair ok = actor_passed h a (checks_at _ 0 _ ok.passed refl)
 
 pub unbind_passed : (L : Limits) (h : History) (a : ℕ) → Accepts L h (Unbind a) → IsActor h a
-unfolding check_of
+unfolding row_check
 unbind_passed L h a ok = actor_passed h a (checks_at _ 0 _ ok.passed refl)
 
 pub level_passed : (L : Limits) (h : History) (a : ℕ) (policy : Policy) (options : Options) → Accepts L h (Open a policy options) → next_level h a ≤ LEVEL_LIMIT
-unfolding check_of
+unfolding row_check
 level_passed L h a policy options ok = ltb-false LEVEL_LIMIT (next_level h a) (not_refused _ _ (checks_at _ 2 _ ok.passed refl))
 
 -- ---- what cuts want

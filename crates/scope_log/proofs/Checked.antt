@@ -22,8 +22,8 @@ use Rattle.scope_rules.specs.Scopes.{joined, closed, closing, innermost}
 use Rattle.scope_rules.specs.Cancels.{is_cancelled}
 use Rattle.scope_rules.specs.Tasks.{stage, is_running, is_waiting}
 use Rattle.scope_rules.specs.Bindings.{stack}
-use Rattle.scope_rules.specs.Checks.{Checked, refuse_if, then_check, checks, refuse_full, scope_check, task_check, actor_check, owns, owner_check, refuse_closing, refuse_joined, in_closing, is_innermost}
-use Rattle.scope_rules.specs.Table.{check_of, is_already, owns_task, task_joined, reading_check, until_check}
+use Rattle.scope_rules.specs.Checks.{Checked, refuse_if, then_check, checks, refuse_full, scope_check, task_check, actor_check, owns, owner_check, refuse_closing, refuse_joined, in_closing, is_innermost, known_actor, known_scope, known_task}
+use Rattle.scope_rules.specs.Table.{check_of, is_already, owns_task, task_joined, reading_check, until_check, row_check}
 use Rattle.scope_rules.proofs.Accepted.{or_left, or_right}
 use Rattle.scope_rules.proofs.Innermosts.{innermost_unclosed}
 use Rattle.scope_rules.proofs.Pushing.{stack_within}
@@ -106,7 +106,7 @@ module _ (r : Retirable) (es : List Event) (L : Limits) where
 
 module _ (r : Retirable) (es : List Event) where
   pub same_scope_check : (s : ℕ) → IsScope r s → scope_check (unretired r es) s ≡ scope_check (retired r es) s
-  unfolding scope_check
+  unfolding known_scope
   same_scope_check s new =
       let known : is_some (opening (unretired r es) s) ≡ is_some (opening (retired r es) s) = ap is_some (same_opening r es s new) ∙ still_some (moved_opening (size r)) (opening (retired r es) s) in
       ap (λ b. cond b (Err Retired) (refuse_if (not (is_some (opening (unretired r es) s))) NoScope)) (fewer r.past.base.scopes (scopes r.past) s (omega arith) new)
@@ -114,7 +114,7 @@ module _ (r : Retirable) (es : List Event) where
       ∙ sym (ap (λ b. cond b (Err Retired) (refuse_if (not (is_some (opening (retired r es) s))) NoScope)) new))
 
   pub same_task_check : (k : ℕ) → IsTask r k → task_check (unretired r es) k ≡ task_check (retired r es) k
-  unfolding task_check
+  unfolding known_task
   same_task_check k new =
       let known : is_some (forking (unretired r es) k) ≡ is_some (forking (retired r es) k) = ap is_some (same_forking r es k new) ∙ still_some (moved_forking (size r)) (forking (retired r es) k) in
       ap (λ b. cond b (Err Retired) (refuse_if (not (is_some (forking (unretired r es) k))) NoTask)) (fewer r.past.base.tasks (tasks r.past) k (omega arith) new)
@@ -133,7 +133,7 @@ module _ (r : Retirable) (es : List Event) where
 
 module _ (r : Retirable) (es : List Event) (none : NamesNone r es) where
   pub same_actor_check : (a : ℕ) → IsTask r a → actor_check (unretired r es) a ≡ actor_check (retired r es) a
-  unfolding actor_check
+  unfolding known_actor
   same_actor_check a new =
       ap (λ c. cond (a == 0) (Ok tt) (checks (c ∷ refuse_if (not (is_running (stage (unretired r es) a))) WrongStage ∷ []))) (same_task_check r es a new)
       ∙ ap (λ x. cond (a == 0) (Ok tt) (checks (task_check (retired r es) a ∷ refuse_if (not (is_running x)) WrongStage ∷ []))) (same_stage r es none a new)
@@ -212,7 +212,7 @@ module _ (r : Retirable) (es : List Event) (none : NamesNone r es) where
   AlikeRow L e = RefusesAlike (check_of L (unretired r es) e) (check_of L (retired r es) e)
 
   open_row : (L : Limits) (actor : ℕ) (policy : Policy) (options : Options) → IsTask r actor → AlikeRow L (Open actor policy options)
-  unfolding check_of
+  unfolding row_check
   open_row L actor policy options new =
       row _ _ _ _ (acts actor new)
       (row _ _ _ _ (inl (ap (λ b. refuse_if b Closed) (same_in_closing actor)))
@@ -220,7 +220,7 @@ module _ (r : Retirable) (es : List Event) (none : NamesNone r es) where
       (row _ _ _ _ (scopes_alike r es L) (row _ _ _ _ (load_alike r es L OPEN_LOAD) end_of_row))))
 
   fork_row : (L : Limits) (actor scope : ℕ) (label : Label) → IsTask r actor → IsScope r scope → AlikeRow L (Fork actor scope label)
-  unfolding check_of
+  unfolding row_check
   fork_row L actor scope label a s =
       row _ _ _ _ (acts actor a)
       (row _ _ _ _ (known scope s)
@@ -231,19 +231,19 @@ module _ (r : Retirable) (es : List Event) (none : NamesNone r es) where
       (row _ _ _ _ (tasks_alike r es L) (row _ _ _ _ (load_alike r es L FORK_LOAD) end_of_row)))))))
 
   finish_row : (L : Limits) (task : ℕ) (end : EndValue) → IsTask r task → AlikeRow L (Finish task end)
-  unfolding check_of
+  unfolding row_check
   finish_row L task end new =
       row _ _ _ _ (given task new) (row _ _ _ _ (runs task new) (row _ _ _ _ (inl (ap (λ o. refuse_if (is_some o) Structure) (same_innermost r es task))) end_of_row))
 
   unbind_row : (L : Limits) (actor : ℕ) → IsTask r actor → AlikeRow L (Unbind actor)
-  unfolding check_of
+  unfolding row_check
   unbind_row L actor new =
       row _ _ _ _ (acts actor new)
       (row _ _ _ _ (inl (ap (λ bs. refuse_if (length bs == 0) NotBound) (same_stack r es actor new)))
       (row _ _ _ _ (inl (ap (λ b. refuse_if b Structure) (same_holds_last r es actor new))) (row _ _ _ _ (load_alike r es L STEP_LOAD) end_of_row)))
 
   join_row : (L : Limits) (actor scope : ℕ) → IsTask r actor → IsScope r scope → AlikeRow L (Join actor scope)
-  unfolding check_of
+  unfolding row_check
   join_row L actor scope a s =
       row _ _ _ _ (acts actor a)
       (row _ _ _ _ (known scope s)
@@ -252,11 +252,11 @@ module _ (r : Retirable) (es : List Event) (none : NamesNone r es) where
       (row _ _ _ _ (unjoined scope s) (row _ _ _ _ (inl (ap (λ b. refuse_if (not b) NotReady) (same_ready r es none scope s))) end_of_row)))))
 
   begin_row : (L : Limits) (actor scope : ℕ) → IsTask r actor → IsScope r scope → AlikeRow L (BeginClose actor scope)
-  unfolding check_of
+  unfolding row_check
   begin_row L actor scope a s = row _ _ _ _ (acts actor a) (row _ _ _ _ (known scope s) (row _ _ _ _ (owned actor scope s) end_of_row))
 
   end_row : (L : Limits) (actor scope : ℕ) → IsTask r actor → IsScope r scope → AlikeRow L (EndClose actor scope)
-  unfolding check_of
+  unfolding row_check
   end_row L actor scope a s =
       row _ _ _ _ (acts actor a)
       (row _ _ _ _ (known scope s)
@@ -271,7 +271,7 @@ module _ (r : Retirable) (es : List Event) (none : NamesNone r es) where
   both_named actor scope new = (or_left (is_let_go (tasks r.past) actor) (is_let_go (scopes r.past) scope) new, or_right (is_let_go (tasks r.past) actor) (is_let_go (scopes r.past) scope) new)
 
   pub same_check : (L : Limits) (e : Event) → names_let_go (left r) e ≡ false → AlikeRow L e
-  unfolding check_of
+  unfolding row_check
   same_check L (Open actor policy options) new = open_row L actor policy options new
   same_check L (Fork actor scope label) new = let it = both_named actor scope new in fork_row L actor scope label it.0 it.1
   same_check L (Reject task) new = row _ _ _ _ (given task new) (row _ _ _ _ (waits task new) end_of_row)

@@ -6,8 +6,8 @@ use Rattle.scope_rules.specs.declared.types.events.Event.TheVariants.{Open, Fork
 use Rattle.scope_rules.specs.declared.types.records.Forking.{Forking}
 use Rattle.scope_rules.specs.History.{History, before, forking}
 use Rattle.scope_rules.specs.Legal.{Legal, Accepts}
-use Rattle.scope_rules.specs.Checks.{scope_check, task_check, actor_check, owns, in_closing, is_innermost}
-use Rattle.scope_rules.specs.Table.{check_of, is_already}
+use Rattle.scope_rules.specs.Checks.{scope_check, task_check, actor_check, owns, in_closing, is_innermost, known_actor, known_scope, known_task}
+use Rattle.scope_rules.specs.Table.{check_of, is_already, row_check}
 use Rattle.scope_log.specs.Dues.{without_due, without_dues, LabelsDecideNothing, LegalWithoutDues}
 use Rattle.scope_log.proofs.Events.{without_before, without_at, same_opened, same_forked, same_load, same_moment, same_opening, same_forking, forking_without}
 use Rattle.scope_log.proofs.Scopes.{same_joined, same_closed, same_innermost, same_next_level, same_closing}
@@ -15,7 +15,7 @@ use Rattle.scope_log.proofs.Cancels.{same_cancelled}
 use Rattle.scope_log.proofs.Tasks.{same_stage, same_settled, same_ready, same_stack, same_bound_as_opened, same_holds_last}
 
 same_scope_check : (h : History) (s : ℕ) → scope_check (without_dues h) s ≡ scope_check h s
-unfolding scope_check
+unfolding known_scope
 same_scope_check h s = rw (same_opening h) refl
 
 there_same : (o : Option Forking) → is_some (option_map forking_without o) ≡ is_some o
@@ -23,11 +23,11 @@ there_same None = refl
 there_same (Some f) = refl
 
 same_task_check : (h : History) (k : ℕ) → task_check (without_dues h) k ≡ task_check h k
-unfolding task_check
+unfolding known_task
 same_task_check h k = rw (same_forking h k, there_same (forking h k)) refl
 
 same_actor_check : (h : History) (a : ℕ) → actor_check (without_dues h) a ≡ actor_check h a
-unfolding actor_check
+unfolding known_actor
 same_actor_check h a = rw (same_task_check h a, same_stage h a) refl
 
 same_owns : (h : History) (a s : ℕ) → owns (without_dues h) a s ≡ owns h a s
@@ -43,7 +43,7 @@ unfolding is_innermost
 same_is_innermost h a s = rw (same_innermost h a) refl
 
 same_check : (L : Limits) (h : History) (e : Event) → check_of L (without_dues h) (without_due e) ≡ check_of L h e
-unfolding check_of
+unfolding row_check
 same_check L h (Open actor policy options) = rw (same_actor_check h actor, same_in_closing h actor, same_next_level h actor, same_opened h, same_load h) refl
 same_check L h (Fork actor scope label) = rw (same_actor_check h actor, same_scope_check h scope, same_owns h actor scope, same_closing h, same_joined h scope, same_bound_as_opened h actor scope, same_forked h, same_load h) refl
 same_check L h (Reject task) = rw (same_task_check h task, same_stage h task) refl

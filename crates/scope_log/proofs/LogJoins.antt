@@ -21,7 +21,7 @@ use Rattle.scope_rules.specs.Search.{earliest}
 use Rattle.scope_rules.specs.History.{History, followed, opening, moment}
 use Rattle.scope_rules.specs.Scopes.{joined, joins, outer}
 use Rattle.scope_rules.specs.Cancels.{direct_kind, joiner_fires, overdue, deadline, own, own_cut, cut, cause, is_cancelled}
-use Rattle.scope_rules.specs.Table.{check_of}
+use Rattle.scope_rules.specs.Table.{check_of, row_check}
 use Rattle.scope_rules.specs.Legal.{Accepts, Legal}
 use Rattle.scope_rules.proofs.Accepted.{checks_at, not_refused}
 use Rattle.scope_rules.proofs.EarliestLaws.{cut_earliest}
@@ -135,7 +135,7 @@ module _ (L : Limits) (h : History) (a s : ℕ) (legal : Legal L h) where
 -- ---- what it answers
 
 not_joined : (L : Limits) (h : History) (a s : ℕ) → Accepts L h (Join a s) → joined h s ≡ false
-unfolding check_of
+unfolding row_check
 not_joined L h a s ok = not_refused _ _ (checks_at _ 4 _ ok.passed refl)
 
 -- a log without a join tells what the join at its end answers

@@ -11,7 +11,7 @@ use Rattle.scope_rules.specs.Origin.{Origin}
 use Rattle.scope_rules.specs.History.{History, followed, opening, scopes}
 use Rattle.scope_rules.specs.Cancels.{cut, cause, is_cancelled}
 use Rattle.scope_rules.specs.Completions.{is_task_of}
-use Rattle.scope_rules.specs.Table.{check_of}
+use Rattle.scope_rules.specs.Table.{row_check}
 use Rattle.scope_rules.specs.Legal.{Accepts, Legal}
 use Rattle.scope_rules.proofs.Accepted.{checks_at}
 use Rattle.scope_rules.proofs.Forkings.{task_there}
@@ -41,7 +41,7 @@ module _ (L : Limits) (h : History) (s : ℕ) where
 
   -- an accepted event names a scope that is opened, or opens it
   pub named_opened : (e : Event) → Legal L h → Accepts L h e → is_of h s e ≡ true → IsOpened (followed h e) s
-  unfolding check_of
+  unfolding row_check
   named_opened (Open actor policy options) legal ok so = subst (IsOpened (followed h (Open actor policy options))) (eqb-true (scopes h + 1) s so) (record { opened = _; is = next_opening h actor policy options })
   named_opened (Fork actor scope label) legal ok so = stays (Fork actor scope label) (by_number scope so (owned actor scope (fork_passed L h actor scope label ok).owner))
   named_opened (Reject task) legal ok so = stays (Reject task) (by_task task legal so)

@@ -11,7 +11,7 @@ use Rattle.scope_rules.specs.Scopes.{joined, closed, ends}
 use Rattle.scope_rules.specs.Cancels.{move_of}
 use Rattle.scope_rules.specs.Tasks.{rejects, rejected, starts, started, finishes, finished}
 use Rattle.scope_rules.specs.Bindings.{stack, stacked}
-use Rattle.scope_rules.specs.Table.{check_of}
+use Rattle.scope_rules.specs.Table.{row_check}
 use Rattle.scope_rules.specs.Legal.{Accepts, Legal}
 use Rattle.scope_rules.proofs.Accepted.{checks_at}
 use Rattle.scope_rules.proofs.PassedRows.{IsActor, actor_passed, ender_passed, finisher_passed, rejecter_passed, starter_passed}
@@ -132,7 +132,7 @@ module _ (r : Retirable) where
       ]
 
   stack_kept : (i a : ℕ) (e : Event) → a ≢ 0 → IsTask r a → slice_get r.past.events i ≡ Some e → stacked a [] e ≡ []
-  unfolding check_of
+  unfolding row_check
   stack_kept i a (Bind by pair) task new at =
       let acts = actor_passed (before r.past i) by (checks_at _ 0 _ (accepted i (Bind by pair) at).passed refl) in
       ap (λ b. cond b (pair ∷ []) []) (ne_eqb by a (binder_apart i a by task new acts))

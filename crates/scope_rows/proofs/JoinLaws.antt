@@ -7,7 +7,7 @@ use Rattle.scope_rules.specs.declared.types.events.Event.TheVariants.{Join}
 use Rattle.scope_rules.specs.History.{History, followed, is_open, is_fork}
 use Rattle.scope_rules.specs.Scopes.{joined}
 use Rattle.scope_rules.specs.Outcomes.{joining}
-use Rattle.scope_rules.specs.Table.{check_of}
+use Rattle.scope_rules.specs.Table.{row_check}
 use Rattle.scope_rules.specs.Legal.{Legal, Accepts}
 use Rattle.scope_rules.proofs.Accepted.{checks_at, not_refused}
 use Rattle.scope_rules.proofs.InnermostSteps.{innermost_same}
@@ -25,7 +25,7 @@ use Rattle.scope_rows.proofs.Keeping.{count_same, counts_kept, tasks_kept}
 
 -- what is accepted to be joined was opened, and isn't joined
 pub join_passed : (L : Limits) (h : History) (a s : ℕ) → Accepts L h (Join a s) → IsOpened h s × (joined h s ≡ false)
-unfolding check_of
+unfolding row_check
 join_passed L h a s ok = (scope_passed h s (checks_at _ 1 _ ok.passed refl), not_refused _ _ (checks_at _ 4 _ ok.passed refl))
 
 -- rows that agree have a row of what is joined

@@ -11,7 +11,7 @@ use Rattle.scope_rules.specs.Origin.{Origin}
 use Rattle.scope_rules.specs.Search.{earliest}
 use Rattle.scope_rules.specs.History.{History, before, followed, opening, opening_of}
 use Rattle.scope_rules.specs.Scopes.{surrounding, around, parent, level, next_level}
-use Rattle.scope_rules.specs.Table.{check_of}
+use Rattle.scope_rules.specs.Table.{row_check}
 use Rattle.scope_rules.specs.Legal.{Legal, Accepts}
 use Rattle.scope_rules.proofs.Accepted.{checks_at, not_refused}
 use Rattle.scope_rules.proofs.CutsGrow.{parent_stays}
@@ -53,7 +53,7 @@ within_start b s it = let none = it.is in absurd cc
 
 -- an open lies within the limit
 level_passed : (L : Limits) (h : History) (a : ℕ) (policy options : _) → Accepts L h (Open a policy options) → next_level h a ≤ LEVEL_LIMIT
-unfolding check_of
+unfolding row_check
 level_passed L h a policy options ok = ltb-false LEVEL_LIMIT (next_level h a) (not_refused _ _ (checks_at _ 2 _ ok.passed refl))
 
 passed_by : (L : Limits) (h : History) (e : Event) (o : Opening) → Accepts L h e → opening_of (length h.events) e ≡ Some o → next_level h o.actor ≤ LEVEL_LIMIT

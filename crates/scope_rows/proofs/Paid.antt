@@ -10,7 +10,7 @@ use Rattle.scope_rules.specs.History.{History, followed}
 use Rattle.scope_rules.specs.Legal.{Accepts, Legal}
 use Rattle.scope_rules.specs.Load.{load}
 use Rattle.scope_rules.specs.Owed.{missing, owed}
-use Rattle.scope_rules.specs.Table.{check_of}
+use Rattle.scope_rules.specs.Table.{row_check}
 use Rattle.scope_rules.proofs.Accepted.{checks_at, not_refused}
 use Rattle.scope_rules.proofs.OneEventMore.{along}
 use Rattle.scope_rules.proofs.Owing.{owed_event}
@@ -28,7 +28,7 @@ paid_more : (L : Limits) (h : History) (e : Event) → Legal L h → Accepts L h
 paid_more L h e legal ok paid = record { covered = omega (arith, paid.covered, owed_event L h e ok, load_push h e, length-append h.events (e ∷ [])) }
 
 fork_load : (L : Limits) (h : History) (a s : ℕ) (label : Label) → Accepts L h (Fork a s label) → load h ≤ L.load
-unfolding check_of
+unfolding row_check
 fork_load L h a s label ok =
     let fits = ltb-false _ _ (not_refused _ _ (checks_at _ 7 _ ok.passed refl)) in
     omega (arith, fits)

@@ -11,8 +11,8 @@ use Rattle.scope_rules.specs.declared.types.refusals.Refusal.TheVariants.{WrongS
 use Rattle.scope_rules.specs.History.{History, opening, forking}
 use Rattle.scope_rules.specs.Tasks.{stage, is_running}
 use Rattle.scope_rules.specs.Bindings.{stack, bound_as_opened, holds_last}
-use Rattle.scope_rules.specs.Checks.{checks, refuse_if, task_check, scope_check, actor_check, owns}
-use Rattle.scope_rules.specs.Table.{check_of}
+use Rattle.scope_rules.specs.Checks.{checks, refuse_if, task_check, actor_check, owns, known_actor, known_scope, known_task}
+use Rattle.scope_rules.specs.Table.{row_check}
 use Rattle.scope_rules.specs.Legal.{Accepts}
 use Rattle.scope_rules.proofs.Accepted.{checks_at, not_refused, not_not}
 use Rattle.scope_rules.proofs.Owing.{if_refused}
@@ -28,45 +28,45 @@ forked_some h k None is found = absurd cc
 forked_some h k (Some f) is found = record { forked = f; is = is }
 
 acts_by : (h : History) (a : ℕ) (b : Bool) → (a == 0) ≡ b → cond b (Ok tt) (checks (task_check h a ∷ refuse_if (not (is_running (stage h a))) WrongStage ∷ [])) ≡ Ok tt → (a ≡ 0) ⊎ IsForked h a
-unfolding task_check
+unfolding known_task
 acts_by h a true is passed = inl (eqb-true a 0 is)
 acts_by h a false is passed = inr (forked_some h a (forking h a) refl (not_not _ (not_refused _ _ (if_refused _ _ _ (checks_at _ 0 _ passed refl)))))
 
 -- who may act is main, or a task that was forked
 acts : (h : History) (a : ℕ) → actor_check h a ≡ Ok tt → (a ≡ 0) ⊎ IsForked h a
-unfolding actor_check
+unfolding known_actor
 acts h a passed = acts_by h a (a == 0) refl passed
 
 -- who opens a scope is main, or a task that was forked
 pub opener_acts : (L : Limits) (h : History) (o : Opening) → Accepts L h (Open o.actor o.policy o.options) → (o.actor ≡ 0) ⊎ IsForked h o.actor
-unfolding check_of
+unfolding row_check
 opener_acts L h o ok = acts h o.actor (checks_at _ 0 _ ok.passed refl)
 
 -- who forks a task is main, or a task that was forked
 pub forker_acts : (L : Limits) (h : History) (f : Forking) → Accepts L h (Fork f.actor f.scope f.label) → (f.actor ≡ 0) ⊎ IsForked h f.actor
-unfolding check_of
+unfolding row_check
 forker_acts L h f ok = acts h f.actor (checks_at _ 0 _ ok.passed refl)
 
 -- the scope of a fork was opened
 pub fork_opened : (L : Limits) (h : History) (f : Forking) → Accepts L h (Fork f.actor f.scope f.label) → IsOpened h f.scope
-unfolding check_of scope_check
+unfolding row_check known_scope
 fork_opened L h f ok = opened_some h f.scope (opening h f.scope) refl (not_not _ (not_refused _ _ (if_refused _ _ _ (checks_at _ 1 _ ok.passed refl))))
 
 -- who forks a task opened its scope
 pub fork_owned : (L : Limits) (h : History) (f : Forking) (o : Opening) → Accepts L h (Fork f.actor f.scope f.label) → opening h f.scope ≡ Some o → o.actor ≡ f.actor
-unfolding check_of owns
+unfolding row_check owns
 fork_owned L h f o ok is =
     let owner : owns h f.actor f.scope ≡ true = not_not _ (not_refused _ _ (checks_at _ 2 _ ok.passed refl)) in
     eqb-true o.actor f.actor (sym (ap (λ x. option_map_or (λ (y : Opening). y.actor == f.actor) x false) is) ∙ owner)
 
 -- at a fork the bindings are those of the scope's opening
 pub fork_bound : (L : Limits) (h : History) (f : Forking) → Accepts L h (Fork f.actor f.scope f.label) → bound_as_opened h f.actor f.scope ≡ true
-unfolding check_of
+unfolding row_check
 fork_bound L h f ok = not_not _ (not_refused _ _ (checks_at _ 5 _ ok.passed refl))
 
 -- an unbind takes a pair that is there, and that no scope holds
 pub unbind_free : (L : Limits) (h : History) (a : ℕ) → Accepts L h (Unbind a) → (0 < length (stack h a)) × (holds_last h a ≡ false)
-unfolding check_of
+unfolding row_check
 unbind_free L h a ok =
     let some : length (stack h a) ≡ 0 → ⊥ = eqb-false (length (stack h a)) 0 (not_refused _ _ (checks_at _ 1 _ ok.passed refl)) in
     (omega (arith, some), not_refused _ _ (checks_at _ 2 _ ok.passed refl))

@@ -7,7 +7,7 @@ use Rattle.scope_rules.specs.declared.types.records.Opening.{Opening}
 use Rattle.scope_rules.specs.Search.{earliest}
 use Rattle.scope_rules.specs.History.{History, before, opening}
 use Rattle.scope_rules.specs.Scopes.{joins, joined}
-use Rattle.scope_rules.specs.Checks.{scope_check}
+use Rattle.scope_rules.specs.Checks.{known_scope}
 use Rattle.scope_rules.specs.Outcomes.{joining_at, joining, outcome, outcome_of}
 use Rattle.scope_rules.specs.Replies.{outcome_check}
 use Rattle.scope_rules.proofs.Prefixes.{take_at}
@@ -44,7 +44,7 @@ no_outcome h s (Some o) (Some i) none there = absurd cc
 
 -- if the checks of an outcome pass, there is one
 pub outcome_there : (h : History) (s : ℕ) → outcome_check h s ≡ Ok tt → outcome h s ≡ None → ⊥
-unfolding outcome_check outcome joining joined scope_check
+unfolding outcome_check outcome joining joined known_scope
 outcome_there h s passed none =
     let given = not_not _ (not_refused _ _ (if_refused _ _ _ (checks_at _ 0 _ passed refl))) in
     let is_joined = not_not _ (not_refused _ _ (checks_at _ 1 _ passed refl)) in

@@ -10,8 +10,8 @@ use Rattle.scope_rules.specs.declared.types.records.Forking.{Forking}
 use Rattle.scope_rules.specs.History.{History, before, followed, opened_count, opening, forking, is_fork, forking_of}
 use Rattle.scope_rules.specs.Scopes.{closed, unclosed_of, innermost, forked_in, surrounding, around, outer, chain}
 use Rattle.scope_rules.specs.Chains.{IsInward, onward}
-use Rattle.scope_rules.specs.Checks.{scope_check}
-use Rattle.scope_rules.specs.Table.{check_of}
+use Rattle.scope_rules.specs.Checks.{known_scope}
+use Rattle.scope_rules.specs.Table.{row_check}
 use Rattle.scope_rules.specs.Legal.{Accepts, Legal}
 use Rattle.scope_rules.proofs.Accepted.{checks_at, not_refused, not_not}
 use Rattle.scope_rules.proofs.Owing.{if_refused}
@@ -75,7 +75,7 @@ opened_before h n s it = record {
 
 -- the scope of an accepted fork was opened before it
 fork_accepted : (L : Limits) (g : History) (i : ℕ) (e : Event) (f : Forking) → forking_of i e ≡ Some f → Accepts L g e → IsOpened g f.scope
-unfolding check_of scope_check
+unfolding row_check known_scope
 fork_accepted L g i (Fork actor scope label) f is ok =
     let same : record { place = i; actor = actor; scope = scope; label = label } ≡ f = cc in
     let there = opened_some g scope (opening g scope) refl (not_not _ (not_refused _ _ (if_refused _ _ _ (checks_at _ 1 _ ok.passed refl)))) in

@@ -15,8 +15,8 @@ use Rattle.scope_rules.specs.Scopes.{joins, joined}
 use Rattle.scope_rules.specs.Cancels.{move_of}
 use Rattle.scope_rules.specs.Completions.{is_task_of, completion_of, completions}
 use Rattle.scope_rules.specs.Tasks.{stage, is_at, is_stage}
-use Rattle.scope_rules.specs.Checks.{scope_check}
-use Rattle.scope_rules.specs.Table.{check_of}
+use Rattle.scope_rules.specs.Checks.{scope_check, known_scope}
+use Rattle.scope_rules.specs.Table.{row_check}
 use Rattle.scope_rules.specs.Legal.{Accepts, Legal}
 use Rattle.scope_rules.proofs.Accepted.{checks_at, not_refused, not_not}
 use Rattle.scope_rules.proofs.Completions.{count_by-cons}
@@ -28,7 +28,7 @@ use Rattle.scope_rules.proofs.Prefixes.{last_of-push}
 
 -- a scope that passed was opened
 pub scope_passed : (h : History) (s : ℕ) → scope_check h s ≡ Ok tt → IsOpened h s
-unfolding scope_check
+unfolding known_scope
 scope_passed h s passed = opened_some h s (opening h s) refl (not_not _ (not_refused _ _ (if_refused _ _ _ passed)))
 
 stays_opened : (h : History) (e : Event) (s : ℕ) → IsOpened h s → IsOpened (followed h e) s
@@ -41,7 +41,7 @@ either_true false c is = inr is
 -- ---- joins
 
 joins_opened : (L : Limits) (h : History) (e : Event) (s : ℕ) → Accepts L h e → joins s e ≡ true → IsOpened h s
-unfolding check_of
+unfolding row_check
 joins_opened L h (Join actor scope) s ok it = subst (IsOpened h) (eqb-true scope s it) (scope_passed h scope (checks_at _ 1 _ ok.passed refl))
 joins_opened L h _ s ok it = absurd cc
 
@@ -65,7 +65,7 @@ joined_opened L h s legal it = along L JoinedIsOpened join_start (λ g e lawful 
 -- ---- moves
 
 moves_opened : (L : Limits) (h : History) (e : Event) (s : ℕ) (d : Option ℕ) → Accepts L h e → move_of s e ≡ Some d → IsOpened h s
-unfolding check_of
+unfolding row_check
 moves_opened L h (Move scope deadline) s d ok it = by (scope == s) refl it
   where
     by : (b : Bool) → (scope == s) ≡ b → cond b (Some deadline) None ≡ Some d → IsOpened h s

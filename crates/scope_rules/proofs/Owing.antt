@@ -7,8 +7,8 @@ use Rattle.scope_rules.specs.declared.types.events.Event.{Event}
 use Rattle.scope_rules.specs.declared.types.events.Event.TheVariants.{Open, Fork, Reject, Start, Finish, Cancel, Move, Tick, Bind, Unbind, Join, BeginClose, EndClose}
 use Rattle.scope_rules.specs.Search.{earliest}
 use Rattle.scope_rules.specs.History.{History, followed, opening, forking, numbered_at, is_open, is_fork, opening_of, forking_of, scope_numbers, task_numbers}
-use Rattle.scope_rules.specs.Checks.{Checked, scope_check, task_check}
-use Rattle.scope_rules.specs.Table.{check_of}
+use Rattle.scope_rules.specs.Checks.{Checked, scope_check, task_check, known_scope, known_task}
+use Rattle.scope_rules.specs.Table.{row_check}
 use Rattle.scope_rules.specs.Load.{weight}
 use Rattle.scope_rules.specs.Legal.{Accepts}
 use Rattle.scope_rules.specs.Owed.{missing, owed, lacks, join_mark, begin_mark, end_mark, take_mark, finish_mark}
@@ -43,12 +43,12 @@ if_refused false c r passed = passed
 
 -- a scope whose number passed was given it
 pub given_scope : (h : History) (s : ℕ) → scope_check h s ≡ Ok tt → Given (scope_numbers h) s
-unfolding scope_check opening
+unfolding known_scope opening
 given_scope h s passed = given_by is_open opening_of h.base.scopes s h.events opens_it (opening h s) refl (not_not _ (not_refused _ _ (if_refused _ _ _ passed)))
 
 -- a task whose number passed was given it
 pub given_task : (h : History) (k : ℕ) → task_check h k ≡ Ok tt → Given (task_numbers h) k
-unfolding task_check forking
+unfolding known_task forking
 given_task h k passed = given_by is_fork forking_of h.base.tasks k h.events forks_it (forking h k) refl (not_not _ (not_refused _ _ (if_refused _ _ _ passed)))
 
 pub count_push : (kind : Event → Bool) (es : List Event) (e : Event) → count_by kind (es ++ e ∷ []) ≡ count_by kind es + cond (kind e) 1 0
@@ -137,32 +137,32 @@ paid_task_finish h e k given lacked is opens_none forks_none =
 
 -- what an accepted event takes has not been taken
 rejected_lacks : (L : Limits) (h : History) (k : ℕ) → Accepts L h (Reject k) → Given (task_numbers h) k × (lacks take_mark h.events k ≡ true)
-unfolding check_of
+unfolding row_check
 rejected_lacks L h k ok =
     let waits = waiting_task h k (not_not _ (not_refused _ _ (checks_at _ 1 _ ok.passed refl))) in
     (given_task h k (checks_at _ 0 _ ok.passed refl), lacks_take h k waits.0 waits.1)
 
 started_lacks : (L : Limits) (h : History) (k : ℕ) → Accepts L h (Start k) → Given (task_numbers h) k × (lacks take_mark h.events k ≡ true)
-unfolding check_of
+unfolding row_check
 started_lacks L h k ok =
     let waits = waiting_task h k (not_not _ (not_refused _ _ (checks_at _ 1 _ ok.passed refl))) in
     (given_task h k (checks_at _ 0 _ ok.passed refl), lacks_take h k waits.0 waits.1)
 
 finished_lacks : (L : Limits) (h : History) (k : ℕ) (end : _) → Accepts L h (Finish k end) → Given (task_numbers h) k × (lacks finish_mark h.events k ≡ true)
-unfolding check_of
+unfolding row_check
 finished_lacks L h k end ok =
     (given_task h k (checks_at _ 0 _ ok.passed refl), lacks_finish h k (running_task h k (not_not _ (not_refused _ _ (checks_at _ 1 _ ok.passed refl)))))
 
 joined_lacks : (L : Limits) (h : History) (a s : ℕ) → Accepts L h (Join a s) → Given (scope_numbers h) s × (lacks join_mark h.events s ≡ true)
-unfolding check_of
+unfolding row_check
 joined_lacks L h a s ok = (given_scope h s (checks_at _ 1 _ ok.passed refl), lacks_join h s (not_refused _ _ (checks_at _ 4 _ ok.passed refl)))
 
 begun_lacks : (L : Limits) (h : History) (a s : ℕ) → Accepts L h (BeginClose a s) → Given (scope_numbers h) s × (lacks begin_mark h.events s ≡ true)
-unfolding check_of
+unfolding row_check
 begun_lacks L h a s ok = (given_scope h s (checks_at _ 1 _ ok.passed refl), lacks_begin h s ok.recorded)
 
 ended_lacks : (L : Limits) (h : History) (a s : ℕ) → Accepts L h (EndClose a s) → Given (scope_numbers h) s × (lacks end_mark h.events s ≡ true)
-unfolding check_of
+unfolding row_check
 ended_lacks L h a s ok = (given_scope h s (checks_at _ 1 _ ok.passed refl), lacks_end h s (not_refused _ _ (checks_at _ 4 _ ok.passed refl)))
 
 -- what an accepted event pays for covers what is owed after it

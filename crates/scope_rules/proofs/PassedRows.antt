@@ -11,8 +11,8 @@ use Rattle.scope_rules.specs.declared.types.refusals.Refusal.TheVariants.{WrongS
 use Rattle.scope_rules.specs.History.{History, opening, opening_of, forking_of}
 use Rattle.scope_rules.specs.Scopes.{closed, closing, innermost, ends}
 use Rattle.scope_rules.specs.Tasks.{stage, is_running, is_waiting, settled, rejects, starts, finishes}
-use Rattle.scope_rules.specs.Checks.{checks, refuse_if, task_check, actor_check, owns, owner_check, is_innermost}
-use Rattle.scope_rules.specs.Table.{check_of}
+use Rattle.scope_rules.specs.Checks.{checks, refuse_if, task_check, actor_check, owns, owner_check, is_innermost, known_actor}
+use Rattle.scope_rules.specs.Table.{row_check}
 use Rattle.scope_rules.specs.Legal.{Accepts}
 use Rattle.scope_rules.proofs.Accepted.{checks_at, not_refused, not_not}
 
@@ -58,7 +58,7 @@ actor_by h a false main passed = inr (not_not _ (not_refused _ _ (checks_at _ 1 
 
 -- an actor that passed is main or runs
 pub actor_passed : (h : History) (a : ℕ) → actor_check h a ≡ Ok tt → IsActor h a
-unfolding actor_check
+unfolding known_actor
 actor_passed h a passed = actor_by h a (a == 0) refl passed
 
 owner_by : (h : History) (a s : ℕ) (o : Option Opening) → opening h s ≡ o → option_map_or (λ (x : Opening). x.actor == a) o false ≡ true → IsOwner h a s
@@ -85,12 +85,12 @@ none_by (Some n) is = absurd cc
 
 -- an accepted open is by an actor
 pub open_passed : (L : Limits) (h : History) (a : ℕ) (policy options : _) → Accepts L h (Open a policy options) → IsActor h a
-unfolding check_of
+unfolding row_check
 open_passed L h a policy options ok = actor_passed h a (checks_at _ 0 _ ok.passed refl)
 
 -- an accepted fork is by the owner of a scope that isn't closing
 pub fork_passed : (L : Limits) (h : History) (a s : ℕ) (label : _) → Accepts L h (Fork a s label) → ForkRow h a s
-unfolding check_of
+unfolding row_check
 fork_passed L h a s label ok = record {
   acts = actor_passed h a (checks_at _ 0 _ ok.passed refl);
   owner = owner_passed h a s (checks_at _ 2 _ ok.passed refl);
@@ -99,17 +99,17 @@ fork_passed L h a s label ok = record {
 
 -- what is accepted to start waits
 pub start_passed : (L : Limits) (h : History) (k : ℕ) → Accepts L h (Start k) → is_waiting (stage h k) ≡ true
-unfolding check_of
+unfolding row_check
 start_passed L h k ok = not_not _ (not_refused _ _ (checks_at _ 1 _ ok.passed refl))
 
 -- what is accepted to be rejected waits
 pub reject_passed : (L : Limits) (h : History) (k : ℕ) → Accepts L h (Reject k) → is_waiting (stage h k) ≡ true
-unfolding check_of
+unfolding row_check
 reject_passed L h k ok = not_not _ (not_refused _ _ (checks_at _ 1 _ ok.passed refl))
 
 -- what is accepted to finish runs, and has no unclosed scope
 pub finish_passed : (L : Limits) (h : History) (k : ℕ) (end : _) → Accepts L h (Finish k end) → FinishRow h k
-unfolding check_of
+unfolding row_check
 finish_passed L h k end ok = record {
   runs = not_not _ (not_refused _ _ (checks_at _ 1 _ ok.passed refl));
   no_scope = none_by (innermost h k) (not_refused _ _ (checks_at _ 2 _ ok.passed refl));
@@ -117,7 +117,7 @@ finish_passed L h k end ok = record {
 
 -- an accepted beginning of a close is by the owner, of a scope that isn't closing
 pub begin_close_passed : (L : Limits) (h : History) (a s : ℕ) → Accepts L h (BeginClose a s) → BeginRow h a s
-unfolding check_of
+unfolding row_check
 begin_close_passed L h a s ok = record {
   acts = actor_passed h a (checks_at _ 0 _ ok.passed refl);
   owner = owner_passed h a s (checks_at _ 2 _ ok.passed refl);
@@ -126,7 +126,7 @@ begin_close_passed L h a s ok = record {
 
 -- an accepted end of a close is by the owner, of its innermost scope, which is closing and settled
 pub end_close_passed : (L : Limits) (h : History) (a s : ℕ) → Accepts L h (EndClose a s) → EndRow h a s
-unfolding check_of
+unfolding row_check
 end_close_passed L h a s ok = record {
   acts = actor_passed h a (checks_at _ 0 _ ok.passed refl);
   owner = owner_passed h a s (checks_at _ 2 _ ok.passed refl);

@@ -16,7 +16,7 @@ use Rattle.scope_rules.specs.History.{History, before, followed, scopes, tasks, 
 use Rattle.scope_rules.specs.Cancels.{is_cancelled}
 use Rattle.scope_rules.specs.Load.{load, weight}
 use Rattle.scope_rules.specs.Checks.{Checked, refuse_full}
-use Rattle.scope_rules.specs.Table.{check_of}
+use Rattle.scope_rules.specs.Table.{check_of, row_check}
 use Rattle.scope_rules.specs.Legal.{Accepts, Legal, IsWithin}
 use Rattle.scope_rules.specs.Bindings.{stacked, first_stack, stack}
 use Rattle.scope_rules.specs.StackSteps.{height_after}
@@ -65,7 +65,7 @@ unless_already false c is passed = passed
 
 -- an accepted event fits the limit of load
 pub load_fits : (L : Limits) (h : History) (e : Event) → load h ≤ L.load → Accepts L h e → load h + weight e ≤ L.load
-unfolding check_of
+unfolding row_check
 load_fits L h (Open actor policy options) within ok = fits L h OPEN_LOAD (checks_at _ 4 _ ok.passed refl)
 load_fits L h (Fork actor scope label) within ok = fits L h FORK_LOAD (checks_at _ 7 _ ok.passed refl)
 load_fits L h (Cancel scope) within ok = fits L h STEP_LOAD (unless_already (is_cancelled h scope) _ ok.recorded (checks_at _ 2 _ ok.passed refl))
@@ -82,14 +82,14 @@ load_fits L h (EndClose actor scope) within ok = omega (arith, within)
 
 -- if an open is accepted there is a number for its scope, and the limit of scopes is not met
 pub open_number : (L : Limits) (h : History) (a : ℕ) (policy : Policy) (options : Options) → check_of L h (Open a policy options) ≡ Ok tt → (opened_count h < L.scopes) × (scopes h < GREATEST_NUMBER)
-unfolding check_of
+unfolding row_check
 open_number L h a policy options ok =
     let under = not_refused _ _ (checks_at _ 3 _ ok refl) in
     (leb-false L.scopes (opened_count h) (or_left _ _ under), leb-false GREATEST_NUMBER (scopes h) (or_right _ _ under))
 
 -- if a fork is accepted there is a number for its task, and the limit of tasks is not met
 pub fork_number : (L : Limits) (h : History) (a s : ℕ) (label : Label) → check_of L h (Fork a s label) ≡ Ok tt → (forked_count h < L.tasks) × (tasks h < GREATEST_NUMBER)
-unfolding check_of
+unfolding row_check
 fork_number L h a s label ok =
     let under = not_refused _ _ (checks_at _ 6 _ ok refl) in
     (leb-false L.tasks (forked_count h) (or_left _ _ under), leb-false GREATEST_NUMBER (tasks h) (or_right _ _ under))

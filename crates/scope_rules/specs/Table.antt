@@ -7,7 +7,9 @@ use Rattle.scope_rules.specs.declared.types.values.Fault.{Fault}
 use Rattle.scope_rules.specs.declared.types.events.Event.{Event}
 use Rattle.scope_rules.specs.declared.types.events.Event.TheVariants.{Open, Fork, Reject, Start, Finish, Cancel, Move, Tick, Bind, Unbind, Join, BeginClose, EndClose}
 use Rattle.scope_rules.specs.declared.types.refusals.Refusal.{Refusal}
-use Rattle.scope_rules.specs.declared.types.refusals.Refusal.TheVariants.{NotOwner, Closed, NotJoined, Structure, WrongStage, ClockBack, TooMany, NotReady, NotBound, Unavailable, NotSuccess, NotFailed, TooDeep}
+use Rattle.scope_rules.specs.declared.types.refusals.Refusal.TheVariants.{Unavailable, NotSuccess, NotFailed}
+use Rattle.scope_rules.specs.declared.types.checks.Failed.{Failed}
+use Rattle.scope_rules.specs.declared.types.checks.Failed.TheVariants as failed
 use Rattle.scope_rules.specs.declared.types.capacity.Limits.{Limits}
 use Rattle.scope_rules.specs.declared.types.capacity.TheConstants.{LEVEL_LIMIT, OPEN_LOAD, FORK_LOAD, STEP_LOAD}
 use Rattle.scope_rules.specs.declared.types.answers.State.{State}
@@ -18,27 +20,31 @@ use Rattle.scope_rules.specs.Scopes.{joined, closed, innermost, next_level, clos
 use Rattle.scope_rules.specs.Cancels.{is_cancelled}
 use Rattle.scope_rules.specs.Tasks.{stage, is_running, is_waiting, ready, settled}
 use Rattle.scope_rules.specs.Bindings.{stack, bound_as_opened, holds_last}
-use Rattle.scope_rules.specs.Checks.{Checked, refuse_if, checks, refuse_full, scope_check, task_check, actor_check, owns, owner_check, refuse_closing, refuse_joined, in_closing, is_innermost}
+use Rattle.scope_rules.specs.Checks.{Tried, Checked, refusal_of, refuse_if, checks, known_scope, known_task, known_actor, owns, owned, not_closing, not_joined, load_fits, in_closing, is_innermost}
 
 -- the table: one row an event
-abbrev pub row_of : Limits → History → Event → List Checked
-row_of L h (Open actor policy options) = actor_check h actor ∷ refuse_if (in_closing h actor) Closed ∷ refuse_if (nat_lt LEVEL_LIMIT (next_level h actor)) TooDeep ∷ refuse_if (over_scopes L h) TooMany ∷ refuse_full L h OPEN_LOAD ∷ []
-row_of L h (Fork actor scope label) = actor_check h actor ∷ scope_check h scope ∷ owner_check h actor scope ∷ refuse_closing h scope ∷ refuse_joined h scope ∷ refuse_if (not (bound_as_opened h actor scope)) Structure ∷ refuse_if (over_tasks L h) TooMany ∷ refuse_full L h FORK_LOAD ∷ []
-row_of L h (Reject task) = task_check h task ∷ refuse_if (not (is_waiting (stage h task))) WrongStage ∷ []
-row_of L h (Start task) = task_check h task ∷ refuse_if (not (is_waiting (stage h task))) WrongStage ∷ []
-row_of L h (Finish task end) = task_check h task ∷ refuse_if (not (is_running (stage h task))) WrongStage ∷ refuse_if (is_some (innermost h task)) Structure ∷ []
-row_of L h (Cancel scope) = scope_check h scope ∷ refuse_closing h scope ∷ (if is_cancelled h scope then Ok tt else refuse_full L h STEP_LOAD) ∷ []
-row_of L h (Move scope deadline) = scope_check h scope ∷ refuse_closing h scope ∷ refuse_joined h scope ∷ refuse_full L h STEP_LOAD ∷ []
-row_of L h (Tick now) = refuse_if (nat_lt now (moment h)) ClockBack ∷ refuse_full L h STEP_LOAD ∷ []
-row_of L h (Bind actor pair) = actor_check h actor ∷ refuse_full L h STEP_LOAD ∷ []
-row_of L h (Unbind actor) = actor_check h actor ∷ refuse_if (length (stack h actor) == 0) NotBound ∷ refuse_if (holds_last h actor) Structure ∷ refuse_full L h STEP_LOAD ∷ []
-row_of L h (Join actor scope) = actor_check h actor ∷ scope_check h scope ∷ owner_check h actor scope ∷ refuse_closing h scope ∷ refuse_joined h scope ∷ refuse_if (not (ready h scope)) NotReady ∷ []
-row_of L h (BeginClose actor scope) = actor_check h actor ∷ scope_check h scope ∷ owner_check h actor scope ∷ []
-row_of L h (EndClose actor scope) = actor_check h actor ∷ scope_check h scope ∷ owner_check h actor scope ∷ refuse_if (not (closing h scope)) WrongStage ∷ refuse_if (closed h scope) Closed ∷ refuse_if (not (is_innermost h actor scope)) Structure ∷ refuse_if (not (settled h scope)) NotReady ∷ []
+abbrev pub rows : {F : Type 0} → (Failed → F) → Limits → History → Event → List (Tried F)
+rows made L h (Open actor policy options) = known_actor made h actor ∷ refuse_if (in_closing h actor) (made (failed.ClosingAround actor)) ∷ refuse_if (nat_lt LEVEL_LIMIT (next_level h actor)) (made (failed.TooDeep actor)) ∷ refuse_if (over_scopes L h) (made failed.Scopes) ∷ load_fits made L h OPEN_LOAD ∷ []
+rows made L h (Fork actor scope label) = known_actor made h actor ∷ known_scope made h scope ∷ owned made h actor scope ∷ not_closing made h scope ∷ not_joined made h scope ∷ refuse_if (not (bound_as_opened h actor scope)) (made (failed.BoundOtherwise actor scope)) ∷ refuse_if (over_tasks L h) (made failed.Tasks) ∷ load_fits made L h FORK_LOAD ∷ []
+rows made L h (Reject task) = known_task made h task ∷ refuse_if (not (is_waiting (stage h task))) (made (failed.NotWaiting task)) ∷ []
+rows made L h (Start task) = known_task made h task ∷ refuse_if (not (is_waiting (stage h task))) (made (failed.NotWaiting task)) ∷ []
+rows made L h (Finish task end) = known_task made h task ∷ refuse_if (not (is_running (stage h task))) (made (failed.NotRunning task)) ∷ refuse_if (is_some (innermost h task)) (made (failed.Unclosed task)) ∷ []
+rows made L h (Cancel scope) = known_scope made h scope ∷ not_closing made h scope ∷ (if is_cancelled h scope then Ok tt else load_fits made L h STEP_LOAD) ∷ []
+rows made L h (Move scope deadline) = known_scope made h scope ∷ not_closing made h scope ∷ not_joined made h scope ∷ load_fits made L h STEP_LOAD ∷ []
+rows made L h (Tick now) = refuse_if (nat_lt now (moment h)) (made (failed.ClockBack now)) ∷ load_fits made L h STEP_LOAD ∷ []
+rows made L h (Bind actor pair) = known_actor made h actor ∷ load_fits made L h STEP_LOAD ∷ []
+rows made L h (Unbind actor) = known_actor made h actor ∷ refuse_if (length (stack h actor) == 0) (made (failed.NoBinding actor)) ∷ refuse_if (holds_last h actor) (made (failed.HeldBinding actor)) ∷ load_fits made L h STEP_LOAD ∷ []
+rows made L h (Join actor scope) = known_actor made h actor ∷ known_scope made h scope ∷ owned made h actor scope ∷ not_closing made h scope ∷ not_joined made h scope ∷ refuse_if (not (ready h scope)) (made (failed.Pending scope)) ∷ []
+rows made L h (BeginClose actor scope) = known_actor made h actor ∷ known_scope made h scope ∷ owned made h actor scope ∷ []
+rows made L h (EndClose actor scope) = known_actor made h actor ∷ known_scope made h scope ∷ owned made h actor scope ∷ refuse_if (not (closing h scope)) (made (failed.NotClosing scope)) ∷ refuse_if (closed h scope) (made (failed.Closed scope)) ∷ refuse_if (not (is_innermost h actor scope)) (made (failed.NotInnermost actor scope)) ∷ refuse_if (not (settled h scope)) (made (failed.Pending scope)) ∷ []
 
--- what the event is refused for after h: the first check of its row that does not pass
-unfoldable pub check_of : Limits → History → Event → Checked
-check_of L h e = checks (row_of L h e)
+-- what is made of the first check of the event's row that fails after h
+unfoldable pub row_check : {F : Type 0} → (Failed → F) → Limits → History → Event → Tried F
+row_check made L h e = checks (rows made L h e)
+
+-- what the event is refused for
+abbrev pub check_of : Limits → History → Event → Checked
+check_of L h e = row_check refusal_of L h e
 
 -- all is so already: the event is answered that, and not recorded
 abbrev pub is_already : History → Event → Bool
@@ -46,9 +52,13 @@ is_already h (Cancel scope) = is_cancelled h scope
 is_already h (BeginClose actor scope) = closing h scope
 is_already h _ = false
 
--- what a retirement, which is no event, is refused for
+-- a retirement, which is no event, has a row of its own
+abbrev pub retire_row : {F : Type 0} → (Failed → F) → History → ℕ → List (Tried F)
+retire_row made h a = known_actor made h a ∷ refuse_if (not (a == 0)) (made (failed.NotMain a)) ∷ refuse_if (is_some (innermost h 0)) (made (failed.Unclosed 0)) ∷ []
+
+-- what a retirement is refused for
 unfoldable pub retire_check : History → ℕ → Checked
-retire_check h a = checks (actor_check h a ∷ refuse_if (not (a == 0)) NotOwner ∷ refuse_if (is_some (innermost h 0)) Structure ∷ [])
+retire_check h a = checks (retire_row refusal_of h a)
 
 -- the actor opened the scope of task k
 abbrev pub owns_task : History → ℕ → ℕ → Bool
@@ -59,12 +69,18 @@ abbrev pub task_joined : History → ℕ → Bool
 task_joined h k = option_map_or (λ f. joined h f.scope) (forking h k) false
 
 -- the state of task k may be read by the actor
+abbrev pub reading_row : {F : Type 0} → (Failed → F) → History → ℕ → ℕ → List (Tried F)
+reading_row made h a k = known_actor made h a ∷ known_task made h k ∷ refuse_if (not (owns_task h a k)) (made (failed.NotTaskOwner a k)) ∷ refuse_if (not (task_joined h k)) (made (failed.NotJoined k)) ∷ []
+
 unfoldable pub reading_check : History → ℕ → ℕ → Checked
-reading_check h a k = checks (actor_check h a ∷ task_check h k ∷ refuse_if (not (owns_task h a k)) NotOwner ∷ refuse_if (not (task_joined h k)) NotJoined ∷ [])
+reading_check h a k = checks (reading_row refusal_of h a k)
 
 -- the deadline in effect may be asked: the scope is there, and not closed
+abbrev pub until_row : {F : Type 0} → (Failed → F) → History → ℕ → List (Tried F)
+until_row made h s = known_scope made h s ∷ refuse_if (closed h s) (made (failed.Closed s)) ∷ []
+
 unfoldable pub until_check : History → ℕ → Checked
-until_check h s = checks (scope_check h s ∷ refuse_if (closed h s) Closed ∷ [])
+until_check h s = checks (until_row refusal_of h s)
 
 -- the value that the state shows
 abbrev pub value_shown : State → Result Value Refusal
@@ -78,11 +94,11 @@ fault_shown state_is.Unavailable = Err Unavailable
 fault_shown (state_is.Success value) = Err NotFailed
 fault_shown (state_is.Failed fault) = Ok fault
 
--- the check's refusal, or else the answer
-abbrev pub checked_then : {A : Type 0} → Checked → Result A Refusal → Result A Refusal
+-- what is made of the check that failed, or else the answer
+abbrev pub checked_then : {A F : Type 0} → Tried F → Result A F → Result A F
 checked_then (Ok done) answer = answer
 checked_then (Err r) answer = Err r
 
--- the check's refusal, or else this value
-abbrev pub answering : {A : Type 0} → Checked → A → Result A Refusal
+-- the same, or else this value
+abbrev pub answering : {A F : Type 0} → Tried F → A → Result A F
 answering check x = checked_then check (Ok x)

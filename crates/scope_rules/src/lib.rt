@@ -13,6 +13,7 @@ pub use types::answers::{
 pub use types::bases::Base;
 pub use types::capacity::Limits;
 pub use types::catalogs::{AnyEnd, Catalog, Due, is_runtime_fault};
+pub use types::checks::Failed;
 pub use types::events::{Binding, Event, Expiry, Options};
 pub use types::infos::{ScopeInfo, ScopeStage};
 pub use types::joiners::{Policy, Rule};

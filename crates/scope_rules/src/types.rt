@@ -4,6 +4,7 @@ pub mod answers;
 pub mod bases;
 pub mod capacity;
 pub mod catalogs;
+pub mod checks;
 pub mod events;
 pub mod infos;
 pub mod joiners;

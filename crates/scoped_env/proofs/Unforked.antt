@@ -9,7 +9,7 @@ use Rattle.scope_rules.specs.declared.types.records.Forking.{Forking}
 use Rattle.scope_rules.specs.Origin.{Origin}
 use Rattle.scope_rules.specs.History.{History, followed, forking}
 use Rattle.scope_rules.specs.Bindings.{stacked, stack}
-use Rattle.scope_rules.specs.Table.{check_of}
+use Rattle.scope_rules.specs.Table.{row_check}
 use Rattle.scope_rules.specs.Legal.{Accepts, Legal}
 use Rattle.scope_rules.proofs.Accepted.{checks_at}
 use Rattle.scope_rules.proofs.Growing.{forking_stays}
@@ -20,7 +20,7 @@ use Rattle.scope_rules.proofs.Stages.{running_forked}
 
 -- who binds is main, or runs
 binder_acts : (L : Limits) (h : History) (a : ℕ) (pair : Binding) → Accepts L h (Bind a pair) → IsActor h a
-unfolding check_of
+unfolding row_check
 binder_acts L h a pair ok = actor_passed h a (checks_at _ 0 _ ok.passed refl)
 
 -- who was never forked does not run

@@ -13,7 +13,7 @@ use Rattle.scope_script.specs.Replying.{reply_to}
 use Rattle.scope_script.specs.Tallies.{is_refused, one_more, tally_after_line, with_reply}
 use Rattle.scope_script.specs.declared.session.tally.Tally.{Tally}
 use Rattle.refusal_reasons.specs.Fits.{refusing}
-use Rattle.refusal_reasons.specs.Obstacles.{Explained}
+use Rattle.refusal_reasons.specs.Reasons.{Explained}
 use Rattle.script_jobs.specs.Begun.{Begun, fault_in}
 use Rattle.script_jobs.specs.Fits.{RepliesFit, refusal_said}
 use Rattle.script_jobs.specs.Noting.{Noting}

@@ -18,7 +18,7 @@ use Rattle.scope_rules.specs.History.{History, followed}
 use Rattle.scope_rules.specs.Outcomes.{outcome}
 use Rattle.scope_rules.specs.Replies.{Realm, base_of, result_reply, fault_reply, binding_reply, outcome_check}
 use Rattle.scope_rules.specs.Scopes.{joins, joined}
-use Rattle.scope_rules.specs.Table.{check_of, is_already, retire_check, answering}
+use Rattle.scope_rules.specs.Table.{check_of, is_already, retire_check, answering, row_check}
 use Rattle.scope_rules.proofs.Joined.{outcome_there}
 use Rattle.script_words.specs.declared.commands.Command.TheVariants.{Do, Retire, Ask}
 use Rattle.script_words.specs.declared.commands.Question.{Question}
@@ -50,7 +50,7 @@ unfolding outcome_check checks then_check
 outcome_passes h s known done = rw (known, done) refl
 
 join_told : (realm : Realm) (a s : ℕ) → check_of realm.limits realm.history (event.Join a s) ≡ Ok tt → outcome (followed realm.history (event.Join a s)) s ≡ None → ⊥
-unfolding check_of
+unfolding row_check
 join_told realm a s passes =
     let h = realm.history in
     let e = event.Join a s in
@@ -107,5 +107,5 @@ question_fits h (question.Get actor key) = result_fits reply.Value (λ x. refl) 
 pub replies_fit : EventsFit → RetirementsFit → QuestionsFit → RepliesFit
 unfolding reply_to command_reason
 replies_fit events retirements questions realm (Do e) = do_fits (check_of realm.limits realm.history e) (is_already realm.history e) (told_of realm.history e) (told_fits realm e) ∙ events realm.limits realm.history e
-replies_fit events retirements questions realm (Retire actor) = retire_fits (retire_check realm.history actor) (base_of realm.history) ∙ retirements realm.history actor
-replies_fit events retirements questions realm (Ask asked) = question_fits realm.history asked ∙ questions realm.history asked
+replies_fit events retirements questions realm (Retire actor) = retire_fits (retire_check realm.history actor) (base_of realm.history) ∙ retirements realm.limits realm.history actor
+replies_fit events retirements questions realm (Ask asked) = question_fits realm.history asked ∙ questions realm.limits realm.history asked

@@ -71,8 +71,8 @@ fn command_reason(book: &BookState<AnyEnd>, command: &Command) -> Result<(), Rea
     let events = &RealmEvents { realm };
     match command {
         Command::Do(event) => event_reason(realm, events, &limits, event),
-        Command::Retire { actor } => retire_reason(realm, *actor),
-        Command::Ask(question) => question_reason(realm, events, question),
+        Command::Retire { actor } => retire_reason(realm, events, &limits, *actor),
+        Command::Ask(question) => question_reason(realm, events, &limits, question),
     }
 }
 

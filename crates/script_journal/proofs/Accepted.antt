@@ -10,8 +10,8 @@ use Rattle.scope_rules.specs.declared.types.refusals.Refusal.TheVariants.{NotJoi
 use Rattle.scope_rules.specs.History.{History, followed, is_open}
 use Rattle.scope_rules.specs.Legal.{Accepts}
 use Rattle.scope_rules.specs.Scopes.{joined}
-use Rattle.scope_rules.specs.Checks.{checks, then_check, scope_check}
-use Rattle.scope_rules.specs.Table.{check_of}
+use Rattle.scope_rules.specs.Checks.{checks, then_check, scope_check, known_scope}
+use Rattle.scope_rules.specs.Table.{row_check}
 use Rattle.scope_rules.specs.Outcomes.{outcome}
 use Rattle.scope_rules.specs.Replies.{Realm, outcome_check}
 use Rattle.scope_rules.proofs.Accepted.{checks_at}
@@ -39,12 +39,12 @@ same_number s = grind (arith, nat_tests)
 
 -- an event that opens nothing gives no scope a number
 known_behind : (h : History) (e : Event) (s : ℕ) → is_open e ≡ false → scope_check (followed h e) s ≡ scope_check h s
-unfolding scope_check
+unfolding known_scope
 known_behind h e s none = rw (opening_same h e s none) refl
 
 -- a join that is accepted names a scope
 joins_known : (L : Limits) (h : History) (actor scope : ℕ) → Accepts L h (event.Join actor scope) → scope_check h scope ≡ Ok tt
-unfolding check_of
+unfolding row_check
 joins_known L h actor scope is = checks_at _ 1 _ is.passed refl
 
 -- behind a join that was accepted, what it gave may be asked

@@ -30,7 +30,7 @@ impl Plain {
         ensures { EntersOrMemory self.old (Event.Open actor policy options) (next_scope self.old.history) result self.new }
     {
         let view = self.view();
-        table::open_row(&view, &self.limits(), actor)?;
+        table::open_row::<_, Refusal>(&view, &self.limits(), actor)?;
         let scope = view.scopes() + 1;
         self.try_append(Event::Open {
             actor,
@@ -49,7 +49,7 @@ impl Plain {
         ensures { EntersOrMemory self.old (Event.Fork actor scope label) (fork_reply self.old.history scope) result self.new }
     {
         let view = self.view();
-        table::fork_row(&view, &self.limits(), actor, scope)?;
+        table::fork_row::<_, Refusal>(&view, &self.limits(), actor, scope)?;
         let task = view.tasks() + 1;
         let reply = if view.is_cancelled(scope) {
             ForkReply::Never(task)
@@ -69,7 +69,7 @@ impl Plain {
     pub fn reject(&mut self, task: TaskId) -> Result<(), Refusal>
         ensures { Enters self.old (Event.Reject task) tt result self.new }
     {
-        table::waiting_row(&self.view(), task)?;
+        table::waiting_row::<_, Refusal>(&self.view(), task)?;
         self.record(Event::Reject { task });
         Ok(())
     }
@@ -79,7 +79,7 @@ impl Plain {
     pub fn start(&mut self, task: TaskId) -> Result<(), Refusal>
         ensures { Enters self.old (Event.Start task) tt result self.new }
     {
-        table::waiting_row(&self.view(), task)?;
+        table::waiting_row::<_, Refusal>(&self.view(), task)?;
         self.record(Event::Start { task });
         Ok(())
     }
@@ -89,7 +89,7 @@ impl Plain {
     pub fn finish(&mut self, task: TaskId, end: End) -> Result<(), Refusal>
         ensures { Enters self.old (Event.Finish task end) tt result self.new }
     {
-        table::finish_row(&self.view(), task)?;
+        table::finish_row::<_, Refusal>(&self.view(), task)?;
         self.record(Event::Finish { task, end });
         Ok(())
     }
@@ -101,7 +101,7 @@ impl Plain {
         ensures { NotesOrMemory self.old (Event.Cancel scope) result self.new }
     {
         let view = self.view();
-        table::cancel_row(&view, &self.limits(), scope)?;
+        table::cancel_row::<_, Refusal>(&view, &self.limits(), scope)?;
         if view.is_cancelled(scope) {
             return Ok(Cancelling::Already);
         }
@@ -115,7 +115,7 @@ impl Plain {
     pub fn move_deadline(&mut self, scope: ScopeId, deadline: Option<u64>) -> Result<(), Refusal>
         ensures { EntersOrMemory self.old (Event.Move scope deadline) tt result self.new }
     {
-        table::move_row(&self.view(), &self.limits(), scope)?;
+        table::move_row::<_, Refusal>(&self.view(), &self.limits(), scope)?;
         self.try_append(Event::Move { scope, deadline })
     }
 
@@ -124,7 +124,7 @@ impl Plain {
     pub fn tick(&mut self, now: u64) -> Result<(), Refusal>
         ensures { EntersOrMemory self.old (Event.Tick now) tt result self.new }
     {
-        table::tick_row(&self.view(), &self.limits(), now)?;
+        table::tick_row::<_, Refusal>(&self.view(), &self.limits(), now)?;
         self.try_append(Event::Tick { now })
     }
 
@@ -133,7 +133,7 @@ impl Plain {
     pub fn bind(&mut self, actor: Actor, key: Name, value: Value) -> Result<(), Refusal>
         ensures { EntersOrMemory self.old (Event.Bind actor (record { key = key; value = value })) tt result self.new }
     {
-        table::bind_row(&self.view(), &self.limits(), actor)?;
+        table::bind_row::<_, Refusal>(&self.view(), &self.limits(), actor)?;
         self.try_append(Event::Bind {
             actor,
             binding: Binding { key, value },
@@ -146,7 +146,7 @@ impl Plain {
     pub fn unbind(&mut self, actor: Actor) -> Result<(), Refusal>
         ensures { EntersOrMemory self.old (Event.Unbind actor) tt result self.new }
     {
-        table::unbind_row(&self.view(), &self.limits(), actor)?;
+        table::unbind_row::<_, Refusal>(&self.view(), &self.limits(), actor)?;
         self.try_append(Event::Unbind { actor })
     }
 
@@ -157,7 +157,7 @@ impl Plain {
     pub fn join_now(&mut self, actor: Actor, scope: ScopeId) -> Result<(), Refusal>
         ensures { Enters self.old (Event.Join actor scope) tt result self.new }
     {
-        table::join_row(&self.view(), actor, scope)?;
+        table::join_row::<_, Refusal>(&self.view(), actor, scope)?;
         self.record(Event::Join { actor, scope });
         Ok(())
     }
@@ -170,7 +170,7 @@ impl Plain {
         ensures { Notes self.old (Event.BeginClose actor scope) result self.new }
     {
         let view = self.view();
-        table::begin_close_row(&view, actor, scope)?;
+        table::begin_close_row::<_, Refusal>(&view, actor, scope)?;
         if view.closing(scope) {
             return Ok(Cancelling::Already);
         }
@@ -188,7 +188,7 @@ impl Plain {
         ensures whole { OnOk result (IsWhole self.new.history scope) }
     {
         let view = self.view();
-        table::end_close_row(&view, actor, scope)?;
+        table::end_close_row::<_, Refusal>(&view, actor, scope)?;
         let verdict = view.verdict(scope);
         self.record(Event::EndClose { actor, scope });
         Ok(verdict)

@@ -125,7 +125,7 @@ impl Plain {
         ensures { AnswersValue (check_of self.now.limits self.now.history (Event.Join actor scope)) (preview self.now.history actor scope) result }
     {
         let _legal = self.limits();
-        table::join_row(&self.view(), actor, scope)?;
+        table::join_row::<_, Refusal>(&self.view(), actor, scope)?;
         let log = self.log(scope)?;
         match log.into_preview(self.allocator(), actor) {
             Ok(preview) => Ok(preview),

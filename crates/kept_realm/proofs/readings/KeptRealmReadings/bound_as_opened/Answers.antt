@@ -2,7 +2,11 @@
 use Rattle.std.proofs.Common.{sym, ◌∙◌}
 use Rattle.scope_checks.proofs.PassedReadings.{passed_bound, passed_owner}
 use Rattle.kept_realm.proofs.NeverOpened.{unbound_alone, same_height}
+use Rattle.kept_realm.proofs.There.{env_there}
 use Rattle.kept_realm.proofs.readings.KeptRealmReadings.bound_as_opened.Goals as goal
+
+pub stack_len-requires : goal.stack_len-requires
+stack_len-requires c = env_there c.args.self.now.history _ c.args.actor c.envs.ensures.0 c.requires.acts
 
 pub returns-in-Some : goal.returns-in-Some
 returns-in-Some c =
