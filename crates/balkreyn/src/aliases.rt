@@ -33,6 +33,28 @@ pub trait Forks<C: Catalog, N: RealmName, J: Answers>: Spawns<N, JobWork<C, N, J
 impl<C: Catalog, N: RealmName, J: Answers, S: Spawns<N, JobWork<C, N, J>>> Forks<C, N, J> for S {}
 
 /// A runtime by which one waits and sleeps, and that a job can have as its own handle: a `HostRuntime` is one.
+///
+/// A service under any such runtime:
+///
+/// ```rust
+/// impl<N: RealmName, R: Handle, S: Forks<AnyEnd, N, Ask<R>>> Service<S, N, R> for TwoShops {
+///     fn serve(self, rt: &R, ctx: &mut TaskCtx<AnyEnd, S, N>) -> Result<Option<i64>, Failed> {
+///         let mut clock = realm_clock(rt)?;
+///         let first = Ask {
+///             shop: self.shop,
+///             price: 30,
+///             takes: 5,
+///             clock,
+///         };
+///         let second = Ask {
+///             price: 12,
+///             takes: self.takes,
+///             ..first
+///         };
+///         Ok(serve(rt, ctx, &mut clock, (first, second), self.request)?)
+///     }
+/// }
+/// ```
 pub trait Handle: Wait + SystemTime + Copy {}
 
 impl<R: Wait + SystemTime + Copy> Handle for R {}

@@ -17,6 +17,33 @@ use std::sync::Wait;
 use thread_crew::Spawner;
 
 /// What shows its realm by an actor's token: a context. What is shown is of all that the token has seen then.
+///
+/// A job that takes the tree and the JSON of a realm, and the journal by its own context:
+///
+/// ```rust
+/// impl<K: Handle, N: RealmName, S: Spawner<N>> TypedJob<S, N> for Watch<K, N> {
+///     fn run_typed<R: Wait>(
+///         self,
+///         rt: &R,
+///         ctx: &mut TaskCtx<AnyEnd, S, N>,
+///         name: Name,
+///     ) -> Result<Seen, Fault> {
+///         let mut clock = self.clock;
+///         let until = clock.now().saturating_add(self.millis);
+///         match ctx.sleep_by(&clock.runtime(), &mut clock, until) {
+///             Ok(None) => match (
+///                 self.realm.tree(rt, self.alloc),
+///                 self.realm.dump(rt, self.alloc),
+///                 ctx.journal(rt, self.alloc),
+///             ) {
+///                 (Ok(tree), Ok(dump), Ok(script)) => Ok(Seen { tree, dump, script }),
+///                 _ => Err(Fault(name)),
+///             },
+///             _ => Err(Fault(name)), // the request came to its end before
+///         }
+///     }
+/// }
+/// ```
 pub trait ShowsByToken {
     ghost use Rattle.share_ledger.specs.Values.{OwnerValue};
 

@@ -9,6 +9,20 @@ use std::error::Error;
 use std::fmt;
 
 /// The system gives no time.
+///
+/// An error of a service that may be this one:
+///
+/// ```rust
+/// #[derive(Debug, Drop, Error)]
+/// enum Failed {
+///     #[error("{0}")]
+///     Refused(#[from] Refusal),
+///     #[error(transparent)]
+///     Time(#[from] NoTime),
+///     #[error("nobody wants the price any more")]
+///     Unwanted,
+/// }
+/// ```
 #[derive(Clone, Copy, Debug, PartialEq, Eq)]
 pub struct NoTime;
 

@@ -8,6 +8,23 @@ use thread_crew::Spawner;
 
 /// A job with a handle, which it reads, writes, sleeps and looks at the clock by: the runtime that a job is
 /// handed waits, and does nothing else.
+///
+/// Forks one, with a copy of its own handle:
+///
+/// ```rust
+/// fn nap<N: RealmName, R: Handle, S: Forks<AnyEnd, N, By<R, Nap>>>(
+///     rt: &R,
+///     ctx: &mut TaskCtx<AnyEnd, S, N>,
+///     job: Nap,
+/// ) -> Result<State, Refusal> {
+///     within(rt, ctx, Joiner::AwaitAll, Options::PLAIN, |ctx, scope| {
+///         let io = *rt;
+///         fork(rt, ctx, scope, job.name, By { io, job })?;
+///         ctx.join(rt, scope)?;
+///         ctx.state(rt, 1)
+///     })
+/// }
+/// ```
 #[derive(Drop)]
 pub struct By<K, J> {
     /// The handle, as main's `HostRuntime`.
@@ -16,6 +33,24 @@ pub struct By<K, J> {
 }
 
 /// What does its work by a handle of this type.
+///
+/// A job that sleeps by its handle, whatever is cancelled:
+///
+/// ```rust
+/// impl<K: SystemTime, S: Spawner<N>, N: RealmName> JobBy<K, AnyEnd, S, N> for Nap {
+///     fn run_by<R: Wait>(self, _rt: &R, io: &K, _ctx: &mut TaskCtx<AnyEnd, S, N>) -> End {
+///         let nap = Duration::from_millis(self.millis);
+///         let Ok(before) = Instant::now(io) else {
+///             return Err(Fault(self.name));
+///         };
+///         thread::sleep(io, nap);
+///         match before.elapsed(io) {
+///             Ok(slept) if nap <= slept => Ok(Value::Text(self.name)),
+///             _ => Err(Fault(self.name)),
+///         }
+///     }
+/// }
+/// ```
 pub trait JobBy<K, C: Catalog, S: Spawner<N>, N: RealmName>: Answers {
     /// Does the job, as `Job::run` does, by the handle.
     fn run_by<R: Wait>(self, rt: &R, io: &K, ctx: &mut TaskCtx<C, S, N>) -> End

@@ -32,6 +32,42 @@ pub trait Requests<J, R: Handle> {
 }
 
 /// Which of the two realms.
+///
+/// Turns counted by their side:
+///
+/// ```rust
+/// impl<K: Wait + Drop> Turned for Counted<K> {
+///     fn ended(&self, side: Side, report: Option<CloseReport>) {
+///         let mut count = self.count.lock(&self.rt);
+///         match side {
+///             Side::First => count.first = count.first.saturating_add(1),
+///             Side::Second => count.second = count.second.saturating_add(1),
+///         }
+///         let Some(report) = report else {
+///             return;
+///         };
+///         let mut forked = 0u32;
+///         for entry in report.log.entries() {
+///             match *entry {
+///                 LogEntry::Fork { .. } => forked = forked.saturating_add(1),
+///                 LogEntry::Finish { end: Ok(_), .. } => {
+///                     count.succeeded = count.succeeded.saturating_add(1);
+///                 }
+///                 LogEntry::Finish { end: Err(_), .. } => {
+///                     count.failed = count.failed.saturating_add(1);
+///                 }
+///                 _ => {}
+///             }
+///         }
+///         if forked == 2 {
+///             count.of_two = count.of_two.saturating_add(1);
+///         }
+///         if count.of_two >= ENOUGH {
+///             self.enough.open(&self.rt);
+///         }
+///     }
+/// }
+/// ```
 #[derive(Clone, Copy, PartialEq, Eq)]
 pub enum Side {
     First,

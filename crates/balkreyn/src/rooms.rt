@@ -8,6 +8,36 @@ use scope_rules::Base;
 use scope_rules::types::capacity::{FORK_LOAD, OPEN_LOAD, STEP_LOAD};
 
 /// What one request takes of its realm's capacity, between two retirements, at the most.
+///
+/// Requests of two kinds, and of none, so that the realm itself says if there is no room:
+///
+/// ```rust
+/// fn a_turn_ends_where_its_realm_is_full(rt: HostRuntime) -> Result<(), Fail> {
+///     let limits = room_for_four().ok_or("limits")?;
+///     let alone = Load {
+///         kind: Kind::Alone,
+///         ..asking(40)
+///     };
+///     let one = Need {
+///         scopes: 0,
+///         tasks: 1,
+///         steps: 0,
+///     };
+///     let none = Need { tasks: 0, ..one }; // so that the realm itself says where there is no room
+///     for (load, request) in [(asking(40), ASKS), (alone, one), (alone, none)] {
+///         for requests in [Some(1), Some(1_000), None] {
+///             let turns = Turns {
+///                 request,
+///                 ..turns_of(requests, (limits, limits))
+///             };
+///             let Outcome { queue, why, count } = played(&rt, turns, load).ok_or("a realm")?;
+///             assert!(rt; why.is_none() && queue.load.left == 0 && queue.refused == 0);
+///             assert!(rt; count.succeeded == 40 && count.failed == 0);
+///         }
+///     }
+///     Ok(())
+/// }
+/// ```
 #[derive(Clone, Copy)]
 pub struct Need {
     /// Scopes: those that it opens, with all its jobs.

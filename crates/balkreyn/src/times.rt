@@ -10,6 +10,7 @@ use std::alloc::{AllocError, Global};
 use std::fmt;
 
 /// How far the history of a realm has come: what its last retirement left numbered, and how many events followed.
+/// `Times` shows by an example what it is for.
 #[derive(Clone, Copy, Debug, PartialEq)]
 pub struct Reached {
     pub scopes: ScopeId,
@@ -41,6 +42,21 @@ impl Look for Counting {
 /// When the events of a realm happened, in milliseconds of one clock: each by the look that was the first to find it. So
 /// an event happened at its time at the latest, and after the look before. It lies outside the rules: nothing that a
 /// realm answers depends on it. It takes eight bytes an event.
+///
+/// A service that looks twice, before and after a scope, and gives the journal with these times:
+///
+/// ```rust
+/// impl<N: RealmName, R: Handle, S: Forks<AnyEnd, N, By<R, Nap>>> Service<S, N, R> for Naps {
+///     fn serve(self, rt: &R, ctx: &mut TaskCtx<AnyEnd, S, N>) -> Result<Napped, Refusal> {
+///         let mut times = Times::new(self.alloc);
+///         times.note(ctx.reached(rt), 10)?;
+///         let state = nap(rt, ctx, self.nap)?;
+///         times.note(ctx.reached(rt), 50)?;
+///         let script = ctx.timed_journal(rt, self.alloc, &times, 60)?;
+///         Ok(Napped { state, script })
+///     }
+/// }
+/// ```
 #[derive(Drop)]
 pub struct Times {
     pub(crate) found: Vec<u64>,

@@ -3,10 +3,11 @@
 //! a picture of the line.
 //!
 //! A command meets the checks of its row in their order, and the first that fails says so (`scope_checks`). Its refusal
-//! and its reason are two functions of that check: `failures` has a case for each. The law of `laws` says that a command
-//! has a reason just if it is refused, that the reason is of that refusal, and that what it says is so. Events are counted from 1 since the base. At which of them a scope was joined or closed, the caller
-//! finds (`Events`). A sentence names an event by the line of a script whose command recorded it: the list of these
-//! lines is the caller's too.
+//! and its reason are two functions of that check: `failures` has a case for each. The law of `laws` says that a
+//! command has a reason just if it is refused, that the reason is of that refusal, and that what it says is so.
+//! Events are counted from 1 since the base. At which of them a scope was joined or closed, the caller finds
+//! (`Events`). A sentence names an event by the line of a script whose command recorded it: the list of these lines is
+//! the caller's too.
 #![tactic(auto)]
 
 mod causes;

@@ -1,4 +1,4 @@
-//! What can is in the way of a command.
+//! What can be in the way of a command.
 
 use scope_rules::{Actor, Fault, Name, ScopeId, Stage, TaskId, Value};
 

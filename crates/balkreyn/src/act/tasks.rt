@@ -56,7 +56,8 @@ pub enum Part<W> {
     Watch(Watch),
 }
 
-/// Such a job on its way to a thread, with the realm's clock.
+/// Such a job on its way to a thread, with the realm's clock. A service names it in no signature: `Serves` and `Acts`
+/// stand for it.
 #[derive(Drop)]
 pub struct Timed<K, W, O> {
     pub(crate) alloc: Global,
