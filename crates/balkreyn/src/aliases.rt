@@ -5,7 +5,7 @@ use realm_lock::RealmName;
 use scope_rules::Catalog;
 use std::rt::Clock as SystemTime;
 use std::sync::Wait;
-use thread_crew::Spawns;
+use thread_pool::Spawns;
 
 /// An executor on the threads of a realm that is named `N`, onto which jobs of type `J` can be forked. All
 /// spawners of their works are such.

@@ -14,7 +14,7 @@ use realm_lock::RealmName;
 use scope_rules::{Catalog, Refusal};
 use std::alloc::Global;
 use std::sync::Wait;
-use thread_crew::Spawner;
+use thread_pool::Spawner;
 
 /// What shows its realm by an actor's token: a context. What is shown is of all that the token has seen then.
 ///

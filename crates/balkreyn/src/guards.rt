@@ -10,7 +10,7 @@ ghost use Rattle.realm_core.specs.Closes.{ClosesBare};
 ghost use Rattle.realm_core.specs.Waiting.{FoundUnsettled, IsOpenOf};
 ghost use Rattle.realm_lock.specs.Waits.{ClosesAfter, JoinsBy, StaysUnclosed, StopsClosing};
 ghost use Rattle.balkreyn.specs.Bodies.{ClosesBy};
-ghost use Rattle.thread_crew.specs.Teams.{AreGone};
+ghost use Rattle.thread_pool.specs.Teams.{AreGone};
 ghost use Rattle.job_runner.specs.Forks.{ForksJob, KeepsThread, job_of, why_alone};
 ghost use Rattle.job_runner.specs.Lists.{ListsBelow, ListsOne};
 ghost use Rattle.job_runner.specs.Reports.{ClosesHere, StaysHere};
@@ -26,7 +26,7 @@ use share_ledger::RealmStep;
 use std::marker::Model;
 use std::rt::Clock as SystemTime;
 use std::sync::Wait;
-use thread_crew::Spawner;
+use thread_pool::Spawner;
 
 /// A scope that was opened and is still to be closed (JEP 505 has the block of a `try` in its place, Trio
 /// that of a nursery). It can't be dropped: if it would be, by a forgotten `close` or by a `?` before it,

@@ -4,7 +4,7 @@ use job_runner::{Answers, Job, TaskCtx};
 use realm_lock::RealmName;
 use scope_rules::{Catalog, End};
 use std::sync::Wait;
-use thread_crew::Spawner;
+use thread_pool::Spawner;
 
 /// A job with a handle, which it reads, writes, sleeps and looks at the clock by: the runtime that a job is
 /// handed waits, and does nothing else.

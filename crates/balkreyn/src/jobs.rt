@@ -10,7 +10,7 @@ use scope_rules::{AnyEnd, End, Fault, Name, Refusal, Value};
 use std::alloc::Global;
 use std::marker::Model;
 use std::sync::{Arc, Wait};
-use thread_crew::Spawner;
+use thread_pool::Spawner;
 
 /// What a job fails with that has errors of its own type. The rules know its task by a fault, which the error gives.
 ///

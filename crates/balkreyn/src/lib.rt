@@ -55,9 +55,9 @@ pub use scope_rules::{
     TaskState, TaskStates, TaskValue, TaskValues, Value, Verdict,
 };
 pub use scoped::{Scopes, within, within_by};
-pub use services::{Promises, Service, realm_clock, serve_on_crew};
+pub use services::{Promises, Service, realm_clock, serve_on_pool};
 pub use slots::{Slot, fork_typed};
 pub use std::marker::Brand;
 pub use std::sync::Wait;
-pub use thread_crew::{Crew, CrewRuntime, OsThreads, Recalls, Spawner, Spawns};
+pub use thread_pool::{OsThreads, PoolRuntime, Recalls, Spawner, Spawns, ThreadPool};
 pub use times::{Reached, Times};

@@ -7,7 +7,7 @@ use crate::requests::{Requests, Side, Turned};
 use crate::rooms::Need;
 use crate::services::serve_within;
 use crate::{
-    Answers, AnyEnd, CrewRuntime, Job, JobWork, Limits, OsThreads, RealmName, Seed, ServiceError,
+    Answers, AnyEnd, Job, JobWork, Limits, OsThreads, PoolRuntime, RealmName, Seed, ServiceError,
 };
 use std::alloc::Global;
 use std::rt::Clock as SystemTime;
@@ -48,7 +48,7 @@ pub struct Turns {
 /// fn served<
 ///     A: RealmName + Send + Sync + 'static,
 ///     B: RealmName + Send + Sync + 'static,
-///     R: CrewRuntime + SystemTime,
+///     R: PoolRuntime + SystemTime,
 /// >(
 ///     rt: &R,
 ///     alloc: Global,
@@ -98,7 +98,7 @@ pub fn rotate<
         + 'static,
     Q: Requests<J, R> + Send + Drop,
     T: Turned + Sync,
-    R: CrewRuntime + SystemTime,
+    R: PoolRuntime + SystemTime,
 >(
     rt: &R,
     alloc: Global,
@@ -146,7 +146,7 @@ fn own<
     J: Answers + Job<AnyEnd, OsThreads<N, JobWork<AnyEnd, N, J>>, N> + Send + Drop + 'static,
     Q: Requests<J, R> + Drop,
     T: Turned,
-    R: CrewRuntime + SystemTime,
+    R: PoolRuntime + SystemTime,
 >(rt: &R, alloc: Global, seed: Seed, owner: Owner<'_, J, Q, T>) -> Result<(), ServiceError>
     requires { seed ≡ N.table }
 {

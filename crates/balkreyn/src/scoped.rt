@@ -3,7 +3,7 @@ ghost use Rattle.std.specs.Prelude.{◌≡◌, IsOk, MatchResult};
 ghost use Rattle.join_rules.specs.Joiners.{policy_of};
 ghost use Rattle.realm_core.specs.Calls.{SeesMore, history_seen};
 ghost use Rattle.realm_core.specs.Waiting.{IsOpenOf};
-ghost use Rattle.thread_crew.specs.Teams.{AreGone};
+ghost use Rattle.thread_pool.specs.Teams.{AreGone};
 ghost use Rattle.job_runner.specs.Lists.{ListsBelow};
 ghost use Rattle.balkreyn.specs.Bodies.{Closes, ClosesBy, ClosesFrom, Opens, RunsWithin};
 
@@ -13,7 +13,7 @@ use realm_lock::RealmName;
 use scope_rules::{Catalog, Options, Refusal, ScopeId, Verdict};
 use std::rt::Clock as SystemTime;
 use std::sync::Wait;
-use thread_crew::Spawner;
+use thread_pool::Spawner;
 
 /// Where scopes are opened and closed by an actor's token: a context, of whatever jobs and threads. It
 /// stands between `within` and `TaskCtx`, so that a body is a closure over any context.
@@ -82,7 +82,7 @@ pub trait Scopes {
 
 impl<C: Catalog, S: Spawner<N>, N: RealmName> Scopes for TaskCtx<C, S, N> {
     ghost use Rattle.std.specs.Prelude.{◌≡◌, MatchResult};
-    ghost use Rattle.thread_crew.specs.Teams.{AreGone};
+    ghost use Rattle.thread_pool.specs.Teams.{AreGone};
     ghost use Rattle.job_runner.specs.Lists.{ListsBelow, ListsOne};
 
     ghost token = { λ ctx. ctx.token };

@@ -1,4 +1,4 @@
-//! A service on a crew of its own, from its opening to its end.
+//! A service on a pool of its own, from its opening to its end.
 ghost use Rattle.std.specs.Prelude.{◌≡◌, IfOk, None};
 
 use crate::aliases::Handle;
@@ -8,7 +8,7 @@ use realm_lock::{Realm, RealmName, Seed};
 use scope_rules::{AnyEnd, Limits, Refusal};
 use std::alloc::Global;
 use std::rt::Clock as SystemTime;
-use thread_crew::{Crew, CrewRuntime, OsThreads, Spawner};
+use thread_pool::{OsThreads, PoolRuntime, Spawner, ThreadPool};
 
 /// What a service may return. It is apart from how the service runs, as `Answers` does.
 ///
@@ -63,11 +63,11 @@ pub fn realm_clock<R: Handle>(rt: &R) -> Result<SystemClock<R>, NoTime>
 ///
 /// # Errors
 /// That of the service; and before it begins one of `Memory`, if memory or a thread is refused.
-pub fn serve_on_crew<
+pub fn serve_on_pool<
     N: RealmName + Send + Sync + 'static,
     J: Answers + Job<AnyEnd, OsThreads<N, JobWork<AnyEnd, N, J>>, N> + Send + Drop + 'static,
     V: Service<OsThreads<N, JobWork<AnyEnd, N, J>>, N, R> + Drop,
-    R: CrewRuntime + SystemTime,
+    R: PoolRuntime + SystemTime,
 >(rt: &R, alloc: Global, seed: Seed, keep: usize, service: V) -> Result<V::Answer, V::Error>
     requires { seed ≡ N.table }
     ensures { IfOk result (λ answer. V.may_answer service answer) }
@@ -80,7 +80,7 @@ pub(crate) fn serve_within<
     N: RealmName + Send + Sync + 'static,
     J: Answers + Job<AnyEnd, OsThreads<N, JobWork<AnyEnd, N, J>>, N> + Send + Drop + 'static,
     V: Service<OsThreads<N, JobWork<AnyEnd, N, J>>, N, R> + Drop,
-    R: CrewRuntime + SystemTime,
+    R: PoolRuntime + SystemTime,
 >(
     rt: &R,
     alloc: Global,
@@ -92,18 +92,18 @@ pub(crate) fn serve_within<
     requires { seed ≡ N.table }
     ensures { IfOk result (λ answer. V.may_answer service answer) }
 {
-    let Ok(crew) = Crew::<N, JobWork<AnyEnd, N, J>>::open(rt, alloc, keep) else {
+    let Ok(pool) = ThreadPool::<N, JobWork<AnyEnd, N, J>>::open(rt, alloc, keep) else {
         return Err(Refusal::Memory.into());
     };
-    let answer = match crew.threads() {
+    let answer = match pool.threads() {
         Ok(threads) => serve_over::<N, J, V, R>(rt, alloc, seed, limits, threads, service),
         Err(_) => Err(Refusal::Memory.into()),
     };
-    crew.close(rt);
+    pool.close(rt);
     answer
 }
 
-/// The same over the threads of a crew.
+/// The same over the threads of a pool.
 fn serve_over<
     N: RealmName,
     J: Answers + Job<AnyEnd, OsThreads<N, JobWork<AnyEnd, N, J>>, N> + Drop,

@@ -12,7 +12,7 @@ use scope_rules::{AnyEnd, Catalog, ForkReply, Label, Name, Refusal, ScopeId, Tas
 use std::alloc::{AllocError, Global};
 use std::marker::Model;
 use std::sync::{Arc, Wait};
-use thread_crew::{Spawner, Spawns};
+use thread_pool::{Spawner, Spawns};
 
 /// What a forked job's value is obtained from (JEP 505, `Subtask`). Its value is the job's name, with what its
 /// fork was answered.

@@ -213,7 +213,7 @@ impl Serves<Work> for FanOut {
 }
 
 /// Prints what each request comes to.
-pub fn show<R: CrewRuntime + SystemTime>(rt: &R, io: HostRuntime) -> std::io::Result<()> {
+pub fn show<R: PoolRuntime + SystemTime>(rt: &R, io: HostRuntime) -> std::io::Result<()> {
     match serve::<Work, FanOut, R>(rt, io.alloc(), 8, FanOut(io)) {
         Ok(answers) => {
             for answer in answers {

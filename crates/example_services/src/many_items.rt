@@ -65,7 +65,7 @@ impl Serves<Worker<Square>> for Sum {
 }
 
 /// Prints the sum with no limit that counts, and what is said of one that an item breaks.
-pub fn show<R: CrewRuntime + SystemTime>(rt: &R, io: HostRuntime) -> std::io::Result<()> {
+pub fn show<R: PoolRuntime + SystemTime>(rt: &R, io: HostRuntime) -> std::io::Result<()> {
     for limit in [u64::MAX, 64_000_000] {
         match serve::<Worker<Square>, Sum, R>(rt, io.alloc(), 8, Sum { limit }) {
             Ok(Ok(sum)) => println!(io; "squares: {sum}")?,

@@ -69,7 +69,7 @@ impl Supervisor {
 }
 
 /// Prints how each life ended.
-pub fn show<R: CrewRuntime + SystemTime>(rt: &R, io: HostRuntime) -> std::io::Result<()> {
+pub fn show<R: PoolRuntime + SystemTime>(rt: &R, io: HostRuntime) -> std::io::Result<()> {
     match serve::<Beat, Supervisor, R>(rt, io.alloc(), 4, Supervisor(io)) {
         Ok(()) => println!(io; "well"),
         Err(failed) => println!(io; "{failed}"),

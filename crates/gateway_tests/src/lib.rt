@@ -1,4 +1,4 @@
-//! Tests on a crew of threads: of waits by a clock, and of the quote gateway, which runs on one thread too.
+//! Tests on a pool of threads: of waits by a clock, and of the quote gateway, which runs on one thread too.
 #![tactic(auto)]
 
 #[cfg(test)]

@@ -10,7 +10,7 @@ use std::alloc::Global;
 use std::sync::atomic::{AtomicU64, Ordering};
 use std::sync::{Arc, Wait};
 use std::thread;
-use thread_crew::{Spawner, Spawns};
+use thread_pool::{Spawner, Spawns};
 
 /// What the jobs of a realm share: a flag each of two, what is counted, and the names that they use.
 #[derive(Drop)]

@@ -10,7 +10,7 @@ use scope_log::{LogEntry, ScopeLog};
 use scope_rules::{AnyEnd, ForkReply, Limits, Options, Refusal, ScopeId, TaskId, Value};
 use std::alloc::Global;
 use std::sync::Wait;
-use thread_crew::{Crew, CrewRuntime, OsThreads, Spawner, Spawns};
+use thread_pool::{OsThreads, PoolRuntime, Spawner, Spawns, ThreadPool};
 
 /// The same with a shield.
 const SHIELD: Options = Options {
@@ -232,7 +232,7 @@ fn retire<N: RealmName, S: Spawner<N>, R: Wait>(
     }
 }
 
-/// In a realm, over the crew's threads.
+/// In a realm, over the pool's threads.
 fn over_threads<N: RealmName, R: Wait>(
     rt: &R,
     alloc: Global,
@@ -251,9 +251,9 @@ fn over_threads<N: RealmName, R: Wait>(
     Some(is_right)
 }
 
-/// Plays the scenario on a crew: false where something is otherwise than without a refusal. None where memory was
+/// Plays the scenario on a pool: false where something is otherwise than without a refusal. None where memory was
 /// refused before.
-pub fn play<N: RealmName + Send + Sync + 'static, R: CrewRuntime + Eprint>(
+pub fn play<N: RealmName + Send + Sync + 'static, R: PoolRuntime + Eprint>(
     rt: &R,
     alloc: Global,
     seed: Seed,
@@ -261,12 +261,12 @@ pub fn play<N: RealmName + Send + Sync + 'static, R: CrewRuntime + Eprint>(
     requires { seed ≡ N.table }
 {
     let board = Board::shared(alloc)?;
-    let crew = Crew::<N, JobWork<AnyEnd, N, Worker>>::open(rt, alloc, 2).ok()?;
-    let is_right = match crew.threads() {
+    let pool = ThreadPool::<N, JobWork<AnyEnd, N, Worker>>::open(rt, alloc, 2).ok()?;
+    let is_right = match pool.threads() {
         Ok(threads) => over_threads::<N, R>(rt, alloc, seed, threads, &board),
         Err(_) => None,
     };
-    crew.close(rt);
+    pool.close(rt);
     board.refusals.tell(rt);
     is_right
 }

@@ -44,7 +44,7 @@ use std::marker::Brand;
 use std::process::ExitCode;
 use std::rt::{Clock as SystemTime, Files};
 use std::sync::Wait;
-use thread_crew::CrewRuntime;
+use thread_pool::PoolRuntime;
 
 /// What the words say, the first of them the program's name.
 const WORDS: &str =
@@ -70,7 +70,7 @@ fn words_of_the_line(rt: &HostRuntime) -> Option<Vec<String>> {
 }
 
 /// Plays what the words say, and tells which calls were refused.
-fn status_of<R: CrewRuntime + SystemTime + Files + AllocGlobal + Print + Eprint>(
+fn status_of<R: PoolRuntime + SystemTime + Files + AllocGlobal + Print + Eprint>(
     rt: &R,
     words: &[String],
 ) -> u8 {
@@ -93,7 +93,7 @@ fn word(words: &[String], place: usize) -> &str {
 }
 
 /// Plays what the words say: false where something was otherwise. None where memory was refused before.
-fn play<R: CrewRuntime + SystemTime + Files + AllocGlobal + Print + Eprint>(
+fn play<R: PoolRuntime + SystemTime + Files + AllocGlobal + Print + Eprint>(
     rt: &R,
     words: &[String],
     refusals: &Refusals,

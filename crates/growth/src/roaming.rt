@@ -9,7 +9,7 @@ use scope_log::LogEntry;
 use scope_rules::{AnyEnd, Options, Rule, ScopeId, Value};
 use std::sync::Wait;
 use std::thread;
-use thread_crew::{Spawner, Spawns};
+use thread_pool::{Spawner, Spawns};
 
 /// How many things a job does, and in how many scopes of its own it is at most.
 const STEPS: u32 = 24;

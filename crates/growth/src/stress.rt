@@ -14,7 +14,7 @@ use std::alloc::{AllocError, Global};
 use std::marker::Brand;
 use std::rt::Clock as SystemTime;
 use std::sync::Wait;
-use thread_crew::{Crew, CrewRuntime, OsThreads, RefuseNth};
+use thread_pool::{OsThreads, PoolRuntime, RefuseNth, ThreadPool};
 
 /// How deep jobs fork jobs.
 const DEPTH: u32 = 2;
@@ -93,7 +93,7 @@ fn in_context<N: RealmName, R: Wait + SystemTime>(
     (is_right && is_replayed).then_some(history.len())
 }
 
-/// A realm over the crew's threads, of which main is refused one.
+/// A realm over the pool's threads, of which main is refused one.
 fn over_threads<N: RealmName, R: Wait + SystemTime>(
     rt: &R,
     alloc: Global,
@@ -114,9 +114,9 @@ fn over_threads<N: RealmName, R: Wait + SystemTime>(
     events
 }
 
-/// A realm on a crew of its own. How many jobs were called, marks seen, and events; None where something was
+/// A realm on a pool of its own. How many jobs were called, marks seen, and events; None where something was
 /// wrong. Where memory is refused before it begins, there are none.
-fn realm<N: RealmName + Send + Sync + 'static, R: CrewRuntime + SystemTime>(
+fn realm<N: RealmName + Send + Sync + 'static, R: PoolRuntime + SystemTime>(
     rt: &R,
     alloc: Global,
     seed: Seed,
@@ -127,19 +127,19 @@ fn realm<N: RealmName + Send + Sync + 'static, R: CrewRuntime + SystemTime>(
     let Some(board) = Board::shared(alloc) else {
         return Some((0, 0, 0));
     };
-    let Ok(crew) = Crew::<N, JobWork<AnyEnd, N, Worker>>::open(rt, alloc, 4) else {
+    let Ok(pool) = ThreadPool::<N, JobWork<AnyEnd, N, Worker>>::open(rt, alloc, 4) else {
         return Some((0, 0, 0));
     };
-    let events = match crew.threads() {
+    let events = match pool.threads() {
         Ok(threads) => over_threads::<N, R>(rt, alloc, seed, threads, &board, number),
         Err(_) => Some(0),
     };
-    crew.close(rt);
+    pool.close(rt);
     Some((board.counts().0, board.marks(), events?))
 }
 
 /// So many realms, by numbers that look random from the seed on. Says what was counted, or which number was wrong.
-pub fn play<R: CrewRuntime + SystemTime + Print + Eprint>(
+pub fn play<R: PoolRuntime + SystemTime + Print + Eprint>(
     rt: &R,
     alloc: Global,
     realms: u64,

@@ -10,7 +10,7 @@ use realm_lock::RealmName;
 use scope_rules::{AnyEnd, Options, Refusal, ScopeId};
 use std::rt::Clock as SystemTime;
 use std::sync::{Arc, Wait};
-use thread_crew::{Spawner, Spawns};
+use thread_pool::{Spawner, Spawns};
 
 /// A clock of which each reading is a moment that nobody was told before.
 #[derive(Drop)]

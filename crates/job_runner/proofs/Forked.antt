@@ -8,7 +8,7 @@ use Rattle.scope_rules.specs.Ends.{LabelValue}
 use Rattle.share_ledger.specs.declared.steps.RealmStep.TheVariants.{Happened}
 use Rattle.share_ledger.specs.Values.{OwnerValue, TicketValue}
 use Rattle.realm_core.specs.Calls.{Accepted, SeesMore}
-use Rattle.thread_crew.specs.Teams.{TeamValue, HasThreadMore, IsSameTeam}
+use Rattle.thread_pool.specs.Teams.{TeamValue, HasThreadMore, IsSameTeam}
 use Rattle.job_runner.specs.declared.forking.ForkRefusal.{ForkRefusal}
 use Rattle.job_runner.specs.Forks.{ForkWhy, Before, Rejected, SpawnsJob, ForksJob, KeepsThread, reply_there, ticket_of, why_alone}
 

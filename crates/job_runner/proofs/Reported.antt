@@ -5,7 +5,7 @@ use Rattle.scope_rules.specs.declared.types.refusals.Refusal.{Refusal}
 use Rattle.scope_rules.specs.declared.types.refusals.Refusal.TheVariants.{Memory, NotReady}
 use Rattle.share_ledger.specs.Values.{OwnerValue, TicketValue}
 use Rattle.realm_core.specs.declared.reports.CloseReport.{CloseReport}
-use Rattle.thread_crew.specs.Teams.{TeamValue}
+use Rattle.thread_pool.specs.Teams.{TeamValue}
 use Rattle.job_runner.specs.Reports.{ClosesHere, EndsOwn, JoinsHere, StaysHere, Held}
 
 pub comes_here : (old begun new : OwnerValue) (s : ℕ) (team joined left : TeamValue) (result : Result CloseReport Refusal) → JoinsHere old begun s team joined → IfOk result (λ report. EndsOwn s joined.returned begun new report) → IfErr result (λ refusal. Held s joined.returned left.returned begun new refusal) → left.running ≡ joined.running

@@ -12,12 +12,12 @@ use Rattle.share_ledger.specs.declared.steps.RealmStep.TheVariants.{Happened}
 use Rattle.share_ledger.specs.Tickets.{end_in}
 use Rattle.atomic_table.specs.Seated.{TableId}
 use Rattle.share_ledger.specs.Named.{NamedValue}
-use Rattle.thread_crew.specs.Teams.{TeamValue, HasThreadMore, IsSameTeam}
+use Rattle.thread_pool.specs.Teams.{TeamValue, HasThreadMore, IsSameTeam}
 use Rattle.share_ledger.specs.Values.{OwnerValue, TicketValue, IsWaiting}
 use Rattle.realm_core.specs.Calls.{Accepted, Added, SeesMore}
 use Rattle.job_runner.specs.declared.forking.ForkRefusal.{ForkRefusal}
 use Rattle.job_runner.specs.declared.forking.ForkRefusal.TheVariants as refused
-use Rattle.thread_crew.specs.Returns.{Returns}
+use Rattle.thread_pool.specs.Returns.{Returns}
 use Rattle.job_runner.specs.Endings.{EndsAsMay}
 use Rattle.job_runner.specs.Rooms.{DoesInRoom}
 

@@ -7,7 +7,7 @@ use Rattle.scope_rules.specs.declared.types.refusals.Refusal.TheVariants.{Memory
 use Rattle.share_ledger.specs.Values.{OwnerValue, TicketValue}
 use Rattle.realm_core.specs.Closes.{Begins, EndsReported, HoldsBack}
 use Rattle.realm_core.specs.declared.reports.CloseReport.{CloseReport}
-use Rattle.thread_crew.specs.Teams.{TeamValue, Joins, ArePartedAt}
+use Rattle.thread_pool.specs.Teams.{TeamValue, Joins, ArePartedAt}
 
 -- a close that has begun ended, and its report is of those returned tickets that are of its scope, or of one
 -- that was opened later

@@ -8,7 +8,7 @@ use cancel_marks::Mark;
 use realm_lock::{Realm, RealmName};
 use scope_rules::Catalog;
 use std::sync::Wait;
-use thread_crew::Spawner;
+use thread_pool::Spawner;
 
 impl<C: Catalog, S: Spawner<N>, N: RealmName> TaskCtx<C, S, N> {
     /// The mark of the context's innermost scope, if that is seen to be cancelled; without an open scope,

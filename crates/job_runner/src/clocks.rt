@@ -6,7 +6,7 @@ use realm_lock::RealmName;
 use scope_rules::{Catalog, Refusal};
 use share_ledger::{Ask, Clock, RealmStep};
 use std::sync::Wait;
-use thread_crew::Spawner;
+use thread_pool::Spawner;
 
 /// Reads the clock, sets the realm's time to what it reads, and answers that. Refused as `Realm::tick` is; the
 /// clock was read then too.

@@ -5,13 +5,13 @@ ghost use Rattle.realm_core.specs.Calls.{SeesMore, history_seen};
 ghost use Rattle.realm_core.specs.Waiting.{IsOpenOf};
 ghost use Rattle.realm_core.specs.Closes.{ClosesBare};
 ghost use Rattle.job_runner.specs.Lists.{ListsBelow};
-ghost use Rattle.thread_crew.specs.Teams.{AreGone, Joins};
+ghost use Rattle.thread_pool.specs.Teams.{AreGone, Joins};
 
 use crate::contexts::TaskCtx;
 use realm_lock::RealmName;
 use scope_rules::{Catalog, Refusal, ScopeId, Verdict};
 use std::sync::Wait;
-use thread_crew::Spawner;
+use thread_pool::Spawner;
 
 impl<C: Catalog, S: Spawner<N>, N: RealmName> TaskCtx<C, S, N> {
     /// Closes the actor's scope, and all that the actor opened later and has not closed, the latest first

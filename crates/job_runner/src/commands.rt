@@ -7,7 +7,7 @@ use realm_lock::RealmName;
 use scope_rules::{Base, Cancelling, Catalog, Event, Name, Refusal, ScopeId, Value};
 use share_ledger::{Ask, RealmStep};
 use std::sync::Wait;
-use thread_crew::Spawner;
+use thread_pool::Spawner;
 
 /// Commands that neither open nor close a scope, each one hold of the realm's lock. Each does what the
 /// realm's call of that name does, with the context's token.

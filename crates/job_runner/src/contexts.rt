@@ -8,7 +8,7 @@ use realm_lock::{ActorToken, Realm, RealmName};
 use scope_rules::{Catalog, ScopeId};
 use share_ledger::OfRealm;
 use std::alloc::Global;
-use thread_crew::{Spawner, Team};
+use thread_pool::{Spawner, Team};
 
 /// A scope that was opened in a context and not closed there, with a seat at its own cell.
 #[derive(Drop)]

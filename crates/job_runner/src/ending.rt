@@ -3,7 +3,7 @@ ghost use Rattle.scope_rules.specs.Names.{text_of};
 ghost use Rattle.realm_core.specs.Calls.{SeesMore};
 ghost use Rattle.realm_core.specs.Tasks.{MayFinish};
 ghost use Rattle.share_ledger.specs.Tickets.{end_in};
-ghost use Rattle.thread_crew.specs.Returns.{Returns};
+ghost use Rattle.thread_pool.specs.Returns.{Returns};
 ghost use Rattle.job_runner.specs.Endings.{Ended, LeavesNothing, NothingOpen, has_open};
 
 use crate::contexts::TaskCtx;
@@ -11,7 +11,7 @@ use realm_lock::{ActorToken, Realm, RealmName, Ticket};
 use scope_rules::{Actor, Catalog, End, Fault, Name, ScopeId, TaskId};
 use share_ledger::OfRealm;
 use std::sync::Wait;
-use thread_crew::Spawner;
+use thread_pool::Spawner;
 
 /// What happens at the end of a context. What is open then is asked of the realm itself, whose answer nobody
 /// else can change. Nothing here takes memory.

@@ -4,7 +4,7 @@ ghost use Rattle.realm_core.specs.Tasks.{IsNewTicket};
 ghost use Rattle.job_runner.specs.Lists.{IsUnlisted};
 ghost use Rattle.job_runner.specs.Marks.{IsMarkOf};
 ghost use Rattle.job_runner.specs.Forks.{ForksJob, KeepsThread, SpawnsJob, job_of, refusal_of, why_alone, why_of};
-ghost use Rattle.thread_crew.specs.Teams.{HasRoom, HasThreadMore, IsSameTeam};
+ghost use Rattle.thread_pool.specs.Teams.{HasRoom, HasThreadMore, IsSameTeam};
 
 use crate::contexts::TaskCtx;
 use crate::held::HeldRealm;
@@ -14,7 +14,7 @@ use realm_lock::{Forked, RealmName, Ticket};
 use scope_rules::{Catalog, ForkReply, Refusal, ScopeId, TaskId};
 use share_ledger::{Answers, NamedJob};
 use std::sync::Wait;
-use thread_crew::{Spawner, Spawns};
+use thread_pool::{Spawner, Spawns};
 
 /// Why a fork was refused, with the job, which is handed back.
 #[derive(Drop)]

@@ -4,7 +4,7 @@ use crate::works::JobWork;
 use realm_lock::RealmName;
 use scope_rules::{Catalog, ScopeId};
 use std::sync::Wait;
-use thread_crew::{Recalls, Spawner};
+use thread_pool::{Recalls, Spawner};
 
 impl<C: Catalog, S: Spawner<N>, N: RealmName> TaskCtx<C, S, N> {
     /// Runs jobs of the scope that no thread has taken yet, in the caller's own thread, the last that was

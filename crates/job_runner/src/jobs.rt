@@ -3,7 +3,7 @@ use realm_lock::RealmName;
 use scope_rules::{Catalog, End};
 use share_ledger::Answers;
 use std::sync::Wait;
-use thread_crew::Spawner;
+use thread_pool::Spawner;
 
 /// What a thread runs (JEP 505 has callables in its place). It acts by its context: it may open scopes,
 /// fork jobs, wait, and look whether it was cancelled. A scope that it leaves open is closed after it, and

@@ -11,7 +11,7 @@ use realm_lock::RealmName;
 use scope_rules::{Catalog, Event, Options, Refusal, ScopeId};
 use share_ledger::RealmStep;
 use std::sync::Wait;
-use thread_crew::Spawner;
+use thread_pool::Spawner;
 
 impl<C: Catalog, S: Spawner<N>, N: RealmName> TaskCtx<C, S, N> {
     ghost use Rattle.job_runner.specs.Lists.{ListsOne};

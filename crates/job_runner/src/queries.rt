@@ -12,7 +12,7 @@ use crate::contexts::TaskCtx;
 use realm_lock::{BareOutcome, Joined, Look, Mark, Realm, RealmName, View};
 use scope_rules::{Catalog, Effective, Event, Fault, Name, Refusal, ScopeId, State, TaskId, Value};
 use std::sync::Wait;
-use thread_crew::Spawner;
+use thread_pool::Spawner;
 
 /// The join, and what can be read. Each does what the realm's call of that name does, with the context's
 /// token.

@@ -7,13 +7,13 @@ ghost use Rattle.realm_core.specs.Waiting.{IsOpenOf};
 ghost use Rattle.realm_core.specs.Closes.{IsBegun};
 ghost use Rattle.job_runner.specs.Lists.{ListsBelow};
 ghost use Rattle.job_runner.specs.Reports.{ClosesHere, EndsOwn, Held, StaysHere};
-ghost use Rattle.thread_crew.specs.Teams.{AreGone};
+ghost use Rattle.thread_pool.specs.Teams.{AreGone};
 
 use crate::contexts::TaskCtx;
 use realm_lock::{CloseReport, RealmName};
 use scope_rules::{Catalog, Refusal, ScopeId};
 use std::sync::Wait;
-use thread_crew::Spawner;
+use thread_pool::Spawner;
 
 impl<C: Catalog, S: Spawner<N>, N: RealmName> TaskCtx<C, S, N> {
     /// Closes the actor's scope as `close_scope_bare` does, with a report of it and of what was closed

@@ -12,7 +12,7 @@ use realm_lock::{Forked, RealmName};
 use scope_rules::{Catalog, ForkReply, Refusal, ScopeId};
 use share_ledger::NamedJob;
 use std::sync::Wait;
-use thread_crew::{Recalls, Spawner, Work};
+use thread_pool::{Recalls, Spawner, Work};
 
 impl<C: Catalog, S: Spawner<N>, N: RealmName> TaskCtx<C, S, N> {
     /// Forks the job in the actor's scope as `fork_job` does, and runs it in the caller's own thread, as a

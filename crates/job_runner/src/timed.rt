@@ -8,7 +8,7 @@ ghost use Rattle.realm_lock.specs.Waits.{ClosesAfter, HasCome, HasPassed, JoinsB
 ghost use Rattle.job_runner.specs.Lists.{KeepsOthers, ListsBelow};
 ghost use Rattle.job_runner.specs.Marks.{scope_here, seat_here, Shows};
 ghost use Rattle.job_runner.specs.Reports.{ClosesHere, StaysHere};
-ghost use Rattle.thread_crew.specs.Teams.{AreGone};
+ghost use Rattle.thread_pool.specs.Teams.{AreGone};
 
 use crate::contexts::{OpenScope, TaskCtx};
 use crate::markers::Marker;
@@ -18,7 +18,7 @@ use scope_rules::{Catalog, Refusal, ScopeId, Verdict};
 use share_ledger::Clock;
 use std::rt::Clock as SystemTime;
 use std::sync::Wait;
-use thread_crew::Spawner;
+use thread_pool::Spawner;
 
 /// The waits by a clock, by which deadlines pass while all wait (Trio). Each does what the realm's wait of
 /// that name does, or the context's without a clock: it sleeps until it is woken or the realm's next

@@ -1,5 +1,5 @@
 ghost use Rattle.std.specs.Prelude.{◌≡◌};
-ghost use Rattle.thread_crew.specs.Returns.{Returns};
+ghost use Rattle.thread_pool.specs.Returns.{Returns};
 ghost use Rattle.job_runner.specs.Endings.{EndsAsMay};
 ghost use Rattle.job_runner.specs.Forks.{IsReadyFor};
 
@@ -12,7 +12,7 @@ use scope_rules::Catalog;
 use share_ledger::{Answers, NamedJob};
 use std::alloc::Global;
 use std::sync::Wait;
-use thread_crew::{Ready, Spawner, Work};
+use thread_pool::{Ready, Spawner, Work};
 
 /// A named job on its way to a thread, with a share of its realm, and the mark of the scope in which it
 /// was forked.

@@ -16,7 +16,7 @@ use Rattle.realm_core.specs.Closes.{Begins, ClosesBare, ClosesDown}
 use Rattle.realm_core.specs.Ends.{Ends, end_step}
 use Rattle.realm_core.specs.Reports.{numbers}
 use Rattle.realm_core.specs.declared.reports.CloseReport.{CloseReport}
-use Rattle.thread_crew.specs.Teams.{TeamValue}
+use Rattle.thread_pool.specs.Teams.{TeamValue}
 use Rattle.job_runner.specs.Reports.{ClosesHere, StaysHere, StaysBegunHere}
 use Rattle.quote_gateway.specs.Going.{shapes, KeepsTasks, EndsScope}
 use Rattle.quote_gateway.proofs.Going.{added, agreed, for_first, goes_on, looked, sees_on, tokens_on}

@@ -12,7 +12,7 @@ use scope_rules::{Due, End, Label, Name};
 use std::alloc::{AllocError, Global};
 use std::rt::Clock as SystemTime;
 use std::sync::Wait;
-use thread_crew::Spawner;
+use thread_pool::Spawner;
 
 /// The job of an offer: it ends as the offer says.
 #[derive(Clone, Copy)]

@@ -18,7 +18,7 @@ use realm_lock::RealmName;
 use scope_rules::{Due, ForkReply, Options, Outcome, ScopeId, TaskId, TaskState};
 use std::alloc::{AllocError, Global};
 use std::sync::Wait;
-use thread_crew::{Spawner, Spawns};
+use thread_pool::{Spawner, Spawns};
 
 /// Opens the scope in which the offers' jobs run.
 pub(crate) fn open_scope<N: RealmName, S: Spawner<N>, R: Wait>(

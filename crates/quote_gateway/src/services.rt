@@ -19,7 +19,7 @@ use scope_rules::{Due, Limits};
 use std::alloc::Global;
 use std::rt::Clock as SystemTime;
 use std::sync::Wait;
-use thread_crew::{Spawner, Spawns};
+use thread_pool::{Spawner, Spawns};
 
 /// What a request in a realm of its own came to.
 pub struct Served<S: Spawner<N>, N: RealmName> {

@@ -19,7 +19,7 @@ use scope_rules::{Due, ScopeId};
 use std::alloc::Global;
 use std::rt::Clock as SystemTime;
 use std::sync::Wait;
-use thread_crew::Spawns;
+use thread_pool::Spawns;
 
 /// Serves the request over the context, which the caller keeps: forks the jobs, one for each offer of the
 /// plan, in order, in a scope that it opens for them with the mode's joiner; joins them, answers as the plan

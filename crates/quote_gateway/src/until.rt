@@ -17,7 +17,7 @@ use scope_rules::{Due, Expiry, Options, Refusal, ScopeId, TaskId};
 use std::alloc::Global;
 use std::rt::Clock as SystemTime;
 use std::sync::Wait;
-use thread_crew::Spawner;
+use thread_pool::Spawner;
 
 /// Until when a request is served, which is waited for by a clock `K`.
 pub(crate) trait Until<K, R: Wait> {

@@ -1,4 +1,4 @@
-//! Tests of jobs on threads, over a realm and a crew.
+//! Tests of jobs on threads, over a realm and a pool.
 #![tactic(auto)]
 
 #[cfg(test)]

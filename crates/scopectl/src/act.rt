@@ -31,7 +31,7 @@ use script_jobs::{
 use std::alloc::Global;
 use std::io::{ErrorKind, Read, Write};
 use std::rt::Clock as SystemTime;
-use thread_crew::{CrewRuntime, Spawns};
+use thread_pool::{PoolRuntime, Spawns};
 use tree_dump::TreePart;
 
 /// By which number a random script is made if none is given.
@@ -86,7 +86,7 @@ pub fn act<
     'a,
     N: RealmName + Send + Sync + 'static,
     S: Spawns<N, JobWork<Due, N, LateJob<T>>> + Drop,
-    T: CrewRuntime + SystemTime,
+    T: PoolRuntime + SystemTime,
     R: Read + Drop,
     W: Write + Drop,
     E: Write + Drop,
@@ -429,7 +429,7 @@ fn place_or(number: Option<u32>, other: u32) -> u32
 fn quote<
     N: RealmName + Send + Sync + 'static,
     S: Spawns<N, JobWork<Due, N, LateJob<T>>> + Drop,
-    T: CrewRuntime + SystemTime,
+    T: PoolRuntime + SystemTime,
     R: Read + Drop,
     W: Write + Drop,
     E: Write + Drop,

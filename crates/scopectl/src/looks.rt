@@ -15,7 +15,7 @@ use std::sync::{Arc, Wait};
 use std::thread::JoinHandle;
 use std::time::Duration;
 use std::{fs, io, thread};
-use thread_crew::CrewRuntime;
+use thread_pool::PoolRuntime;
 use tree_dump::TreePart;
 
 /// How many milliseconds lie between two looks: so exact are the times of a journal.
@@ -72,7 +72,7 @@ impl<'a> Looker<'a> {
 
     /// The plan is going to be served in this realm, of which the tree is wanted after so many milliseconds, if it is.
     /// Nothing that the realm answers depends on the look.
-    pub fn begin<N: RealmName + Send + Sync + 'static, T: CrewRuntime>(
+    pub fn begin<N: RealmName + Send + Sync + 'static, T: PoolRuntime>(
         &mut self,
         rt: &T,
         realm: Realm<Due, N>,
@@ -91,7 +91,7 @@ impl<'a> Looker<'a> {
     }
 
     /// The plan was served.
-    pub fn end<T: CrewRuntime>(&mut self, rt: &T) {
+    pub fn end<T: PoolRuntime>(&mut self, rt: &T) {
         if let Some(looking) = self.looking.take() {
             let Looking { done, thread } = looking;
             done.store(true, Ordering::SeqCst);
@@ -102,7 +102,7 @@ impl<'a> Looker<'a> {
 }
 
 /// Begins to look by a thread of its own, if there is one.
-fn begin_look<N: RealmName + Send + Sync + 'static, T: CrewRuntime>(
+fn begin_look<N: RealmName + Send + Sync + 'static, T: PoolRuntime>(
     rt: &T,
     host: HostRuntime,
     realm: Realm<Due, N>,

@@ -30,7 +30,7 @@ use std::io::{ErrorKind, IsTerminal};
 use std::process::ExitCode;
 use std::rt::Clock as SystemTime;
 use std::{env, io};
-use thread_crew::CrewRuntime;
+use thread_pool::PoolRuntime;
 use threads::borrowed;
 
 fn main(rt: HostRuntime) -> ExitCode {
@@ -120,7 +120,7 @@ fn has_no_color(rt: &HostRuntime) -> bool {
 }
 
 /// Does what is asked for, and answers the exit status.
-fn run<T: CrewRuntime + SystemTime>(rt: &T, host: &HostRuntime, asked: &Asked<'_>) -> u8 {
+fn run<T: PoolRuntime + SystemTime>(rt: &T, host: &HostRuntime, asked: &Asked<'_>) -> u8 {
     let alloc = host.alloc();
     let broken = Cell::new(false);
     let choice = color_choice(alloc, asked.color);
@@ -159,7 +159,7 @@ fn run<T: CrewRuntime + SystemTime>(rt: &T, host: &HostRuntime, asked: &Asked<'_
 }
 
 /// Does what is asked for, with this output, and answers the exit status.
-fn run_on<T: CrewRuntime + SystemTime, W: io::Write + Drop, E: io::Write + Drop>(
+fn run_on<T: PoolRuntime + SystemTime, W: io::Write + Drop, E: io::Write + Drop>(
     rt: &T,
     host: &HostRuntime,
     asked: &Asked<'_>,

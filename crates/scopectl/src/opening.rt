@@ -11,7 +11,7 @@ use std::alloc::Global;
 use std::io::{ErrorKind, Read, Write};
 use std::rt::{Clock as SystemTime, Files};
 use std::{fs, io};
-use thread_crew::CrewRuntime;
+use thread_pool::PoolRuntime;
 
 /// The one line that is said at a prompt.
 pub const PROMPT_GREETING: &str =
@@ -108,7 +108,7 @@ pub fn input_of<'a, R: Files, E: Write + Drop>(
 
 /// Does what the words say on this input, and answers the exit status. The replies are written, or compared if some are
 /// expected.
-pub fn act_by<'a, T: CrewRuntime + SystemTime, R: Read + Drop, W: Write + Drop, E: Write + Drop>(
+pub fn act_by<'a, T: PoolRuntime + SystemTime, R: Read + Drop, W: Write + Drop, E: Write + Drop>(
     rt: &T,
     alloc: Global,
     looks: &mut Looker<'_>,
@@ -126,7 +126,7 @@ pub fn act_by<'a, T: CrewRuntime + SystemTime, R: Read + Drop, W: Write + Drop, 
 }
 
 /// Does what the words say on this input, and answers the exit status.
-fn act_from<'a, T: CrewRuntime + SystemTime, R: Read + Drop, W: Write + Drop, E: Write + Drop>(
+fn act_from<'a, T: PoolRuntime + SystemTime, R: Read + Drop, W: Write + Drop, E: Write + Drop>(
     rt: &T,
     alloc: Global,
     looks: &mut Looker<'_>,
@@ -180,7 +180,7 @@ fn read_into<R: Files>(files: &R, path: &str, text: &mut Vec<u8>) -> io::Result<
 
 /// Does what the words say on this input but for writing the replies: these are compared with the expected ones. The
 /// first line that differs is said, and the status is 3 if one does.
-pub fn act_compared<'a, T: CrewRuntime + SystemTime, R: Read + Drop, E: Write + Drop>(
+pub fn act_compared<'a, T: PoolRuntime + SystemTime, R: Read + Drop, E: Write + Drop>(
     rt: &T,
     alloc: Global,
     looks: &mut Looker<'_>,

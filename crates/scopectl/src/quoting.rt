@@ -24,7 +24,7 @@ use scope_script::Watched;
 use std::alloc::{AllocError, Global};
 use std::io::Read;
 use std::rt::Clock as SystemTime;
-use thread_crew::{CrewRuntime, Spawner, Spawns};
+use thread_pool::{PoolRuntime, Spawner, Spawns};
 
 /// How many bytes are read at a time.
 const PIECE: usize = 4096;
@@ -38,7 +38,7 @@ const PIECE: usize = 4096;
 pub fn quoted<
     N: RealmName + Send + Sync + 'static,
     S: Spawns<N, JobWork<Due, N, LateJob<T>>> + Drop,
-    T: CrewRuntime + SystemTime,
+    T: PoolRuntime + SystemTime,
     R: Read + Drop,
 >(
     rt: &T,
@@ -97,7 +97,7 @@ fn read_from<R: Read + Drop>(alloc: Global, reader: &mut Watched<R>) -> Result<P
 fn answered<
     N: RealmName + Send + Sync + 'static,
     S: Spawns<N, JobWork<Due, N, LateJob<T>>> + Drop,
-    T: CrewRuntime + SystemTime,
+    T: PoolRuntime + SystemTime,
 >(
     rt: &T,
     alloc: Global,
@@ -133,7 +133,7 @@ fn answered<
 fn answer_to<
     N: RealmName + Send + Sync + 'static,
     S: Spawns<N, JobWork<Due, N, LateJob<T>>> + Drop,
-    T: CrewRuntime + SystemTime,
+    T: PoolRuntime + SystemTime,
 >(
     rt: &T,
     alloc: Global,
@@ -232,7 +232,7 @@ fn late_by<T: Copy>(
 fn asked<
     N: RealmName + Send + Sync + 'static,
     S: Spawns<N, JobWork<Due, N, LateJob<T>>> + Drop,
-    T: CrewRuntime + SystemTime,
+    T: PoolRuntime + SystemTime,
 >(
     rt: &T,
     alloc: Global,
@@ -263,7 +263,7 @@ fn asked<
 fn asked_by<
     N: RealmName + Send + Sync + 'static,
     S: Spawns<N, JobWork<Due, N, LateJob<T>>> + Drop,
-    T: CrewRuntime + SystemTime,
+    T: PoolRuntime + SystemTime,
 >(
     rt: &T,
     alloc: Global,
@@ -297,7 +297,7 @@ fn asked_by<
 }
 
 /// Has the realm of the context looked at. Answers whether there was memory for a share of it.
-fn begin_look<N: RealmName + Send + Sync + 'static, S: Spawner<N>, T: CrewRuntime>(
+fn begin_look<N: RealmName + Send + Sync + 'static, S: Spawner<N>, T: PoolRuntime>(
     rt: &T,
     ctx: &TaskCtx<Due, S, N>,
     looks: &mut Looker<'_>,

@@ -16,14 +16,14 @@ use std::alloc::{AllocError, Global};
 use std::io::{ErrorKind, Read, Write};
 use std::marker::Brand;
 use std::rt::Clock as SystemTime;
-use thread_crew::{Crew, CrewRuntime, Nobody, OsThreads};
+use thread_pool::{Nobody, OsThreads, PoolRuntime, ThreadPool};
 
-/// How many threads of a crew may rest.
+/// How many threads of a pool may rest.
 const KEPT: usize = 4;
 
 /// Does what the words say, and answers the exit status: `act` over threads if the words say a quote,
 /// and over none else. Of words that memory is refused for, it says so and does nothing.
-pub fn act_on<'a, T: CrewRuntime + SystemTime, R: Read + Drop, W: Write + Drop, E: Write + Drop>(
+pub fn act_on<'a, T: PoolRuntime + SystemTime, R: Read + Drop, W: Write + Drop, E: Write + Drop>(
     rt: &T,
     alloc: Global,
     looks: &mut Looker<'_>,
@@ -37,7 +37,7 @@ pub fn act_on<'a, T: CrewRuntime + SystemTime, R: Read + Drop, W: Write + Drop, 
         return refuse_words(ErrorKind::OutOfMemory, streams.errors);
     };
     if needs_threads(words) {
-        act_with_crew::<Brand, T, R, W, E>(rt, alloc, seed, looks, words, streams)
+        act_with_pool::<Brand, T, R, W, E>(rt, alloc, seed, looks, words, streams)
     } else {
         act_alone::<Brand, T, R, W, E>(rt, alloc, seed, looks, words, streams)
     }
@@ -66,7 +66,7 @@ fn needs_threads(words: &[&str]) -> bool {
 fn act_alone<
     'a,
     N: RealmName + Send + Sync + 'static,
-    T: CrewRuntime + SystemTime,
+    T: PoolRuntime + SystemTime,
     R: Read + Drop,
     W: Write + Drop,
     E: Write + Drop,
@@ -85,12 +85,12 @@ fn act_alone<
     act::<N, Nobody, T, R, W, E>(rt, alloc, seed, Nobody, looks, words, streams)
 }
 
-/// Does what the words say with a crew of threads, which is closed then. Where the crew's own thread is
+/// Does what the words say with a pool of threads, which is closed then. Where the pool's own thread is
 /// refused, so is each job's.
-fn act_with_crew<
+fn act_with_pool<
     'a,
     N: RealmName + Send + Sync + 'static,
-    T: CrewRuntime + SystemTime,
+    T: PoolRuntime + SystemTime,
     R: Read + Drop,
     W: Write + Drop,
     E: Write + Drop,
@@ -106,20 +106,20 @@ fn act_with_crew<
     requires sound { IsSound streams.old }
     ensures { Acts (map (λ word. word.now) words.now) (run R.remaining W.contents E.contents streams.old streams.new) result }
 {
-    let Ok(crew) = Crew::<N, JobWork<Due, N, LateJob<T>>>::open(rt, alloc, KEPT) else {
+    let Ok(pool) = ThreadPool::<N, JobWork<Due, N, LateJob<T>>>::open(rt, alloc, KEPT) else {
         return act_alone::<N, T, R, W, E>(rt, alloc, seed, looks, words, streams);
     };
-    let status = act_over::<N, T, R, W, E>(rt, alloc, seed, &crew, looks, words, streams);
-    crew.close(rt);
+    let status = act_over::<N, T, R, W, E>(rt, alloc, seed, &pool, looks, words, streams);
+    pool.close(rt);
     status
 }
 
-/// Does what the words say over the crew's threads. Where there is no room for a spawner of them, each job's
+/// Does what the words say over the pool's threads. Where there is no room for a spawner of them, each job's
 /// thread is refused.
 fn act_over<
     'a,
     N: RealmName + Send + Sync + 'static,
-    T: CrewRuntime + SystemTime,
+    T: PoolRuntime + SystemTime,
     R: Read + Drop,
     W: Write + Drop,
     E: Write + Drop,
@@ -127,7 +127,7 @@ fn act_over<
     rt: &T,
     alloc: Global,
     seed: Seed,
-    crew: &Crew<N, JobWork<Due, N, LateJob<T>>>,
+    pool: &ThreadPool<N, JobWork<Due, N, LateJob<T>>>,
     looks: &mut Looker<'_>,
     words: &'a [&'a str],
     streams: &mut Streams<'_, R, W, E>,
@@ -136,7 +136,7 @@ fn act_over<
     requires sound { IsSound streams.old }
     ensures { Acts (map (λ word. word.now) words.now) (run R.remaining W.contents E.contents streams.old streams.new) result }
 {
-    match crew.threads() {
+    match pool.threads() {
         Ok(threads) => act::<N, OsThreads<N, JobWork<Due, N, LateJob<T>>>, T, R, W, E>(
             rt, alloc, seed, threads, looks, words, streams,
         ),

@@ -2,7 +2,7 @@
 
 use balkreyn::act::{Acts, Happening, Hooks, Load, Observes, Serves, Task, scope, serve_with};
 use balkreyn::{
-    Cancelling, CauseKind, CrewRuntime, End, Fault, Joiner, Options, Outcome, Promises, Refusal,
+    Cancelling, CauseKind, End, Fault, Joiner, Options, Outcome, PoolRuntime, Promises, Refusal,
     ServiceError, Value, named,
 };
 use std::alloc::Global;
@@ -179,7 +179,7 @@ fn hooks_of(alloc: Global) -> Result<(Arc<Heard, Global>, Hooks<Heard>), Refusal
 }
 
 /// What the observer of such a service heard, if all went as it should.
-fn counted<R: CrewRuntime + SystemTime>(
+fn counted<R: PoolRuntime + SystemTime>(
     rt: &R,
     alloc: Global,
     cut: Cut,

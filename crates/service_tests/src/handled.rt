@@ -2,9 +2,9 @@
 ghost use Rattle.std.specs.Prelude.{◌≡◌};
 
 use balkreyn::{
-    Answers, AnyEnd, By, CrewRuntime, End, Fault, Forks, Handle, JobBy, Joiner, Name, Options,
+    Answers, AnyEnd, By, End, Fault, Forks, Handle, JobBy, Joiner, Name, Options, PoolRuntime,
     Promises, RealmName, Refusal, Seed, Service, ShowsByToken, Spawner, State, TaskCtx, Times,
-    Value, fork, serve_on_crew, within,
+    Value, fork, serve_on_pool, within,
 };
 use std::alloc::Global;
 use std::marker::Brand;
@@ -86,15 +86,15 @@ impl<N: RealmName, R: Handle, S: Forks<AnyEnd, N, By<R, Nap>>> Service<S, N, R> 
     }
 }
 
-/// How the nap ended, on a crew of its own.
-fn napped<N: RealmName + Send + Sync + 'static, R: CrewRuntime + SystemTime>(
+/// How the nap ended, on a pool of its own.
+fn napped<N: RealmName + Send + Sync + 'static, R: PoolRuntime + SystemTime>(
     rt: &R,
     seed: Seed,
     naps: Naps,
 ) -> Result<Napped, Refusal>
     requires { seed ≡ N.table }
 {
-    serve_on_crew::<N, By<R, Nap>, _, R>(rt, naps.alloc, seed, 4, naps)
+    serve_on_pool::<N, By<R, Nap>, _, R>(rt, naps.alloc, seed, 4, naps)
 }
 
 #[test]

@@ -2,7 +2,7 @@
 
 use balkreyn::act::{Acts, Happening, Hooks, Load, Observes, Serves, Task, scope, serve_with};
 use balkreyn::{
-    CrewRuntime, End, Fault, Joiner, Options, Promises, Refusal, ServiceError, Value, named,
+    End, Fault, Joiner, Options, PoolRuntime, Promises, Refusal, ServiceError, Value, named,
 };
 use std::alloc::Global;
 use std::process::Abort;
@@ -111,7 +111,7 @@ impl Serves<Lasts> for Three {
 }
 
 /// What the service answers, what its observer saw, and its counters behind it: at hand, forked, refused.
-fn hooked<R: CrewRuntime + SystemTime>(
+fn hooked<R: PoolRuntime + SystemTime>(
     rt: &R,
     alloc: Global,
 ) -> Result<((u64, u64, u64, u64, u64), (u64, u64, u64), bool), Refusal> {

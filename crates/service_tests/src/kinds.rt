@@ -1,10 +1,10 @@
-//! Two kinds of typed jobs in one crew, by the names of `balkreyn` alone: the code that docs/GUIDE.md shows.
+//! Two kinds of typed jobs in one pool, by the names of `balkreyn` alone: the code that docs/GUIDE.md shows.
 ghost use Rattle.std.specs.Prelude.{◌≡◌};
 
 use balkreyn::{
-    Answers, AnyEnd, CrewRuntime, End, Fault, Forks, Handle, Job, Joiner, Name, Options, Promises,
+    Answers, AnyEnd, End, Fault, Forks, Handle, Job, Joiner, Name, Options, PoolRuntime, Promises,
     RealmName, Refusal, ScopeId, Seed, Service, Slot, Spawner, TaskCtx, Typed, TypedJob, Yields,
-    fork_typed, serve_on_crew,
+    fork_typed, serve_on_pool,
 };
 use std::alloc::Global;
 use std::marker::Brand;
@@ -83,7 +83,7 @@ impl<N: RealmName, S: Spawner<N>> TypedJob<S, N> for AskStock {
     }
 }
 
-/// The works of one crew.
+/// The works of one pool.
 #[derive(Drop)]
 enum Shop {
     Page(Typed<AskPage>),
@@ -219,15 +219,15 @@ impl<N: RealmName, S: Forks<AnyEnd, N, Shop>, R: Handle> Service<S, N, R> for Lo
     }
 }
 
-/// What is found, on a crew of its own.
-fn looked<N: RealmName + Send + Sync + 'static, R: CrewRuntime + SystemTime>(
+/// What is found, on a pool of its own.
+fn looked<N: RealmName + Send + Sync + 'static, R: PoolRuntime + SystemTime>(
     rt: &R,
     seed: Seed,
     looks: Looks,
 ) -> Result<Found, Refusal>
     requires { seed ≡ N.table }
 {
-    serve_on_crew::<N, Shop, _, R>(rt, looks.alloc, seed, 4, looks)
+    serve_on_pool::<N, Shop, _, R>(rt, looks.alloc, seed, 4, looks)
 }
 
 #[test]

@@ -1,12 +1,12 @@
-//! Requests over `within` and over a guard, on a crew: the code that docs/GUIDE.md shows. It imports `balkreyn`
+//! Requests over `within` and over a guard, on a pool: the code that docs/GUIDE.md shows. It imports `balkreyn`
 //! alone.
 ghost use Rattle.std.specs.Prelude.{◌≡◌};
 
 use balkreyn::{
-    Answers, AnyEnd, Clock, CrewRuntime, End, Fault, Forks, Handle, Job, Joiner, Label, Name,
-    NamedJob, NoTime, Opened, Options, Outcome, Promises, RealmName, Refusal, ScopeId, Seed,
-    Service, Spawner, SystemClock, TaskCtx, TaskValue, Value, Verdict, fail_after, fork,
-    realm_clock, serve_on_crew, within, within_by,
+    Answers, AnyEnd, Clock, End, Fault, Forks, Handle, Job, Joiner, Label, Name, NamedJob, NoTime,
+    Opened, Options, Outcome, PoolRuntime, Promises, RealmName, Refusal, ScopeId, Seed, Service,
+    Spawner, SystemClock, TaskCtx, TaskValue, Value, Verdict, fail_after, fork, realm_clock,
+    serve_on_pool, within, within_by,
 };
 use std::alloc::Global;
 use std::marker::Brand;
@@ -307,8 +307,8 @@ impl<N: RealmName, R: Handle, S: Forks<AnyEnd, N, Ask<R>>> Service<S, N, R> for 
     }
 }
 
-/// Serves one request on a crew of its own.
-fn one_request<N: RealmName + Send + Sync + 'static, R: CrewRuntime + SystemTime>(
+/// Serves one request on a pool of its own.
+fn one_request<N: RealmName + Send + Sync + 'static, R: PoolRuntime + SystemTime>(
     rt: &R,
     alloc: Global,
     seed: Seed,
@@ -316,7 +316,7 @@ fn one_request<N: RealmName + Send + Sync + 'static, R: CrewRuntime + SystemTime
 ) -> Result<Option<i64>, Failed>
     requires { seed ≡ N.table }
 {
-    serve_on_crew::<N, Ask<R>, _, R>(rt, alloc, seed, 4, shops)
+    serve_on_pool::<N, Ask<R>, _, R>(rt, alloc, seed, 4, shops)
 }
 
 #[test]

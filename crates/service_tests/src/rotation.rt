@@ -2,8 +2,8 @@
 ghost use Rattle.std.specs.Prelude.{◌≡◌};
 
 use balkreyn::{
-    Answers, AnyEnd, Brand, CloseReport, CrewRuntime, End, Fault, Forks, Handle, Job, Joiner,
-    Limits, LogEntry, Name, Need, RealmName, Refusal, Requests, ScopeId, Seed, Side, Stopped,
+    Answers, AnyEnd, Brand, CloseReport, End, Fault, Forks, Handle, Job, Joiner, Limits, LogEntry,
+    Name, Need, PoolRuntime, RealmName, Refusal, Requests, ScopeId, Seed, Side, Stopped,
     SystemClock, TaskCtx, Turned, Turns, Value, fail_after, fork, rotate, within_by,
 };
 use std::alloc::Global;
@@ -127,7 +127,7 @@ const REQUEST: Need = Need {
 fn served<
     A: RealmName + Send + Sync + 'static,
     B: RealmName + Send + Sync + 'static,
-    R: CrewRuntime + SystemTime,
+    R: PoolRuntime + SystemTime,
 >(
     rt: &R,
     alloc: Global,
@@ -149,7 +149,7 @@ fn served<
 }
 
 /// What is left of so many requests, so many a turn, and what was counted.
-fn played<R: CrewRuntime + SystemTime + AllocGlobal>(
+fn played<R: PoolRuntime + SystemTime + AllocGlobal>(
     rt: &R,
     left: u32,
     requests: u32,

@@ -2,9 +2,9 @@
 ghost use Rattle.std.specs.Prelude.{◌≡◌};
 
 use balkreyn::{
-    Answers, AnyEnd, CrewRuntime, End, Fault, Forks, Handle, Job, Joiner, LogEntry, Name, Opened,
-    Options, Promises, RealmName, Refusal, Seed, Service, ServiceError, Spawner, SystemClock,
-    TaskCtx, Value, fail_after, fork, realm_clock, serve_on_crew, within, within_by,
+    Answers, AnyEnd, End, Fault, Forks, Handle, Job, Joiner, LogEntry, Name, Opened, Options,
+    PoolRuntime, Promises, RealmName, Refusal, Seed, Service, ServiceError, Spawner, SystemClock,
+    TaskCtx, Value, fail_after, fork, realm_clock, serve_on_pool, within, within_by,
 };
 use std::alloc::Global;
 use std::marker::Brand;
@@ -119,8 +119,8 @@ impl<N: RealmName, R: Handle, S: Forks<AnyEnd, N, Lingers<R>>> Service<S, N, R> 
     }
 }
 
-/// Closes so, on a crew of its own.
-fn closed<N: RealmName + Send + Sync + 'static, R: CrewRuntime + SystemTime>(
+/// Closes so, on a pool of its own.
+fn closed<N: RealmName + Send + Sync + 'static, R: PoolRuntime + SystemTime>(
     rt: &R,
     alloc: Global,
     seed: Seed,
@@ -128,7 +128,7 @@ fn closed<N: RealmName + Send + Sync + 'static, R: CrewRuntime + SystemTime>(
 ) -> Result<bool, ServiceError>
     requires { seed ≡ N.table }
 {
-    serve_on_crew::<N, Lingers<R>, _, R>(rt, alloc, seed, 4, closes)
+    serve_on_pool::<N, Lingers<R>, _, R>(rt, alloc, seed, 4, closes)
 }
 
 #[test]

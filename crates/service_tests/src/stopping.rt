@@ -2,7 +2,7 @@
 
 use balkreyn::act::{Acts, Serves, Stop, Task, scope, serve_until, shielded};
 use balkreyn::{
-    CrewRuntime, End, Fault, Joiner, Options, Outcome, Promises, Refusal, ServiceError, Value,
+    End, Fault, Joiner, Options, Outcome, PoolRuntime, Promises, Refusal, ServiceError, Value,
     named,
 };
 use std::alloc::Global;
@@ -89,7 +89,7 @@ fn job<X: Acts<Lasts>>(cx: &mut X) -> Result<bool, Refusal> {
 }
 
 /// Whether such a service ends within five seconds, with all seen.
-fn stops<R: CrewRuntime + SystemTime>(
+fn stops<R: PoolRuntime + SystemTime>(
     rt: &R,
     io: HostRuntime,
     stop: Arc<Stop, Global>,

@@ -2,8 +2,8 @@
 ghost use Rattle.std.specs.Prelude.{◌≡◌};
 
 use balkreyn::{
-    Answers, AnyEnd, CloseReport, CrewRuntime, End, Fault, Forks, Handle, Job, Joiner, Limits,
-    LogEntry, Name, Need, Options, RealmName, Refusal, Requests, Seed, ServiceError, Side, Stopped,
+    Answers, AnyEnd, CloseReport, End, Fault, Forks, Handle, Job, Joiner, Limits, LogEntry, Name,
+    Need, Options, PoolRuntime, RealmName, Refusal, Requests, Seed, ServiceError, Side, Stopped,
     SystemClock, TaskCtx, Turned, Turns, Value, fork, rotate, within,
 };
 use std::alloc::Global;
@@ -215,7 +215,7 @@ impl<K: Wait + Drop> Turned for Counted<K> {
 fn served<
     A: RealmName + Send + Sync + 'static,
     B: RealmName + Send + Sync + 'static,
-    R: CrewRuntime + SystemTime,
+    R: PoolRuntime + SystemTime,
 >(
     rt: &R,
     alloc: Global,
@@ -239,7 +239,7 @@ struct Outcome {
 }
 
 /// Serves these requests.
-fn played<R: CrewRuntime + SystemTime + AllocGlobal>(
+fn played<R: PoolRuntime + SystemTime + AllocGlobal>(
     rt: &R,
     turns: Turns,
     load: Load,

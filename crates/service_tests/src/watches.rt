@@ -4,7 +4,7 @@ use balkreyn::act::{
     Acts, Hooks, Load, Serves, Stop, Task, Watch, scope, serve, serve_watched, serve_with, shielded,
 };
 use balkreyn::{
-    CrewRuntime, End, Fault, Joiner, Options, Promises, Refusal, ServiceError, Value, named,
+    End, Fault, Joiner, Options, PoolRuntime, Promises, Refusal, ServiceError, Value, named,
 };
 use std::alloc::{AllocError, Global};
 use std::fs;
@@ -59,7 +59,7 @@ fn hang<X: Acts<Work>>(cx: &mut X, millis: u64) -> Result<(), Refusal> {
 }
 
 /// Runs the service beside a watch, which writes once nothing has happened for 60 milliseconds.
-fn watched<R: CrewRuntime + SystemTime>(
+fn watched<R: PoolRuntime + SystemTime>(
     rt: &R,
     io: HostRuntime,
     service: Hanging,

@@ -2,10 +2,10 @@
 ghost use Rattle.std.specs.Prelude.{◌≡◌};
 
 use balkreyn::{
-    Answers, AnyEnd, Clock, CrewRuntime, End, Fault, Forks, Handle, Job, Joiner, Name, Options,
+    Answers, AnyEnd, Clock, End, Fault, Forks, Handle, Job, Joiner, Name, Options, PoolRuntime,
     Promises, Realm, RealmName, Refusal, ScopeId, Seed, Service, ServiceError, Shows, ShowsByToken,
     Spawner, SystemClock, TaskCtx, Typed, TypedJob, Value, Yields, fork, fork_typed, realm_clock,
-    serve_on_crew, within,
+    serve_on_pool, within,
 };
 use std::alloc::Global;
 use std::marker::Brand;
@@ -65,7 +65,7 @@ impl<K: Handle, N: RealmName, S: Spawner<N>> TypedJob<S, N> for Watch<K, N> {
     }
 }
 
-/// The works of the crew: a shop that never answers, and the watch.
+/// The works of the pool: a shop that never answers, and the watch.
 #[derive(Drop)]
 enum Work<K, N: RealmName> {
     Shop,
@@ -145,15 +145,15 @@ impl<N: RealmName, R: Handle, S: Forks<AnyEnd, N, Work<R, N>>> Service<S, N, R> 
     }
 }
 
-/// What was seen, on a crew of its own.
-fn watched<N: RealmName + Send + Sync + 'static, R: CrewRuntime + SystemTime>(
+/// What was seen, on a pool of its own.
+fn watched<N: RealmName + Send + Sync + 'static, R: PoolRuntime + SystemTime>(
     rt: &R,
     seed: Seed,
     hangs: Hangs,
 ) -> Result<Seen, ServiceError>
     requires { seed ≡ N.table }
 {
-    serve_on_crew::<N, Work<R, N>, _, R>(rt, hangs.alloc, seed, 4, hangs)
+    serve_on_pool::<N, Work<R, N>, _, R>(rt, hangs.alloc, seed, 4, hangs)
 }
 
 #[test]

@@ -20,7 +20,7 @@ use scope_rules::{
 use std::alloc::Global;
 use std::rt::Clock as SystemTime;
 use std::sync::Wait;
-use thread_crew::Spawner;
+use thread_pool::Spawner;
 
 /// What a service and its jobs act by: the context of a task, which knows the realm's time. A helper has one bound,
 /// `X: Acts<W>`, where `W` is the type of its jobs. Each wait is by the realm's clock, so it ends at a deadline.
@@ -255,7 +255,7 @@ impl<K: Wait, O, S: Spawner<N>, N: RealmName> Wait for Cx<'_, K, O, S, N> {}
 
 impl<K, O, S: Spawner<N>, N: RealmName> Scopes for Cx<'_, K, O, S, N> {
     ghost use Rattle.std.specs.Prelude.{◌≡◌, MatchResult};
-    ghost use Rattle.thread_crew.specs.Teams.{AreGone};
+    ghost use Rattle.thread_pool.specs.Teams.{AreGone};
     ghost use Rattle.job_runner.specs.Lists.{ListsBelow, ListsOne};
 
     ghost token = { λ cx. cx.ctx.now.token };

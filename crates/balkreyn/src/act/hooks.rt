@@ -117,7 +117,7 @@ impl Observes for () {
 /// At most two jobs are at hand, and the counters are read behind the service:
 ///
 /// ```rust
-/// fn hooked<R: CrewRuntime + SystemTime>(
+/// fn hooked<R: PoolRuntime + SystemTime>(
 ///     rt: &R,
 ///     alloc: Global,
 /// ) -> Result<((u64, u64, u64, u64, u64), (u64, u64, u64), bool), Refusal> {

@@ -11,7 +11,7 @@ use crate::errors::NoTime;
 use crate::forks::fork;
 use crate::literals::named;
 use crate::scoped::Scopes;
-use crate::services::{Promises, Service, realm_clock, serve_on_crew};
+use crate::services::{Promises, Service, realm_clock, serve_on_pool};
 use job_runner::{Answers, Clock, Job, JobWork, SystemClock, TaskCtx};
 use join_rules::Joiner;
 use realm_lock::{RealmName, Seed};
@@ -20,7 +20,7 @@ use std::alloc::{AllocError, Global};
 use std::marker::{Brand, PhantomData};
 use std::rt::Clock as SystemTime;
 use std::sync::{Arc, Wait};
-use thread_crew::{CrewRuntime, OsThreads};
+use thread_pool::{OsThreads, PoolRuntime};
 
 /// What a thread runs that acts by one value (JEP 505 has callables in its place). A scope that it leaves open is
 /// closed after it, and its task then ends with the fault `left-open`.
@@ -294,13 +294,13 @@ fn fork_part<K: Handle, N: RealmName, W: Task, O: Observes, S: Forks<AnyEnd, N, 
     fork(&clock.runtime(), ctx, scope, name, timed)
 }
 
-/// Runs the service on a thread pool of its own, as `serve_on_crew` does: at most `keep` of its threads may be idle.
+/// Runs the service on a thread pool of its own, as `serve_on_pool` does: at most `keep` of its threads may be idle.
 /// Its realm has the greatest limits, and its time counts from now. That it returns is not promised.
 ///
 /// # Errors
 /// That of the service; before it begins `Memory`, if memory or a thread is refused, and `NoTime`, if the system gives
 /// no time.
-pub fn serve<W: Task + Send + 'static, V: Serves<W> + Drop, R: CrewRuntime + SystemTime>(
+pub fn serve<W: Task + Send + 'static, V: Serves<W> + Drop, R: PoolRuntime + SystemTime>(
     rt: &R,
     alloc: Global,
     keep: usize,
@@ -336,7 +336,7 @@ fn plain(
 ///
 /// # Errors
 /// Those of `serve`, and the refusal of the scope, of its watch, or of its close.
-pub fn serve_until<W: Task + Send + 'static, V: Serves<W> + Drop, R: CrewRuntime + SystemTime>(
+pub fn serve_until<W: Task + Send + 'static, V: Serves<W> + Drop, R: PoolRuntime + SystemTime>(
     rt: &R,
     alloc: Global,
     keep: usize,
@@ -359,7 +359,7 @@ where
 ///
 /// # Errors
 /// Those of `serve`, and the refusal of the scope, of its watch, or of its close.
-pub fn serve_watched<W: Task + Send + 'static, V: Serves<W> + Drop, R: CrewRuntime + SystemTime>(
+pub fn serve_watched<W: Task + Send + 'static, V: Serves<W> + Drop, R: PoolRuntime + SystemTime>(
     rt: &R,
     alloc: Global,
     keep: usize,
@@ -385,7 +385,7 @@ pub fn serve_with<
     W: Task + Send + 'static,
     O: Observes + Send + Sync + 'static,
     V: Serves<W> + Drop,
-    R: CrewRuntime + SystemTime,
+    R: PoolRuntime + SystemTime,
 >(rt: &R, alloc: Global, keep: usize, hooks: Hooks<O>, service: V) -> Result<V::Answer, V::Error>
 where
     V::Error: From<NoTime>,
@@ -403,7 +403,7 @@ fn serve_named<
     W: Task + Send + 'static,
     O: Observes + Send + Sync + 'static,
     V: Serves<W> + Drop,
-    R: CrewRuntime + SystemTime,
+    R: PoolRuntime + SystemTime,
 >(
     rt: &R,
     alloc: Global,
@@ -423,5 +423,5 @@ where
         hooks,
         jobs: PhantomData,
     };
-    serve_on_crew::<N, Timed<R, W, O>, Acting<W, O, V>, R>(rt, alloc, seed, keep, acting)
+    serve_on_pool::<N, Timed<R, W, O>, Acting<W, O, V>, R>(rt, alloc, seed, keep, acting)
 }

@@ -17,7 +17,7 @@ use std::rt::HostRuntime;
 /// A service under a watch, which writes once nothing has happened for 60 milliseconds:
 ///
 /// ```rust
-/// fn watched<R: CrewRuntime + SystemTime>(
+/// fn watched<R: PoolRuntime + SystemTime>(
 ///     rt: &R,
 ///     io: HostRuntime,
 ///     service: Hanging,

@@ -10,7 +10,7 @@ use std::sync::atomic::{AtomicU64, Ordering};
 use std::sync::{Arc, Wait};
 use std::thread;
 use std::time::Duration;
-use thread_crew::{Spawner, Spawns};
+use thread_pool::{Spawner, Spawns};
 
 /// What main and its jobs share: the time of the clocks that are set by hand.
 #[derive(Drop)]

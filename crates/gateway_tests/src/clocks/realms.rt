@@ -1,4 +1,4 @@
-//! A realm of its own for each play, with a crew of threads.
+//! A realm of its own for each play, with a pool of threads.
 ghost use Rattle.std.specs.Prelude.{◌≡◌};
 
 use super::duties::{Board, Shared, Worker};
@@ -11,7 +11,7 @@ use std::alloc::Global;
 use std::marker::Brand;
 use std::rt::Clock as SystemTime;
 use std::test::Fail;
-use thread_crew::{Crew, CrewRuntime, OsThreads};
+use thread_pool::{OsThreads, PoolRuntime, ThreadPool};
 
 /// What main does in its context.
 #[derive(Clone, Copy)]
@@ -47,7 +47,7 @@ impl Play {
 }
 
 /// Whether all was as it should be. None where a thread or memory was refused.
-fn in_context<N: RealmName, R: CrewRuntime + SystemTime + Drop>(
+fn in_context<N: RealmName, R: PoolRuntime + SystemTime + Drop>(
     rt: &R,
     ctx: &mut TaskCtx<AnyEnd, OsThreads<N, JobWork<AnyEnd, N, Worker<R>>>, N>,
     board: &Shared,
@@ -66,8 +66,8 @@ fn in_context<N: RealmName, R: CrewRuntime + SystemTime + Drop>(
     }
 }
 
-/// The play over the crew's threads.
-fn over_threads<N: RealmName, R: CrewRuntime + SystemTime + Drop>(
+/// The play over the pool's threads.
+fn over_threads<N: RealmName, R: PoolRuntime + SystemTime + Drop>(
     rt: &R,
     alloc: Global,
     seed: Seed,
@@ -87,7 +87,7 @@ fn over_threads<N: RealmName, R: CrewRuntime + SystemTime + Drop>(
 }
 
 /// The play in a realm of its own.
-fn in_realm<N: RealmName + Send + Sync + 'static, R: CrewRuntime + SystemTime + Drop>(
+fn in_realm<N: RealmName + Send + Sync + 'static, R: PoolRuntime + SystemTime + Drop>(
     rt: &R,
     alloc: Global,
     seed: Seed,
@@ -95,16 +95,16 @@ fn in_realm<N: RealmName + Send + Sync + 'static, R: CrewRuntime + SystemTime + 
 ) -> Option<bool>
     requires { seed ≡ N.table }
 {
-    let crew = Crew::<N, JobWork<AnyEnd, N, Worker<R>>>::open(rt, alloc, 4).ok()?;
-    let is_right = match crew.threads() {
+    let pool = ThreadPool::<N, JobWork<AnyEnd, N, Worker<R>>>::open(rt, alloc, 4).ok()?;
+    let is_right = match pool.threads() {
         Ok(threads) => over_threads::<N, R>(rt, alloc, seed, threads, play),
         Err(_) => None,
     };
-    crew.close(rt);
+    pool.close(rt);
     is_right
 }
 
-fn is_right<R: CrewRuntime + SystemTime + AllocGlobal + Drop>(rt: &R, play: Play) -> bool {
+fn is_right<R: PoolRuntime + SystemTime + AllocGlobal + Drop>(rt: &R, play: Play) -> bool {
     let alloc = rt.alloc();
     match Seed::new(alloc) {
         Ok(seed) => in_realm::<Brand, R>(rt, alloc, seed, play) == Some(true),

@@ -10,7 +10,7 @@ use std::marker::Brand;
 use std::rt::Clock as SystemTime;
 use std::sync::Wait;
 use std::test::Fail;
-use thread_crew::{Crew, CrewRuntime, OsThreads, Spawns};
+use thread_pool::{OsThreads, PoolRuntime, Spawns, ThreadPool};
 
 /// How long the backends take, and how long a request waits, in milliseconds.
 const BACKENDS: [u64; 3] = [5, 40, 3_600_000];
@@ -98,7 +98,7 @@ fn is_kept<
 }
 
 /// Main has so many requests made at once: whether each is kept. None where a call is refused.
-fn in_context<N: RealmName, R: CrewRuntime + SystemTime>(
+fn in_context<N: RealmName, R: PoolRuntime + SystemTime>(
     rt: &R,
     ctx: &mut TaskCtx<AnyEnd, OsThreads<N, JobWork<AnyEnd, N, Caller<R>>>, N>,
     clock: SystemClock<R>,
@@ -133,8 +133,8 @@ fn in_context<N: RealmName, R: CrewRuntime + SystemTime>(
     Some(is_forked && all)
 }
 
-/// The same over a crew's threads.
-fn over_threads<N: RealmName, R: CrewRuntime + SystemTime>(
+/// The same over a pool's threads.
+fn over_threads<N: RealmName, R: PoolRuntime + SystemTime>(
     rt: &R,
     alloc: Global,
     seed: Seed,
@@ -154,7 +154,7 @@ fn over_threads<N: RealmName, R: CrewRuntime + SystemTime>(
 }
 
 /// The same in a realm of its own.
-fn are_kept<N: RealmName + Send + Sync + 'static, R: CrewRuntime + SystemTime>(
+fn are_kept<N: RealmName + Send + Sync + 'static, R: PoolRuntime + SystemTime>(
     rt: &R,
     alloc: Global,
     seed: Seed,
@@ -162,16 +162,16 @@ fn are_kept<N: RealmName + Send + Sync + 'static, R: CrewRuntime + SystemTime>(
 ) -> Option<bool>
     requires { seed ≡ N.table }
 {
-    let crew = Crew::<N, JobWork<AnyEnd, N, Caller<R>>>::open(rt, alloc, 4).ok()?;
-    let is_right = match crew.threads() {
+    let pool = ThreadPool::<N, JobWork<AnyEnd, N, Caller<R>>>::open(rt, alloc, 4).ok()?;
+    let is_right = match pool.threads() {
         Ok(threads) => over_threads::<N, R>(rt, alloc, seed, threads, count),
         Err(_) => None,
     };
-    crew.close(rt);
+    pool.close(rt);
     is_right
 }
 
-fn all_kept<R: CrewRuntime + SystemTime + AllocGlobal>(rt: &R, count: u32) -> bool {
+fn all_kept<R: PoolRuntime + SystemTime + AllocGlobal>(rt: &R, count: u32) -> bool {
     let alloc = rt.alloc();
     match Seed::new(alloc) {
         Ok(seed) => are_kept::<Brand, R>(rt, alloc, seed, count) == Some(true),

@@ -8,7 +8,7 @@ use realm_lock::{Mark, RealmName};
 use scope_rules::{AnyEnd, Event, Limits, Outcome, Refusal, ScopeId};
 use std::rt::Clock as SystemTime;
 use std::sync::Wait;
-use thread_crew::{CrewRuntime, Spawner, Spawns};
+use thread_pool::{PoolRuntime, Spawner, Spawns};
 
 /// What a wait came to.
 #[derive(Clone, Copy, PartialEq, Eq)]
@@ -174,7 +174,7 @@ pub fn ticks<N: RealmName, S: Spawner<N>, R: Wait>(
 
 /// Whether the row came to what it should, and the realm retires then.
 fn row_played<
-    R: CrewRuntime + SystemTime + Drop,
+    R: PoolRuntime + SystemTime + Drop,
     N: RealmName,
     S: Spawns<N, JobWork<AnyEnd, N, Worker<R>>>,
 >(rt: &R, ctx: &mut TaskCtx<AnyEnd, S, N>, board: &Shared, row: Row, from: u64) -> Option<bool> {
@@ -203,7 +203,7 @@ fn row_played<
 
 /// Whether all rows came to what they should, one after the other in one realm.
 pub fn rows<
-    R: CrewRuntime + SystemTime + Drop,
+    R: PoolRuntime + SystemTime + Drop,
     N: RealmName,
     S: Spawns<N, JobWork<AnyEnd, N, Worker<R>>>,
 >(rt: &R, ctx: &mut TaskCtx<AnyEnd, S, N>, board: &Shared) -> Option<bool> {
@@ -228,7 +228,7 @@ pub fn limits_of_one_tick() -> Limits {
 /// Whether each wait answers at once that the second tick has no load, and a close that doesn't wait by the
 /// clock closes all.
 pub fn one_tick<
-    R: CrewRuntime + SystemTime + Drop,
+    R: PoolRuntime + SystemTime + Drop,
     N: RealmName,
     S: Spawns<N, JobWork<AnyEnd, N, Worker<R>>>,
 >(rt: &R, ctx: &mut TaskCtx<AnyEnd, S, N>, board: &Shared) -> Option<bool> {

@@ -11,7 +11,7 @@ use std::rt::Clock as SystemTime;
 use std::sync::Arc;
 use std::thread;
 use std::time::Duration;
-use thread_crew::{CrewRuntime, Spawns};
+use thread_pool::{PoolRuntime, Spawns};
 
 /// A clock that reads what stands on the board. None where std's count of holders is full.
 fn clock_of(board: &Shared) -> Option<BoardClock> {
@@ -23,7 +23,7 @@ fn clock_of(board: &Shared) -> Option<BoardClock> {
 
 /// Main joins a scope and its job waits for the mark, both by clocks: the deadline passes by one tick.
 pub fn together<
-    R: CrewRuntime + SystemTime + Drop,
+    R: PoolRuntime + SystemTime + Drop,
     N: RealmName,
     S: Spawns<N, JobWork<AnyEnd, N, Worker<R>>>,
 >(rt: &R, ctx: &mut TaskCtx<AnyEnd, S, N>, board: &Shared) -> Option<bool> {
@@ -42,7 +42,7 @@ pub fn together<
 
 /// Main joins without a clock: a job that waits by one wakes it, once its tick has passed the deadline.
 pub fn woken<
-    R: CrewRuntime + SystemTime + Drop,
+    R: PoolRuntime + SystemTime + Drop,
     N: RealmName,
     S: Spawns<N, JobWork<AnyEnd, N, Worker<R>>>,
 >(rt: &R, ctx: &mut TaskCtx<AnyEnd, S, N>, board: &Shared) -> Option<bool> {
@@ -62,7 +62,7 @@ pub fn woken<
 /// A job moves the deadline while main sleeps: nearer, where main would sleep for a minute; or away, and the
 /// old one doesn't pass.
 pub fn moved<
-    R: CrewRuntime + SystemTime + Drop,
+    R: PoolRuntime + SystemTime + Drop,
     N: RealmName,
     S: Spawns<N, JobWork<AnyEnd, N, Worker<R>>>,
 >(rt: &R, ctx: &mut TaskCtx<AnyEnd, S, N>, board: &Shared, nearer: bool) -> Option<bool> {
@@ -86,7 +86,7 @@ pub fn moved<
 /// Main closes a scope whose job waits behind a shield, in a scope that it opens late, for a deadline that
 /// nobody passes but main.
 pub fn closed_by<
-    R: CrewRuntime + SystemTime + Drop,
+    R: PoolRuntime + SystemTime + Drop,
     N: RealmName,
     S: Spawns<N, JobWork<AnyEnd, N, Worker<R>>>,
 >(rt: &R, ctx: &mut TaskCtx<AnyEnd, S, N>, board: &Shared) -> Option<bool> {
@@ -104,7 +104,7 @@ pub fn closed_by<
 /// A job opens a scope with a deadline while main sleeps: the first of all, or one that is nearer than main's.
 /// Nobody passes it but main, whom the open wakes.
 pub fn opened_late<
-    R: CrewRuntime + SystemTime + Drop,
+    R: PoolRuntime + SystemTime + Drop,
     N: RealmName,
     S: Spawns<N, JobWork<AnyEnd, N, Worker<R>>>,
 >(rt: &R, ctx: &mut TaskCtx<AnyEnd, S, N>, board: &Shared, first: bool) -> Option<bool> {
@@ -121,7 +121,7 @@ pub fn opened_late<
 /// A job's wait by the clock begins before main's, and ends first: main passes the deadline behind a shield that
 /// comes then, in which a job waits without a clock. So who ends its wait hands on the watch.
 pub fn handed_on<
-    R: CrewRuntime + SystemTime + Drop,
+    R: PoolRuntime + SystemTime + Drop,
     N: RealmName,
     S: Spawns<N, JobWork<AnyEnd, N, Worker<R>>>,
 >(rt: &R, ctx: &mut TaskCtx<AnyEnd, S, N>, board: &Shared) -> Option<bool> {
@@ -140,7 +140,7 @@ pub fn handed_on<
 /// So many jobs wait by a clock, each in a scope with a deadline of its own, one some milliseconds behind the
 /// other: each reads its clock three times, and main as often. All is over in three times the time that they take.
 pub fn counted<
-    R: CrewRuntime + SystemTime + Drop,
+    R: PoolRuntime + SystemTime + Drop,
     N: RealmName,
     S: Spawns<N, JobWork<AnyEnd, N, Worker<R>>>,
 >(rt: &R, ctx: &mut TaskCtx<AnyEnd, S, N>, board: &Shared) -> Option<bool> {

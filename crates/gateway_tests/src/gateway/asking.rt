@@ -13,7 +13,7 @@ use std::alloc::Global;
 use std::sync::atomic::{AtomicU64, Ordering};
 use std::sync::{Arc, Wait};
 use std::thread;
-use thread_crew::Spawner;
+use thread_pool::Spawner;
 
 /// The scope in which all jobs of a request run.
 pub const SCOPE: ScopeId = 1;

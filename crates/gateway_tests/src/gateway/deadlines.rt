@@ -2,7 +2,7 @@
 
 use super::asking::Duty;
 use super::rows::{Row, check};
-use super::serving::{Request, Timed, over_a_crew, over_one_thread};
+use super::serving::{Request, Timed, over_a_pool, over_one_thread};
 use quote_gateway::GatewayFault;
 use realm_lock::Seed;
 use std::marker::Brand;
@@ -59,7 +59,7 @@ fn requests_have_deadlines(rt: HostRuntime) -> Result<(), Fail> {
     for row in &on_threads() {
         for keep in [0, 4] {
             let seed = Seed::new(rt.alloc())?;
-            let served = over_a_crew::<Brand, _>(&rt, rt.alloc(), seed, keep, row.request)?;
+            let served = over_a_pool::<Brand, _>(&rt, rt.alloc(), seed, keep, row.request)?;
             check(&rt, row, &served);
         }
     }
@@ -86,7 +86,7 @@ const LINGERING: Row = Row {
 #[test]
 fn a_request_by_a_deadline_closes_by_its_clock(rt: HostRuntime) -> Result<(), Fail> {
     let seed = Seed::new(rt.alloc())?;
-    let served = over_a_crew::<Brand, _>(&rt, rt.alloc(), seed, 4, LINGERING.request)?;
+    let served = over_a_pool::<Brand, _>(&rt, rt.alloc(), seed, 4, LINGERING.request)?;
     check(&rt, &LINGERING, &served);
     Ok(())
 }

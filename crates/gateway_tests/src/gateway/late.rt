@@ -10,7 +10,7 @@ use std::alloc::Global;
 use std::marker::Brand;
 use std::rt::Clock as SystemTime;
 use std::test::Fail;
-use thread_crew::{Crew, CrewRuntime, OsThreads};
+use thread_pool::{OsThreads, PoolRuntime, ThreadPool};
 
 /// How long the job of `oak` takes, in milliseconds.
 const LATE: u64 = 20_000;
@@ -18,8 +18,8 @@ const LATE: u64 = 20_000;
 /// When the answer is wanted.
 const DEADLINE: u64 = 50;
 
-/// The answer's line over the crew's threads, by the clock.
-fn line_over<N: RealmName, R: CrewRuntime + SystemTime + Drop>(
+/// The answer's line over the pool's threads, by the clock.
+fn line_over<N: RealmName, R: PoolRuntime + SystemTime + Drop>(
     rt: &R,
     alloc: Global,
     seed: Seed,
@@ -45,8 +45,8 @@ fn line_over<N: RealmName, R: CrewRuntime + SystemTime + Drop>(
     found.ok()?.text(alloc).ok()
 }
 
-/// The same over a crew, and how long it took, with the ends of all jobs.
-fn line_and_time<N: RealmName + Send + Sync + 'static, R: CrewRuntime + SystemTime + Drop>(
+/// The same over a pool, and how long it took, with the ends of all jobs.
+fn line_and_time<N: RealmName + Send + Sync + 'static, R: PoolRuntime + SystemTime + Drop>(
     rt: &R,
     alloc: Global,
     seed: Seed,
@@ -55,13 +55,13 @@ fn line_and_time<N: RealmName + Send + Sync + 'static, R: CrewRuntime + SystemTi
     requires { seed ≡ N.table }
 {
     let mut clock = SystemClock::starting_at(*rt, 0)?;
-    let crew = Crew::<N, JobWork<Due, N, LateJob<R>>>::open(rt, alloc, 2).ok()?;
-    let line = match crew.threads() {
+    let pool = ThreadPool::<N, JobWork<Due, N, LateJob<R>>>::open(rt, alloc, 2).ok()?;
+    let line = match pool.threads() {
         Ok(threads) => line_over::<N, R>(rt, alloc, seed, threads, plan, &mut clock),
         Err(_) => None,
     };
     let took = clock.now();
-    crew.close(rt);
+    pool.close(rt);
     Some((line?, took))
 }
 

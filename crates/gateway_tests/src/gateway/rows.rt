@@ -1,7 +1,7 @@
 //! Requests without a deadline.
 
 use super::asking::Duty;
-use super::serving::{Request, Served, over_a_crew, with_duties};
+use super::serving::{Request, Served, over_a_pool, with_duties};
 use quote_gateway::GatewayFault;
 use realm_lock::Seed;
 use std::marker::Brand;
@@ -158,7 +158,7 @@ fn requests_are_answered(rt: HostRuntime) -> Result<(), Fail> {
     for row in &rows() {
         for keep in [0, 4] {
             let seed = Seed::new(rt.alloc())?;
-            let served = over_a_crew::<Brand, _>(&rt, rt.alloc(), seed, keep, row.request)?;
+            let served = over_a_pool::<Brand, _>(&rt, rt.alloc(), seed, keep, row.request)?;
             check(&rt, row, &served);
         }
     }
@@ -183,7 +183,7 @@ fn either_failure_is_named(rt: HostRuntime) -> Result<(), Fail> {
         let duties = duties_in(round);
         let request = with_duties(BOTH_FAIL, &duties);
         let seed = Seed::new(rt.alloc())?;
-        let served = over_a_crew::<Brand, _>(&rt, rt.alloc(), seed, 2, request)?;
+        let served = over_a_pool::<Brand, _>(&rt, rt.alloc(), seed, 2, request)?;
         let Ok(line) = served.line else {
             return Err("no answer")?;
         };

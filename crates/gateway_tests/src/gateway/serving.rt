@@ -1,4 +1,4 @@
-//! Requests over a crew and over one thread.
+//! Requests over a pool and over one thread.
 ghost use Rattle.std.specs.Prelude.{◌≡◌};
 
 use super::asking::{Asked, Duty, jobs_with};
@@ -13,7 +13,7 @@ use std::rt::Clock as SystemTime;
 use std::sync::atomic::{AtomicU64, Ordering};
 use std::sync::{Arc, Wait};
 use std::test::Fail;
-use thread_crew::{Crew, CrewRuntime, Inline, Nobody, RefuseNth, Spawns};
+use thread_pool::{Inline, Nobody, PoolRuntime, RefuseNth, Spawns, ThreadPool};
 
 /// The deadline of a request, and what its clock reads, in milliseconds: with none it is the system's.
 #[derive(Clone, Copy)]
@@ -135,8 +135,8 @@ pub fn over_one_thread<N: RealmName, R: Wait + SystemTime + Copy>(
     over::<N, _, R>(rt, alloc, seed, Inline::new(Nobody), request)
 }
 
-/// Serves the request over a crew of which so many threads may rest.
-pub fn over_a_crew<N: RealmName + Send + Sync + 'static, R: CrewRuntime + Abort + SystemTime>(
+/// Serves the request over a pool of which so many threads may rest.
+pub fn over_a_pool<N: RealmName + Send + Sync + 'static, R: PoolRuntime + Abort + SystemTime>(
     rt: &R,
     alloc: Global,
     seed: Seed,
@@ -145,11 +145,11 @@ pub fn over_a_crew<N: RealmName + Send + Sync + 'static, R: CrewRuntime + Abort 
 ) -> Result<Served, Fail>
     requires { seed ≡ N.table }
 {
-    let crew = Crew::<N, JobWork<Due, N, Asked>>::open(rt, alloc, keep)?;
-    let served = match crew.threads() {
+    let pool = ThreadPool::<N, JobWork<Due, N, Asked>>::open(rt, alloc, keep)?;
+    let served = match pool.threads() {
         Ok(threads) => over::<N, _, R>(rt, alloc, seed, threads, request),
         Err(_) => Err(Fail::from("memory")),
     };
-    crew.close(rt);
+    pool.close(rt);
     served
 }

@@ -1,4 +1,4 @@
-//! Many requests over one context and its crew, between which the realm retires.
+//! Many requests over one context and its pool, between which the realm retires.
 ghost use Rattle.std.specs.Prelude.{◌≡◌};
 
 use super::asking::{Asked, Calls, jobs_with};
@@ -14,7 +14,7 @@ use std::rt::Clock as SystemTime;
 use std::sync::atomic::{AtomicU64, Ordering};
 use std::sync::{Arc, Wait};
 use std::test::Fail;
-use thread_crew::{Crew, CrewRuntime, Spawns};
+use thread_pool::{PoolRuntime, Spawns, ThreadPool};
 
 /// A request of the service, and its line. Where it has a deadline, the clock reads so.
 #[derive(Clone, Copy)]
@@ -111,8 +111,8 @@ fn in_a_realm<
     done
 }
 
-/// The same over a crew of which so many threads may rest.
-fn over_a_crew<N: RealmName + Send + Sync + 'static, R: CrewRuntime + Abort + SystemTime>(
+/// The same over a pool of which so many threads may rest.
+fn over_a_pool<N: RealmName + Send + Sync + 'static, R: PoolRuntime + Abort + SystemTime>(
     rt: &R,
     alloc: Global,
     seed: Seed,
@@ -121,12 +121,12 @@ fn over_a_crew<N: RealmName + Send + Sync + 'static, R: CrewRuntime + Abort + Sy
 ) -> Result<(), Fail>
     requires { seed ≡ N.table }
 {
-    let crew = Crew::<N, JobWork<Due, N, Asked>>::open(rt, alloc, keep)?;
-    let done = match crew.threads() {
+    let pool = ThreadPool::<N, JobWork<Due, N, Asked>>::open(rt, alloc, keep)?;
+    let done = match pool.threads() {
         Ok(threads) => in_a_realm::<N, _, R>(rt, alloc, seed, threads, calls),
         Err(_) => Err(Fail::from("memory")),
     };
-    crew.close(rt);
+    pool.close(rt);
     done
 }
 
@@ -135,7 +135,7 @@ fn requests_go_over_one_context(rt: HostRuntime) -> Result<(), Fail> {
     for keep in [0, 4] {
         let calls = Arc::new(rt.alloc(), AtomicU64::new(0))?;
         let seed = Seed::new(rt.alloc())?;
-        over_a_crew::<Brand, _>(&rt, rt.alloc(), seed, keep, &calls)?;
+        over_a_pool::<Brand, _>(&rt, rt.alloc(), seed, keep, &calls)?;
         assert_eq!(rt; calls.load(Ordering::SeqCst), 11);
     }
     Ok(())

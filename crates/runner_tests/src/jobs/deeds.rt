@@ -8,7 +8,7 @@ use realm_lock::RealmName;
 use scope_rules::{AnyEnd, Name, Options, State, TaskId, Value};
 use std::sync::Wait;
 use std::thread;
-use thread_crew::{Spawner, Spawns};
+use thread_pool::{Spawner, Spawns};
 
 /// Looks at the task until it has ended with a result.
 pub fn wait_for<N: RealmName, S: Spawner<N>, R: Wait>(

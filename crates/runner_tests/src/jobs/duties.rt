@@ -12,7 +12,7 @@ use std::alloc::Global;
 use std::sync::atomic::{AtomicU64, Ordering};
 use std::sync::{Arc, Wait};
 use std::thread;
-use thread_crew::Spawns;
+use thread_pool::Spawns;
 
 /// The same with a shield.
 pub const SHIELD: Options = Options {

@@ -11,14 +11,14 @@ use std::alloc::Global;
 use std::marker::Brand;
 use std::sync::Wait;
 use std::test::Fail;
-use thread_crew::{Crew, CrewRuntime, OsThreads};
+use thread_pool::{OsThreads, PoolRuntime, ThreadPool};
 
 /// How many scopes there are, one after another, and how many jobs each has.
 const SCOPES: u32 = 250;
 
 const JOBS: u32 = 4;
 
-/// Main's context over the threads of a crew.
+/// Main's context over the threads of a pool.
 type MainCtx<N> = TaskCtx<AnyEnd, OsThreads<N, JobWork<AnyEnd, N, TestJob>>, N>;
 
 /// Opens a scope, forks the jobs, helps, joins and closes: whether main ran a job. None where that didn't end as it
@@ -86,17 +86,17 @@ fn run_two<N: RealmName, R: Wait>(rt: &R, ctx: &mut MainCtx<N>, board: &Shared) 
     Some(has_ended && is_called_once && starts_and_ends(&report.log) == (1, 1))
 }
 
-/// The same in a realm of its own, over the crew's threads.
+/// The same in a realm of its own, over the pool's threads.
 fn in_a_realm<N: RealmName, R: Wait>(
     rt: &R,
     alloc: Global,
-    crew: &Crew<N, JobWork<AnyEnd, N, TestJob>>,
+    pool: &ThreadPool<N, JobWork<AnyEnd, N, TestJob>>,
     seed: Seed,
 ) -> Option<u32>
     requires { seed ≡ N.table }
 {
     let board = Board::shared(alloc)?;
-    let threads = crew.threads().ok()?;
+    let threads = pool.threads().ok()?;
     let (realm, token) = Realm::<AnyEnd, N>::new(alloc, seed, Limits::GREATEST).ok()?;
     let mut ctx = TaskCtx::main(alloc, realm, token, threads);
     let helped = if run_two(rt, &mut ctx, &board) == Some(true) {
@@ -108,17 +108,17 @@ fn in_a_realm<N: RealmName, R: Wait>(
     helped
 }
 
-/// The same over a crew of which four threads may rest.
-fn over_a_crew<N: RealmName + Send + Sync + 'static, R: CrewRuntime>(
+/// The same over a pool of which four threads may rest.
+fn over_a_pool<N: RealmName + Send + Sync + 'static, R: PoolRuntime>(
     rt: &R,
     alloc: Global,
     seed: Seed,
 ) -> Option<u32>
     requires { seed ≡ N.table }
 {
-    let crew = Crew::<N, JobWork<AnyEnd, N, TestJob>>::open(rt, alloc, 4).ok()?;
-    let helped = in_a_realm(rt, alloc, &crew, seed);
-    crew.close(rt);
+    let pool = ThreadPool::<N, JobWork<AnyEnd, N, TestJob>>::open(rt, alloc, 4).ok()?;
+    let helped = in_a_realm(rt, alloc, &pool, seed);
+    pool.close(rt);
     helped
 }
 
@@ -126,7 +126,7 @@ fn over_a_crew<N: RealmName + Send + Sync + 'static, R: CrewRuntime>(
 /// it forks one to run it itself.
 #[test]
 fn main_runs_jobs_that_no_thread_has_taken(rt: HostRuntime) -> Result<(), Fail> {
-    let helped = over_a_crew::<Brand, _>(&rt, rt.alloc(), Seed::new(rt.alloc())?);
+    let helped = over_a_pool::<Brand, _>(&rt, rt.alloc(), Seed::new(rt.alloc())?);
     assert!(rt; helped.unwrap_or(0) > 0);
     Ok(())
 }

@@ -9,7 +9,7 @@ use scope_rules::{AnyEnd, Fault, Options, Outcome, Refusal, State, TaskValue, Va
 use std::process::Abort;
 use std::sync::Wait;
 use std::test::Fail;
-use thread_crew::Spawns;
+use thread_pool::Spawns;
 
 /// The first task ends after the second; the outcome has them in fork order, and the log in the order of
 /// their ends.

@@ -15,7 +15,7 @@ use std::process::Abort;
 use std::rt::Files;
 use std::sync::Wait;
 use std::test::Fail;
-use thread_crew::Spawns;
+use thread_pool::Spawns;
 
 /// Which row.
 #[derive(Clone, Copy)]

@@ -13,7 +13,7 @@ use std::process::Abort;
 use std::rt::Files;
 use std::sync::Wait;
 use std::test::Fail;
-use thread_crew::Spawns;
+use thread_pool::Spawns;
 
 /// How many rounds there are, and after how many memory is measured first.
 const ROUNDS: u32 = 2_000;

@@ -1,4 +1,4 @@
-//! The rows over a crew and over one thread.
+//! The rows over a pool and over one thread.
 ghost use Rattle.std.specs.Prelude.{◌≡◌};
 
 use super::duties::{Board, Duty, TestJob};
@@ -15,7 +15,7 @@ use std::sync::Wait;
 use std::test::Fail;
 use std::thread;
 use std::time::Duration;
-use thread_crew::{Crew, CrewRuntime, Inline, Nobody, RefuseNth, Spawns};
+use thread_pool::{Inline, Nobody, PoolRuntime, RefuseNth, Spawns, ThreadPool};
 
 /// The row in a realm of its own, over the spawner.
 fn in_a_realm<N, S, R>(rt: &R, alloc: Global, seed: Seed, spawner: S, row: Row) -> Result<(), Fail>
@@ -49,22 +49,22 @@ where
     play(rt, ctx, &board, row)
 }
 
-/// The row over the crew's threads, of which one may be refused.
+/// The row over the pool's threads, of which one may be refused.
 fn over_threads<N: RealmName, R: Wait + Abort + Files + Alloc>(
     rt: &R,
     alloc: Global,
-    crew: &Crew<N, JobWork<AnyEnd, N, TestJob>>,
+    pool: &ThreadPool<N, JobWork<AnyEnd, N, TestJob>>,
     seed: Seed,
     row: Row,
 ) -> Result<(), Fail>
     requires { seed ≡ N.table }
 {
-    let threads = RefuseNth::new(row.refused(), crew.threads()?);
+    let threads = RefuseNth::new(row.refused(), pool.threads()?);
     in_a_realm::<N, _, R>(rt, alloc, seed, threads, row)
 }
 
-/// The row over a crew of which so many threads may rest.
-fn over_a_crew<N: RealmName + Send + Sync + 'static, R: CrewRuntime + Abort + Files + Alloc>(
+/// The row over a pool of which so many threads may rest.
+fn over_a_pool<N: RealmName + Send + Sync + 'static, R: PoolRuntime + Abort + Files + Alloc>(
     rt: &R,
     alloc: Global,
     seed: Seed,
@@ -73,9 +73,9 @@ fn over_a_crew<N: RealmName + Send + Sync + 'static, R: CrewRuntime + Abort + Fi
 ) -> Result<(), Fail>
     requires { seed ≡ N.table }
 {
-    let crew = Crew::<N, JobWork<AnyEnd, N, TestJob>>::open(rt, alloc, keep)?;
-    let done = over_threads::<N, R>(rt, alloc, &crew, seed, row);
-    crew.close(rt);
+    let pool = ThreadPool::<N, JobWork<AnyEnd, N, TestJob>>::open(rt, alloc, keep)?;
+    let done = over_threads::<N, R>(rt, alloc, &pool, seed, row);
+    pool.close(rt);
     done
 }
 
@@ -98,7 +98,7 @@ fn two_jobs_see_each_other(rt: HostRuntime) -> Result<(), Fail> {
         first: 1,
     };
     for keep in [0, 4] {
-        over_a_crew::<Brand, _>(&rt, rt.alloc(), Seed::new(rt.alloc())?, keep, row)?;
+        over_a_pool::<Brand, _>(&rt, rt.alloc(), Seed::new(rt.alloc())?, keep, row)?;
     }
     let row = Row::Meet {
         looks: 1_000,
@@ -107,7 +107,7 @@ fn two_jobs_see_each_other(rt: HostRuntime) -> Result<(), Fail> {
     over_one_thread::<Brand, _>(&rt, rt.alloc(), Seed::new(rt.alloc())?, row)
 }
 
-/// What is played over a crew.
+/// What is played over a pool.
 const ROWS: [Row; 19] = [
     Row::Tree,
     Row::SecondRefused,
@@ -148,10 +148,10 @@ const ROWS: [Row; 19] = [
 ];
 
 #[test]
-fn rows_over_a_crew(rt: HostRuntime) -> Result<(), Fail> {
+fn rows_over_a_pool(rt: HostRuntime) -> Result<(), Fail> {
     for row in ROWS {
-        over_a_crew::<Brand, _>(&rt, rt.alloc(), Seed::new(rt.alloc())?, 0, row)?;
-        over_a_crew::<Brand, _>(&rt, rt.alloc(), Seed::new(rt.alloc())?, 8, row)?;
+        over_a_pool::<Brand, _>(&rt, rt.alloc(), Seed::new(rt.alloc())?, 0, row)?;
+        over_a_pool::<Brand, _>(&rt, rt.alloc(), Seed::new(rt.alloc())?, 8, row)?;
     }
     Ok(())
 }
@@ -171,7 +171,7 @@ fn comes_to<R: Files + Alloc + Clock>(rt: &R, threads: u64) -> bool {
 fn two_thousand_rounds(rt: HostRuntime) -> Result<(), Fail> {
     let threads = told(&rt, "Threads:");
     for keep in [0, 8] {
-        over_a_crew::<Brand, _>(&rt, rt.alloc(), Seed::new(rt.alloc())?, keep, Row::Soak)?;
+        over_a_pool::<Brand, _>(&rt, rt.alloc(), Seed::new(rt.alloc())?, keep, Row::Soak)?;
         assert!(rt; comes_to(&rt, threads));
     }
     Ok(())

@@ -8,7 +8,7 @@ use scope_rules::{AnyEnd, Fault, Name, Options, Outcome, Refusal, Value};
 use std::process::Abort;
 use std::sync::Wait;
 use std::test::Fail;
-use thread_crew::Spawns;
+use thread_pool::Spawns;
 
 /// The fault of a task whose job left a scope open.
 pub fn left_open() -> Result<Fault, Fail> {

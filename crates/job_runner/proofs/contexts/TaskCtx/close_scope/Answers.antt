@@ -3,7 +3,7 @@ use Rattle.std.specs.Prelude.{IfOk, IfErr}
 use Rattle.share_ledger.specs.Values.{OwnerValue}
 use Rattle.realm_core.specs.Calls.{SeesMore}
 use Rattle.realm_core.specs.Closes.{Begins}
-use Rattle.thread_crew.specs.Teams.{Joins}
+use Rattle.thread_pool.specs.Teams.{Joins}
 use Rattle.job_runner.specs.Reports.{EndsOwn, Held}
 use Rattle.job_runner.proofs.Reported.{comes_here, held_why}
 use Rattle.job_runner.proofs.contexts.TaskCtx.close_scope.Goals as goal

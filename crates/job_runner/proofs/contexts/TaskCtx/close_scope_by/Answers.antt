@@ -2,7 +2,7 @@ use Rattle.std.proofs.Common.{ap, subst}
 use Rattle.std.specs.Prelude.{MatchResult, None}
 use Rattle.realm_core.specs.Calls.{history_seen}
 use Rattle.realm_core.specs.Waiting.{FoundUnsettled}
-use Rattle.thread_crew.specs.Teams.{TeamValue}
+use Rattle.thread_pool.specs.Teams.{TeamValue}
 use Rattle.realm_lock.proofs.Waits.{ok_after, err_after}
 use Rattle.job_runner.specs.Reports.{ClosesHere, StaysHere}
 use Rattle.job_runner.proofs.Reported.{if_ok_beside, if_err_beside}

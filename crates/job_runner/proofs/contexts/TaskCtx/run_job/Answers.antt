@@ -5,7 +5,7 @@ use Rattle.scope_rules.specs.declared.types.events.Event.TheVariants.{Fork}
 use Rattle.share_ledger.specs.declared.steps.RealmStep.TheVariants.{Happened}
 use Rattle.share_ledger.specs.Values.{TicketValue}
 use Rattle.realm_core.specs.Calls.{Accepted}
-use Rattle.thread_crew.specs.Returns.{Returns}
+use Rattle.thread_pool.specs.Returns.{Returns}
 use Rattle.job_runner.specs.Forks.{reply_there, ticket_of}
 use Rattle.job_runner.proofs.contexts.TaskCtx.run_job.Goals as goal
 

@@ -1,5 +1,0 @@
--- The name is that of the seed's table.
-use Rattle.runner_tests.proofs.jobs.spawners.rows_over_a_crew.Given as goal
-
-abbrev pub ghosts-over_a_crew : goal.ghosts-over_a_crew
-ghosts-over_a_crew g a = record { table = a.seed }

@@ -1,7 +1,0 @@
--- The threads from there on are of scopes that were opened earlier.
-use Rattle.std.proofs.Common.{ℕ, ◌<◌, ◌≤◌, length, slice_index_or}
-use Rattle.share_ledger.specs.Values.{TicketValue}
-use Rattle.thread_crew.proofs.teams.last_from.Given as goal
-
-abbrev pub invariant-loop-place : goal.invariant-loop-place
-invariant-loop-place g l = (k : ℕ) (d : TicketValue) → l.place ≤ k → k < length l.running → (slice_index_or l.running k d).scope < l.scope

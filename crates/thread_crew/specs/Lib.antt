@@ -1,3 +1,0 @@
-pub mod Returns
-pub mod Staff
-pub mod Teams

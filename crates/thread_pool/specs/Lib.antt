@@ -1,0 +1,3 @@
+pub mod Returns
+pub mod PoolState
+pub mod Teams

@@ -1,0 +1,58 @@
+use std::hint::spin_loop;
+use std::sync::atomic::{AtomicBool, Ordering};
+use std::sync::{Mutex, Wait};
+use std::thread::Parker;
+
+/// How often who waits looks before it sleeps: for some ten microseconds, about as long as falling asleep and waking
+/// take. What comes meanwhile costs neither side a call of the system.
+const LOOKS: u32 = 6_000;
+
+/// Where one thread waits for what another puts there.
+#[derive(Drop)]
+pub(crate) struct Handoff<T> {
+    item: Mutex<Option<T>>,
+    /// Whether the bell has rung. Who waits goes by the bell alone: this only tells it when to look no more.
+    rung: AtomicBool,
+    bell: Parker,
+}
+
+impl<T: Drop> Handoff<T> {
+    /// A handoff with nothing in it.
+    pub(crate) fn new() -> Handoff<T> {
+        Handoff {
+            item: Mutex::new(None),
+            rung: AtomicBool::new(false),
+            bell: Parker::new(),
+        }
+    }
+
+    /// Puts the item there, and wakes who waits for it.
+    pub(crate) fn put<R: Wait>(&self, rt: &R, item: T) {
+        *self.item.lock(rt) = Some(item);
+        self.ring();
+    }
+
+    /// Wakes who waits, with nothing.
+    pub(crate) fn ring(&self) {
+        self.rung.store(true, Ordering::SeqCst);
+        self.bell.unpark();
+    }
+
+    /// Waits until it is woken, and takes what was put there. One thread waits at a handoff.
+    pub(crate) fn wait<R: Wait>(&self, rt: &R) -> Option<T> {
+        self.look();
+        self.bell.park(rt);
+        self.rung.store(false, Ordering::SeqCst);
+        self.item.lock(rt).take()
+    }
+
+    /// Looks some times whether the bell has rung.
+    fn look(&self) {
+        for _ in 0..LOOKS {
+            if self.rung.load(Ordering::SeqCst) {
+                return;
+            }
+            spin_loop();
+        }
+    }
+}

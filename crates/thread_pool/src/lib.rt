@@ -1,0 +1,24 @@
+//! Who has works run on threads: a pool whose threads are used again, among others; and what is kept of the
+//! threads that one owner makes.
+#![tactic(auto)]
+
+mod executors;
+mod handoffs;
+mod inline;
+mod items;
+mod locks;
+mod makers;
+mod pools;
+mod refusing;
+mod spawning;
+mod state;
+mod teams;
+
+pub use executors::{OsThreads, PoolHandle};
+pub use inline::{Inline, InlineHandle};
+pub use items::WorkItem;
+pub use makers::PoolRuntime;
+pub use pools::ThreadPool;
+pub use refusing::{Nobody, RefuseNth};
+pub use spawning::{Ready, Recalls, Spawner, Spawns, Work};
+pub use teams::Team;
