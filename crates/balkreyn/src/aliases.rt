@@ -13,7 +13,7 @@ use thread_pool::Spawns;
 /// A helper that may fork jobs of this type:
 ///
 /// ```rust
-/// fn ask<N: RealmName, S: Forks<AnyEnd, N, Work>, R: Wait>(
+/// fn ask<N: RealmName, S: CanFork<AnyEnd, N, Work>, R: Wait>(
 ///     rt: &R,
 ///     ctx: &mut TaskCtx<AnyEnd, S, N>,
 ///     name: Name,
@@ -28,16 +28,16 @@ use thread_pool::Spawns;
 ///     })
 /// }
 /// ```
-pub trait Forks<C: Catalog, N: RealmName, J: Answers>: Spawns<N, JobWork<C, N, J>> {}
+pub trait CanFork<C: Catalog, N: RealmName, J: Answers>: Spawns<N, JobWork<C, N, J>> {}
 
-impl<C: Catalog, N: RealmName, J: Answers, S: Spawns<N, JobWork<C, N, J>>> Forks<C, N, J> for S {}
+impl<C: Catalog, N: RealmName, J: Answers, S: Spawns<N, JobWork<C, N, J>>> CanFork<C, N, J> for S {}
 
 /// A runtime by which one waits and sleeps, and that a job can have as its own handle: a `HostRuntime` is one.
 ///
 /// A service under any such runtime:
 ///
 /// ```rust
-/// impl<N: RealmName, R: Handle, S: Forks<AnyEnd, N, Ask<R>>> Service<S, N, R> for TwoShops {
+/// impl<N: RealmName, R: Handle, S: CanFork<AnyEnd, N, Ask<R>>> Service<S, N, R> for TwoShops {
 ///     fn serve(self, rt: &R, ctx: &mut TaskCtx<AnyEnd, S, N>) -> Result<Option<i64>, Failed> {
 ///         let mut clock = realm_clock(rt)?;
 ///         let first = Ask {

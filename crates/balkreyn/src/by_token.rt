@@ -1,4 +1,4 @@
-//! Pictures of a realm, by an actor's token.
+//! What is seen of a realm, by an actor's token.
 ghost use Rattle.std.specs.Prelude.{◌≡◌};
 ghost use Rattle.script_journal.specs.Script.{script_text};
 ghost use Rattle.tree_dump.specs.Tree.{dump_text};
@@ -44,7 +44,7 @@ use thread_pool::Spawner;
 ///     }
 /// }
 /// ```
-pub trait ShowsByToken {
+pub trait InspectByToken {
     ghost use Rattle.share_ledger.specs.Values.{OwnerValue};
 
     /// The actor's token.
@@ -77,12 +77,12 @@ pub trait ShowsByToken {
         ensures rest { Self.kept self.old self.new }
         ensures answer { Reads (Self.token self.old) (Self.token self.new) (λ h. Says (script_text h) result) };
 
-    /// How far the history has come, as `Shows::reached`.
+    /// How far the history has come, as `Inspect::reached`.
     fn reached<R: Wait>(&mut self, rt: &R) -> Reached
         ensures rest { Self.kept self.old self.new }
         ensures answer { Reads (Self.token self.old) (Self.token self.new) (λ h. HasReached h result) };
 
-    /// The journal with times, as `Shows::timed_journal`.
+    /// The journal with times, as `Inspect::timed_journal`.
     ///
     /// # Errors
     /// `Memory`.
@@ -97,7 +97,7 @@ pub trait ShowsByToken {
         ensures answer { Reads (Self.token self.old) (Self.token self.new) (λ h. SaysWhen h times.now.found.items now result) };
 }
 
-impl<C: Catalog, S: Spawner<N>, N: RealmName> ShowsByToken for TaskCtx<C, S, N> {
+impl<C: Catalog, S: Spawner<N>, N: RealmName> InspectByToken for TaskCtx<C, S, N> {
     ghost token = { λ ctx. ctx.token };
 
     ghost kept = { λ old new. new ≡ record old { token = new.token } };

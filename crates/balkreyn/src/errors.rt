@@ -40,7 +40,7 @@ impl Error for NoTime {}
 /// A service hands on each refusal by a `?`:
 ///
 /// ```rust
-/// impl<N: RealmName, R: Handle, S: Forks<AnyEnd, N, Work<R, N>>> Service<S, N, R> for Hangs {
+/// impl<N: RealmName, R: Handle, S: CanFork<AnyEnd, N, Work<R, N>>> Service<S, N, R> for Hangs {
 ///     #[tactic(auto, unfolding(scope_rules::specs::NameText::is_name))]
 ///     fn serve(self, rt: &R, ctx: &mut TaskCtx<AnyEnd, S, N>) -> Result<Seen, ServiceError> {
 ///         let clock = realm_clock(rt)?;

@@ -4,7 +4,7 @@ ghost use Rattle.realm_core.specs.Calls.{SeesMore};
 ghost use Rattle.job_runner.specs.Forks.{KeepsThread};
 ghost use Rattle.balkreyn.specs.Slots.{ForksUnder, label_of};
 
-use crate::aliases::Forks;
+use crate::aliases::CanFork;
 use job_runner::{Answers, NamedJob, TaskCtx};
 use realm_lock::RealmName;
 use scope_rules::{AnyEnd, ForkReply, Label, Name, Refusal, ScopeId};
@@ -14,7 +14,7 @@ use std::sync::Wait;
 ///
 /// # Errors
 /// Those of `TaskCtx::fork_job`, by their refusal; the job is dropped, uncalled.
-pub fn fork<J: Answers + Drop, S: Forks<AnyEnd, N, J>, N: RealmName, R: Wait>(
+pub fn fork<J: Answers + Drop, S: CanFork<AnyEnd, N, J>, N: RealmName, R: Wait>(
     rt: &R,
     ctx: &mut TaskCtx<AnyEnd, S, N>,
     scope: ScopeId,

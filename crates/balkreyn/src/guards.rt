@@ -16,7 +16,7 @@ ghost use Rattle.job_runner.specs.Lists.{ListsBelow, ListsOne};
 ghost use Rattle.job_runner.specs.Reports.{ClosesHere, StaysHere};
 ghost use Rattle.job_runner.specs.Rooms.{DoesInRoom};
 
-use crate::aliases::Forks;
+use crate::aliases::CanFork;
 use crate::scoped::close_in_time;
 use job_runner::{Answers, Clock, ForkRefusal, NamedJob, TaskCtx};
 use join_rules::Joiner;
@@ -36,7 +36,7 @@ use thread_pool::Spawner;
 /// A request over a guard:
 ///
 /// ```rust
-/// fn sum_guarded<R: Wait + SystemTime + Copy, N: RealmName, S: Forks<AnyEnd, N, Ask<R>>>(
+/// fn sum_guarded<R: Wait + SystemTime + Copy, N: RealmName, S: CanFork<AnyEnd, N, Ask<R>>>(
 ///     rt: &R,
 ///     ctx: &mut TaskCtx<AnyEnd, S, N>,
 ///     clock: &mut SystemClock<R>,
@@ -44,17 +44,17 @@ use thread_pool::Spawner;
 ///     millis: u64,
 /// ) -> Result<Option<i64>, Refusal> {
 ///     let options = fail_after(clock, millis);
-///     let scope = Opened::at(rt, ctx, Joiner::All, options)?;
+///     let scope = ScopeGuard::at(rt, ctx, Joiner::All, options)?;
 ///     let found = ask_both(rt, ctx, &scope, clock, asks);
 ///     scope.close_by(rt, ctx, clock)?;
 ///     found
 /// }
 /// ```
-pub struct Opened {
+pub struct ScopeGuard {
     scope: ScopeId,
 }
 
-impl Model for Opened {
+impl Model for ScopeGuard {
     ghost use Rattle.std.specs.Prelude.{ℕ};
 
     ghost Value = { ℕ };
@@ -62,7 +62,7 @@ impl Model for Opened {
     ghost view = { λ o. o.scope };
 }
 
-impl Opened {
+impl ScopeGuard {
     /// Opens a scope for the context's actor, as `TaskCtx::open` does (JEP 505, `open`).
     ///
     /// # Errors
@@ -72,13 +72,13 @@ impl Opened {
         ctx: &mut TaskCtx<C, S, N>,
         joiner: Joiner,
         options: Options,
-    ) -> Result<Opened, Refusal>
+    ) -> Result<ScopeGuard, Refusal>
         ensures rest { (ctx.new ≡ record ctx.old { token = ctx.new.token; opened = ctx.new.opened }) × SeesMore ctx.old.token ctx.new.token }
         ensures answer { DoesInRoom ctx.old.token ctx.new.token (RealmStep.Happened (Event.Open ctx.old.token.actor (policy_of joiner) options)) next_scope result }
         ensures listed { MatchResult result (λ scope. ListsOne scope ctx.old.opened.items ctx.new.opened.items) (λ _. ctx.new.opened.items ≡ ctx.old.opened.items) }
     {
         match ctx.open(rt, joiner, options) {
-            Ok(scope) => Ok(Opened { scope }),
+            Ok(scope) => Ok(ScopeGuard { scope }),
             Err((refusal, _joiner)) => Err(refusal),
         }
     }
@@ -94,7 +94,7 @@ impl Opened {
     ///
     /// # Errors
     /// Those of `TaskCtx::fork_job`; the job is then handed back.
-    pub fn fork<C: Catalog, J: Answers + Drop, S: Forks<C, N, J>, N: RealmName, R: Wait>(
+    pub fn fork<C: Catalog, J: Answers + Drop, S: CanFork<C, N, J>, N: RealmName, R: Wait>(
         &self,
         rt: &R,
         ctx: &mut TaskCtx<C, S, N>,
@@ -176,7 +176,7 @@ impl Opened {
         ensures sure { IsOpenOf (history_seen ctx.old.token) ctx.old.token.actor self → IsOk result }
         ensures left { MatchResult result (λ _. AreGone self ctx.new.team × ListsBelow self ctx.old.opened.items ctx.new.opened.items) (λ _. (ctx.new.team ≡ ctx.old.team) × (ctx.new.opened ≡ ctx.old.opened)) }
     {
-        let Opened { scope } = self;
+        let ScopeGuard { scope } = self;
         ctx.close_scope_bare(rt, scope)
     }
 
@@ -196,7 +196,7 @@ impl Opened {
         ensures sure { IsOpenOf (history_seen ctx.old.token) ctx.old.token.actor self → IsOk result }
         ensures left { MatchResult result (λ _. AreGone self ctx.new.team × ListsBelow self ctx.old.opened.items ctx.new.opened.items) (λ _. (ctx.new.team ≡ ctx.old.team) × (ctx.new.opened ≡ ctx.old.opened)) }
     {
-        let Opened { scope } = self;
+        let ScopeGuard { scope } = self;
         close_in_time(rt, ctx, scope, clock)
     }
 
@@ -210,7 +210,7 @@ impl Opened {
         self,
         rt: &R,
         ctx: &mut TaskCtx<C, S, N>,
-    ) -> Result<CloseReport, (Refusal, Opened)>
+    ) -> Result<CloseReport, (Refusal, ScopeGuard)>
         ensures rest { (ctx.new ≡ record ctx.old { token = ctx.new.token; spawner = ctx.new.spawner; opened = ctx.new.opened; team = ctx.new.team }) × SeesMore ctx.old.token ctx.new.token }
         ensures answer { MatchResult result (λ report. ClosesHere ctx.old.token ctx.new.token self ctx.old.team report) (λ back. StaysHere ctx.old.token ctx.new.token self ctx.old.team ctx.new.team back.0) }
         ensures left { MatchResult result (λ _. AreGone self ctx.new.team × ListsBelow self ctx.old.opened.items ctx.new.opened.items) (λ _. ctx.new.opened ≡ ctx.old.opened) }
@@ -219,7 +219,7 @@ impl Opened {
     {
         match ctx.close_scope(rt, self.scope) {
             Ok(report) => {
-                let Opened { scope: _ } = self;
+                let ScopeGuard { scope: _ } = self;
                 Ok(report)
             }
             Err(refusal) => Err((refusal, self)),
@@ -236,7 +236,7 @@ impl Opened {
         rt: &R,
         ctx: &mut TaskCtx<C, S, N>,
         clock: &mut K,
-    ) -> Result<CloseReport, (Refusal, Opened)>
+    ) -> Result<CloseReport, (Refusal, ScopeGuard)>
         ensures rest { (ctx.new ≡ record ctx.old { token = ctx.new.token; spawner = ctx.new.spawner; opened = ctx.new.opened; team = ctx.new.team }) × SeesMore ctx.old.token ctx.new.token }
         ensures closed { IfOk result (λ report. ClosesAfter K.reads ctx.old.token clock.old clock.new self (λ there. FoundUnsettled (history_seen there) self None × ClosesHere there ctx.new.token self ctx.old.team report)) }
         ensures refused { IfErr result (λ back. (StaysUnclosed K.reads ctx.old.token ctx.new.token clock.old clock.new self back.0 × (ctx.new.team ≡ ctx.old.team)) ⊎ ClosesAfter K.reads ctx.old.token clock.old clock.new self (λ there. FoundUnsettled (history_seen there) self None × StaysHere there ctx.new.token self ctx.old.team ctx.new.team back.0)) }
@@ -246,7 +246,7 @@ impl Opened {
     {
         match ctx.close_scope_by(rt, self.scope, clock) {
             Ok(report) => {
-                let Opened { scope: _ } = self;
+                let ScopeGuard { scope: _ } = self;
                 Ok(report)
             }
             Err(refusal) => Err((refusal, self)),

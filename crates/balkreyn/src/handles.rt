@@ -12,21 +12,21 @@ use thread_pool::Spawner;
 /// Forks one, with a copy of its own handle:
 ///
 /// ```rust
-/// fn nap<N: RealmName, R: Handle, S: Forks<AnyEnd, N, By<R, Nap>>>(
+/// fn take_nap<N: RealmName, R: Handle, S: CanFork<AnyEnd, N, WithRuntime<R, Nap>>>(
 ///     rt: &R,
 ///     ctx: &mut TaskCtx<AnyEnd, S, N>,
 ///     job: Nap,
 /// ) -> Result<State, Refusal> {
 ///     within(rt, ctx, Joiner::AwaitAll, Options::PLAIN, |ctx, scope| {
 ///         let io = *rt;
-///         fork(rt, ctx, scope, job.name, By { io, job })?;
+///         fork(rt, ctx, scope, job.name, WithRuntime { io, job })?;
 ///         ctx.join(rt, scope)?;
 ///         ctx.state(rt, 1)
 ///     })
 /// }
 /// ```
 #[derive(Drop)]
-pub struct By<K, J> {
+pub struct WithRuntime<K, J> {
     /// The handle, as main's `HostRuntime`.
     pub io: K,
     pub job: J,
@@ -37,7 +37,7 @@ pub struct By<K, J> {
 /// A job that sleeps by its handle, whatever is cancelled:
 ///
 /// ```rust
-/// impl<K: SystemTime, S: Spawner<N>, N: RealmName> JobBy<K, AnyEnd, S, N> for Nap {
+/// impl<K: SystemTime, S: Spawner<N>, N: RealmName> JobWithRuntime<K, AnyEnd, S, N> for Nap {
 ///     fn run_by<R: Wait>(self, _rt: &R, io: &K, _ctx: &mut TaskCtx<AnyEnd, S, N>) -> End {
 ///         let nap = Duration::from_millis(self.millis);
 ///         let Ok(before) = Instant::now(io) else {
@@ -51,20 +51,20 @@ pub struct By<K, J> {
 ///     }
 /// }
 /// ```
-pub trait JobBy<K, C: Catalog, S: Spawner<N>, N: RealmName>: Answers {
+pub trait JobWithRuntime<K, C: Catalog, S: Spawner<N>, N: RealmName>: Answers {
     /// Does the job, as `Job::run` does, by the handle.
     fn run_by<R: Wait>(self, rt: &R, io: &K, ctx: &mut TaskCtx<C, S, N>) -> End
         ensures { Self.may_end self result };
 }
 
-impl<K, J: Answers> Answers for By<K, J> {
+impl<K, J: Answers> Answers for WithRuntime<K, J> {
     ghost may_end = { λ by end. J.may_end by.job end };
 }
 
-impl<K: Drop, C: Catalog, S: Spawner<N>, N: RealmName, J: JobBy<K, C, S, N>> Job<C, S, N>
-    for By<K, J> {
+impl<K: Drop, C: Catalog, S: Spawner<N>, N: RealmName, J: JobWithRuntime<K, C, S, N>> Job<C, S, N>
+    for WithRuntime<K, J> {
     fn run<R: Wait>(self, rt: &R, ctx: &mut TaskCtx<C, S, N>) -> End {
-        let By { io, job } = self;
+        let WithRuntime { io, job } = self;
         job.run_by(rt, &io, ctx)
     }
 }

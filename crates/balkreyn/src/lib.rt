@@ -14,11 +14,11 @@ mod errors;
 mod forks;
 mod guards;
 mod handles;
+mod inspect;
 mod intake;
 mod jobs;
 mod literals;
 mod owners;
-mod pictures;
 mod places;
 mod requests;
 mod rooms;
@@ -28,12 +28,13 @@ mod services;
 mod slots;
 mod times;
 
-pub use aliases::{Forks, Handle};
-pub use by_token::ShowsByToken;
+pub use aliases::{CanFork, Handle};
+pub use by_token::InspectByToken;
 pub use errors::{NoTime, ServiceError};
 pub use forks::fork;
-pub use guards::Opened;
-pub use handles::{By, JobBy};
+pub use guards::ScopeGuard;
+pub use handles::{JobWithRuntime, WithRuntime};
+pub use inspect::Inspect;
 pub use job_runner::{
     Answers, Clock, ForkRefusal, Job, JobWork, NamedJob, SetClock, SystemClock, TaskCtx,
     fail_after, move_on_after, pulse,
@@ -41,7 +42,6 @@ pub use job_runner::{
 pub use jobs::{JobError, Typed, TypedJob, Yields};
 pub use join_rules::{CompletionTest, Joiner, UntilTest};
 pub use literals::named;
-pub use pictures::Shows;
 pub use realm_lock::{
     ActorToken, BareOutcome, CloseReport, Joined, Mark, Realm, RealmName, Seed, View,
 };
@@ -55,7 +55,7 @@ pub use scope_rules::{
     TaskState, TaskStates, TaskValue, TaskValues, Value, Verdict,
 };
 pub use scoped::{Scopes, within, within_by};
-pub use services::{Promises, Service, realm_clock, serve_on_pool};
+pub use services::{Service, ServiceAnswer, realm_clock, serve_on_pool};
 pub use slots::{Slot, fork_typed};
 pub use std::marker::Brand;
 pub use std::sync::Wait;

@@ -9,9 +9,9 @@ use crate::requests::{Requests, Side, Turned};
 use crate::rooms::Room;
 use crate::rotation::Turns;
 use crate::{
-    Answers, AnyEnd, CloseReport, ForkRefusal, ForkReply, Forks, Handle, Joiner, Label, Limits,
-    NamedJob, Opened, Options, Promises, RealmName, Refusal, Service, ServiceError, Spawner,
-    SystemClock, TaskCtx, Wait, realm_clock,
+    Answers, AnyEnd, CanFork, CloseReport, ForkRefusal, ForkReply, Handle, Joiner, Label, Limits,
+    NamedJob, Options, RealmName, Refusal, ScopeGuard, Service, ServiceAnswer, ServiceError,
+    Spawner, SystemClock, TaskCtx, Wait, realm_clock,
 };
 
 /// An owner: the side and the limits of its realm, and how long it has the baton.
@@ -49,7 +49,7 @@ enum Ended {
     Over,
 }
 
-impl<J: Drop, Q: Drop, T> Promises for Owner<'_, J, Q, T> {
+impl<J: Drop, Q: Drop, T> ServiceAnswer for Owner<'_, J, Q, T> {
     type Answer = ();
 
     type Error = ServiceError;
@@ -62,7 +62,7 @@ impl<
     Q: Requests<J, R> + Drop,
     T: Turned,
     N: RealmName,
-    S: Forks<AnyEnd, N, J>,
+    S: CanFork<AnyEnd, N, J>,
     R: Handle,
 > Service<S, N, R> for Owner<'_, J, Q, T> {
     fn serve(self, rt: &R, ctx: &mut TaskCtx<AnyEnd, S, N>) -> Result<(), ServiceError> {
@@ -76,7 +76,7 @@ impl<J: Answers + Drop, Q: Drop, T: Turned> Owner<'_, J, Q, T> {
     /// Takes its turns, until all is over: opens a scope ahead, begins requests there while it has the baton,
     /// and once they have ended closes the scope, and lets all that happened go. Where memory is refused for
     /// that, it goes on with the room that is left, and tries again after the next turn.
-    fn take_turns<R: Handle, N: RealmName, S: Forks<AnyEnd, N, J>>(
+    fn take_turns<R: Handle, N: RealmName, S: CanFork<AnyEnd, N, J>>(
         &self,
         rt: &R,
         ctx: &mut TaskCtx<AnyEnd, S, N>,
@@ -87,7 +87,7 @@ impl<J: Answers + Drop, Q: Drop, T: Turned> Owner<'_, J, Q, T> {
     {
         let mut room = Room::of(self.limits);
         for _ in rt.forever() {
-            let scope = Opened::at(rt, ctx, Joiner::AwaitAll, Options::PLAIN)?;
+            let scope = ScopeGuard::at(rt, ctx, Joiner::AwaitAll, Options::PLAIN)?;
             let turn = Turn { side: self.side };
             room.open_turn();
             let more = self.take_turn(rt, ctx, &scope, &mut room, clock);
@@ -107,7 +107,7 @@ impl<J: Answers + Drop, Q: Drop, T: Turned> Owner<'_, J, Q, T> {
         &self,
         rt: &R,
         ctx: &mut TaskCtx<AnyEnd, S, N>,
-        scope: Opened,
+        scope: ScopeGuard,
         turn: Turn,
     ) -> Result<(), Refusal> {
         match scope.report(rt, ctx) {
@@ -125,11 +125,11 @@ impl<J: Answers + Drop, Q: Drop, T: Turned> Owner<'_, J, Q, T> {
     }
 
     /// Waits for the baton, begins requests while it has it, and hands it on. Answers whether more may come.
-    fn take_turn<R: Handle, N: RealmName, S: Forks<AnyEnd, N, J>>(
+    fn take_turn<R: Handle, N: RealmName, S: CanFork<AnyEnd, N, J>>(
         &self,
         rt: &R,
         ctx: &mut TaskCtx<AnyEnd, S, N>,
-        scope: &Opened,
+        scope: &ScopeGuard,
         room: &mut Room,
         clock: SystemClock<R>,
     ) -> bool
@@ -151,11 +151,11 @@ impl<J: Answers + Drop, Q: Drop, T: Turned> Owner<'_, J, Q, T> {
     }
 
     /// Begins requests in the scope, one after the other, as long as it may.
-    fn begin_requests<R: Handle, N: RealmName, S: Forks<AnyEnd, N, J>>(
+    fn begin_requests<R: Handle, N: RealmName, S: CanFork<AnyEnd, N, J>>(
         &self,
         rt: &R,
         ctx: &mut TaskCtx<AnyEnd, S, N>,
-        scope: &Opened,
+        scope: &ScopeGuard,
         room: &mut Room,
         clock: SystemClock<R>,
     ) -> Ended
@@ -192,11 +192,11 @@ impl<J: Answers + Drop, Q: Drop, T: Turned> Owner<'_, J, Q, T> {
     /// Begins the request in the scope. One for which there is no room is put back, for the next realm; but for
     /// one that neither realm has room for, though nothing else is there. The source is told of one that can't be
     /// begun. Answers why the turn ends with that, if it does.
-    fn begin<R: Handle, N: RealmName, S: Forks<AnyEnd, N, J>>(
+    fn begin<R: Handle, N: RealmName, S: CanFork<AnyEnd, N, J>>(
         &self,
         rt: &R,
         ctx: &mut TaskCtx<AnyEnd, S, N>,
-        scope: &Opened,
+        scope: &ScopeGuard,
         intake: &mut Intake<Q, J>,
         request: (Asked, J),
         is_empty: bool,

@@ -21,7 +21,7 @@ use thread_pool::Spawner;
 /// A request in a scope by a deadline:
 ///
 /// ```rust
-/// fn ask_two<K: Handle, N: RealmName, S: Forks<AnyEnd, N, Work<K>>>(
+/// fn ask_two<K: Handle, N: RealmName, S: CanFork<AnyEnd, N, Work<K>>>(
 ///     ctx: &mut TaskCtx<AnyEnd, S, N>,
 ///     name: Name,
 ///     mut clock: SystemClock<K>,

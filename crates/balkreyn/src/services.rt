@@ -13,7 +13,7 @@ use thread_pool::{OsThreads, PoolRuntime, Spawner, ThreadPool};
 /// What a service may return. It is apart from how the service runs, as `Answers` does.
 ///
 /// ```rust
-/// impl Promises for Looks {
+/// impl ServiceAnswer for Looks {
 ///     type Answer = Found;
 ///
 ///     type Error = Refusal;
@@ -21,7 +21,7 @@ use thread_pool::{OsThreads, PoolRuntime, Spawner, ThreadPool};
 ///     ghost may_answer = { λ looks found. Unit {0} };
 /// }
 /// ```
-pub trait Promises {
+pub trait ServiceAnswer {
     /// What it returns.
     type Answer: Drop;
 
@@ -32,16 +32,16 @@ pub trait Promises {
     ghost may_answer: { Self → Self.Answer → Type 0 } = { λ service answer. Unit {0} };
 }
 
-/// What a service does with main's context. One that forks jobs of type `J` asks `S: Forks<AnyEnd, N, J>`.
+/// What a service does with main's context. One that forks jobs of type `J` asks `S: CanFork<AnyEnd, N, J>`.
 ///
 /// ```rust
-/// impl<N: RealmName, S: Forks<AnyEnd, N, Shop>, R: Handle> Service<S, N, R> for Looks {
+/// impl<N: RealmName, S: CanFork<AnyEnd, N, Shop>, R: Handle> Service<S, N, R> for Looks {
 ///     fn serve(self, rt: &R, ctx: &mut TaskCtx<AnyEnd, S, N>) -> Result<Found, Refusal> {
 ///         look(rt, self.alloc, ctx, self.name)
 ///     }
 /// }
 /// ```
-pub trait Service<S: Spawner<N>, N: RealmName, R: Handle>: Promises {
+pub trait Service<S: Spawner<N>, N: RealmName, R: Handle>: ServiceAnswer {
     /// Serves. What is left open is closed behind it.
     fn serve(self, rt: &R, ctx: &mut TaskCtx<AnyEnd, S, N>) -> Result<Self::Answer, Self::Error>
         ensures { IfOk result (λ answer. Self.may_answer self answer) };

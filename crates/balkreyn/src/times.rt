@@ -46,11 +46,12 @@ impl Look for Counting {
 /// A service that looks twice, before and after a scope, and gives the journal with these times:
 ///
 /// ```rust
-/// impl<N: RealmName, R: Handle, S: Forks<AnyEnd, N, By<R, Nap>>> Service<S, N, R> for Naps {
+/// impl<N: RealmName, R: Handle, S: CanFork<AnyEnd, N, WithRuntime<R, Nap>>> Service<S, N, R>
+///     for Naps {
 ///     fn serve(self, rt: &R, ctx: &mut TaskCtx<AnyEnd, S, N>) -> Result<Napped, Refusal> {
 ///         let mut times = Times::new(self.alloc);
 ///         times.note(ctx.reached(rt), 10)?;
-///         let state = nap(rt, ctx, self.nap)?;
+///         let state = take_nap(rt, ctx, self.nap)?;
 ///         times.note(ctx.reached(rt), 50)?;
 ///         let script = ctx.timed_journal(rt, self.alloc, &times, 60)?;
 ///         Ok(Napped { state, script })

@@ -9,13 +9,15 @@ use scope_rules::ScopeId;
 use std::alloc::{AllocError, Global};
 use std::hint::spin_loop;
 use std::marker::Model;
-use std::rt::Clock as SystemTime;
 use std::sync::{Arc, Condvar, MutexGuard, Wait};
 use std::time::Duration;
 
 /// How often who goes to sleep looks before whether it is woken: for some ten microseconds, about as long as falling
 /// asleep and waking take.
 const LOOKS: u32 = 6_000;
+
+/// For how many seconds who sleeps without a limit sleeps at most, until it looks anew: some thirty years.
+const ENDLESS: u64 = 1_000_000_000;
 
 /// What all holders of a cell share: the cell itself, and what those sleep on who wait for its scope.
 #[derive(Drop)]
@@ -97,50 +99,33 @@ impl MarkCell {
     /// other then, and the sleeper looks anew. That it returns is not promised. No clause says more of a sleep or
     /// a wake: a lock's contents are known by their invariant alone, and who sleeps is seen by no contract.
     pub fn sleep<'a, R: Wait, T>(&self, rt: &R, held: MutexGuard<'a, T>) -> MutexGuard<'a, T> {
-        match self.look(rt, held) {
-            Ok(held) => held,
-            Err(held) => self.shared.woken.wait(rt, held),
-        }
+        self.doze(rt, held, Duration::from_secs(ENDLESS))
     }
 
-    /// The same, for so long at most once it sleeps.
-    pub fn doze<'a, R: Wait + SystemTime, T>(
+    /// The same, for so long at most.
+    pub fn doze<'a, R: Wait, T>(
         &self,
         rt: &R,
         held: MutexGuard<'a, T>,
         most: Duration,
     ) -> MutexGuard<'a, T> {
-        match self.look(rt, held) {
-            Ok(held) => held,
-            Err(held) => {
-                let (held, _) = self.shared.woken.wait_timeout(rt, held, most);
-                held
-            }
+        let seen = self.shared.woken.notifications();
+        let lock = MutexGuard::unlock(held);
+        if !self.is_woken_soon(seen) {
+            self.shared.woken.sleep(rt, seen, most);
         }
+        lock.lock(rt)
     }
 
-    /// Looks for a moment whether it is woken here, with the lock given up; an error says that it wasn't, since the
-    /// lock was given up until it is taken again.
-    fn look<'a, R: Wait, T>(
-        &self,
-        rt: &R,
-        held: MutexGuard<'a, T>,
-    ) -> Result<MutexGuard<'a, T>, MutexGuard<'a, T>> {
-        let woken = &self.shared.woken;
-        let seen = woken.notifications();
-        let lock = MutexGuard::unlock(held);
+    /// Whether somebody wakes here within some looks: there were so many wakes before.
+    fn is_woken_soon(&self, seen: u64) -> bool {
         for _ in 0..LOOKS {
-            if woken.notifications() != seen {
-                break;
+            if self.shared.woken.notifications() != seen {
+                return true;
             }
             spin_loop();
         }
-        let held = lock.lock(rt);
-        if woken.notifications() == seen {
-            Err(held)
-        } else {
-            Ok(held)
-        }
+        false
     }
 
     /// Wakes all who sleep here.

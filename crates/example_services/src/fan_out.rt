@@ -193,7 +193,7 @@ impl Request {
 #[derive(Clone, Copy)]
 struct FanOut(HostRuntime);
 
-impl Promises for FanOut {
+impl ServiceAnswer for FanOut {
     type Answer = Vec<Answer>;
 
     type Error = ServiceError;

@@ -40,7 +40,7 @@ struct Sum {
     limit: u64,
 }
 
-impl Promises for Sum {
+impl ServiceAnswer for Sum {
     type Answer = Result<u64, TooLarge>;
 
     type Error = ServiceError;

@@ -36,7 +36,7 @@ impl Beat {
 #[derive(Clone, Copy)]
 struct Supervisor(HostRuntime);
 
-impl Promises for Supervisor {
+impl ServiceAnswer for Supervisor {
     type Answer = ();
 
     type Error = ServiceError;

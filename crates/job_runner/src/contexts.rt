@@ -26,7 +26,7 @@ pub(crate) struct OpenScope {
 /// Two jobs in a scope by a deadline, as a test of `service_tests` has it:
 ///
 /// ```rust
-/// fn sum_within<R: Wait + SystemTime + Copy, N: RealmName, S: Forks<AnyEnd, N, Ask<R>>>(
+/// fn sum_within<R: Wait + SystemTime + Copy, N: RealmName, S: CanFork<AnyEnd, N, Ask<R>>>(
 ///     rt: &R,
 ///     ctx: &mut TaskCtx<AnyEnd, S, N>,
 ///     clock: &mut SystemClock<R>,

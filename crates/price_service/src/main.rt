@@ -28,7 +28,7 @@ fn price_in(io: &HostRuntime, file: &str) -> Option<i64> {
 #[derive(Clone, Copy)]
 struct First(HostRuntime);
 
-impl Promises for First {
+impl ServiceAnswer for First {
     type Answer = Outcome;
 
     type Error = ServiceError;

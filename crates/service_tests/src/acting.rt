@@ -5,8 +5,8 @@ use balkreyn::act::{
     limited, map_at_most, next_done, race, retry, scope, serve, shielded,
 };
 use balkreyn::{
-    End, Fault, JobError, Joiner, Name, Options, Outcome, Promises, Refusal, ScopeId, ServiceError,
-    Slot, State, Typed, Value, Yields, named,
+    End, Fault, JobError, Joiner, Name, Options, Outcome, Refusal, ScopeId, ServiceAnswer,
+    ServiceError, Slot, State, Typed, Value, Yields, named,
 };
 use std::process::Abort;
 use std::test::Fail;
@@ -152,7 +152,7 @@ struct Failures {
 #[derive(Clone, Copy)]
 struct Shops(HostRuntime);
 
-impl Promises for Shops {
+impl ServiceAnswer for Shops {
     type Answer = Seen;
 
     type Error = ServiceError;

@@ -2,8 +2,8 @@
 
 use balkreyn::act::{Acts, Happening, Hooks, Load, Observes, Serves, Task, scope, serve_with};
 use balkreyn::{
-    Cancelling, CauseKind, End, Fault, Joiner, Options, Outcome, PoolRuntime, Promises, Refusal,
-    ServiceError, Value, named,
+    Cancelling, CauseKind, End, Fault, Joiner, Options, Outcome, PoolRuntime, Refusal,
+    ServiceAnswer, ServiceError, Value, named,
 };
 use std::alloc::Global;
 use std::process::Abort;
@@ -89,7 +89,7 @@ enum Cut {
     ByDeadlineWithin,
 }
 
-impl Promises for Cut {
+impl ServiceAnswer for Cut {
     /// Whether all went as it should.
     type Answer = bool;
 

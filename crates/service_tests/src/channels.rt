@@ -2,7 +2,7 @@
 
 use balkreyn::act::{Acts, Channel, Received, Sent, Serves, Task, receive, scope, send, serve};
 use balkreyn::{
-    End, Fault, Joiner, Options, Outcome, Promises, Refusal, ServiceError, Value, named,
+    End, Fault, Joiner, Options, Outcome, Refusal, ServiceAnswer, ServiceError, Value, named,
 };
 use std::alloc::Global;
 use std::process::Abort;
@@ -44,7 +44,7 @@ struct Seen {
 #[derive(Clone, Copy)]
 struct Counting;
 
-impl Promises for Counting {
+impl ServiceAnswer for Counting {
     type Answer = Seen;
 
     type Error = ServiceError;

@@ -2,9 +2,9 @@
 ghost use Rattle.std.specs.Prelude.{◌≡◌};
 
 use balkreyn::{
-    Answers, AnyEnd, By, End, Fault, Forks, Handle, JobBy, Joiner, Name, Options, PoolRuntime,
-    Promises, RealmName, Refusal, Seed, Service, ShowsByToken, Spawner, State, TaskCtx, Times,
-    Value, fork, serve_on_pool, within,
+    Answers, AnyEnd, CanFork, End, Fault, Handle, InspectByToken, JobWithRuntime, Joiner, Name,
+    Options, PoolRuntime, RealmName, Refusal, Seed, Service, ServiceAnswer, Spawner, State,
+    TaskCtx, Times, Value, WithRuntime, fork, serve_on_pool, within,
 };
 use std::alloc::Global;
 use std::marker::Brand;
@@ -25,7 +25,7 @@ impl Answers for Nap {
     ghost may_end = { λ nap end. Unit {0} };
 }
 
-impl<K: SystemTime, S: Spawner<N>, N: RealmName> JobBy<K, AnyEnd, S, N> for Nap {
+impl<K: SystemTime, S: Spawner<N>, N: RealmName> JobWithRuntime<K, AnyEnd, S, N> for Nap {
     fn run_by<R: Wait>(self, _rt: &R, io: &K, _ctx: &mut TaskCtx<AnyEnd, S, N>) -> End {
         let nap = Duration::from_millis(self.millis);
         let Ok(before) = Instant::now(io) else {
@@ -40,14 +40,14 @@ impl<K: SystemTime, S: Spawner<N>, N: RealmName> JobBy<K, AnyEnd, S, N> for Nap 
 }
 
 /// Has a thread nap by a copy of this handle, and gives how that ended.
-fn nap<N: RealmName, R: Handle, S: Forks<AnyEnd, N, By<R, Nap>>>(
+fn take_nap<N: RealmName, R: Handle, S: CanFork<AnyEnd, N, WithRuntime<R, Nap>>>(
     rt: &R,
     ctx: &mut TaskCtx<AnyEnd, S, N>,
     job: Nap,
 ) -> Result<State, Refusal> {
     within(rt, ctx, Joiner::AwaitAll, Options::PLAIN, |ctx, scope| {
         let io = *rt;
-        fork(rt, ctx, scope, job.name, By { io, job })?;
+        fork(rt, ctx, scope, job.name, WithRuntime { io, job })?;
         ctx.join(rt, scope)?;
         ctx.state(rt, 1)
     })
@@ -67,7 +67,7 @@ struct Naps {
     nap: Nap,
 }
 
-impl Promises for Naps {
+impl ServiceAnswer for Naps {
     type Answer = Napped;
 
     type Error = Refusal;
@@ -75,11 +75,12 @@ impl Promises for Naps {
     ghost may_answer = { λ naps napped. Unit {0} };
 }
 
-impl<N: RealmName, R: Handle, S: Forks<AnyEnd, N, By<R, Nap>>> Service<S, N, R> for Naps {
+impl<N: RealmName, R: Handle, S: CanFork<AnyEnd, N, WithRuntime<R, Nap>>> Service<S, N, R>
+    for Naps {
     fn serve(self, rt: &R, ctx: &mut TaskCtx<AnyEnd, S, N>) -> Result<Napped, Refusal> {
         let mut times = Times::new(self.alloc);
         times.note(ctx.reached(rt), 10)?;
-        let state = nap(rt, ctx, self.nap)?;
+        let state = take_nap(rt, ctx, self.nap)?;
         times.note(ctx.reached(rt), 50)?;
         let script = ctx.timed_journal(rt, self.alloc, &times, 60)?;
         Ok(Napped { state, script })
@@ -87,14 +88,14 @@ impl<N: RealmName, R: Handle, S: Forks<AnyEnd, N, By<R, Nap>>> Service<S, N, R> 
 }
 
 /// How the nap ended, on a pool of its own.
-fn napped<N: RealmName + Send + Sync + 'static, R: PoolRuntime + SystemTime>(
+fn served<N: RealmName + Send + Sync + 'static, R: PoolRuntime + SystemTime>(
     rt: &R,
     seed: Seed,
     naps: Naps,
 ) -> Result<Napped, Refusal>
     requires { seed ≡ N.table }
 {
-    serve_on_pool::<N, By<R, Nap>, _, R>(rt, naps.alloc, seed, 4, naps)
+    serve_on_pool::<N, WithRuntime<R, Nap>, _, R>(rt, naps.alloc, seed, 4, naps)
 }
 
 #[test]
@@ -104,7 +105,8 @@ fn a_job_works_by_a_handle_of_its_own(rt: HostRuntime) -> Result<(), Fail> {
         alloc: rt.alloc(),
         nap: Nap { name, millis: 5 },
     };
-    let napped = napped::<Brand, _>(&rt, Seed::new(rt.alloc())?, naps)?;
+    let seed = Seed::new(rt.alloc())?;
+    let napped = served::<Brand, _>(&rt, seed, naps)?;
     assert!(rt; napped.state == State::Success(Value::Text(name)));
     assert!(rt; napped.script.as_str().starts_with("# at 50\nopen 0 "));
     Ok(())

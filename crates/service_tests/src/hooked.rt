@@ -2,7 +2,7 @@
 
 use balkreyn::act::{Acts, Happening, Hooks, Load, Observes, Serves, Task, scope, serve_with};
 use balkreyn::{
-    End, Fault, Joiner, Options, PoolRuntime, Promises, Refusal, ServiceError, Value, named,
+    End, Fault, Joiner, Options, PoolRuntime, Refusal, ServiceAnswer, ServiceError, Value, named,
 };
 use std::alloc::Global;
 use std::process::Abort;
@@ -81,7 +81,7 @@ impl Counts {
 #[derive(Clone, Copy)]
 struct Three;
 
-impl Promises for Three {
+impl ServiceAnswer for Three {
     /// Which forks were refused, and for what.
     type Answer = (Option<Refusal>, Option<Refusal>, Option<Refusal>);
 

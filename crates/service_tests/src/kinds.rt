@@ -2,9 +2,9 @@
 ghost use Rattle.std.specs.Prelude.{◌≡◌};
 
 use balkreyn::{
-    Answers, AnyEnd, End, Fault, Forks, Handle, Job, Joiner, Name, Options, PoolRuntime, Promises,
-    RealmName, Refusal, ScopeId, Seed, Service, Slot, Spawner, TaskCtx, Typed, TypedJob, Yields,
-    fork_typed, serve_on_pool,
+    Answers, AnyEnd, CanFork, End, Fault, Handle, Job, Joiner, Name, Options, PoolRuntime,
+    RealmName, Refusal, ScopeId, Seed, Service, ServiceAnswer, Slot, Spawner, TaskCtx, Typed,
+    TypedJob, Yields, fork_typed, serve_on_pool,
 };
 use std::alloc::Global;
 use std::marker::Brand;
@@ -124,7 +124,7 @@ struct Asked {
 }
 
 /// Forks the three.
-fn ask<N: RealmName, S: Forks<AnyEnd, N, Shop>, R: Wait>(
+fn ask<N: RealmName, S: CanFork<AnyEnd, N, Shop>, R: Wait>(
     rt: &R,
     alloc: Global,
     ctx: &mut TaskCtx<AnyEnd, S, N>,
@@ -176,7 +176,7 @@ struct Found {
 }
 
 /// Opens a scope, forks, looks too early, joins, and looks.
-fn look<N: RealmName, S: Forks<AnyEnd, N, Shop>, R: Wait>(
+fn look<N: RealmName, S: CanFork<AnyEnd, N, Shop>, R: Wait>(
     rt: &R,
     alloc: Global,
     ctx: &mut TaskCtx<AnyEnd, S, N>,
@@ -205,7 +205,7 @@ struct Looks {
     name: Name,
 }
 
-impl Promises for Looks {
+impl ServiceAnswer for Looks {
     type Answer = Found;
 
     type Error = Refusal;
@@ -213,7 +213,7 @@ impl Promises for Looks {
     ghost may_answer = { λ looks found. Unit {0} };
 }
 
-impl<N: RealmName, S: Forks<AnyEnd, N, Shop>, R: Handle> Service<S, N, R> for Looks {
+impl<N: RealmName, S: CanFork<AnyEnd, N, Shop>, R: Handle> Service<S, N, R> for Looks {
     fn serve(self, rt: &R, ctx: &mut TaskCtx<AnyEnd, S, N>) -> Result<Found, Refusal> {
         look(rt, self.alloc, ctx, self.name)
     }

@@ -3,10 +3,10 @@
 ghost use Rattle.std.specs.Prelude.{◌≡◌};
 
 use balkreyn::{
-    Answers, AnyEnd, Clock, End, Fault, Forks, Handle, Job, Joiner, Label, Name, NamedJob, NoTime,
-    Opened, Options, Outcome, PoolRuntime, Promises, RealmName, Refusal, ScopeId, Seed, Service,
-    Spawner, SystemClock, TaskCtx, TaskValue, Value, Verdict, fail_after, fork, realm_clock,
-    serve_on_pool, within, within_by,
+    Answers, AnyEnd, CanFork, Clock, End, Fault, Handle, Job, Joiner, Label, Name, NamedJob,
+    NoTime, Options, Outcome, PoolRuntime, RealmName, Refusal, ScopeGuard, ScopeId, Seed, Service,
+    ServiceAnswer, Spawner, SystemClock, TaskCtx, TaskValue, Value, Verdict, fail_after, fork,
+    realm_clock, serve_on_pool, within, within_by,
 };
 use std::alloc::Global;
 use std::marker::Brand;
@@ -95,7 +95,7 @@ struct Request {
 }
 
 /// The sum of two prices, asked for at once, if both come within so many milliseconds.
-fn sum_within<R: Wait + SystemTime + Copy, N: RealmName, S: Forks<AnyEnd, N, Ask<R>>>(
+fn sum_within<R: Wait + SystemTime + Copy, N: RealmName, S: CanFork<AnyEnd, N, Ask<R>>>(
     rt: &R,
     ctx: &mut TaskCtx<AnyEnd, S, N>,
     clock: &mut SystemClock<R>,
@@ -137,10 +137,10 @@ fn sum_of(values: &[TaskValue]) -> i64 {
 }
 
 /// What both shops say, in the guarded scope.
-fn ask_both<R: Wait + SystemTime + Copy, N: RealmName, S: Forks<AnyEnd, N, Ask<R>>>(
+fn ask_both<R: Wait + SystemTime + Copy, N: RealmName, S: CanFork<AnyEnd, N, Ask<R>>>(
     rt: &R,
     ctx: &mut TaskCtx<AnyEnd, S, N>,
-    scope: &Opened,
+    scope: &ScopeGuard,
     clock: &mut SystemClock<R>,
     asks: (Ask<R>, Ask<R>),
 ) -> Result<Option<i64>, Refusal> {
@@ -157,7 +157,7 @@ fn ask_both<R: Wait + SystemTime + Copy, N: RealmName, S: Forks<AnyEnd, N, Ask<R
 }
 
 /// The same sum over a guard.
-fn sum_guarded<R: Wait + SystemTime + Copy, N: RealmName, S: Forks<AnyEnd, N, Ask<R>>>(
+fn sum_guarded<R: Wait + SystemTime + Copy, N: RealmName, S: CanFork<AnyEnd, N, Ask<R>>>(
     rt: &R,
     ctx: &mut TaskCtx<AnyEnd, S, N>,
     clock: &mut SystemClock<R>,
@@ -165,14 +165,14 @@ fn sum_guarded<R: Wait + SystemTime + Copy, N: RealmName, S: Forks<AnyEnd, N, As
     millis: u64,
 ) -> Result<Option<i64>, Refusal> {
     let options = fail_after(clock, millis);
-    let scope = Opened::at(rt, ctx, Joiner::All, options)?;
+    let scope = ScopeGuard::at(rt, ctx, Joiner::All, options)?;
     let found = ask_both(rt, ctx, &scope, clock, asks);
     scope.close_by(rt, ctx, clock)?;
     found
 }
 
 /// The same with a report, which must be of a scope that was closed plainly, alone.
-fn sum_reported<R: Wait + SystemTime + Copy, N: RealmName, S: Forks<AnyEnd, N, Ask<R>>>(
+fn sum_reported<R: Wait + SystemTime + Copy, N: RealmName, S: CanFork<AnyEnd, N, Ask<R>>>(
     rt: &R,
     ctx: &mut TaskCtx<AnyEnd, S, N>,
     clock: &mut SystemClock<R>,
@@ -180,7 +180,7 @@ fn sum_reported<R: Wait + SystemTime + Copy, N: RealmName, S: Forks<AnyEnd, N, A
     millis: u64,
 ) -> Result<Option<i64>, Refusal> {
     let options = fail_after(clock, millis);
-    let scope = Opened::at(rt, ctx, Joiner::All, options)?;
+    let scope = ScopeGuard::at(rt, ctx, Joiner::All, options)?;
     let found = ask_both(rt, ctx, &scope, clock, asks);
     match scope.report_by(rt, ctx, clock) {
         Ok(report) => {
@@ -198,7 +198,7 @@ fn sum_reported<R: Wait + SystemTime + Copy, N: RealmName, S: Forks<AnyEnd, N, A
 }
 
 /// The refusal of a close of the scope that a body left by a `?`: it is closed already.
-fn close_after_giving_up<R: Wait + SystemTime + Copy, N: RealmName, S: Forks<AnyEnd, N, Ask<R>>>(
+fn close_after_giving_up<R: Wait + SystemTime + Copy, N: RealmName, S: CanFork<AnyEnd, N, Ask<R>>>(
     rt: &R,
     ctx: &mut TaskCtx<AnyEnd, S, N>,
     ask: Ask<R>,
@@ -227,7 +227,7 @@ fn close_twice<R: Wait, N: RealmName, S: Spawner<N>>(
     rt: &R,
     ctx: &mut TaskCtx<AnyEnd, S, N>,
 ) -> Result<Option<i64>, Refusal> {
-    let scope = Opened::at(rt, ctx, Joiner::Any, Options::PLAIN)?;
+    let scope = ScopeGuard::at(rt, ctx, Joiner::Any, Options::PLAIN)?;
     let early = ctx.close_scope_bare(rt, scope.number());
     match scope.report(rt, ctx) {
         Ok(_report) => Ok(None),
@@ -256,7 +256,7 @@ fn cancel_around<R: Wait, N: RealmName, S: Spawner<N>>(
 }
 
 /// Serves the request in the form that it asks for.
-fn serve<R: Wait + SystemTime + Copy, N: RealmName, S: Forks<AnyEnd, N, Ask<R>>>(
+fn serve<R: Wait + SystemTime + Copy, N: RealmName, S: CanFork<AnyEnd, N, Ask<R>>>(
     rt: &R,
     ctx: &mut TaskCtx<AnyEnd, S, N>,
     clock: &mut SystemClock<R>,
@@ -281,7 +281,7 @@ struct TwoShops {
     request: Request,
 }
 
-impl Promises for TwoShops {
+impl ServiceAnswer for TwoShops {
     type Answer = Option<i64>;
 
     type Error = Failed;
@@ -289,7 +289,7 @@ impl Promises for TwoShops {
     ghost may_answer = { λ shops sum. Unit {0} };
 }
 
-impl<N: RealmName, R: Handle, S: Forks<AnyEnd, N, Ask<R>>> Service<S, N, R> for TwoShops {
+impl<N: RealmName, R: Handle, S: CanFork<AnyEnd, N, Ask<R>>> Service<S, N, R> for TwoShops {
     fn serve(self, rt: &R, ctx: &mut TaskCtx<AnyEnd, S, N>) -> Result<Option<i64>, Failed> {
         let mut clock = realm_clock(rt)?;
         let first = Ask {

@@ -2,8 +2,8 @@
 ghost use Rattle.std.specs.Prelude.{◌≡◌};
 
 use balkreyn::{
-    Answers, AnyEnd, Brand, CloseReport, End, Fault, Forks, Handle, Job, Joiner, Limits, LogEntry,
-    Name, Need, PoolRuntime, RealmName, Refusal, Requests, ScopeId, Seed, Side, Stopped,
+    Answers, AnyEnd, Brand, CanFork, CloseReport, End, Fault, Handle, Job, Joiner, Limits,
+    LogEntry, Name, Need, PoolRuntime, RealmName, Refusal, Requests, ScopeId, Seed, Side, Stopped,
     SystemClock, TaskCtx, Turned, Turns, Value, fail_after, fork, rotate, within_by,
 };
 use std::alloc::Global;
@@ -23,7 +23,7 @@ impl<K> Answers for Work<K> {
     ghost may_end = { λ job end. Unit {0} };
 }
 
-impl<K: Handle, N: RealmName, S: Forks<AnyEnd, N, Work<K>>> Job<AnyEnd, S, N> for Work<K> {
+impl<K: Handle, N: RealmName, S: CanFork<AnyEnd, N, Work<K>>> Job<AnyEnd, S, N> for Work<K> {
     fn run<R: Wait>(self, rt: &R, ctx: &mut TaskCtx<AnyEnd, S, N>) -> End {
         match self {
             Work::Shop { price } => Ok(Value::Num(price)),
@@ -36,7 +36,7 @@ impl<K: Handle, N: RealmName, S: Forks<AnyEnd, N, Work<K>>> Job<AnyEnd, S, N> fo
 }
 
 /// The sum of what two shops ask, within a minute.
-fn ask_two<K: Handle, N: RealmName, S: Forks<AnyEnd, N, Work<K>>>(
+fn ask_two<K: Handle, N: RealmName, S: CanFork<AnyEnd, N, Work<K>>>(
     ctx: &mut TaskCtx<AnyEnd, S, N>,
     name: Name,
     mut clock: SystemClock<K>,

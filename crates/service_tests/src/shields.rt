@@ -2,9 +2,10 @@
 ghost use Rattle.std.specs.Prelude.{◌≡◌};
 
 use balkreyn::{
-    Answers, AnyEnd, End, Fault, Forks, Handle, Job, Joiner, LogEntry, Name, Opened, Options,
-    PoolRuntime, Promises, RealmName, Refusal, Seed, Service, ServiceError, Spawner, SystemClock,
-    TaskCtx, Value, fail_after, fork, realm_clock, serve_on_pool, within, within_by,
+    Answers, AnyEnd, CanFork, End, Fault, Handle, Job, Joiner, LogEntry, Name, Options,
+    PoolRuntime, RealmName, Refusal, ScopeGuard, Seed, Service, ServiceAnswer, ServiceError,
+    Spawner, SystemClock, TaskCtx, Value, fail_after, fork, realm_clock, serve_on_pool, within,
+    within_by,
 };
 use std::alloc::Global;
 use std::marker::Brand;
@@ -54,7 +55,7 @@ enum Way {
 }
 
 /// Forks the job in the scope, and closes that: whether the job ended well, where a report says so.
-fn close_around<R: Handle, N: RealmName, S: Forks<AnyEnd, N, Lingers<R>>>(
+fn close_around<R: Handle, N: RealmName, S: CanFork<AnyEnd, N, Lingers<R>>>(
     rt: &R,
     ctx: &mut TaskCtx<AnyEnd, S, N>,
     job: Lingers<R>,
@@ -74,7 +75,7 @@ fn close_around<R: Handle, N: RealmName, S: Forks<AnyEnd, N, Lingers<R>>>(
             },
         );
     }
-    let scope = Opened::at(rt, ctx, Joiner::AwaitAll, Options::PLAIN)?;
+    let scope = ScopeGuard::at(rt, ctx, Joiner::AwaitAll, Options::PLAIN)?;
     let forked = fork(rt, ctx, scope.number(), job.name, job);
     let is_well = match way {
         Way::Report => match scope.report_by(rt, ctx, &mut clock) {
@@ -103,7 +104,7 @@ struct Closes {
     way: Way,
 }
 
-impl Promises for Closes {
+impl ServiceAnswer for Closes {
     type Answer = bool;
 
     type Error = ServiceError;
@@ -111,7 +112,7 @@ impl Promises for Closes {
     ghost may_answer = { λ closes well. Unit {0} };
 }
 
-impl<N: RealmName, R: Handle, S: Forks<AnyEnd, N, Lingers<R>>> Service<S, N, R> for Closes {
+impl<N: RealmName, R: Handle, S: CanFork<AnyEnd, N, Lingers<R>>> Service<S, N, R> for Closes {
     fn serve(self, rt: &R, ctx: &mut TaskCtx<AnyEnd, S, N>) -> Result<bool, ServiceError> {
         let name = self.name;
         let clock = realm_clock(rt)?;

@@ -2,7 +2,7 @@
 
 use balkreyn::act::{Acts, Serves, Stop, Task, scope, serve_until, shielded};
 use balkreyn::{
-    End, Fault, Joiner, Options, Outcome, PoolRuntime, Promises, Refusal, ServiceError, Value,
+    End, Fault, Joiner, Options, Outcome, PoolRuntime, Refusal, ServiceAnswer, ServiceError, Value,
     named,
 };
 use std::alloc::Global;
@@ -55,7 +55,7 @@ struct Seen {
     job: bool,
 }
 
-impl Promises for Lasting {
+impl ServiceAnswer for Lasting {
     type Answer = Seen;
 
     type Error = ServiceError;

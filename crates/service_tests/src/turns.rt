@@ -2,7 +2,7 @@
 ghost use Rattle.std.specs.Prelude.{◌≡◌};
 
 use balkreyn::{
-    Answers, AnyEnd, CloseReport, End, Fault, Forks, Handle, Job, Joiner, Limits, LogEntry, Name,
+    Answers, AnyEnd, CanFork, CloseReport, End, Fault, Handle, Job, Joiner, Limits, LogEntry, Name,
     Need, Options, PoolRuntime, RealmName, Refusal, Requests, Seed, ServiceError, Side, Stopped,
     SystemClock, TaskCtx, Turned, Turns, Value, fork, rotate, within,
 };
@@ -62,7 +62,7 @@ impl Answers for Work {
     ghost may_end = { λ job end. Unit {0} };
 }
 
-impl<N: RealmName, S: Forks<AnyEnd, N, Work>> Job<AnyEnd, S, N> for Work {
+impl<N: RealmName, S: CanFork<AnyEnd, N, Work>> Job<AnyEnd, S, N> for Work {
     fn run<R: Wait>(self, rt: &R, ctx: &mut TaskCtx<AnyEnd, S, N>) -> End {
         match self {
             Work::Shop => Ok(Value::Num(1)),
@@ -79,7 +79,7 @@ impl<N: RealmName, S: Forks<AnyEnd, N, Work>> Job<AnyEnd, S, N> for Work {
 }
 
 /// What one shop says.
-fn ask<N: RealmName, S: Forks<AnyEnd, N, Work>, R: Wait>(
+fn ask<N: RealmName, S: CanFork<AnyEnd, N, Work>, R: Wait>(
     rt: &R,
     ctx: &mut TaskCtx<AnyEnd, S, N>,
     name: Name,

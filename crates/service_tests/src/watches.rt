@@ -4,7 +4,7 @@ use balkreyn::act::{
     Acts, Hooks, Load, Serves, Stop, Task, Watch, scope, serve, serve_watched, serve_with, shielded,
 };
 use balkreyn::{
-    End, Fault, Joiner, Options, PoolRuntime, Promises, Refusal, ServiceError, Value, named,
+    End, Fault, Joiner, Options, PoolRuntime, Refusal, ServiceAnswer, ServiceError, Value, named,
 };
 use std::alloc::{AllocError, Global};
 use std::fs;
@@ -37,7 +37,7 @@ impl Task for Work {
 #[derive(Clone, Copy)]
 struct Hanging(u64);
 
-impl Promises for Hanging {
+impl ServiceAnswer for Hanging {
     type Answer = ();
 
     type Error = ServiceError;
@@ -109,7 +109,7 @@ fn watch_of(io: HostRuntime, tree: &str, every: u64, late: u64) -> Result<Watch,
 #[derive(Clone, Copy)]
 struct Asking(HostRuntime);
 
-impl Promises for Asking {
+impl ServiceAnswer for Asking {
     /// Whether the watch wrote.
     type Answer = bool;
 
@@ -149,7 +149,7 @@ fn a_watch_is_forked_by_hand_and_asked(rt: HostRuntime) -> Result<(), Fail> {
 #[derive(Drop)]
 struct Stopping(Arc<Stop, Global>);
 
-impl Promises for Stopping {
+impl ServiceAnswer for Stopping {
     type Answer = ();
 
     type Error = ServiceError;

@@ -2,10 +2,10 @@
 ghost use Rattle.std.specs.Prelude.{◌≡◌};
 
 use balkreyn::{
-    Answers, AnyEnd, Clock, End, Fault, Forks, Handle, Job, Joiner, Name, Options, PoolRuntime,
-    Promises, Realm, RealmName, Refusal, ScopeId, Seed, Service, ServiceError, Shows, ShowsByToken,
-    Spawner, SystemClock, TaskCtx, Typed, TypedJob, Value, Yields, fork, fork_typed, realm_clock,
-    serve_on_pool, within,
+    Answers, AnyEnd, CanFork, Clock, End, Fault, Handle, Inspect, InspectByToken, Job, Joiner,
+    Name, Options, PoolRuntime, Realm, RealmName, Refusal, ScopeId, Seed, Service, ServiceAnswer,
+    ServiceError, Spawner, SystemClock, TaskCtx, Typed, TypedJob, Value, Yields, fork, fork_typed,
+    realm_clock, serve_on_pool, within,
 };
 use std::alloc::Global;
 use std::marker::Brand;
@@ -114,7 +114,7 @@ struct Hangs {
     alloc: Global,
 }
 
-impl Promises for Hangs {
+impl ServiceAnswer for Hangs {
     type Answer = Seen;
 
     type Error = ServiceError;
@@ -122,7 +122,7 @@ impl Promises for Hangs {
     ghost may_answer = { λ hangs seen. Unit {0} };
 }
 
-impl<N: RealmName, R: Handle, S: Forks<AnyEnd, N, Work<R, N>>> Service<S, N, R> for Hangs {
+impl<N: RealmName, R: Handle, S: CanFork<AnyEnd, N, Work<R, N>>> Service<S, N, R> for Hangs {
     #[tactic(auto, unfolding(scope_rules::specs::NameText::is_name))]
     fn serve(self, rt: &R, ctx: &mut TaskCtx<AnyEnd, S, N>) -> Result<Seen, ServiceError> {
         let clock = realm_clock(rt)?;

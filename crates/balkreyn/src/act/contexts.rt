@@ -5,8 +5,8 @@ ghost use Rattle.balkreyn.specs.Slots.{ForksUnder};
 use crate::act::hooks::{Happening, Observes, Shares};
 use crate::act::tasks::{Part, Task, Timed};
 use crate::act::told::Told;
-use crate::aliases::{Forks, Handle};
-use crate::by_token::ShowsByToken;
+use crate::aliases::{CanFork, Handle};
+use crate::by_token::InspectByToken;
 use crate::forks::fork;
 use crate::scoped::Scopes;
 use crate::times::Times;
@@ -156,7 +156,7 @@ pub trait Acts<W>: Scopes + Wait {
     fn note(&mut self, times: &mut Times) -> Result<(), Refusal>
         ensures { Reads (Self.token self.old) (Self.token self.new) (NotesNow Self.reads (Self.time self.old) times.old times.new result) };
 
-    /// The journal with these times, as `Shows::timed_journal`; `Memory` if there is none for it.
+    /// The journal with these times, as `Inspect::timed_journal`; `Memory` if there is none for it.
     fn timed_journal(&mut self, times: &Times) -> Result<String, Refusal>
         ensures { Reads (Self.token self.old) (Self.token self.new) (SaysWhenNow Self.reads (Self.time self.old) times.now.found.items result) };
 }
@@ -227,7 +227,7 @@ impl<K: Handle, O: Observes, S: Spawner<N>, N: RealmName> Cx<'_, K, O, S, N> {
         job: W,
     ) -> Result<ForkReply, Refusal>
     where
-        S: Forks<AnyEnd, N, Timed<K, W, O>>,
+        S: CanFork<AnyEnd, N, Timed<K, W, O>>,
         ensures sees { SeesMore self.old.ctx.now.token self.new.ctx.now.token }
         ensures answer { ForksUnder self.old.ctx.now.token self.new.ctx.now.token scope name result }
     {
@@ -287,7 +287,7 @@ impl<K, O, S: Spawner<N>, N: RealmName> Scopes for Cx<'_, K, O, S, N> {
     }
 }
 
-impl<K: Handle, O: Observes, N: RealmName, W: Task, S: Forks<AnyEnd, N, Timed<K, W, O>>> Acts<W>
+impl<K: Handle, O: Observes, N: RealmName, W: Task, S: CanFork<AnyEnd, N, Timed<K, W, O>>> Acts<W>
     for Cx<'_, K, O, S, N> {
     ghost use Rattle.share_ledger.specs.declared.clocks.SystemClock.{SystemClock};
     ghost use Rattle.job_runner.specs.Marks.{seat_here};

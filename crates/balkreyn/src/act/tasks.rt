@@ -6,12 +6,12 @@ use crate::act::hooks::{AtHand, Happening, Hooks, Load, Observes, Shares};
 use crate::act::stops::{Stop, StopWatch};
 use crate::act::told::Told;
 use crate::act::watches::Watch;
-use crate::aliases::{Forks, Handle};
+use crate::aliases::{CanFork, Handle};
 use crate::errors::NoTime;
 use crate::forks::fork;
 use crate::literals::named;
 use crate::scoped::Scopes;
-use crate::services::{Promises, Service, realm_clock, serve_on_pool};
+use crate::services::{Service, ServiceAnswer, realm_clock, serve_on_pool};
 use job_runner::{Answers, Clock, Job, JobWork, SystemClock, TaskCtx};
 use join_rules::Joiner;
 use realm_lock::{RealmName, Seed};
@@ -76,7 +76,7 @@ impl<K, W: Task, O> Answers for Timed<K, W, O> {
     ghost may_end = { λ timed end. PartMayEnd W.may_end timed.job end };
 }
 
-impl<K: Handle, N: RealmName, W: Task, O: Observes, S: Forks<AnyEnd, N, Timed<K, W, O>>> Job<
+impl<K: Handle, N: RealmName, W: Task, O: Observes, S: CanFork<AnyEnd, N, Timed<K, W, O>>> Job<
     AnyEnd,
     S,
     N,
@@ -123,7 +123,7 @@ impl<K: Handle, N: RealmName, W: Task, O: Observes, S: Forks<AnyEnd, N, Timed<K,
 ///     }
 /// }
 /// ```
-pub trait Serves<W>: Promises {
+pub trait Serves<W>: ServiceAnswer {
     /// Serves. What is left open is closed behind it.
     fn serve<X: Acts<W>>(self, cx: &mut X) -> Result<Self::Answer, Self::Error>
         ensures { IfOk result (λ answer. Self.may_answer self answer) };
@@ -138,7 +138,7 @@ struct Acting<W, O, V> {
     jobs: PhantomData<W>,
 }
 
-impl<W, O, V: Promises> Promises for Acting<W, O, V> {
+impl<W, O, V: ServiceAnswer> ServiceAnswer for Acting<W, O, V> {
     type Answer = V::Answer;
 
     type Error = V::Error;
@@ -152,7 +152,7 @@ impl<
     W: Task,
     O: Observes,
     V: Serves<W> + Drop,
-    S: Forks<AnyEnd, N, Timed<K, W, O>>,
+    S: CanFork<AnyEnd, N, Timed<K, W, O>>,
 > Service<S, N, K> for Acting<W, O, V>
 where
     V::Error: From<NoTime>,
@@ -190,7 +190,7 @@ fn serve_beside<
     W: Task,
     O: Observes,
     V: Serves<W> + Drop,
-    S: Forks<AnyEnd, N, Timed<K, W, O>>,
+    S: CanFork<AnyEnd, N, Timed<K, W, O>>,
 >(
     alloc: Global,
     clock: SystemClock<K>,
@@ -224,7 +224,7 @@ fn serve_stoppable<
     W: Task,
     O: Observes,
     V: Serves<W> + Drop,
-    S: Forks<AnyEnd, N, Timed<K, W, O>>,
+    S: CanFork<AnyEnd, N, Timed<K, W, O>>,
 >(
     alloc: Global,
     clock: SystemClock<K>,
@@ -258,7 +258,7 @@ fn serve_plainly<
     W: Task,
     O: Observes,
     V: Serves<W> + Drop,
-    S: Forks<AnyEnd, N, Timed<K, W, O>>,
+    S: CanFork<AnyEnd, N, Timed<K, W, O>>,
 >(
     alloc: Global,
     clock: SystemClock<K>,
@@ -273,7 +273,7 @@ fn serve_plainly<
 }
 
 /// Forks a part that is none of the service's jobs at hand.
-fn fork_part<K: Handle, N: RealmName, W: Task, O: Observes, S: Forks<AnyEnd, N, Timed<K, W, O>>>(
+fn fork_part<K: Handle, N: RealmName, W: Task, O: Observes, S: CanFork<AnyEnd, N, Timed<K, W, O>>>(
     alloc: Global,
     clock: SystemClock<K>,
     ctx: &mut TaskCtx<AnyEnd, S, N>,

@@ -1,4 +1,4 @@
-//! Pictures of a realm, without a token.
+//! What is seen of a realm, without a token.
 ghost use Rattle.script_journal.specs.Script.{script_text};
 ghost use Rattle.tree_dump.specs.Tree.{dump_text};
 ghost use Rattle.tree_dump.specs.TextTree.{tree_text};
@@ -43,7 +43,7 @@ use std::sync::Wait;
 ///     }
 /// }
 /// ```
-pub trait Shows {
+pub trait Inspect {
     ghost use Rattle.scope_rules.specs.History.{History};
 
     /// It is so of a history that it may have come to.
@@ -91,7 +91,7 @@ pub trait Shows {
         ensures { Self.seen (λ h. SaysWhen h times.now.found.items now result) };
 }
 
-impl<C: Catalog, N: RealmName> Shows for Realm<C, N> {
+impl<C: Catalog, N: RealmName> Inspect for Realm<C, N> {
     ghost seen = { λ said. IsSeen C.fitting said };
 
     fn tree<R: Wait>(&self, rt: &R, alloc: Global) -> Result<String, Refusal> {

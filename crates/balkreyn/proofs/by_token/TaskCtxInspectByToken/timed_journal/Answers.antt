@@ -1,5 +1,5 @@
 use Rattle.balkreyn.proofs.Shown.{reads_so}
-use Rattle.balkreyn.proofs.by_token.TaskCtxShowsByToken.timed_journal.Goals as goal
+use Rattle.balkreyn.proofs.by_token.TaskCtxInspectByToken.timed_journal.Goals as goal
 
 pub returns-clause-answer : goal.returns-clause-answer
 returns-clause-answer g c = reads_so _ _ _ _ c.timed_in.ensures c.look.ensures.answer.1

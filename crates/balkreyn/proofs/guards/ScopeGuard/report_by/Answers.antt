@@ -4,7 +4,7 @@ use Rattle.realm_core.specs.Calls.{history_seen}
 use Rattle.realm_core.specs.Waiting.{FoundUnsettled}
 use Rattle.realm_lock.specs.Waits.{ClosesAfter, StaysUnclosed}
 use Rattle.job_runner.specs.Reports.{ClosesHere, StaysHere}
-use Rattle.balkreyn.proofs.guards.Opened.report_by.Goals as goal
+use Rattle.balkreyn.proofs.guards.ScopeGuard.report_by.Goals as goal
 
 pub returns-in-Ok-clause-closed : goal.returns-in-Ok-clause-closed
 returns-in-Ok-clause-closed g c =
