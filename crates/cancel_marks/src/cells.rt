@@ -12,11 +12,10 @@ use std::marker::Model;
 use std::sync::{Arc, Condvar, MutexGuard, Wait};
 use std::time::Duration;
 
-/// How often who goes to sleep looks before whether it is woken: for some ten microseconds, about as long as falling
-/// asleep and waking take.
+/// How often a call spins before it sleeps: for some ten microseconds, about as long as falling asleep and waking take.
 const LOOKS: u32 = 6_000;
 
-/// For how many seconds who sleeps without a limit sleeps at most, until it looks anew: some thirty years.
+/// The longest sleep of a call that no time ends, in seconds: some thirty years. Its caller then looks anew.
 const ENDLESS: u64 = 1_000_000_000;
 
 /// What all holders of a cell share: the cell itself, and what those sleep on who wait for its scope.
@@ -117,7 +116,7 @@ impl MarkCell {
         lock.lock(rt)
     }
 
-    /// Whether somebody wakes here within some looks: there were so many wakes before.
+    /// Spins, and says whether there was a wake here since there were so many.
     fn is_woken_soon(&self, seen: u64) -> bool {
         for _ in 0..LOOKS {
             if self.shared.woken.notifications() != seen {

@@ -3,15 +3,15 @@ use std::sync::atomic::{AtomicBool, Ordering};
 use std::sync::{Mutex, Wait};
 use std::thread::Parker;
 
-/// How often who waits looks before it sleeps: for some ten microseconds, about as long as falling asleep and waking
-/// take. What comes meanwhile costs neither side a call of the system.
+/// How often a thread spins before it sleeps: for some ten microseconds, about as long as falling asleep and waking
+/// take. An item that comes meanwhile costs neither side a system call.
 const LOOKS: u32 = 6_000;
 
 /// Where one thread waits for what another puts there.
 #[derive(Drop)]
 pub(crate) struct Handoff<T> {
     item: Mutex<Option<T>>,
-    /// Whether the bell has rung. Who waits goes by the bell alone: this only tells it when to look no more.
+    /// Whether the bell has rung. A waiter goes by the bell alone; this only ends its spinning.
     rung: AtomicBool,
     bell: Parker,
 }
@@ -46,7 +46,7 @@ impl<T: Drop> Handoff<T> {
         self.item.lock(rt).take()
     }
 
-    /// Looks some times whether the bell has rung.
+    /// Spins until the bell has rung, or some times.
     fn look(&self) {
         for _ in 0..LOOKS {
             if self.rung.load(Ordering::SeqCst) {
