@@ -2,7 +2,7 @@
  * balkreyn.h: one realm of task scopes, in C.
  *
  * A realm is a list of events. Each command is tried by the rules: it adds its event, or it is refused and
- * changes nothing. Questions change nothing. The library starts no thread, takes no lock, reads no clock and
+ * changes nothing. Queries change nothing. The library starts no thread, takes no lock, reads no clock and
  * calls nothing back: the host starts the tasks, keeps their results and tells the time, and the realm decides.
  *
  * Scopes and tasks have numbers, each counted from 1 over the whole realm. Who acts is a number too: 0 is main,
@@ -17,7 +17,7 @@
  *   - A book is zeroed memory at first (BALKREYN_BOOK, or memset). Only the library writes to it from then on.
  *     Don't copy it, and don't overwrite it while it holds a realm: overwritten memory leaks, and a copy that is
  *     used once the other was closed is used after its memory was freed. It may be moved to another address.
- *   - One call at a time works on a book, questions too. Several threads take a lock of the host's around each
+ *   - One call at a time works on a book, queries too. Several threads take a lock of the host's around each
  *     call. Two books share nothing.
  *   - No pointer is NULL, also where the length behind it is 0. What they point to doesn't overlap.
  *   - malloc, realloc and free come from one allocator; no call comes from a signal handler, nor in the forked
@@ -239,7 +239,7 @@ int64_t balkreyn_end_close(balkreyn_book *book, uint32_t actor, uint32_t scope);
 int64_t balkreyn_retire(balkreyn_book *book, uint32_t actor);
 
 /*
- * ---- questions
+ * ---- queries
  *
  * They change nothing. Each answers what is said, a refusal, BALKREYN_NO_REALM, or else BALKREYN_BAD_ARGUMENT where
  * a text is no NAME. What goes out by a pointer is written where that is said, and else left as it was.

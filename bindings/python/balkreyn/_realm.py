@@ -340,8 +340,8 @@ class Task:
                 if refused.number == _UNAVAILABLE:
                     realm._note(f"state {self.id}", "state unavailable")
                 raise
-            question, kind = ("result", "value") if succeeded else ("fault", "fault")
-            realm._note(f"{question} {actor} {self.id}", f"{kind} {self._end}")
+            query, kind = ("result", "value") if succeeded else ("fault", "fault")
+            realm._note(f"{query} {actor} {self.id}", f"{kind} {self._end}")
         if succeeded:
             return self._left
         raise self._left

@@ -134,7 +134,7 @@ impl Shared {
         self.notes.load(Ordering::Relaxed)
     }
 
-    /// The book, for a question that passes no deadline. A job's panic never comes while the lock is held, so a
+    /// The book, for a query that passes no deadline. A job's panic never comes while the lock is held, so a
     /// poisoned lock guards a whole book.
     pub(crate) fn quietly(&self) -> MutexGuard<'_, Inner> {
         self.inner.lock().unwrap_or_else(PoisonError::into_inner)

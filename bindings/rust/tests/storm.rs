@@ -175,26 +175,26 @@ fn say(text: &str) {
     let _ = writeln!(std::io::stderr(), "{text}");
 }
 
-fn is_question(line: &str) -> bool {
-    ["result ", "fault ", "state ", "cause ", "get "].iter().any(|question| line.starts_with(question))
+fn is_query(line: &str) -> bool {
+    ["result ", "fault ", "state ", "cause ", "get "].iter().any(|query| line.starts_with(query))
 }
 
 #[test]
 fn each_answer_in_a_storm_is_that_of_the_rules() {
     let judge = Judge::find("storm");
-    let (mut seed, mut events, mut questions) = (0, 0, 0);
+    let (mut seed, mut events, mut queries) = (0, 0, 0);
     while events < EVENTS {
         let notes = storm(Realm::new().unwrap().noted(), seed, REQUESTS).look().notes().unwrap();
-        let asked = notes.journal.lines().filter(|line| is_question(line)).count();
+        let asked = notes.journal.lines().filter(|line| is_query(line)).count();
         events += notes.journal.lines().count() - asked;
-        questions += asked;
+        queries += asked;
         seed += 1;
         if let Some(judge) = &judge {
             judge.hears(&notes.journal, Some(&notes.answers));
         }
     }
     let judged = if judge.is_some() { "answered as by the rules" } else { "not judged" };
-    say(&format!("a storm of {seed} realms, {events} events and {questions} questions: {judged}"));
+    say(&format!("a storm of {seed} realms, {events} events and {queries} queries: {judged}"));
     if let Some(judge) = judge {
         judge.ends();
     }

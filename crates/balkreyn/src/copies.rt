@@ -9,7 +9,7 @@ ghost use Rattle.balkreyn.specs.Looks.{IsCopyOf, Says};
 ghost use Rattle.balkreyn.specs.Times.{SaysWhen};
 
 use crate::times::{Times, timed_script};
-use realm_lock::{KeptRealm, Look};
+use realm_lock::{Look, RealmState};
 use scope_checks::records;
 use scope_rules::{Base, Event, Limits, Refusal};
 use script_journal::script_of;
@@ -46,7 +46,7 @@ impl Look for CopyOut {
 
     ghost tells = { λ copy h answer. IsCopyOf h answer };
 
-    fn look(self, realm: &KeptRealm) -> Result<Copied, Refusal> {
+    fn look(self, realm: &RealmState) -> Result<Copied, Refusal> {
         let from = realm.base();
         let Ok(binds) = Vec::from_slice(self.alloc, from.binds()) else {
             return Err(Refusal::Memory);
@@ -64,9 +64,9 @@ impl Look for CopyOut {
 }
 
 impl Copied {
-    /// A realm of its own in which all this has happened, so that questions need not scan. That each event is
+    /// A realm of its own in which all this has happened, so that queries need not scan. That each event is
     /// accepted again, no clause says: one that isn't would be reported as want of memory.
-    fn replayed(self, alloc: Global) -> Result<KeptRealm, Refusal>
+    fn replayed(self, alloc: Global) -> Result<RealmState, Refusal>
         ensures { MatchResult result (λ realm. realm.history ≡ self) (λ refusal. refusal ≡ Memory) }
     {
         let Copied {
@@ -74,7 +74,7 @@ impl Copied {
             base,
             events,
         } = self;
-        let Ok(mut realm) = KeptRealm::with_base(alloc, limits, base) else {
+        let Ok(mut realm) = RealmState::with_base(alloc, limits, base) else {
             return Err(Refusal::Memory);
         };
         for event in &events {

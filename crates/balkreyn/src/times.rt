@@ -3,7 +3,7 @@ ghost use Rattle.std.specs.Prelude.{◌≡◌, [], ◌++◌, ◌-◌, IfOk, OnOk
 ghost use Rattle.std.specs.List.{flat_map, range_with_len};
 ghost use Rattle.balkreyn.specs.Times.{IsNoted, at_text, last_time, new_time, timed_line, timed_lines, timed_text};
 
-use realm_lock::{KeptRealm, Look};
+use realm_lock::{Look, RealmState};
 use scope_rules::{Base, Event, Refusal, ScopeId, TaskId};
 use script_journal::{ShownEvent, ShownScript};
 use std::alloc::{AllocError, Global};
@@ -29,7 +29,7 @@ impl Look for Counting {
 
     ghost tells = { λ look h reached. HasReached h reached };
 
-    fn look(self, realm: &KeptRealm) -> Reached {
+    fn look(self, realm: &RealmState) -> Reached {
         let base = realm.base();
         Reached {
             scopes: base.scopes(),

@@ -9,16 +9,16 @@ use Rattle.std.proofs.BoxSteps.Form.{Bx}
 use Rattle.std_heap.specs.contracts.Global as Heap
 use Rattle.std_heap.specs.contracts.GlobalAllocator.TheImpl.{ghosts, dict}
 use Rattle.std_heap.proofs.Global.TheLaws as heap
-use Rattle.kept_realm.specs.contracts.realm.KeptRealm as Kept
-use Rattle.kept_realm.proofs.realm.KeptRealm.TheLaws as kept
+use Rattle.realm_state.specs.contracts.realm.RealmState as State
+use Rattle.realm_state.proofs.realm.RealmState.TheLaws as kept
 use Rattle.balkreyn_c.specs.contracts.place.parts.Parts as Parts
 use Rattle.balkreyn_c.specs.contracts.place.Place as Place
 
 abbrev pub E : Bx
-E = record { row = Kept.the_row; laws = kept.the_row_laws; al = record { row = Heap.the_row; laws = heap.the_row_laws; g = ghosts; d = dict; drops = impl [] tnil dnil } }
+E = record { row = State.the_row; laws = kept.the_row_laws; al = record { row = Heap.the_row; laws = heap.the_row_laws; g = ghosts; d = dict; drops = impl [] tnil dnil } }
 
 abbrev pub FromParts : Slot 0
-FromParts = plain (λ _. Parts.the_row Kept.the_row Heap.the_row ghosts)
+FromParts = plain (λ _. Parts.the_row State.the_row Heap.the_row ghosts)
 
 abbrev pub FromPlace : Slot 0
 FromPlace = plain (λ _. Place.the_row)

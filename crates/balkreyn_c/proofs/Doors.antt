@@ -13,15 +13,15 @@ use Rattle.scope_rules.specs.Origin.{Origin}
 use Rattle.scope_rules.specs.Outcomes.{outcome}
 use Rattle.scope_rules.specs.Replies.{Realm, Answers, AnswersOrMemory, AnswersValue, with_event, after, outcome_check}
 use Rattle.scope_rules.specs.Table.{check_of, is_already}
-use Rattle.scope_checks.specs.declared.told.Told.{Told}
-use Rattle.scope_checks.specs.declared.told.Told.TheVariants as told
+use Rattle.scope_checks.specs.declared.event_replies.EventReply.{EventReply}
+use Rattle.scope_checks.specs.declared.event_replies.EventReply.TheVariants as told
 use Rattle.scope_checks.specs.Entering.{Retires, Tells}
-use Rattle.scope_checks.specs.Telling.{told_of as told_here, noted, after_telling}
-use Rattle.scope_kept.specs.declared.bare.BareOutcome.{BareOutcome}
+use Rattle.scope_checks.specs.EventReplies.{event_reply_of as told_here, noted, after_telling}
+use Rattle.scope_index.specs.declared.bare.BareOutcome.{BareOutcome}
 use Rattle.script_words.specs.declared.commands.Command.{Command}
 use Rattle.script_words.specs.declared.commands.Command.TheVariants.{Do, Retire, Ask}
 use Rattle.script_words.specs.declared.commands.Line.TheVariants.{Command as command, BadWord, Silent}
-use Rattle.script_words.specs.declared.commands.Question.{Question}
+use Rattle.script_words.specs.declared.commands.Query.{Query}
 use Rattle.script_words.specs.Lines.{line_said}
 use Rattle.script_words.specs.declared.reply.Reply.{Reply}
 use Rattle.script_words.specs.declared.reply.Reply.TheVariants as reply
@@ -38,7 +38,7 @@ use Rattle.balkreyn_c.specs.Texts.{WritesReply, reply_line}
 
 -- a refusal is want of memory, or it is a reply
 abbrev OtherThanMemory : Refusal → Type 0
-OtherThanMemory r = (r ≡ Memory → ⊥) × (not_done r ≡ performed.Told (reply.Refused r))
+OtherThanMemory r = (r ≡ Memory → ⊥) × (not_done r ≡ performed.Answered (reply.Refused r))
 
 either : (r : Refusal) → (r ≡ Memory) ⊎ OtherThanMemory r
 either Memory = inl refl
@@ -171,9 +171,9 @@ retire_refused_as old new actor r said same is = rw same (retire_either old new 
 
 -- ---- lines
 
-pub asked : (old : Realm) (question : Question) (said : Reply) → said ≡ answer_to old.history question → Performs old (Ask question) old said
+pub asked : (old : Realm) (query : Query) (said : Reply) → said ≡ answer_to old.history query → Performs old (Ask query) old said
 unfolding reply_to realm_after
-asked old question said is = record { reply = is; realm = refl }
+asked old query said is = record { reply = is; realm = refl }
 
 -- the line that was written is what scripts reply
 pub replied : (old new : Realm) (c : Command) (said : Reply) (answer : ℤ) (was now : List ℕ) → Performs old c new said → WritesReply (reply_line said) answer was now → DoesLine old (command c) answer new was now

@@ -16,11 +16,11 @@ use Rattle.scope_rules.proofs.Nesting.{IsOpened}
 use Rattle.scope_rules.proofs.NewScopes.{scope_passed}
 use Rattle.scope_rules.proofs.OneEventMore.{joined_grows, opening_same}
 use Rattle.scope_checks.proofs.Checked.{scope_passes}
-use Rattle.scope_checks.specs.declared.told.Told.{Told}
+use Rattle.scope_checks.specs.declared.event_replies.EventReply.{EventReply}
 use Rattle.scope_checks.specs.Entering.{Tells}
-use Rattle.scope_checks.specs.Telling.{after_telling}
-use Rattle.scope_kept.specs.declared.bare.BareOutcome.{BareOutcome}
-use Rattle.scope_kept.specs.Bare.{bare_of}
+use Rattle.scope_checks.specs.EventReplies.{after_telling}
+use Rattle.scope_index.specs.declared.bare.BareOutcome.{BareOutcome}
+use Rattle.scope_index.specs.Bare.{bare_of}
 use Rattle.balkreyn_c.specs.Joining.{AnswersBare}
 
 joins_opened : (L : Limits) (h : History) (a s : ℕ) → check_of L h (Join a s) ≡ Ok tt → IsOpened h s
@@ -35,21 +35,21 @@ passes L h a s passed =
     rw (scope_passes (followed h (Join a s)) s opened.opened (opening_same h (Join a s) s refl ∙ opened.is), joined_now) refl
 
 -- the event is added
-added : (old new : Realm) (a s : ℕ) (told : Told) → Tells old (Join a s) (Ok told) new → new ≡ with_event old (Join a s)
-added old new a s told is = is.1 ∙ ap (λ (t : Told). after_telling old (Join a s) (Ok t)) is.0.1
+added : (old new : Realm) (a s : ℕ) (told : EventReply) → Tells old (Join a s) (Ok told) new → new ≡ with_event old (Join a s)
+added old new a s told is = is.1 ∙ ap (λ (t : EventReply). after_telling old (Join a s) (Ok t)) is.0.1
 
 -- the scope can be asked for its outcome then
-pub join_passes : (old new : Realm) (a s : ℕ) (told : Told) → Tells old (Join a s) (Ok told) new → outcome_check new.history s ≡ Ok tt
+pub join_passes : (old new : Realm) (a s : ℕ) (told : EventReply) → Tells old (Join a s) (Ok told) new → outcome_check new.history s ≡ Ok tt
 join_passes old new a s told is = rw (added old new a s told is) (passes old.limits old.history a s is.0.0)
 
 answers : (check : Checked) (o : Option Outcome) (bare : BareOutcome) → check ≡ Ok tt → option_map bare_of o ≡ Some bare → AnswersBare check o (Ok bare)
 answers check o bare ok is = rw ok is
 
-pub join_answers : (old new : Realm) (a s : ℕ) (told : Told) (bare : BareOutcome) → Tells old (Join a s) (Ok told) new → option_map bare_of (outcome new.history s) ≡ Some bare → AnswersBare (check_of old.limits old.history (Join a s)) (outcome (followed old.history (Join a s)) s) (Ok bare)
+pub join_answers : (old new : Realm) (a s : ℕ) (told : EventReply) (bare : BareOutcome) → Tells old (Join a s) (Ok told) new → option_map bare_of (outcome new.history s) ≡ Some bare → AnswersBare (check_of old.limits old.history (Join a s)) (outcome (followed old.history (Join a s)) s) (Ok bare)
 join_answers old new a s told bare is said =
     answers (check_of old.limits old.history (Join a s)) (outcome (followed old.history (Join a s)) s) bare is.0.0 (ap (λ (r : Realm). option_map bare_of (outcome r.history s)) (sym (added old new a s told is)) ∙ said)
 
-pub join_leaves : (old new : Realm) (a s : ℕ) (told : Told) → Tells old (Join a s) (Ok told) new → new ≡ after old (Join a s) (check_of old.limits old.history (Join a s))
+pub join_leaves : (old new : Realm) (a s : ℕ) (told : EventReply) → Tells old (Join a s) (Ok told) new → new ≡ after old (Join a s) (check_of old.limits old.history (Join a s))
 join_leaves old new a s told is = rw is.0.0 (added old new a s told is)
 
 -- a join takes no memory

@@ -3,13 +3,13 @@ use Rattle.std.specs.Prelude.{◌≡◌, ℤ, Option, None, Some, Result}
 use Rattle.scope_rules.specs.declared.types.events.Event.{Event}
 use Rattle.scope_rules.specs.declared.types.refusals.Refusal.{Refusal}
 use Rattle.scope_rules.specs.Replies.{Realm}
-use Rattle.scope_checks.specs.declared.told.Told.{Told}
+use Rattle.scope_checks.specs.declared.event_replies.EventReply.{EventReply}
 use Rattle.scope_checks.specs.Entering.{Tells}
 use Rattle.balkreyn_c.specs.Numbers.{no_realm, bad_argument, number_of, told_number}
 
 -- the event is tried: the number is that of what it is told, or of the refusal, and the realm is what that leaves
 pub record Performs (old : Realm) (e : Event) (answer : ℤ) (new : Realm) : Type 0 where
-  pub reply : Result Told Refusal
+  pub reply : Result EventReply Refusal
   pub tells : Tells old e reply new
   pub number : answer ≡ number_of told_number reply
 

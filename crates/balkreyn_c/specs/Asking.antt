@@ -1,4 +1,4 @@
--- What a question is answered, and what it writes.
+-- What a query is answered, and what it writes.
 use Rattle.std.specs.Prelude.{ℕ, ℤ, List, ◌++◌, length, drop, nat_le, Option, None, Some, Result, Ok, Err, if◌then◌else◌}
 use Rattle.scope_rules.specs.declared.types.answers.Effective.{Effective}
 use Rattle.scope_rules.specs.declared.types.answers.Effective.TheVariants.{At}

@@ -21,13 +21,13 @@ use Rattle.balkreyn_c.specs.Numbers.{no_realm, refused, untold}
 -- what came of a command that was refused so
 abbrev pub not_done : Refusal → Performed
 not_done Memory = performed.Memory
-not_done r = performed.Told (reply.Refused r)
+not_done r = performed.Answered (reply.Refused r)
 
 -- the command may be refused memory before anything is done
 abbrev pub MayWant : Realm → Command → Type 0
 MayWant old (Do e) = Tells old e (Err Memory) old
 MayWant old (Retire actor) = Retires old actor (Err Memory) old
-MayWant old (Ask question) = ⊥
+MayWant old (Ask query) = ⊥
 
 -- memory was refused, and nothing was done
 pub record Stopped (old : Realm) (c : Command) (new : Realm) : Type 0 where
@@ -36,7 +36,7 @@ pub record Stopped (old : Realm) (c : Command) (new : Realm) : Type 0 where
 
 -- the command was performed and has its reply; or it was, and there was no memory for that; or nothing was done
 abbrev pub DidPerform : Realm → Command → Performed → Realm → Type 0
-DidPerform old c (performed.Told said) new = Performs old c new said
+DidPerform old c (performed.Answered said) new = Performs old c new said
 DidPerform old c performed.Untold new = new ≡ realm_after old c
 DidPerform old c performed.Memory new = Stopped old c new
 

@@ -13,8 +13,8 @@ use Rattle.scope_rules.specs.Origin.{Origin}
 use Rattle.scope_rules.specs.Replies.{Realm, AnswersValue, after, outcome_check}
 use Rattle.scope_rules.specs.Table.{check_of}
 use Rattle.scope_checks.specs.Entering.{Retires}
-use Rattle.scope_kept.specs.declared.bare.BareOutcome.{BareOutcome}
-use Rattle.scope_kept.specs.Bare.{bare_of}
+use Rattle.scope_index.specs.declared.bare.BareOutcome.{BareOutcome}
+use Rattle.scope_index.specs.Bare.{bare_of}
 use Rattle.balkreyn_c.specs.declared.lists.OutcomeTask.{OutcomeTask}
 use Rattle.balkreyn_c.specs.Acting.{Answers}
 use Rattle.balkreyn_c.specs.Asking.{placed}

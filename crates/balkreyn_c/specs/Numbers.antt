@@ -19,10 +19,10 @@ use Rattle.scope_rules.specs.declared.types.values.Value.{Value}
 use Rattle.scope_rules.specs.declared.types.values.Value.TheVariants as value
 use Rattle.scope_rules.specs.Names.{text_of}
 use Rattle.scope_rules.specs.Refusals.{refusal_number}
-use Rattle.scope_checks.specs.declared.told.Told.{Told}
-use Rattle.scope_checks.specs.declared.told.Told.TheVariants as told
-use Rattle.scope_kept.specs.declared.bare.BareOutcome.{BareOutcome}
-use Rattle.scope_kept.specs.declared.bare.BareOutcome.TheVariants as bare
+use Rattle.scope_checks.specs.declared.event_replies.EventReply.{EventReply}
+use Rattle.scope_checks.specs.declared.event_replies.EventReply.TheVariants as told
+use Rattle.scope_index.specs.declared.bare.BareOutcome.{BareOutcome}
+use Rattle.scope_index.specs.declared.bare.BareOutcome.TheVariants as bare
 
 -- ---- if there was nothing to refuse: -21 to -24
 
@@ -65,7 +65,7 @@ closed verdict.NotJoined = pos 2
 closed verdict.Violated = pos 3
 
 -- what a command is told
-abbrev pub told_number : Told → ℤ
+abbrev pub told_number : EventReply → ℤ
 told_number (told.Scope scope) = pos scope
 told_number (told.Task reply) = forked reply
 told_number told.Recorded = pos 0

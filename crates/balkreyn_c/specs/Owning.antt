@@ -7,7 +7,7 @@ use Rattle.std.specs.Prelude.{Option, None, Some}
 use Rattle.std.specs.Box.Ownership.{box_owns}
 use Rattle.std.specs.Global.{Global}
 use Rattle.std_heap.specs.contracts.GlobalAllocator.TheImpl.{ghosts}
-use Rattle.kept_realm.specs.contracts.realm.KeptRealm.{the_row}
+use Rattle.realm_state.specs.contracts.realm.RealmState.{the_row}
 
 abbrev pub Realm : Type 0
 Realm = the_row.Denot

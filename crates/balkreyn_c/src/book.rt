@@ -2,7 +2,7 @@
 ghost use Rattle.std.specs.Prelude.{◌≡◌, None, Some, is_some, MatchOption};
 
 use crate::place::Place;
-use kept_realm::KeptRealm;
+use realm_state::RealmState;
 use std::alloc::Global;
 use std::mem;
 
@@ -25,7 +25,7 @@ fn empty(alloc: Global) -> Book
 }
 
 /// The realm, taken out of the book.
-pub fn taken(alloc: Global, book: &mut Book) -> Option<Box<KeptRealm, Global>>
+pub fn taken(alloc: Global, book: &mut Book) -> Option<Box<RealmState, Global>>
     ensures realm { MatchOption result (book.old.place.held ≡ None) (λ realm. book.old.place.held ≡ Some realm.value) }
     ensures left { book.new.place.held ≡ None }
 {
@@ -34,7 +34,7 @@ pub fn taken(alloc: Global, book: &mut Book) -> Option<Box<KeptRealm, Global>>
 }
 
 /// Puts the realm into the book, which holds none.
-pub fn put(book: &mut Book, realm: Box<KeptRealm, Global>)
+pub fn put(book: &mut Book, realm: Box<RealmState, Global>)
     requires { book.old.place.held ≡ None }
     ensures { book.new.place.held ≡ Some realm.value }
 {

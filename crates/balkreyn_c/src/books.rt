@@ -5,7 +5,7 @@ ghost use Rattle.balkreyn_c.specs.Books.{OpensBook, closing_number};
 
 use crate::book::{Book, put, taken};
 use crate::numbers::{BAD_ARGUMENT, DONE, HAS_REALM, NO_REALM, refused};
-use kept_realm::KeptRealm;
+use realm_state::RealmState;
 use scope_rules::{Limits, Refusal};
 use std::alloc::Global;
 
@@ -35,7 +35,7 @@ pub extern "C" fn balkreyn_book_open(
     let Some(limits) = Limits::new(scopes, tasks, load) else {
         return BAD_ARGUMENT;
     };
-    match Box::new(alloc, KeptRealm::new(alloc, limits)) {
+    match Box::new(alloc, RealmState::new(alloc, limits)) {
         Ok(realm) => {
             put(book, realm);
             DONE

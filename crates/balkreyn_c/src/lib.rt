@@ -1,6 +1,6 @@
 //! A realm for hosts in C, Rust or Python: the static library behind `bindings/include/balkreyn.h`. The host brings
 //! the threads, a lock around each call and the clock, and keeps a book, which holds one realm or none. Each export
-//! says what it does to that realm: a command tries its very event, a question changes nothing, and each answers a
+//! says what it does to that realm: a command tries its very event, a query changes nothing, and each answers a
 //! number that is tied to the reply or the refusal. A book that holds no realm answers that, whatever it is asked.
 #![tactic(auto)]
 
@@ -14,6 +14,6 @@ mod numbers;
 mod opening;
 mod outcomes;
 mod place;
-mod questions;
+mod queries;
 mod shows;
 mod text;

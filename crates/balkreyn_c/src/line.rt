@@ -11,18 +11,18 @@ use crate::book::{Book, put, taken};
 use crate::numbers::{NO_REALM, UNTOLD, refused};
 use crate::outcomes::join_in;
 use crate::text::{write_line, write_text};
-use kept_realm::KeptRealm;
-use scope_checks::questions;
+use realm_state::RealmState;
+use scope_checks::queries;
 use scope_rules::{Actor, Event, Refusal, ScopeId};
 use scope_script::reply_of;
-use script_words::{Command, Line, Question, Reply, read_line};
+use script_words::{Command, Line, Query, Reply, read_line};
 use std::alloc::Global;
 
 /// What came of a command.
 #[derive(Drop)]
 pub enum Performed {
     /// It was performed, and this is its reply.
-    Told(Reply),
+    Answered(Reply),
     /// It was performed, and there was no memory for its reply.
     Untold,
     /// Memory was refused, and nothing was done.
@@ -49,14 +49,14 @@ pub extern "C" fn balkreyn_line(
 
 /// Performs the line in the realm, and writes the line of its reply.
 #[tactic(auto, using(crate::proofs::Doors::replied, crate::proofs::Doors::bad_word, crate::proofs::Doors::silent, crate::proofs::Doors::performed_untold, crate::proofs::Doors::line_stopped))]
-fn do_line(alloc: Global, realm: &mut KeptRealm, line: &[u8], reply: &mut [u8]) -> i64
+fn do_line(alloc: Global, realm: &mut RealmState, line: &[u8], reply: &mut [u8]) -> i64
     ensures { DoesLine realm.old (line_said line.now) result realm.new reply.old reply.new }
 {
     match read_line(line) {
         Line::Silent => write_text(reply, b""),
         Line::BadWord => write_reply(alloc, &Reply::Refused(Refusal::BadWord), reply),
         Line::Command(command) => match perform(alloc, realm, command) {
-            Performed::Told(said) => write_reply(alloc, &said, reply),
+            Performed::Answered(said) => write_reply(alloc, &said, reply),
             Performed::Untold => UNTOLD,
             Performed::Memory => refused(Refusal::Memory),
         },
@@ -75,25 +75,25 @@ fn write_reply(alloc: Global, said: &Reply, buffer: &mut [u8]) -> i64
 
 /// Performs the command in the realm.
 #[tactic(auto, using(crate::proofs::Doors::asked))]
-fn perform(alloc: Global, realm: &mut KeptRealm, command: Command) -> Performed
+fn perform(alloc: Global, realm: &mut RealmState, command: Command) -> Performed
     ensures { DidPerform realm.old command result realm.new }
 {
     match command {
         Command::Do(Event::Join { actor, scope }) => join(alloc, realm, actor, scope),
         Command::Do(event) => try_event(realm, event),
         Command::Retire { actor } => retire(realm, actor),
-        Command::Ask(question) => Performed::Told(ask(realm, question)),
+        Command::Ask(query) => Performed::Answered(ask(realm, query)),
     }
 }
 
 /// Tries the event, which is no join.
 #[tactic(auto, using(crate::proofs::Doors::refused_as))]
-fn try_event(realm: &mut KeptRealm, event: Event) -> Performed
+fn try_event(realm: &mut RealmState, event: Event) -> Performed
     requires { is_join (Command.Do event) ≡ false }
     ensures { DidPerform realm.old (Command.Do event) result realm.new }
 {
     match realm.perform(&event, false, None) {
-        Ok(told) => Performed::Told(reply_of(&event, told)),
+        Ok(told) => Performed::Answered(reply_of(&event, told)),
         Err(refusal) => not_done(refusal),
     }
 }
@@ -104,31 +104,31 @@ fn not_done(refusal: Refusal) -> Performed
 {
     match refusal {
         Refusal::Memory => Performed::Memory,
-        other => Performed::Told(Reply::Refused(other)),
+        other => Performed::Answered(Reply::Refused(other)),
     }
 }
 
 /// Joins the scope, and reads what the join gave.
 #[tactic(auto, using(crate::proofs::Doors::join_told, crate::proofs::Doors::join_untold, crate::proofs::Doors::join_refusal))]
-fn join(alloc: Global, realm: &mut KeptRealm, actor: Actor, scope: ScopeId) -> Performed
+fn join(alloc: Global, realm: &mut RealmState, actor: Actor, scope: ScopeId) -> Performed
     ensures { DidPerform realm.old (Command.Do (Event.Join actor scope)) result realm.new }
 {
     if let Err(refusal) = join_in(realm, actor, scope) {
-        return Performed::Told(Reply::Refused(refusal));
+        return Performed::Answered(Reply::Refused(refusal));
     }
-    match questions::outcome(realm, alloc, scope) {
-        Ok(outcome) => Performed::Told(Reply::Outcome(outcome)),
+    match queries::outcome(realm, alloc, scope) {
+        Ok(outcome) => Performed::Answered(Reply::Outcome(outcome)),
         Err(_) => Performed::Untold,
     }
 }
 
 /// Lets the past go.
 #[tactic(auto, using(crate::proofs::Doors::retire_refused_as))]
-fn retire(realm: &mut KeptRealm, actor: Actor) -> Performed
+fn retire(realm: &mut RealmState, actor: Actor) -> Performed
     ensures { DidPerform realm.old (Command.Retire actor) result realm.new }
 {
     match realm.retire(actor) {
-        Ok(base) => Performed::Told(Reply::Retired {
+        Ok(base) => Performed::Answered(Reply::Retired {
             scopes: base.scopes(),
             tasks: base.tasks(),
         }),
@@ -136,29 +136,20 @@ fn retire(realm: &mut KeptRealm, actor: Actor) -> Performed
     }
 }
 
-/// The reply to the question.
+/// The reply to the query.
 #[tactic(auto, unfolding(scope_script::specs::Replying::answer_to))]
-fn ask(realm: &KeptRealm, question: Question) -> Reply
-    ensures { result ≡ answer_to realm.now.history question }
+fn ask(realm: &RealmState, query: Query) -> Reply
+    ensures { result ≡ answer_to realm.now.history query }
 {
-    match question {
-        Question::State { task } => told(questions::state(realm, task), Reply::State),
-        Question::Stage { task } => told(questions::stage(realm, task), Reply::Stage),
-        Question::Result { actor, task } => {
-            told(questions::result(realm, actor, task), Reply::Value)
-        }
-        Question::Fault { actor, task } => {
-            told(questions::fault(realm, actor, task), Reply::Fault)
-        }
-        Question::Cause { scope } => told(questions::cause(realm, scope), Reply::Cause),
-        Question::Until { scope } => told(
-            questions::effective_deadline(realm, scope),
-            Reply::Until,
-        ),
-        Question::Counts { scope } => told(questions::counts(realm, scope), Reply::Counts),
-        Question::Get { actor, key } => {
-            told(questions::binding(realm, actor, &key), Reply::Value)
-        }
+    match query {
+        Query::State { task } => told(queries::state(realm, task), Reply::State),
+        Query::Stage { task } => told(queries::stage(realm, task), Reply::Stage),
+        Query::Result { actor, task } => { told(queries::result(realm, actor, task), Reply::Value) }
+        Query::Fault { actor, task } => { told(queries::fault(realm, actor, task), Reply::Fault) }
+        Query::Cause { scope } => told(queries::cause(realm, scope), Reply::Cause),
+        Query::Until { scope } => told(queries::effective_deadline(realm, scope), Reply::Until),
+        Query::Counts { scope } => told(queries::counts(realm, scope), Reply::Counts),
+        Query::Get { actor, key } => { told(queries::binding(realm, actor, &key), Reply::Value) }
     }
 }
 

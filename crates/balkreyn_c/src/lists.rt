@@ -7,7 +7,7 @@ ghost use Rattle.balkreyn_c.specs.Numbers.{number_of};
 
 use crate::book::{Book, put, taken};
 use crate::numbers::{NO_REALM, refused, state_code};
-use scope_checks::questions;
+use scope_checks::queries;
 use scope_rules::{Outcome, Refusal, TaskState, TaskValue};
 use std::alloc::Global;
 
@@ -33,7 +33,7 @@ pub extern "C" fn balkreyn_outcome_tasks(
     let Some(realm) = taken(alloc, book) else {
         return NO_REALM;
     };
-    let answer = write_list(questions::outcome(&*realm, alloc, scope), tasks);
+    let answer = write_list(queries::outcome(&*realm, alloc, scope), tasks);
     put(book, realm);
     answer
 }

@@ -3,8 +3,8 @@
 ghost use Rattle.std.specs.Prelude.{◌≡◌, ◌*◌, ◌+◌, ◌<◌, pos};
 ghost use Rattle.balkreyn_c.specs.Numbers.{refused, number_of, two, forked, closed, told_number, outcome_number, state_code, state_number, stage_number, kind_code, cause_number, until_number, some_number};
 
-use scope_checks::Told;
-use scope_kept::BareOutcome;
+use scope_checks::EventReply;
+use scope_index::BareOutcome;
 use scope_rules::{Base, Cause, CauseKind, Effective, ForkReply, Refusal, Stage, State, Verdict};
 
 /// The book holds no realm.
@@ -37,15 +37,15 @@ fn two(kind: u8, number: u32) -> i64
 }
 
 /// What a command is told.
-pub fn told(answer: Result<Told, Refusal>) -> i64
+pub fn told(answer: Result<EventReply, Refusal>) -> i64
     ensures { result ≡ number_of told_number answer }
 {
     match answer {
-        Ok(Told::Scope(scope)) => i64::from(scope),
-        Ok(Told::Task(reply)) => forked(reply),
-        Ok(Told::Closed(verdict)) => closed(verdict),
-        Ok(Told::Already) => 1,
-        Ok(Told::Recorded | Told::Done) => DONE,
+        Ok(EventReply::Scope(scope)) => i64::from(scope),
+        Ok(EventReply::Task(reply)) => forked(reply),
+        Ok(EventReply::Closed(verdict)) => closed(verdict),
+        Ok(EventReply::Already) => 1,
+        Ok(EventReply::Recorded | EventReply::Done) => DONE,
         Err(refusal) => refused(refusal),
     }
 }

@@ -9,16 +9,16 @@ ghost use Rattle.balkreyn_c.specs.Joining.{AnswersBare, Joins, TellsOutcome, Let
 
 use crate::book::{Book, put, taken};
 use crate::numbers::{NO_REALM, outcome as outcome_number, retired};
-use kept_realm::KeptRealm;
+use realm_state::RealmState;
 use scope_checks::Readings;
 use scope_checks::checks::{refuse_if, scope_check};
-use scope_kept::BareOutcome;
+use scope_index::BareOutcome;
 use scope_rules::{Actor, Event, Refusal, ScopeId};
 use std::alloc::Global;
 
 /// The join of the scope, or its refusal. It takes no memory.
 #[tactic(auto, using(crate::proofs::Joins::join_passes, crate::proofs::Joins::join_answers, crate::proofs::Joins::join_leaves, crate::proofs::Joins::join_refused, crate::proofs::Joins::join_keeps))]
-pub fn join_in(realm: &mut KeptRealm, actor: Actor, scope: ScopeId) -> Result<BareOutcome, Refusal>
+pub fn join_in(realm: &mut RealmState, actor: Actor, scope: ScopeId) -> Result<BareOutcome, Refusal>
     ensures answer { AnswersBare (check_of realm.old.limits realm.old.history (Event.Join actor scope)) (outcome (followed realm.old.history (Event.Join actor scope)) scope) result }
     ensures left { realm.new ≡ after realm.old (Event.Join actor scope) (check_of realm.old.limits realm.old.history (Event.Join actor scope)) }
 {
@@ -29,16 +29,16 @@ pub fn join_in(realm: &mut KeptRealm, actor: Actor, scope: ScopeId) -> Result<Ba
 }
 
 /// What the join of the scope answered, without its list.
-fn outcome_in(realm: &KeptRealm, scope: ScopeId) -> Result<BareOutcome, Refusal>
+fn outcome_in(realm: &RealmState, scope: ScopeId) -> Result<BareOutcome, Refusal>
     ensures { AnswersBare (outcome_check realm.now.history scope) (outcome realm.now.history scope) result }
 {
     outcome_check(realm, scope)?;
     Ok(realm.bare_outcome(scope))
 }
 
-/// What a question of an outcome is refused for.
+/// What a query of an outcome is refused for.
 #[tactic(auto, unfolding(scope_rules::specs::Replies::outcome_check, scope_rules::specs::Checks::checks, scope_rules::specs::Checks::then_check))]
-fn outcome_check(realm: &KeptRealm, scope: ScopeId) -> Result<(), Refusal>
+fn outcome_check(realm: &RealmState, scope: ScopeId) -> Result<(), Refusal>
     ensures { result ≡ outcome_check realm.now.history scope }
 {
     scope_check(realm, scope)?;

@@ -5,8 +5,8 @@ ghost use Rattle.balkreyn_c.specs.Owning.{Realm, place_coded, place_owns};
 
 mod parts;
 
-use kept_realm::KeptRealm;
 use parts::Parts;
+use realm_state::RealmState;
 use std::alloc::Global;
 use std::marker::Model;
 use std::ptr;
@@ -35,7 +35,7 @@ impl Place {
     }
 
     /// The same pointer, typed as bytes.
-    fn of_parts(parts: Parts<KeptRealm, Global>) -> Place
+    fn of_parts(parts: Parts<RealmState, Global>) -> Place
         ensures { result.held ≡ Some parts.value }
     {
         let Parts { ptr, alloc } = parts;
@@ -44,24 +44,24 @@ impl Place {
     }
 
     /// The pointer as it was.
-    fn into_parts(self) -> Parts<KeptRealm, Global>
+    fn into_parts(self) -> Parts<RealmState, Global>
         requires { IsSome self.held }
         ensures { self.held ≡ Some result.value }
     {
         let Place { at, alloc } = self;
-        let ptr = at as *mut KeptRealm;
+        let ptr = at as *mut RealmState;
         Parts { ptr, alloc }
     }
 
     /// Where the box keeps it.
-    pub fn of_box(realm: Box<KeptRealm, Global>) -> Place
+    pub fn of_box(realm: Box<RealmState, Global>) -> Place
         ensures { result.held ≡ Some realm.value }
     {
         Place::of_parts(Parts::of(realm))
     }
 
     /// The box, which is there.
-    pub fn into_box(self) -> Box<KeptRealm, Global>
+    pub fn into_box(self) -> Box<RealmState, Global>
         requires { IsSome self.held }
         ensures { self.held ≡ Some result.value }
     {

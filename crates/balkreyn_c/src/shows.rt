@@ -8,7 +8,7 @@ ghost use Rattle.balkreyn_c.specs.Texts.{Shows, WritesOrNot};
 use crate::book::{Book, put, taken};
 use crate::numbers::{NO_REALM, refused};
 use crate::text::write_text;
-use kept_realm::KeptRealm;
+use realm_state::RealmState;
 use scope_rules::Refusal;
 use script_journal::journal_of;
 use std::alloc::Global;
@@ -43,7 +43,7 @@ pub extern "C" fn balkreyn_journal(alloc: Global, book: &mut Book, text: &mut [u
 }
 
 /// Writes the tree of the realm.
-fn write_dump(alloc: Global, realm: &KeptRealm, text: &mut [u8]) -> i64
+fn write_dump(alloc: Global, realm: &RealmState, text: &mut [u8]) -> i64
     ensures { WritesOrNot (dump_text realm.now.history) result text.old text.new }
 {
     match dump_of(alloc, realm) {
@@ -53,7 +53,7 @@ fn write_dump(alloc: Global, realm: &KeptRealm, text: &mut [u8]) -> i64
 }
 
 /// Writes the journal of the realm.
-fn write_journal(alloc: Global, realm: &KeptRealm, text: &mut [u8]) -> i64
+fn write_journal(alloc: Global, realm: &RealmState, text: &mut [u8]) -> i64
     ensures { WritesOrNot (script_text realm.now.history) result text.old text.new }
 {
     match journal_of(alloc, realm) {

@@ -7,8 +7,8 @@ ghost use Rattle.balkreyn_c.specs.Texts.{OutcomeLine, TellsLine, Writes, reply_l
 use crate::book::{Book, put, taken};
 use crate::numbers::{NO_REALM, refused};
 use arrayvec::ArrayString;
-use kept_realm::KeptRealm;
-use scope_checks::questions;
+use realm_state::RealmState;
+use scope_checks::queries;
 use scope_rules::{Refusal, ScopeId};
 use script_words::Reply;
 use std::alloc::{AllocError, Global};
@@ -69,10 +69,10 @@ pub extern "C" fn balkreyn_outcome_line(
 
 /// Writes the line of what the join of the scope answered.
 #[tactic(auto, using(crate::proofs::Lines::line_told, crate::proofs::Lines::line_untold))]
-fn write_outcome(alloc: Global, realm: &KeptRealm, scope: ScopeId, text: &mut [u8]) -> i64
+fn write_outcome(alloc: Global, realm: &RealmState, scope: ScopeId, text: &mut [u8]) -> i64
     ensures { TellsLine realm.now.history scope result text.old text.new }
 {
-    match questions::outcome(realm, alloc, scope) {
+    match queries::outcome(realm, alloc, scope) {
         Ok(outcome) => match write_line(alloc, &Reply::Outcome(outcome), text) {
             Ok(length) => length,
             Err(_) => refused(Refusal::Memory),

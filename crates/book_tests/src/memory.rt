@@ -1,7 +1,7 @@
 //! What the book does where memory is refused. By itself this sees that each call is accepted. In the
 //! crate's folder `rt try --test --fail-alloc N -- memory`, for N from 1 up, has the Nth of its allocations
 //! refused: the call that wanted it answers `Memory` and changes nothing, and is accepted when it is made
-//! again. Calls for which room was made, and questions, are never refused it.
+//! again. Calls for which room was made, and queries, are never refused it.
 
 use crate::answers::{Answer, Book, Step, told_book};
 use crate::closures::joiner_of;

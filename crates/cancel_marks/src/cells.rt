@@ -13,7 +13,7 @@ use std::sync::{Arc, Condvar, MutexGuard, Wait};
 use std::time::Duration;
 
 /// How often a call spins before it sleeps: for some ten microseconds, about as long as falling asleep and waking take.
-const LOOKS: u32 = 6_000;
+const SPINS: u32 = 6_000;
 
 /// The longest sleep of a call that no time ends, in seconds: some thirty years. Its caller then looks anew.
 const ENDLESS: u64 = 1_000_000_000;
@@ -98,11 +98,11 @@ impl MarkCell {
     /// other then, and the sleeper looks anew. That it returns is not promised. No clause says more of a sleep or
     /// a wake: a lock's contents are known by their invariant alone, and who sleeps is seen by no contract.
     pub fn sleep<'a, R: Wait, T>(&self, rt: &R, held: MutexGuard<'a, T>) -> MutexGuard<'a, T> {
-        self.doze(rt, held, Duration::from_secs(ENDLESS))
+        self.park(rt, held, Duration::from_secs(ENDLESS))
     }
 
     /// The same, for so long at most.
-    pub fn doze<'a, R: Wait, T>(
+    pub fn park<'a, R: Wait, T>(
         &self,
         rt: &R,
         held: MutexGuard<'a, T>,
@@ -118,7 +118,7 @@ impl MarkCell {
 
     /// Spins, and says whether there was a wake here since there were so many.
     fn is_woken_soon(&self, seen: u64) -> bool {
-        for _ in 0..LOOKS {
+        for _ in 0..SPINS {
             if self.shared.woken.notifications() != seen {
                 return true;
             }

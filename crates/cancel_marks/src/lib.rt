@@ -12,4 +12,4 @@ mod setters;
 pub use cancellation::Cancellation;
 pub use cells::MarkCell;
 pub use marks::{Mark, Seat};
-pub use setters::{CellRoom, MarkSetter};
+pub use setters::{CellReservation, MarkSetter};

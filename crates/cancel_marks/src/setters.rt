@@ -13,13 +13,13 @@ use std::sync::{Arc, Condvar};
 
 /// What the cell of a scope wants of memory, before the scope has a number.
 #[derive(Drop)]
-pub struct CellRoom {
+pub struct CellReservation {
     one: Arc<Shared, Global>,
     other: Arc<Shared, Global>,
     blank: Box<Cancellation>,
 }
 
-impl Model for CellRoom {
+impl Model for CellReservation {
     ghost use Rattle.std.specs.Prelude.{◌≡◌, ℕ};
     ghost use Rattle.std.specs.Arc.{arc_value};
     ghost use Rattle.once_cell.specs.Once.{cell_name};
@@ -31,17 +31,17 @@ impl Model for CellRoom {
     ghost invariant = { λ r. cell_name (arc_value r.other).once ≡ cell_name (arc_value r.one).once };
 }
 
-impl CellRoom {
+impl CellReservation {
     /// Room for a new cell. It is refused for memory alone.
-    pub fn new(alloc: Global) -> Result<CellRoom, AllocError> {
-        let blank = Box::new(alloc, CellRoom::BLANK)?;
+    pub fn new(alloc: Global) -> Result<CellReservation, AllocError> {
+        let blank = Box::new(alloc, CellReservation::BLANK)?;
         let shared = Shared {
             once: OnceBox::new(alloc),
             woken: Condvar::new(),
         };
         let one = Arc::new(alloc, shared)?;
         let other = Arc::try_clone(&one)?;
-        Ok(CellRoom { one, other, blank })
+        Ok(CellReservation { one, other, blank })
     }
 
     // What the box holds until the cell is set with it. Nobody sees it.
@@ -59,7 +59,7 @@ impl CellRoom {
         ensures setter { (result.0.cell.scope ≡ scope) × (result.0.used ≡ None) × (result.0.known ≡ None) }
         ensures cell { result.1 ≡ result.0.cell }
     {
-        let CellRoom { one, other, blank } = self;
+        let CellReservation { one, other, blank } = self;
         let cell = MarkCell { scope, shared: one };
         let seat = cell.seat();
         let setter = MarkSetter {

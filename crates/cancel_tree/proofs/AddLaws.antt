@@ -4,14 +4,14 @@ use Rattle.std.specs.Option.{option_and_then, IfSome}
 use Rattle.std.proofs.lemmas.Bool.{ne_eqb, eq-eqb, cases_eq, cases_lt}
 use Rattle.std.proofs.lemmas.Option.{same_Some, slice_get-get_or, slice_get_within, slice_get_past}
 use Rattle.std.proofs.Math.ListN.{length-set}
-use Rattle.scope_rules.specs.declared.types.records.Cut.{Cut}
-use Rattle.cancel_tree.specs.declared.rows.Told.{Told}
+use Rattle.scope_rules.specs.declared.types.records.FirstCancel.{FirstCancel}
+use Rattle.cancel_tree.specs.declared.rows.ScopeNode.{ScopeNode}
 use Rattle.cancel_tree.specs.declared.rows.Links.{Links}
 use Rattle.scope_rules.specs.Chains.{IsInward, onward, chain_by, nearer}
-use Rattle.cancel_tree.specs.Rows.{row, IsAdded, outer, new_row, parent_of, outer_of, own_of, cut_of, level_of, level_in}
+use Rattle.cancel_tree.specs.Rows.{row, IsAdded, outer, new_row, parent_of, outer_of, own_of, cancel_of, level_of, level_in}
 use Rattle.cancel_tree.specs.Reach.{is_scope, last_inner}
 use Rattle.cancel_tree.specs.Columns.{AreColumns, led, AreLed}
-use Rattle.scope_rules.proofs.ChainLaws.{cut_law, cut_kept, chain_law, chain_kept}
+use Rattle.scope_rules.proofs.ChainLaws.{cancel_law, cancel_kept, chain_law, chain_kept}
 use Rattle.cancel_tree.proofs.ReachLaws.{last_inner_found}
 use Rattle.cancel_tree.proofs.SpreadLaws.{slice_get-set}
 use Rattle.cancel_tree.proofs.RowLaws.{outer_inward}
@@ -110,50 +110,50 @@ no_inner outer inward s n h (Some c) e = absurd (let f = last_inner_found outer 
 
 -- ---- the tree
 
-module _ (told : List Told) (links : List Links) (cuts : List (Option Cut)) (kept : AreColumns told links cuts) (parent : Option ℕ) (shield : Bool) (opened : ℕ) (there : IfSome parent (IsAdded told)) (d : Links) where
-  abbrev r : Told
+module _ (nodes : List ScopeNode) (links : List Links) (cancels : List (Option FirstCancel)) (kept : AreColumns nodes links cancels) (parent : Option ℕ) (shield : Bool) (opened : ℕ) (there : IfSome parent (IsAdded nodes)) (d : Links) where
+  abbrev r : ScopeNode
   r = new_row parent shield opened
 
-  abbrev pub new : List Told
-  new = told ++ r ∷ []
+  abbrev pub new : List ScopeNode
+  new = nodes ++ r ∷ []
 
   abbrev n : ℕ
-  n = length told
+  n = length nodes
 
   abbrev pub link : Links
-  link = record { level = level_in told parent; first_inner = None; next_inner = option_and_then (λ s. last_inner (outer_of told) s n) (outer r) }
+  link = record { level = level_in nodes parent; first_inner = None; next_inner = option_and_then (λ s. last_inner (outer_of nodes) s n) (outer r) }
 
-  abbrev pub cut : Option Cut
-  cut = option_and_then (cut_of told) (outer r)
+  abbrev pub first_cancel : Option FirstCancel
+  first_cancel = option_and_then (cancel_of nodes) (outer r)
 
-  pub row_before : (t : ℕ) → t ≤ n → row new t ≡ row told t
+  pub row_before : (t : ℕ) → t ≤ n → row new t ≡ row nodes t
   row_before zero h = refl
-  row_before (suc i) h = get_push told r i (omega arith)
+  row_before (suc i) h = get_push nodes r i (omega arith)
 
   pub row_here : row new (suc n) ≡ Some r
-  row_here = push_here told r
+  row_here = push_here nodes r
 
-  outers : (t : ℕ) → t ≤ n → outer_of new t ≡ outer_of told t
+  outers : (t : ℕ) → t ≤ n → outer_of new t ≡ outer_of nodes t
   outers t h = ap (option_and_then outer) (row_before t h)
 
-  parents : (t : ℕ) → t ≤ n → parent_of new t ≡ parent_of told t
-  parents t h = ap (option_and_then (λ (t : Told). t.parent)) (row_before t h)
+  parents : (t : ℕ) → t ≤ n → parent_of new t ≡ parent_of nodes t
+  parents t h = ap (option_and_then (λ (t : ScopeNode). t.parent)) (row_before t h)
 
-  owns : (t : ℕ) → t ≤ n → own_of new t ≡ own_of told t
-  owns t h = ap (option_and_then (λ (t : Told). t.own)) (row_before t h)
+  owns : (t : ℕ) → t ≤ n → own_of new t ≡ own_of nodes t
+  owns t h = ap (option_and_then (λ (t : ScopeNode). t.own)) (row_before t h)
 
   parent_here : parent_of new (suc n) ≡ parent
-  parent_here = ap (option_and_then (λ (t : Told). t.parent)) row_here
+  parent_here = ap (option_and_then (λ (t : ScopeNode). t.parent)) row_here
 
   outer_here : outer_of new (suc n) ≡ outer r
   outer_here = ap (option_and_then outer) row_here
 
   own_here : own_of new (suc n) ≡ None
-  own_here = ap (option_and_then (λ (t : Told). t.own)) row_here
+  own_here = ap (option_and_then (λ (t : ScopeNode). t.own)) row_here
 
-  added_parent : (p : ℕ) (o : Option ℕ) → IfSome o (IsAdded told) → o ≡ Some p → IsAdded told p
+  added_parent : (p : ℕ) (o : Option ℕ) → IfSome o (IsAdded nodes) → o ≡ Some p → IsAdded nodes p
   added_parent p None h e = absurd (some_none p e)
-  added_parent p (Some q) h e = subst (IsAdded told) (same_Some q p e) h
+  added_parent p (Some q) h e = subst (IsAdded nodes) (same_Some q p e) h
 
   pub inward_new : IsInward (parent_of new)
   inward_new zero p e = absurd (some_none p e)
@@ -166,11 +166,11 @@ module _ (told : List Told) (links : List Links) (cuts : List (Option Cut)) (kep
         ]
       ]
     where
-      past : (i : ℕ) (o : Option Told) → slice_get new i ≡ o → (p : ℕ) → option_and_then (λ (t : Told). t.parent) (slice_get new i) ≡ Some p → n < i → ⊥
-      past i None at p e h = some_none p (sym (ap (option_and_then (λ (t : Told). t.parent)) at) ∙ e)
-      past i (Some t) at p e h = let lt : i < length new = slice_get_within new i t at in let l : length new ≡ suc n = push_length told r in omega arith
+      past : (i : ℕ) (o : Option ScopeNode) → slice_get new i ≡ o → (p : ℕ) → option_and_then (λ (t : ScopeNode). t.parent) (slice_get new i) ≡ Some p → n < i → ⊥
+      past i None at p e h = some_none p (sym (ap (option_and_then (λ (t : ScopeNode). t.parent)) at) ∙ e)
+      past i (Some t) at p e h = let lt : i < length new = slice_get_within new i t at in let l : length new ≡ suc n = push_length nodes r in omega arith
 
-  added_outer : (b : Bool) (o : Option ℕ) → IfSome o (IsAdded told) → IfSome (cond b None o) (IsAdded told)
+  added_outer : (b : Bool) (o : Option ℕ) → IfSome o (IsAdded nodes) → IfSome (cond b None o) (IsAdded nodes)
   added_outer true o h = tt
   added_outer false o h = h
 
@@ -180,21 +180,21 @@ module _ (told : List Told) (links : List Links) (cuts : List (Option Cut)) (kep
   length_links : length new_links ≡ suc n
   length_links = relinked_length (outer r) links link d ∙ ap suc kept.rows
 
-  outer_within : (o : Option ℕ) → IfSome o (IsAdded told) → IfSome o (λ p. (1 ≤ p) × (p ≤ length links))
+  outer_within : (o : Option ℕ) → IfSome o (IsAdded nodes) → IfSome o (λ p. (1 ≤ p) × (p ≤ length links))
   outer_within None h = tt
   outer_within (Some p) h = (h.0, omega (arith, h.1, kept.rows))
 
   cases : (i : ℕ) (l : Links) → slice_get new_links i ≡ Some l → ((i ≡ length links) × (l ≡ link)) ⊎ IsOldLink (outer r) links i l
   cases = links_cases (outer r) links link d (outer_within (outer r) (added_outer shield parent there))
 
-  inwards : IsInward (outer_of told)
-  inwards = outer_inward told kept.inward
+  inwards : IsInward (outer_of nodes)
+  inwards = outer_inward nodes kept.inward
 
   -- the last inner scope of each, with the new one
-  last_new : (s : ℕ) → last_inner (outer_of new) s (suc n) ≡ cond (is_scope (outer r) s) (Some (suc n)) (last_inner (outer_of told) s n)
-  last_new s = λ j. cond (is_scope (outer_here j) s) (Some (suc n)) (last_inner_kept (outer_of told) (outer_of new) n outers s n (omega arith) j)
+  last_new : (s : ℕ) → last_inner (outer_of new) s (suc n) ≡ cond (is_scope (outer r) s) (Some (suc n)) (last_inner (outer_of nodes) s n)
+  last_new s = λ j. cond (is_scope (outer_here j) s) (Some (suc n)) (last_inner_kept (outer_of nodes) (outer_of new) n outers s n (omega arith) j)
 
-  not_its_own : (o : Option ℕ) → IfSome o (IsAdded told) → is_scope o (suc n) ≡ false
+  not_its_own : (o : Option ℕ) → IfSome o (IsAdded nodes) → is_scope o (suc n) ≡ false
   not_its_own None h = refl
   not_its_own (Some p) h = ne_eqb p (suc n) (λ e. omega (arith, h.1))
 
@@ -203,10 +203,10 @@ module _ (told : List Told) (links : List Links) (cuts : List (Option Cut)) (kep
       elim (cases i l e) [
         | inl new_one ↦ (let at : i ≡ n = new_one.0 ∙ kept.rows in
             ap (λ (k : Links). k.first_inner) new_one.1
-            ∙ sym (ap (λ b. cond b (Some (suc n)) (last_inner (outer_of told) (suc n) n)) (not_its_own (outer r) (added_outer shield parent there)) ∙ no_inner (outer_of told) inwards (suc n) n (omega arith) _ refl)
+            ∙ sym (ap (λ b. cond b (Some (suc n)) (last_inner (outer_of nodes) (suc n) n)) (not_its_own (outer r) (added_outer shield parent there)) ∙ no_inner (outer_of nodes) inwards (suc n) n (omega arith) _ refl)
             ∙ sym (last_new (suc n)) ∙ (λ j. last_inner (outer_of new) (suc (sym at j)) (sym length_links j)))
         | inr old ↦ old.first
-            ∙ (λ j. cond (is_scope (outer r) (suc i)) (Some (suc (kept.rows j))) ((kept.linked.first i old.old old.at ∙ ap (last_inner (outer_of told) (suc i)) kept.rows) j))
+            ∙ (λ j. cond (is_scope (outer r) (suc i)) (Some (suc (kept.rows j))) ((kept.linked.first i old.old old.at ∙ ap (last_inner (outer_of nodes) (suc i)) kept.rows) j))
             ∙ sym (last_new (suc i)) ∙ ap (last_inner (outer_of new) (suc i)) (sym length_links)
       ]
 
@@ -215,18 +215,18 @@ module _ (told : List Told) (links : List Links) (cuts : List (Option Cut)) (kep
       elim (cases i l e) [
         | inl new_one ↦ (let at : i ≡ n = new_one.0 ∙ kept.rows in
             ap (λ (k : Links). k.next_inner) new_one.1
-            ∙ ap (option_and_then (λ s. last_inner (outer_of told) s n)) (sym outer_here ∙ ap (λ j. outer_of new (suc j)) (sym at) ∙ is)
-            ∙ sym (last_inner_kept (outer_of told) (outer_of new) n outers s n (omega arith)) ∙ ap (last_inner (outer_of new) s) (sym at))
+            ∙ ap (option_and_then (λ s. last_inner (outer_of nodes) s n)) (sym outer_here ∙ ap (λ j. outer_of new (suc j)) (sym at) ∙ is)
+            ∙ sym (last_inner_kept (outer_of nodes) (outer_of new) n outers s n (omega arith)) ∙ ap (last_inner (outer_of new) s) (sym at))
         | inr old ↦ (let le : suc i ≤ n = omega (arith, old.within, kept.rows) in
-            old.next ∙ kept.linked.next i old.old s old.at (sym (outers (suc i) le) ∙ is) ∙ sym (last_inner_kept (outer_of told) (outer_of new) n outers s i (omega arith)))
+            old.next ∙ kept.linked.next i old.old s old.at (sym (outers (suc i) le) ∙ is) ∙ sym (last_inner_kept (outer_of nodes) (outer_of new) n outers s i (omega arith)))
       ]
 
-  level_here : level_of new (suc n) ≡ level_in told parent
+  level_here : level_of new (suc n) ≡ level_in nodes parent
   level_here = ap length (chain_law (parent_of new) inward_new (suc n)) ∙ ap (λ o. suc (length (onward o (chain_by (parent_of new))))) parent_here ∙ by parent there
     where
-      by : (o : Option ℕ) → IfSome o (IsAdded told) → suc (length (onward o (chain_by (parent_of new)))) ≡ level_in told o
+      by : (o : Option ℕ) → IfSome o (IsAdded nodes) → suc (length (onward o (chain_by (parent_of new)))) ≡ level_in nodes o
       by None h = refl
-      by (Some p) h = (let e : length (chain_by (parent_of new) p) ≡ length (chain_by (parent_of told) p) = ap length (chain_kept (parent_of told) (parent_of new) kept.inward n parents inward_new p h.0 h.1) in omega arith)
+      by (Some p) h = (let e : length (chain_by (parent_of new) p) ≡ length (chain_by (parent_of nodes) p) = ap length (chain_kept (parent_of nodes) (parent_of new) kept.inward n parents inward_new p h.0 h.1) in omega arith)
 
   levels_new : (i : ℕ) (l : Links) → slice_get new_links i ≡ Some l → l.level ≡ level_of new (suc i)
   levels_new i l e =
@@ -234,105 +234,105 @@ module _ (told : List Told) (links : List Links) (cuts : List (Option Cut)) (kep
         | inl new_one ↦ (let at : i ≡ n = new_one.0 ∙ kept.rows in
             ap (λ (k : Links). k.level) new_one.1 ∙ sym level_here ∙ ap (λ j. level_of new (suc j)) (sym at))
         | inr old ↦ (let le : suc i ≤ n = omega (arith, old.within, kept.rows) in
-            old.level ∙ kept.levels i old.old old.at ∙ sym (ap length (chain_kept (parent_of told) (parent_of new) kept.inward n parents inward_new (suc i) (omega arith) le)))
+            old.level ∙ kept.levels i old.old old.at ∙ sym (ap length (chain_kept (parent_of nodes) (parent_of new) kept.inward n parents inward_new (suc i) (omega arith) le)))
       ]
 
-  pub cut_before : (t : ℕ) → 1 ≤ t → t ≤ n → cut_of new t ≡ cut_of told t
-  cut_before t h k = cut_kept (outer_of told) (outer_of new) inwards n outers (outer_inward new inward_new) (own_of told) (own_of new) owns t h k
+  pub cancel_before : (t : ℕ) → 1 ≤ t → t ≤ n → cancel_of new t ≡ cancel_of nodes t
+  cancel_before t h k = cancel_kept (outer_of nodes) (outer_of new) inwards n outers (outer_inward new inward_new) (own_of nodes) (own_of new) owns t h k
 
-  pub cut_here : cut_of new (suc n) ≡ cut
-  cut_here =
-      cut_law (outer_of new) (outer_inward new inward_new) (own_of new) (suc n)
-      ∙ ap (λ o. nearer o (option_and_then (cut_of new) (outer_of new (suc n)))) own_here
-      ∙ ap (option_and_then (cut_of new)) outer_here
+  pub cancel_here : cancel_of new (suc n) ≡ first_cancel
+  cancel_here =
+      cancel_law (outer_of new) (outer_inward new inward_new) (own_of new) (suc n)
+      ∙ ap (λ o. nearer o (option_and_then (cancel_of new) (outer_of new (suc n)))) own_here
+      ∙ ap (option_and_then (cancel_of new)) outer_here
       ∙ by (outer r) (added_outer shield parent there)
     where
-      by : (o : Option ℕ) → IfSome o (IsAdded told) → option_and_then (cut_of new) o ≡ option_and_then (cut_of told) o
+      by : (o : Option ℕ) → IfSome o (IsAdded nodes) → option_and_then (cancel_of new) o ≡ option_and_then (cancel_of nodes) o
       by None h = refl
-      by (Some p) h = cut_before p h.0 h.1
+      by (Some p) h = cancel_before p h.0 h.1
 
-  cuts_new : (i : ℕ) → i < length new → slice_get (cuts ++ cut ∷ []) i ≡ Some (cut_of new (suc i))
-  cuts_new i lt =
+  cancels_new : (i : ℕ) → i < length new → slice_get (cancels ++ first_cancel ∷ []) i ≡ Some (cancel_of new (suc i))
+  cancels_new i lt =
       elim (cases_lt i n) [
-        | inl l ↦ get_push cuts cut i (omega (arith, kept.columns)) ∙ kept.cut i l ∙ ap Some (sym (cut_before (suc i) (omega arith) (omega arith)))
-        | inr g ↦ (let at : i ≡ n = omega (arith, push_length told r) in
-            ap (slice_get (cuts ++ cut ∷ [])) (at ∙ sym kept.columns) ∙ push_here cuts cut ∙ ap Some (sym cut_here) ∙ ap (λ j. Some (cut_of new (suc j))) (sym at))
+        | inl l ↦ get_push cancels first_cancel i (omega (arith, kept.columns)) ∙ kept.first_cancel i l ∙ ap Some (sym (cancel_before (suc i) (omega arith) (omega arith)))
+        | inr g ↦ (let at : i ≡ n = omega (arith, push_length nodes r) in
+            ap (slice_get (cancels ++ first_cancel ∷ [])) (at ∙ sym kept.columns) ∙ push_here cancels first_cancel ∙ ap Some (sym cancel_here) ∙ ap (λ j. Some (cancel_of new (suc j))) (sym at))
       ]
 
-  named_new : (s : ℕ) (c : Cut) → own_of new s ≡ Some c → c.cause.scope ≡ s
+  named_new : (s : ℕ) (c : FirstCancel) → own_of new s ≡ Some c → c.cause.scope ≡ s
   named_new s c e =
       elim (cases_lt n s) [
         | inr le ↦ kept.named s c (sym (owns s le) ∙ e)
         | inl past ↦ absurd (owned_past s (row new s) refl past c e)
       ]
     where
-      owned_past : (s : ℕ) (o : Option Told) → row new s ≡ o → n < s → (c : Cut) → option_and_then (λ (t : Told). t.own) (row new s) ≡ Some c → ⊥
+      owned_past : (s : ℕ) (o : Option ScopeNode) → row new s ≡ o → n < s → (c : FirstCancel) → option_and_then (λ (t : ScopeNode). t.own) (row new s) ≡ Some c → ⊥
       owned_past zero o at h c e = omega arith
       owned_past (suc i) o at h c e =
           elim (cases_eq i n) [
             | inl is ↦ some_none c (sym own_here ∙ ap (λ j. own_of new (suc j)) (sym is) ∙ e)
-            | inr ne ↦ some_none c (sym (ap (option_and_then (λ (t : Told). t.own)) (slice_get_past new i (let l : length new ≡ suc n = push_length told r in omega arith))) ∙ e)
+            | inr ne ↦ some_none c (sym (ap (option_and_then (λ (t : ScopeNode). t.own)) (slice_get_past new i (let l : length new ≡ suc n = push_length nodes r in omega arith))) ∙ e)
           ]
 
-  pub kept_add : AreColumns new new_links (cuts ++ cut ∷ [])
+  pub kept_add : AreColumns new new_links (cancels ++ first_cancel ∷ [])
   kept_add = record {
     inward = inward_new;
-    rows = length_links ∙ sym (push_length told r);
-    columns = push_length cuts cut ∙ ap suc kept.columns ∙ sym (push_length told r);
+    rows = length_links ∙ sym (push_length nodes r);
+    columns = push_length cancels first_cancel ∙ ap suc kept.columns ∙ sym (push_length nodes r);
     linked = record { first = first_new; next = next_new };
     levels = levels_new;
     named = named_new;
-    cut = cuts_new;
+    first_cancel = cancels_new;
   }
 
-pub link_is : (told : List Told) (parent : Option ℕ) (shield : Bool) (opened : ℕ) (around : ℕ) (next o : Option ℕ) → around + 1 ≡ level_in told parent → o ≡ outer (new_row parent shield opened)
-    → next ≡ option_and_then (λ s. last_inner (outer_of told) s (length told)) o
-    → (let l : Links = record { level = around + 1; first_inner = None; next_inner = next } in l) ≡ record { level = level_in told parent; first_inner = None; next_inner = option_and_then (λ s. last_inner (outer_of told) s (length told)) (outer (new_row parent shield opened)) }
-link_is told parent shield opened around next o level is at =
-    λ i. record { level = level i; first_inner = None; next_inner = (at ∙ ap (option_and_then (λ s. last_inner (outer_of told) s (length told))) is) i }
+pub link_is : (nodes : List ScopeNode) (parent : Option ℕ) (shield : Bool) (opened : ℕ) (around : ℕ) (next o : Option ℕ) → around + 1 ≡ level_in nodes parent → o ≡ outer (new_row parent shield opened)
+    → next ≡ option_and_then (λ s. last_inner (outer_of nodes) s (length nodes)) o
+    → (let l : Links = record { level = around + 1; first_inner = None; next_inner = next } in l) ≡ record { level = level_in nodes parent; first_inner = None; next_inner = option_and_then (λ s. last_inner (outer_of nodes) s (length nodes)) (outer (new_row parent shield opened)) }
+link_is nodes parent shield opened around next o level is at =
+    λ i. record { level = level i; first_inner = None; next_inner = (at ∙ ap (option_and_then (λ s. last_inner (outer_of nodes) s (length nodes))) is) i }
 
 -- the columns with the new row, as they are written
-module _ (ts told told_new : List Told) (links links_new : List Links) (cuts cuts_new : List (Option Cut)) (is : told ≡ ts) (kept : AreColumns told links cuts) (parent : Option ℕ) (shield : Bool) (opened : ℕ) (there : IfSome parent (IsAdded ts))
-    (around : ℕ) (next o : Option ℕ) (k : Option Cut) (b : Bool) (done : b ≡ true)
-    (a : told_new ≡ cond b (told ++ new_row parent shield opened ∷ []) told)
+module _ (ts nodes told_new : List ScopeNode) (links links_new : List Links) (cancels cancels_new : List (Option FirstCancel)) (is : nodes ≡ ts) (kept : AreColumns nodes links cancels) (parent : Option ℕ) (shield : Bool) (opened : ℕ) (there : IfSome parent (IsAdded ts))
+    (around : ℕ) (next o : Option ℕ) (k : Option FirstCancel) (b : Bool) (done : b ≡ true)
+    (a : told_new ≡ cond b (nodes ++ new_row parent shield opened ∷ []) nodes)
     (l : links_new ≡ cond b (links ++ (let x : Links = record { level = around + 1; first_inner = None; next_inner = next } in x) ∷ []) links)
-    (u : cuts_new ≡ cond b (cuts ++ k ∷ []) cuts)
-    (level : around + 1 ≡ level_in ts parent) (at : o ≡ outer (new_row parent shield opened)) (after : next ≡ option_and_then (λ s. last_inner (outer_of ts) s (length ts)) o) (cut_is : k ≡ option_and_then (cut_of ts) o) where
-  there_told : IfSome parent (IsAdded told)
+    (u : cancels_new ≡ cond b (cancels ++ k ∷ []) cancels)
+    (level : around + 1 ≡ level_in ts parent) (at : o ≡ outer (new_row parent shield opened)) (after : next ≡ option_and_then (λ s. last_inner (outer_of ts) s (length ts)) o) (cancel_is : k ≡ option_and_then (cancel_of ts) o) where
+  there_told : IfSome parent (IsAdded nodes)
   there_told = subst (λ xs. IfSome parent (IsAdded xs)) (sym is) there
 
   abbrev the_link : Links
-  the_link = record { level = level_in told parent; first_inner = None; next_inner = option_and_then (λ s. last_inner (outer_of told) s (length told)) (outer (new_row parent shield opened)) }
+  the_link = record { level = level_in nodes parent; first_inner = None; next_inner = option_and_then (λ s. last_inner (outer_of nodes) s (length nodes)) (outer (new_row parent shield opened)) }
 
-  abbrev the_cut : Option Cut
-  the_cut = option_and_then (cut_of told) (outer (new_row parent shield opened))
+  abbrev the_cancel : Option FirstCancel
+  the_cancel = option_and_then (cancel_of nodes) (outer (new_row parent shield opened))
 
-  told_is : told_new ≡ told ++ new_row parent shield opened ∷ []
-  told_is = a ∙ ap (λ c. cond c (told ++ new_row parent shield opened ∷ []) told) done
+  told_is : told_new ≡ nodes ++ new_row parent shield opened ∷ []
+  told_is = a ∙ ap (λ c. cond c (nodes ++ new_row parent shield opened ∷ []) nodes) done
 
   links_are : links_new ≡ links ++ the_link ∷ []
   links_are =
       l ∙ ap (λ c. cond c (links ++ (let x : Links = record { level = around + 1; first_inner = None; next_inner = next } in x) ∷ []) links) done
-      ∙ ap (λ x. links ++ x ∷ []) (link_is told parent shield opened around next o (level ∙ ap (λ xs. level_in xs parent) (sym is)) at (after ∙ ap (λ xs. option_and_then (λ s. last_inner (outer_of xs) s (length xs)) o) (sym is)))
+      ∙ ap (λ x. links ++ x ∷ []) (link_is nodes parent shield opened around next o (level ∙ ap (λ xs. level_in xs parent) (sym is)) at (after ∙ ap (λ xs. option_and_then (λ s. last_inner (outer_of xs) s (length xs)) o) (sym is)))
 
-  cuts_are : cuts_new ≡ cuts ++ the_cut ∷ []
-  cuts_are = u ∙ ap (λ c. cond c (cuts ++ k ∷ []) cuts) done ∙ ap (λ x. cuts ++ x ∷ []) (cut_is ∙ ap (λ xs. option_and_then (cut_of xs) o) (sym is) ∙ ap (option_and_then (cut_of told)) at)
+  cancels_are : cancels_new ≡ cancels ++ the_cancel ∷ []
+  cancels_are = u ∙ ap (λ c. cond c (cancels ++ k ∷ []) cancels) done ∙ ap (λ x. cancels ++ x ∷ []) (cancel_is ∙ ap (λ xs. option_and_then (cancel_of xs) o) (sym is) ∙ ap (option_and_then (cancel_of nodes)) at)
 
-  kept_at : (d : Links) → AreColumns (told ++ new_row parent shield opened ∷ []) (relinked (outer (new_row parent shield opened)) links the_link d) (cuts ++ the_cut ∷ [])
-  kept_at d = kept_add told links cuts kept parent shield opened there_told d
+  kept_at : (d : Links) → AreColumns (nodes ++ new_row parent shield opened ∷ []) (relinked (outer (new_row parent shield opened)) links the_link d) (cancels ++ the_cancel ∷ [])
+  kept_at d = kept_add nodes links cancels kept parent shield opened there_told d
 
-  kept_columns : (ls : List Links) (d : Links) → ls ≡ relinked (outer (new_row parent shield opened)) links the_link d → AreColumns told_new ls cuts_new
+  kept_columns : (ls : List Links) (d : Links) → ls ≡ relinked (outer (new_row parent shield opened)) links the_link d → AreColumns told_new ls cancels_new
   kept_columns ls d e =
-      subst (λ xs. AreColumns xs ls cuts_new) (sym told_is)
-      (subst (λ xs. AreColumns (told ++ new_row parent shield opened ∷ []) ls xs) (sym cuts_are)
-      (subst (λ xs. AreColumns (told ++ new_row parent shield opened ∷ []) xs (cuts ++ the_cut ∷ [])) (sym e) (kept_at d)))
+      subst (λ xs. AreColumns xs ls cancels_new) (sym told_is)
+      (subst (λ xs. AreColumns (nodes ++ new_row parent shield opened ∷ []) ls xs) (sym cancels_are)
+      (subst (λ xs. AreColumns (nodes ++ new_row parent shield opened ∷ []) xs (cancels ++ the_cancel ∷ [])) (sym e) (kept_at d)))
 
-  pub kept_new : (d : Links) (scope : ℕ) (after : List Links) → AreLed links_new o scope after → scope ≡ length ts + 1 → AreColumns told_new after cuts_new
+  pub kept_new : (d : Links) (scope : ℕ) (after : List Links) → AreLed links_new o scope after → scope ≡ length ts + 1 → AreColumns told_new after cancels_new
   kept_new d scope after are_led number =
       let count : scope ≡ suc (length links) = number ∙ ap (λ xs. length xs + 1) (sym is) ∙ ap (λ n. n + 1) (sym kept.rows) ∙ omega arith in
       kept_columns after d (are_led d ∙ (λ i. led (links_are i) (at i) (count i) d))
 
-  outer_is_added : (b : Bool) (p : Option ℕ) → IfSome p (IsAdded told) → IfSome (cond b None p) (λ q. (1 ≤ q) × (q ≤ length links_new))
+  outer_is_added : (b : Bool) (p : Option ℕ) → IfSome p (IsAdded nodes) → IfSome (cond b None p) (λ q. (1 ≤ q) × (q ≤ length links_new))
   outer_is_added true p added = tt
   outer_is_added false None added = tt
   outer_is_added false (Some q) added = (added.0, omega (arith, added.1, kept.rows, ap length links_are, push_length links the_link))

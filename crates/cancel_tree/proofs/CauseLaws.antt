@@ -3,25 +3,25 @@ use Rattle.std.proofs.Common.{◌≡◌, ℕ, zero, suc, ◌≤◌, Option, Some
 use Rattle.std.specs.Option.{option_map, IfSome}
 use Rattle.std.specs.List.{All, Contains}
 use Rattle.std.proofs.lemmas.List.Elements.{All-nil, All-cons, All-contains, Contains-get_or}
-use Rattle.scope_rules.specs.declared.types.records.Cut.{Cut}
+use Rattle.scope_rules.specs.declared.types.records.FirstCancel.{FirstCancel}
 use Rattle.scope_rules.specs.Chains.{IsInward, onward, outwards, chain_by}
 use Rattle.scope_rules.specs.Earliest.{IsEarliest}
-use Rattle.scope_rules.proofs.EarliestLaws.{cut_earliest}
-use Rattle.cancel_tree.specs.declared.rows.Told.{Told}
-use Rattle.cancel_tree.specs.Rows.{outer_of, own_of, cut_of, cause_of}
+use Rattle.scope_rules.proofs.EarliestLaws.{cancel_earliest}
+use Rattle.cancel_tree.specs.declared.rows.ScopeNode.{ScopeNode}
+use Rattle.cancel_tree.specs.Rows.{outer_of, own_of, cancel_of, cause_of}
 
 -- each own cancel names its scope
-abbrev pub IsNamed : List Told → Type 0
-IsNamed told = (s : ℕ) (c : Cut) → own_of told s ≡ Some c → c.cause.scope ≡ s
+abbrev pub IsNamed : List ScopeNode → Type 0
+IsNamed nodes = (s : ℕ) (c : FirstCancel) → own_of nodes s ≡ Some c → c.cause.scope ≡ s
 
-on_chain : (own : ℕ → Option Cut) → ((s : ℕ) (c : Cut) → own s ≡ Some c → c.cause.scope ≡ s) → (scopes : List ℕ) (cut : Option Cut) → IsEarliest own scopes cut
-    → IfSome (option_map (λ (c : Cut). c.cause) cut) (λ cause. Contains scopes cause.scope)
+on_chain : (own : ℕ → Option FirstCancel) → ((s : ℕ) (c : FirstCancel) → own s ≡ Some c → c.cause.scope ≡ s) → (scopes : List ℕ) (first_cancel : Option FirstCancel) → IsEarliest own scopes first_cancel
+    → IfSome (option_map (λ (c : FirstCancel). c.cause) first_cancel) (λ cause. Contains scopes cause.scope)
 on_chain own named scopes None h = tt
 on_chain own named scopes (Some c) h = subst (Contains scopes) (sym (named (get_or scopes h.0 0) c h.1.stands)) (Contains-get_or scopes h.0 0 h.1.within)
 
 -- the cause is on the chain
-pub cause_on_chain : (told : List Told) (s : ℕ) → IsNamed told → IfSome (cause_of told s) (λ cause. Contains (chain_by (outer_of told) s) cause.scope)
-cause_on_chain told s named = on_chain (own_of told) named (chain_by (outer_of told) s) _ (cut_earliest (outer_of told) (own_of told) s)
+pub cause_on_chain : (nodes : List ScopeNode) (s : ℕ) → IsNamed nodes → IfSome (cause_of nodes s) (λ cause. Contains (chain_by (outer_of nodes) s) cause.scope)
+cause_on_chain nodes s named = on_chain (own_of nodes) named (chain_by (outer_of nodes) s) _ (cancel_earliest (outer_of nodes) (own_of nodes) s)
 
 -- what lies outwards of a scope has no greater number
 outwards_below : (outer : ℕ → Option ℕ) → IsInward outer → (n s m : ℕ) → s ≤ m → All (λ p. p ≤ m) (outwards outer n s)
@@ -32,11 +32,11 @@ outwards_below outer inward (suc n) s m within = All-cons (λ p. p ≤ m) s _ wi
     rest None all = All-nil (λ x. x ≤ m)
     rest (Some p) all = all p refl
 
-below : (scopes : List ℕ) (s : ℕ) (o : Option Cut) → All (λ p. p ≤ s) scopes → IfSome (option_map (λ (c : Cut). c.cause) o) (λ c. Contains scopes c.scope) → IfSome o (λ c. c.cause.scope ≤ s)
+below : (scopes : List ℕ) (s : ℕ) (o : Option FirstCancel) → All (λ p. p ≤ s) scopes → IfSome (option_map (λ (c : FirstCancel). c.cause) o) (λ c. Contains scopes c.scope) → IfSome o (λ c. c.cause.scope ≤ s)
 below scopes s None all on = tt
 below scopes s (Some c) all on = All-contains (λ p. p ≤ s) scopes c.cause.scope all on
 
--- the scope whose own cancel is the cut has no greater number
-pub cut_within : (told : List Told) (s : ℕ) → IsNamed told → IsInward (outer_of told) → IfSome (cut_of told s) (λ c. c.cause.scope ≤ s)
+-- the scope whose own cancel is the first cancel has no greater number
+pub cancel_within : (nodes : List ScopeNode) (s : ℕ) → IsNamed nodes → IsInward (outer_of nodes) → IfSome (cancel_of nodes s) (λ c. c.cause.scope ≤ s)
 unfolding chain_by
-cut_within told s named inward = below (chain_by (outer_of told) s) s (cut_of told s) (outwards_below (outer_of told) inward (suc s) s s (omega arith)) (cause_on_chain told s named)
+cancel_within nodes s named inward = below (chain_by (outer_of nodes) s) s (cancel_of nodes s) (outwards_below (outer_of nodes) inward (suc s) s s (omega arith)) (cause_on_chain nodes s named)

@@ -1,7 +1,7 @@
 pub mod ReachLaws
 pub mod SpreadLaws
 pub mod RowLaws
-pub mod CutLaws
+pub mod FirstCancelLaws
 pub mod ColumnLaws
 pub mod AddLaws
 pub mod LeastLaws

@@ -8,10 +8,10 @@ use Rattle.std.proofs.lemmas.List.Kept.{AllPairs-cons}
 use Rattle.std.proofs.lemmas.List.Sums.{sum_by-cons, sum_by-append, sum_by_push, sum_by-set, count_by-le-length}
 use Rattle.std.proofs.lemmas.List.Sorted.{sum_by-IsPermutation, length_permutation}
 use Rattle.std.specs.Prelude.{IsPermutation}
-use Rattle.scope_rules.specs.declared.types.records.Cut.{Cut}
+use Rattle.scope_rules.specs.declared.types.records.FirstCancel.{FirstCancel}
 use Rattle.scope_rules.proofs.Prefixes.{get_push}
-use Rattle.cancel_tree.specs.Listed.{times, IsOnce, is_cut, IsListOf, IsGrown}
-use Rattle.cancel_tree.specs.declared.listed.Listed.{Listed}
+use Rattle.cancel_tree.specs.CancelOrder.{times, IsOnce, has_cancel, IsListOf, IsGrown}
+use Rattle.cancel_tree.specs.declared.cancel_order.CancelOrder.{CancelOrder}
 use Rattle.std.proofs.lemmas.List.{append-nil, append_assoc}
 use Rattle.cancel_tree.proofs.SpreadLaws.{slice_get-set}
 use Rattle.cancel_tree.proofs.AddLaws.{push_length, push_here}
@@ -84,76 +84,76 @@ pairs_append R (x ∷ xs) ys a b c =
     AllPairs-cons R x (xs ++ ys) (All-append (R x) xs ys (head_all R x xs a) (All-head (λ x. All (R x) ys) x xs c))
     (pairs_append R xs ys (tail_pairs R x xs a) b (All-tail (λ x. All (R x) ys) x xs c))
 
--- ---- which scopes have a cut
+-- ---- which scopes have a first cancel
 
-is_cut_set : (cuts : List (Option Cut)) (j : ℕ) (c : Cut) (s : ℕ) → j < length cuts → is_cut (set cuts j (Some c)) s ≡ cond (eqb s (suc j)) true (is_cut cuts s)
-is_cut_set cuts j c zero lt = ap (λ b. cond b true false) (sym (ne_eqb 0 (suc j) (λ e. omega arith)))
-is_cut_set cuts j c (suc i) lt =
-    ap (λ o. is_some (option_and_then (λ o. o) o)) (slice_get-set cuts j i (Some c) lt)
+has_cancel_set : (cancels : List (Option FirstCancel)) (j : ℕ) (c : FirstCancel) (s : ℕ) → j < length cancels → has_cancel (set cancels j (Some c)) s ≡ cond (eqb s (suc j)) true (has_cancel cancels s)
+has_cancel_set cancels j c zero lt = ap (λ b. cond b true false) (sym (ne_eqb 0 (suc j) (λ e. omega arith)))
+has_cancel_set cancels j c (suc i) lt =
+    ap (λ o. is_some (option_and_then (λ o. o) o)) (slice_get-set cancels j i (Some c) lt)
     ∙ elim (cases_eq i j) [
-      | inl e ↦ ap (λ b. is_some (option_and_then (λ o. o) (cond b (Some (Some c)) (slice_get cuts i)))) (eq-eqb i j e) ∙ sym (ap (λ b. cond b true (is_cut cuts (suc i))) (eq-eqb (suc i) (suc j) (ap suc e)))
-      | inr ne ↦ ap (λ b. is_some (option_and_then (λ o. o) (cond b (Some (Some c)) (slice_get cuts i)))) (ne_eqb i j ne) ∙ sym (ap (λ b. cond b true (is_cut cuts (suc i))) (ne_eqb (suc i) (suc j) (λ e. ne (omega arith))))
+      | inl e ↦ ap (λ b. is_some (option_and_then (λ o. o) (cond b (Some (Some c)) (slice_get cancels i)))) (eq-eqb i j e) ∙ sym (ap (λ b. cond b true (has_cancel cancels (suc i))) (eq-eqb (suc i) (suc j) (ap suc e)))
+      | inr ne ↦ ap (λ b. is_some (option_and_then (λ o. o) (cond b (Some (Some c)) (slice_get cancels i)))) (ne_eqb i j ne) ∙ sym (ap (λ b. cond b true (has_cancel cancels (suc i))) (ne_eqb (suc i) (suc j) (λ e. ne (omega arith))))
     ]
 
-abbrev tally : Option Cut → ℕ
+abbrev tally : Option FirstCancel → ℕ
 tally o = cond (is_some o) 1 0
 
--- a scope that has no cut is listed when it gets one
-pub listed_put : (cuts : List (Option Cut)) (xs : List ℕ) (j : ℕ) (c : Cut) (d : Option Cut) → j < length cuts → is_some (get_or cuts j d) ≡ false → IsListOf cuts xs → IsListOf (set cuts j (Some c)) (xs ++ suc j ∷ [])
-listed_put cuts xs j c d lt none h = record {
-  once = λ s. sum_by_push (one s) xs (suc j) ∙ ap (λ n. n + one s (suc j)) (h.once s) ∙ by s ∙ ap (λ b. cond b 1 0) (sym (is_cut_set cuts j c s lt));
-  count = push_length xs (suc j) ∙ (let e = sum_by-set tally cuts j (Some c) d lt in let z : tally (get_or cuts j d) ≡ 0 = ap (λ b. cond b 1 0) none in let n = h.count in omega arith);
+-- a scope that has no first cancel is listed when it gets one
+pub listed_put : (cancels : List (Option FirstCancel)) (xs : List ℕ) (j : ℕ) (c : FirstCancel) (d : Option FirstCancel) → j < length cancels → is_some (get_or cancels j d) ≡ false → IsListOf cancels xs → IsListOf (set cancels j (Some c)) (xs ++ suc j ∷ [])
+listed_put cancels xs j c d lt none h = record {
+  once = λ s. sum_by_push (one s) xs (suc j) ∙ ap (λ n. n + one s (suc j)) (h.once s) ∙ by s ∙ ap (λ b. cond b 1 0) (sym (has_cancel_set cancels j c s lt));
+  count = push_length xs (suc j) ∙ (let e = sum_by-set tally cancels j (Some c) d lt in let z : tally (get_or cancels j d) ≡ 0 = ap (λ b. cond b 1 0) none in let n = h.count in omega arith);
 }
   where
-    uncut : is_cut cuts (suc j) ≡ false
-    uncut = ap (λ o. is_some (option_and_then (λ o. o) o)) (slice_get-get_or cuts j d lt) ∙ none
+    no_first_cancel : has_cancel cancels (suc j) ≡ false
+    no_first_cancel = ap (λ o. is_some (option_and_then (λ o. o) o)) (slice_get-get_or cancels j d lt) ∙ none
 
-    by : (s : ℕ) → cond (is_cut cuts s) 1 0 + one s (suc j) ≡ cond (cond (eqb s (suc j)) true (is_cut cuts s)) 1 0
+    by : (s : ℕ) → cond (has_cancel cancels s) 1 0 + one s (suc j) ≡ cond (cond (eqb s (suc j)) true (has_cancel cancels s)) 1 0
     by s =
         elim (cases_eq s (suc j)) [
-          | inl e ↦ (let a : is_cut cuts s ≡ false = ap (is_cut cuts) e ∙ uncut in
+          | inl e ↦ (let a : has_cancel cancels s ≡ false = ap (has_cancel cancels) e ∙ no_first_cancel in
               let b : one s (suc j) ≡ 1 = one_is s (suc j) e in
-              (λ i. cond (a i) 1 0 + b i) ∙ sym (ap (λ b. cond (cond b true (is_cut cuts s)) 1 0) (eq-eqb s (suc j) e)))
+              (λ i. cond (a i) 1 0 + b i) ∙ sym (ap (λ b. cond (cond b true (has_cancel cancels s)) 1 0) (eq-eqb s (suc j) e)))
           | inr ne ↦ (let b : one s (suc j) ≡ 0 = ap (λ b. cond b 1 0) (ne_eqb (suc j) s (λ e. ne (sym e))) in
-              let z : cond (is_cut cuts s) 1 0 + 0 ≡ cond (is_cut cuts s) 1 0 = omega arith in
-              ap (λ n. cond (is_cut cuts s) 1 0 + n) b ∙ z ∙ sym (ap (λ b. cond (cond b true (is_cut cuts s)) 1 0) (ne_eqb s (suc j) ne)))
+              let z : cond (has_cancel cancels s) 1 0 + 0 ≡ cond (has_cancel cancels s) 1 0 = omega arith in
+              ap (λ n. cond (has_cancel cancels s) 1 0 + n) b ∙ z ∙ sym (ap (λ b. cond (cond b true (has_cancel cancels s)) 1 0) (ne_eqb s (suc j) ne)))
         ]
 
--- and one that has a cut is listed already
-pub listed_already : (cuts : List (Option Cut)) (xs : List ℕ) (j : ℕ) (c : Cut) (d : Option Cut) → j < length cuts → is_some (get_or cuts j d) ≡ true → IsListOf cuts xs → IsListOf (set cuts j (Some c)) xs
-listed_already cuts xs j c d lt some h = record {
-  once = λ s. h.once s ∙ ap (λ b. cond b 1 0) (by s ∙ sym (is_cut_set cuts j c s lt));
-  count = h.count ∙ (let e = sum_by-set tally cuts j (Some c) d lt in let z : tally (get_or cuts j d) ≡ 1 = ap (λ b. cond b 1 0) some in omega arith);
+-- and one that has a first cancel is listed already
+pub listed_already : (cancels : List (Option FirstCancel)) (xs : List ℕ) (j : ℕ) (c : FirstCancel) (d : Option FirstCancel) → j < length cancels → is_some (get_or cancels j d) ≡ true → IsListOf cancels xs → IsListOf (set cancels j (Some c)) xs
+listed_already cancels xs j c d lt some h = record {
+  once = λ s. h.once s ∙ ap (λ b. cond b 1 0) (by s ∙ sym (has_cancel_set cancels j c s lt));
+  count = h.count ∙ (let e = sum_by-set tally cancels j (Some c) d lt in let z : tally (get_or cancels j d) ≡ 1 = ap (λ b. cond b 1 0) some in omega arith);
 }
   where
-    here : is_cut cuts (suc j) ≡ true
-    here = ap (λ o. is_some (option_and_then (λ o. o) o)) (slice_get-get_or cuts j d lt) ∙ some
+    here : has_cancel cancels (suc j) ≡ true
+    here = ap (λ o. is_some (option_and_then (λ o. o) o)) (slice_get-get_or cancels j d lt) ∙ some
 
-    by : (s : ℕ) → is_cut cuts s ≡ cond (eqb s (suc j)) true (is_cut cuts s)
+    by : (s : ℕ) → has_cancel cancels s ≡ cond (eqb s (suc j)) true (has_cancel cancels s)
     by s =
         elim (cases_eq s (suc j)) [
-          | inl e ↦ ap (is_cut cuts) e ∙ here ∙ sym (ap (λ b. cond b true (is_cut cuts s)) (eq-eqb s (suc j) e))
-          | inr ne ↦ sym (ap (λ b. cond b true (is_cut cuts s)) (ne_eqb s (suc j) ne))
+          | inl e ↦ ap (has_cancel cancels) e ∙ here ∙ sym (ap (λ b. cond b true (has_cancel cancels s)) (eq-eqb s (suc j) e))
+          | inr ne ↦ sym (ap (λ b. cond b true (has_cancel cancels s)) (ne_eqb s (suc j) ne))
         ]
 
 -- if one has none, fewer are listed than there are
-pub fewer_listed : (cuts : List (Option Cut)) (xs : List ℕ) (j : ℕ) (d : Option Cut) → j < length cuts → is_some (get_or cuts j d) ≡ false → IsListOf cuts xs → length xs < length cuts
-fewer_listed cuts xs j d lt none h = let e = below cuts j d lt none in let n = h.count in omega arith
+pub fewer_listed : (cancels : List (Option FirstCancel)) (xs : List ℕ) (j : ℕ) (d : Option FirstCancel) → j < length cancels → is_some (get_or cancels j d) ≡ false → IsListOf cancels xs → length xs < length cancels
+fewer_listed cancels xs j d lt none h = let e = below cancels j d lt none in let n = h.count in omega arith
   where
-    below : (cuts : List (Option Cut)) (j : ℕ) (d : Option Cut) → j < length cuts → is_some (get_or cuts j d) ≡ false → count_by is_some cuts < length cuts
+    below : (cancels : List (Option FirstCancel)) (j : ℕ) (d : Option FirstCancel) → j < length cancels → is_some (get_or cancels j d) ≡ false → count_by is_some cancels < length cancels
     below [] j d lt none = absurd (omega (arith, lt))
     below (o ∷ os) zero d lt none = let e = sum_by-cons tally o os in let z : tally o ≡ 0 = ap (λ b. cond b 1 0) none in let l = count_by-le-length is_some os in omega arith
     below (o ∷ os) (suc j) d lt none =
         let e = sum_by-cons tally o os in let l = below os j d (omega (arith, lt)) none in
         let z : tally o ≤ 1 = at_most o in omega arith
       where
-        at_most : (o : Option Cut) → tally o ≤ 1
+        at_most : (o : Option FirstCancel) → tally o ≤ 1
         at_most None = omega arith
         at_most (Some c) = omega arith
 
 -- the order in which they stand does not matter
-pub listed_moved : (cuts : List (Option Cut)) (xs ys : List ℕ) → IsPermutation xs ys → IsListOf cuts xs → IsListOf cuts ys
-listed_moved cuts xs ys moved h = record {
+pub listed_moved : (cancels : List (Option FirstCancel)) (xs ys : List ℕ) → IsPermutation xs ys → IsListOf cancels xs → IsListOf cancels ys
+listed_moved cancels xs ys moved h = record {
   once = λ s. times_moved s xs ys moved ∙ h.once s;
   count = length_permutation xs ys moved ∙ h.count;
 }
@@ -162,92 +162,92 @@ at_most_one : (b : Bool) → cond b 1 0 ≤ 1
 at_most_one true = omega arith
 at_most_one false = omega arith
 
-pub listed_once : (cuts : List (Option Cut)) (xs : List ℕ) → IsListOf cuts xs → IsOnce xs
-listed_once cuts xs h s = let e = h.once s in let a = at_most_one (is_cut cuts s) in omega arith
+pub listed_once : (cancels : List (Option FirstCancel)) (xs : List ℕ) → IsListOf cancels xs → IsOnce xs
+listed_once cancels xs h s = let e = h.once s in let a = at_most_one (has_cancel cancels s) in omega arith
 
--- a new scope is listed if it has a cut from the start
-pub listed_new : (cuts : List (Option Cut)) (xs : List ℕ) (o : Option Cut) → IsListOf cuts xs → IsListOf (cuts ++ o ∷ []) (cond (is_some o) (xs ++ suc (length cuts) ∷ []) xs)
-listed_new cuts xs o h = record {
+-- a new scope is listed if it has a first cancel from the start
+pub listed_new : (cancels : List (Option FirstCancel)) (xs : List ℕ) (o : Option FirstCancel) → IsListOf cancels xs → IsListOf (cancels ++ o ∷ []) (cond (is_some o) (xs ++ suc (length cancels) ∷ []) xs)
+listed_new cancels xs o h = record {
   once = λ s. by o s;
-  count = counted o ∙ ap (λ n. n + tally o) h.count ∙ sym (sum_by_push tally cuts o);
+  count = counted o ∙ ap (λ n. n + tally o) h.count ∙ sym (sum_by_push tally cancels o);
 }
   where
-    counted : (o : Option Cut) → length (cond (is_some o) (xs ++ suc (length cuts) ∷ []) xs) ≡ length xs + tally o
+    counted : (o : Option FirstCancel) → length (cond (is_some o) (xs ++ suc (length cancels) ∷ []) xs) ≡ length xs + tally o
     counted None = omega arith
-    counted (Some c) = push_length xs (suc (length cuts)) ∙ omega arith
+    counted (Some c) = push_length xs (suc (length cancels)) ∙ omega arith
 
-    cut_past : (s : ℕ) → length cuts < s → is_cut cuts s ≡ false
-    cut_past zero lt = refl
-    cut_past (suc i) lt = ap (λ o. is_some (option_and_then (λ o. o) o)) (slice_get_past cuts i (omega arith))
+    cancel_past : (s : ℕ) → length cancels < s → has_cancel cancels s ≡ false
+    cancel_past zero lt = refl
+    cancel_past (suc i) lt = ap (λ o. is_some (option_and_then (λ o. o) o)) (slice_get_past cancels i (omega arith))
 
-    cut_new : (o : Option Cut) → is_cut (cuts ++ o ∷ []) (suc (length cuts)) ≡ is_some o
-    cut_new o = ap (λ o. is_some (option_and_then (λ o. o) o)) (push_here cuts o)
+    cancel_new : (o : Option FirstCancel) → has_cancel (cancels ++ o ∷ []) (suc (length cancels)) ≡ is_some o
+    cancel_new o = ap (λ o. is_some (option_and_then (λ o. o) o)) (push_here cancels o)
 
-    cut_before : (o : Option Cut) (s : ℕ) → s ≤ length cuts → is_cut (cuts ++ o ∷ []) s ≡ is_cut cuts s
-    cut_before o zero le = refl
-    cut_before o (suc i) le = ap (λ o. is_some (option_and_then (λ o. o) o)) (get_push cuts o i (omega arith))
+    cancel_before : (o : Option FirstCancel) (s : ℕ) → s ≤ length cancels → has_cancel (cancels ++ o ∷ []) s ≡ has_cancel cancels s
+    cancel_before o zero le = refl
+    cancel_before o (suc i) le = ap (λ o. is_some (option_and_then (λ o. o) o)) (get_push cancels o i (omega arith))
 
-    cut_after : (o : Option Cut) (s : ℕ) → suc (length cuts) < s → is_cut (cuts ++ o ∷ []) s ≡ false
-    cut_after o zero lt = refl
-    cut_after o (suc i) lt = ap (λ o. is_some (option_and_then (λ o. o) o)) (slice_get_past (cuts ++ o ∷ []) i (let l : length (cuts ++ o ∷ []) ≡ suc (length cuts) = push_length cuts o in omega arith))
+    cancel_after : (o : Option FirstCancel) (s : ℕ) → suc (length cancels) < s → has_cancel (cancels ++ o ∷ []) s ≡ false
+    cancel_after o zero lt = refl
+    cancel_after o (suc i) lt = ap (λ o. is_some (option_and_then (λ o. o) o)) (slice_get_past (cancels ++ o ∷ []) i (let l : length (cancels ++ o ∷ []) ≡ suc (length cancels) = push_length cancels o in omega arith))
 
-    listed_at : (o : Option Cut) (s : ℕ) → times s (cond (is_some o) (xs ++ suc (length cuts) ∷ []) xs) ≡ times s xs + cond (is_some o) (one s (suc (length cuts))) 0
+    listed_at : (o : Option FirstCancel) (s : ℕ) → times s (cond (is_some o) (xs ++ suc (length cancels) ∷ []) xs) ≡ times s xs + cond (is_some o) (one s (suc (length cancels))) 0
     listed_at None s = omega arith
-    listed_at (Some c) s = sum_by_push (one s) xs (suc (length cuts))
+    listed_at (Some c) s = sum_by_push (one s) xs (suc (length cancels))
 
     same_zero : (b : Bool) → cond {A = ℕ} b 0 0 ≡ 0
     same_zero true = refl
     same_zero false = refl
 
-    by : (o : Option Cut) (s : ℕ) → times s (cond (is_some o) (xs ++ suc (length cuts) ∷ []) xs) ≡ cond (is_cut (cuts ++ o ∷ []) s) 1 0
+    by : (o : Option FirstCancel) (s : ℕ) → times s (cond (is_some o) (xs ++ suc (length cancels) ∷ []) xs) ≡ cond (has_cancel (cancels ++ o ∷ []) s) 1 0
     by o s =
-        elim (cases_eq s (suc (length cuts))) [
-          | inl e ↦ (let a : times s xs ≡ 0 = h.once s ∙ ap (λ b. cond b 1 0) (cut_past s (omega arith)) in
-              let b : one s (suc (length cuts)) ≡ 1 = one_is s (suc (length cuts)) e in
-              let d : cond (is_some o) (one s (suc (length cuts))) 0 ≡ cond {A = ℕ} (is_some o) 1 0 = ap (λ n. cond (is_some o) n 0) b in
+        elim (cases_eq s (suc (length cancels))) [
+          | inl e ↦ (let a : times s xs ≡ 0 = h.once s ∙ ap (λ b. cond b 1 0) (cancel_past s (omega arith)) in
+              let b : one s (suc (length cancels)) ≡ 1 = one_is s (suc (length cancels)) e in
+              let d : cond (is_some o) (one s (suc (length cancels))) 0 ≡ cond {A = ℕ} (is_some o) 1 0 = ap (λ n. cond (is_some o) n 0) b in
               let f = listed_at o s in
-              let g : times s (cond (is_some o) (xs ++ suc (length cuts) ∷ []) xs) ≡ cond {A = ℕ} (is_some o) 1 0 = omega arith in
-              g ∙ sym (ap (λ s. cond {A = ℕ} (is_cut (cuts ++ o ∷ []) s) 1 0) e ∙ ap (λ b. cond {A = ℕ} b 1 0) (cut_new o)))
-          | inr ne ↦ (let b : one s (suc (length cuts)) ≡ 0 = ap (λ b. cond b 1 0) (ne_eqb (suc (length cuts)) s (λ e. ne (sym e))) in
-              let z : cond (is_some o) (one s (suc (length cuts))) 0 ≡ 0 = ap (λ n. cond (is_some o) n 0) b ∙ same_zero (is_some o) in
+              let g : times s (cond (is_some o) (xs ++ suc (length cancels) ∷ []) xs) ≡ cond {A = ℕ} (is_some o) 1 0 = omega arith in
+              g ∙ sym (ap (λ s. cond {A = ℕ} (has_cancel (cancels ++ o ∷ []) s) 1 0) e ∙ ap (λ b. cond {A = ℕ} b 1 0) (cancel_new o)))
+          | inr ne ↦ (let b : one s (suc (length cancels)) ≡ 0 = ap (λ b. cond b 1 0) (ne_eqb (suc (length cancels)) s (λ e. ne (sym e))) in
+              let z : cond (is_some o) (one s (suc (length cancels))) 0 ≡ 0 = ap (λ n. cond (is_some o) n 0) b ∙ same_zero (is_some o) in
               let f = listed_at o s in
-              let g : times s (cond (is_some o) (xs ++ suc (length cuts) ∷ []) xs) ≡ times s xs = omega arith in
+              let g : times s (cond (is_some o) (xs ++ suc (length cancels) ∷ []) xs) ≡ times s xs = omega arith in
               g ∙ h.once s ∙ ap (λ b. cond b 1 0) (sym (others o s ne)))
         ]
       where
-        others : (o : Option Cut) (s : ℕ) → (s ≡ suc (length cuts) → ⊥) → is_cut (cuts ++ o ∷ []) s ≡ is_cut cuts s
+        others : (o : Option FirstCancel) (s : ℕ) → (s ≡ suc (length cancels) → ⊥) → has_cancel (cancels ++ o ∷ []) s ≡ has_cancel cancels s
         others o s ne =
-            elim (cases_eq s (suc (length cuts))) [
+            elim (cases_eq s (suc (length cancels))) [
               | inl e ↦ absurd (ne e)
-              | inr q ↦ elim (cases_lt s (suc (length cuts))) [
-                | inl lt ↦ cut_before o s (omega arith)
-                | inr ge ↦ cut_after o s (omega arith) ∙ sym (cut_past s (omega arith))
+              | inr q ↦ elim (cases_lt s (suc (length cancels))) [
+                | inl lt ↦ cancel_before o s (omega arith)
+                | inr ge ↦ cancel_after o s (omega arith) ∙ sym (cancel_past s (omega arith))
               ]
             ]
 
 -- ---- growing
 
-pub grown_none : (l : Listed) → IsGrown l l
-grown_none l = record { added = []; scopes = sym (append-nil l.scopes.items); run = refl; moment = refl; in_order = refl; room = refl }
+pub grown_none : (l : CancelOrder) → IsGrown l l
+grown_none l = record { added = []; scopes = sym (append-nil l.scopes.items); run = refl; place = refl; in_order = refl; room = refl }
 
-pub grown_twice : (old mid new : Listed) → IsGrown old mid → IsGrown mid new → IsGrown old new
+pub grown_twice : (old mid new : CancelOrder) → IsGrown old mid → IsGrown mid new → IsGrown old new
 grown_twice old mid new a b = record {
   added = a.added ++ b.added;
   scopes = b.scopes ∙ ap (λ xs. xs ++ b.added) a.scopes ∙ append_assoc old.scopes.items a.added b.added;
   run = b.run ∙ a.run;
-  moment = b.moment ∙ a.moment;
+  place = b.place ∙ a.place;
   in_order = b.in_order ∙ a.in_order;
   room = b.room ∙ a.room;
 }
 
--- what was listed in one go had no cut before, and has one now
-pub added_new : (old new : Listed) (cuts cuts_new : List (Option Cut)) (grown : IsGrown old new) → IsListOf cuts old.scopes.items → IsListOf cuts_new new.scopes.items → (s : ℕ) → Contains grown.added s → (is_cut cuts s ≡ false) × (is_cut cuts_new s ≡ true)
-added_new old new cuts cuts_new grown was is s there =
+-- what was listed in one go had no first cancel before, and has one now
+pub added_new : (old new : CancelOrder) (cancels cancels_new : List (Option FirstCancel)) (grown : IsGrown old new) → IsListOf cancels old.scopes.items → IsListOf cancels_new new.scopes.items → (s : ℕ) → Contains grown.added s → (has_cancel cancels s ≡ false) × (has_cancel cancels_new s ≡ true)
+added_new old new cancels cancels_new grown was is s there =
     let a : 1 ≤ times s grown.added = contains_times grown.added s there in
     let b : times s new.scopes.items ≡ times s old.scopes.items + times s grown.added = ap (times s) grown.scopes ∙ times_append s old.scopes.items grown.added in
     let c = was.once s in
     let d = is.once s in
-    (none (is_cut cuts s) (let m = at_most_one (is_cut cuts_new s) in omega arith), some (is_cut cuts_new s) (omega arith))
+    (none (has_cancel cancels s) (let m = at_most_one (has_cancel cancels_new s) in omega arith), some (has_cancel cancels_new s) (omega arith))
   where
     none : (b : Bool) → cond b 1 0 < 1 → b ≡ false
     none true lt = absurd (omega (arith, lt))

@@ -3,7 +3,7 @@ use Rattle.std.proofs.Common.{◌≡◌, ◌≢◌, ℕ, zero, suc, ◌<◌, ◌
 use Rattle.std.proofs.lemmas.Bool.{false≢true, eqb-true, eqb-false, eq-eqb, ne_eqb, le-leb, lt-leb, cases_eq, cases_lt, cases_Bool}
 use Rattle.std.proofs.lemmas.Bool.Decides.{nat_tests}
 use Rattle.std.proofs.lemmas.Option.{same_Some}
-use Rattle.scope_rules.specs.declared.types.records.Cut.{Cut}
+use Rattle.scope_rules.specs.declared.types.records.FirstCancel.{FirstCancel}
 use Rattle.scope_rules.specs.Chains.{IsInward, onward, chain_by}
 use Rattle.cancel_tree.specs.Reach.{head_is, leads, reached, is_scope, last_inner}
 use Rattle.scope_rules.proofs.ChainLaws.{along, chain_law}
@@ -13,7 +13,7 @@ abbrev pub from_outside : ℕ → ℕ → ℕ → (ℕ → Bool) → Option ℕ 
 from_outside s k t reach None = false
 from_outside s k t reach (Some p) = cond (eqb p s) (leb k t) (reach p)
 
-module _ (outer : ℕ → Option ℕ) (inward : IsInward outer) (own : ℕ → Option Cut) where
+module _ (outer : ℕ → Option ℕ) (inward : IsInward outer) (own : ℕ → Option FirstCancel) where
   head_of_chain : (s p : ℕ) → 1 ≤ p → head_is s (chain_by outer p) ≡ eqb p s
   head_of_chain s p h = ap (head_is s) (chain_law outer inward p)
 
@@ -122,7 +122,7 @@ farther true x m y = refl
 farther false x true y = refl
 farther false x false y = refl
 
-module _ (outer : ℕ → Option ℕ) (inward : IsInward outer) (own : ℕ → Option Cut) (s c : ℕ) (is : outer c ≡ Some s) where
+module _ (outer : ℕ → Option ℕ) (inward : IsInward outer) (own : ℕ → Option FirstCancel) (s c : ℕ) (is : outer c ≡ Some s) where
   abbrev R : ℕ → ℕ → Bool
   R k t = reached outer own s k t
 

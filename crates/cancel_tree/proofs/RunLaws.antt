@@ -8,8 +8,8 @@ use Rattle.std.proofs.lemmas.List.{append-nil, append_assoc, length-drop}
 use Rattle.std.proofs.lemmas.Slice.{take-put_mid}
 use Rattle.std.proofs.lemmas.List.Elements.{All-nil, All-cons, All-append, All-weaker}
 use Rattle.std.proofs.lemmas.List.Sorted.{IsPermutation-refl, IsPermutation-append, IsPermutation-put_mid, length_permutation, All-permutation}
-use Rattle.cancel_tree.specs.declared.listed.Listed.{Listed}
-use Rattle.cancel_tree.specs.Listed.{IsOnce, IsEarlier, AreRuns, IsGrown}
+use Rattle.cancel_tree.specs.declared.cancel_order.CancelOrder.{CancelOrder}
+use Rattle.cancel_tree.specs.CancelOrder.{IsOnce, IsEarlier, AreRuns, IsGrown}
 use Rattle.cancel_tree.specs.Order.{IsBefore}
 use Rattle.cancel_tree.proofs.ColumnLaws.{written_back}
 use Rattle.cancel_tree.proofs.ListLaws.{times_append, times_moved, twice_times, pairs_nil, pairs_append}
@@ -23,28 +23,28 @@ earlier_stays : (when new : ℕ → Option ℕ) → ((s n : ℕ) → when s ≡ 
 earlier_stays when new more m s b = record { at = b.at; is = more s b.at b.is; earlier = b.earlier }
 
 -- a scope stays where it is while others are cancelled
-pub runs_stay : (when new : ℕ → Option ℕ) → ((s n : ℕ) → when s ≡ Some n → new s ≡ Some n) → (l : Listed) → AreRuns when l → AreRuns new l
+pub runs_stay : (when new : ℕ → Option ℕ) → ((s n : ℕ) → when s ≡ Some n → new s ≡ Some n) → (l : CancelOrder) → AreRuns when l → AreRuns new l
 runs_stay when new more l r = record {
   front = r.front;
   rest = r.rest;
   is = r.is;
   run = r.run;
-  earlier = All-weaker (IsEarlier when l.moment) (IsEarlier new l.moment) (earlier_stays when new more l.moment) r.front r.earlier;
+  earlier = All-weaker (IsEarlier when l.place) (IsEarlier new l.place) (earlier_stays when new more l.place) r.front r.earlier;
   ordered = λ i j d lt k. before_stays when new more _ _ (r.ordered i j d lt k);
-  now = All-weaker (λ s. when s ≡ Some l.moment) (λ s. new s ≡ Some l.moment) (λ s e. more s l.moment e) r.rest r.now;
+  now = All-weaker (λ s. when s ≡ Some l.place) (λ s. new s ≡ Some l.place) (λ s e. more s l.place e) r.rest r.now;
   sorted = r.sorted;
 }
 
--- the scopes that are listed at the end became cancelled at the last moment
-pub runs_grow : (when : ℕ → Option ℕ) (old new : Listed) (grown : IsGrown old new) → old.in_order ≡ false → AreRuns when old → All (λ s. when s ≡ Some old.moment) grown.added → AreRuns when new
+-- the scopes that are listed at the end became cancelled at the last place
+pub runs_grow : (when : ℕ → Option ℕ) (old new : CancelOrder) (grown : IsGrown old new) → old.in_order ≡ false → AreRuns when old → All (λ s. when s ≡ Some old.place) grown.added → AreRuns when new
 runs_grow when old new grown free r more = record {
   front = r.front;
   rest = r.rest ++ grown.added;
   is = grown.scopes ∙ ap (λ xs. xs ++ grown.added) r.is ∙ append_assoc r.front r.rest grown.added;
   run = r.run ∙ sym grown.run;
-  earlier = subst (λ m. All (IsEarlier when m) r.front) (sym grown.moment) r.earlier;
+  earlier = subst (λ m. All (IsEarlier when m) r.front) (sym grown.place) r.earlier;
   ordered = r.ordered;
-  now = subst (λ m. All (λ s. when s ≡ Some m) (r.rest ++ grown.added)) (sym grown.moment) (All-append (λ s. when s ≡ Some old.moment) r.rest grown.added r.now more);
+  now = subst (λ m. All (λ s. when s ≡ Some m) (r.rest ++ grown.added)) (sym grown.place) (All-append (λ s. when s ≡ Some old.place) r.rest grown.added r.now more);
   sorted = λ e. absurd (false≢true (sym (grown.in_order ∙ free) ∙ e));
 }
 
@@ -53,10 +53,10 @@ same_end [] ys zs e = e
 same_end (x ∷ xs) ys zs e = same_end xs ys zs (ap (drop 1) e)
 
 -- one scope is listed
-pub runs_push : (when : ℕ → Option ℕ) (old new : Listed) (s : ℕ) (grown : IsGrown old new) → new.scopes.items ≡ old.scopes.items ++ s ∷ [] → old.in_order ≡ false → AreRuns when old → when s ≡ Some old.moment → AreRuns when new
+pub runs_push : (when : ℕ → Option ℕ) (old new : CancelOrder) (s : ℕ) (grown : IsGrown old new) → new.scopes.items ≡ old.scopes.items ++ s ∷ [] → old.in_order ≡ false → AreRuns when old → when s ≡ Some old.place → AreRuns when new
 runs_push when old new s grown is free r at =
     runs_grow when old new grown free r
-    (subst (All (λ t. when t ≡ Some old.moment)) (same_end old.scopes.items (s ∷ []) grown.added (sym is ∙ grown.scopes)) (All-cons (λ t. when t ≡ Some old.moment) s [] at (All-nil (λ t. when t ≡ Some old.moment))))
+    (subst (All (λ t. when t ≡ Some old.place)) (same_end old.scopes.items (s ∷ []) grown.added (sym is ∙ grown.scopes)) (All-cons (λ t. when t ≡ Some old.place) s [] at (All-nil (λ t. when t ≡ Some old.place))))
 
 -- ---- a run that is put in order
 
@@ -123,9 +123,9 @@ rising front ys once up i j d lt l =
     by (inr ne) le = omega (arith, ne)
 
 -- the last run is put in order
-pub runs_sorted : (when : ℕ → Option ℕ) (l new : Listed) (ys : List ℕ) → new.run ≡ l.run → new.moment ≡ l.moment → new.scopes.items ≡ take l.run l.scopes.items ++ ys → IsPermutation (drop l.run l.scopes.items) ys → IsNonDecreasing ys
+pub runs_sorted : (when : ℕ → Option ℕ) (l new : CancelOrder) (ys : List ℕ) → new.run ≡ l.run → new.place ≡ l.place → new.scopes.items ≡ take l.run l.scopes.items ++ ys → IsPermutation (drop l.run l.scopes.items) ys → IsNonDecreasing ys
     → IsOnce l.scopes.items → AreRuns when l → AreRuns when new
-runs_sorted when l new ys run moment is moved up once r =
+runs_sorted when l new ys run place is moved up once r =
     let part : IsPermutation r.rest ys = subst (λ xs. IsPermutation xs ys) (ap (drop l.run) r.is ∙ drop_front r.front r.rest l.run r.run) moved in
     let all : IsPermutation l.scopes.items (r.front ++ ys) = subst (λ xs. IsPermutation xs (r.front ++ ys)) (sym r.is) (IsPermutation-append r.front r.front r.rest ys (IsPermutation-refl r.front) part) in
     record {
@@ -133,32 +133,32 @@ runs_sorted when l new ys run moment is moved up once r =
       rest = ys;
       is = is ∙ ap (λ xs. xs ++ ys) (ap (take l.run) r.is ∙ take_front r.front r.rest l.run r.run);
       run = r.run ∙ sym run;
-      earlier = subst (λ m. All (IsEarlier when m) r.front) (sym moment) r.earlier;
+      earlier = subst (λ m. All (IsEarlier when m) r.front) (sym place) r.earlier;
       ordered = r.ordered;
-      now = subst (λ m. All (λ s. when s ≡ Some m) ys) (sym moment) (All-permutation (λ s. when s ≡ Some l.moment) r.rest ys part r.now);
+      now = subst (λ m. All (λ s. when s ≡ Some m) ys) (sym place) (All-permutation (λ s. when s ≡ Some l.place) r.rest ys part r.now);
       sorted = λ e. rising r.front ys (λ s. let f = times_moved s l.scopes.items (r.front ++ ys) all in let o = once s in omega arith) up;
     }
 
 -- if the fields are the same, so are the runs
-pub runs_same : (when : ℕ → Option ℕ) (l new : Listed) → new.scopes.items ≡ l.scopes.items → new.run ≡ l.run → new.moment ≡ l.moment → new.in_order ≡ l.in_order → AreRuns when l → AreRuns when new
-runs_same when l new is run moment in_order r = record {
+pub runs_same : (when : ℕ → Option ℕ) (l new : CancelOrder) → new.scopes.items ≡ l.scopes.items → new.run ≡ l.run → new.place ≡ l.place → new.in_order ≡ l.in_order → AreRuns when l → AreRuns when new
+runs_same when l new is run place in_order r = record {
   front = r.front;
   rest = r.rest;
   is = is ∙ r.is;
   run = r.run ∙ sym run;
-  earlier = subst (λ m. All (IsEarlier when m) r.front) (sym moment) r.earlier;
+  earlier = subst (λ m. All (IsEarlier when m) r.front) (sym place) r.earlier;
   ordered = r.ordered;
-  now = subst (λ m. All (λ s. when s ≡ Some m) r.rest) (sym moment) r.now;
+  now = subst (λ m. All (λ s. when s ≡ Some m) r.rest) (sym place) r.now;
   sorted = λ e. r.sorted (sym in_order ∙ e);
 }
 
 -- all that are listed, if the last run is in order, are in order
-pub all_ordered : (when : ℕ → Option ℕ) (l : Listed) (r : AreRuns when l) → l.in_order ≡ true → AllPairs (IsBefore when) (r.front ++ r.rest)
+pub all_ordered : (when : ℕ → Option ℕ) (l : CancelOrder) (r : AreRuns when l) → l.in_order ≡ true → AllPairs (IsBefore when) (r.front ++ r.rest)
 all_ordered when l r ok =
     pairs_append (IsBefore when) r.front r.rest r.ordered
     (λ i j d lt k. record {
-      first = l.moment;
-      then = l.moment;
+      first = l.place;
+      then = l.place;
       is_first = r.now i d (omega (arith, lt, k));
       is_then = r.now j d k;
       not_later = omega arith;
@@ -166,24 +166,24 @@ all_ordered when l r ok =
     })
     (λ i d lt. λ j e k. let here = r.earlier i d lt in record {
       first = here.at;
-      then = l.moment;
+      then = l.place;
       is_first = here.is;
       is_then = r.now j e k;
       not_later = let f = here.earlier in omega arith;
       by_number = λ same. absurd (let f = here.earlier in omega (arith, same));
     })
 
--- a run begins, of a later moment
-pub runs_begin : (when : ℕ → Option ℕ) (l new : Listed) → new.scopes.items ≡ l.scopes.items → new.run ≡ length l.scopes.items → l.moment < new.moment → l.in_order ≡ true → AreRuns when l → AreRuns when new
+-- a run begins, of a later place
+pub runs_begin : (when : ℕ → Option ℕ) (l new : CancelOrder) → new.scopes.items ≡ l.scopes.items → new.run ≡ length l.scopes.items → l.place < new.place → l.in_order ≡ true → AreRuns when l → AreRuns when new
 runs_begin when l new is run later ok r = record {
   front = r.front ++ r.rest;
   rest = [];
   is = is ∙ r.is ∙ sym (append-nil (r.front ++ r.rest));
   run = sym (run ∙ ap length r.is);
-  earlier = All-append (IsEarlier when new.moment) r.front r.rest
-      (All-weaker (IsEarlier when l.moment) (IsEarlier when new.moment) (λ s e. record { at = e.at; is = e.is; earlier = let f = e.earlier in omega (arith, later) }) r.front r.earlier)
-      (All-weaker (λ s. when s ≡ Some l.moment) (IsEarlier when new.moment) (λ s e. record { at = l.moment; is = e; earlier = later }) r.rest r.now);
+  earlier = All-append (IsEarlier when new.place) r.front r.rest
+      (All-weaker (IsEarlier when l.place) (IsEarlier when new.place) (λ s e. record { at = e.at; is = e.is; earlier = let f = e.earlier in omega (arith, later) }) r.front r.earlier)
+      (All-weaker (λ s. when s ≡ Some l.place) (IsEarlier when new.place) (λ s e. record { at = l.place; is = e; earlier = later }) r.rest r.now);
   ordered = all_ordered when l r ok;
-  now = All-nil (λ s. when s ≡ Some new.moment);
+  now = All-nil (λ s. when s ≡ Some new.place);
   sorted = λ e. pairs_nil (λ s t. s < t);
 }

@@ -3,13 +3,13 @@ use Rattle.std.proofs.Common.{◌≡◌, ◌≢◌, ℕ, zero, suc, ◌-◌, ◌
 use Rattle.std.proofs.lemmas.Bool.{ne_eqb}
 use Rattle.std.proofs.lemmas.Bool.Decides.{nat_tests}
 use Rattle.std.proofs.lemmas.Option.{slice_get-get_or}
-use Rattle.scope_rules.specs.declared.types.records.Cut.{Cut}
+use Rattle.scope_rules.specs.declared.types.records.FirstCancel.{FirstCancel}
 use Rattle.scope_rules.specs.Chains.{IsInward}
 use Rattle.cancel_tree.specs.Reach.{reached, last_inner, IsSpread}
 use Rattle.cancel_tree.specs.declared.rows.Links.{Links}
 use Rattle.cancel_tree.specs.Columns.{IsLinked}
-use Rattle.cancel_tree.specs.declared.listed.Listed.{Listed}
-use Rattle.cancel_tree.specs.Listed.{IsListOf, IsGrown}
+use Rattle.cancel_tree.specs.declared.cancel_order.CancelOrder.{CancelOrder}
+use Rattle.cancel_tree.specs.CancelOrder.{IsListOf, IsGrown}
 use Rattle.cancel_tree.proofs.ReachLaws.{reached_skip, reached_start, reached_step, last_inner_found, last_inner_after, last_inner_place, place}
 
 -- the number from which on the inner scopes were visited
@@ -17,15 +17,15 @@ abbrev pub bound : Option ℕ → ℕ
 bound None = 0
 bound (Some c) = suc c
 
--- the cut was put at s and by way of its inner scopes above `next`, which is one of them
-pub record IsSpreadUpTo (outer : ℕ → Option ℕ) (own : ℕ → Option Cut) (s : ℕ) (next : Option ℕ) (cut : Cut) (old new : List (Option Cut)) : Type 0 where
-  pub spread : IsSpread (reached outer own s (bound next)) cut old new
+-- the first cancel was put at s and by way of its inner scopes above `next`, which is one of them
+pub record IsSpreadUpTo (outer : ℕ → Option ℕ) (own : ℕ → Option FirstCancel) (s : ℕ) (next : Option ℕ) (first_cancel : FirstCancel) (old new : List (Option FirstCancel)) : Type 0 where
+  pub spread : IsSpread (reached outer own s (bound next)) first_cancel old new
   pub inner : (c : ℕ) → next ≡ Some c → outer c ≡ Some s
   pub within : (c : ℕ) → next ≡ Some c → (1 ≤ c) × (c ≤ length old)
 
--- what has a cut is listed, and more are listed than at the start
-pub record IsListedSoFar (cuts : List (Option Cut)) (old new : Listed) : Type 0 where
-  pub whole : IsListOf cuts new.scopes.items
+-- what has a first cancel is listed, and more are listed than at the start
+pub record IsListedSoFar (cancels : List (Option FirstCancel)) (old new : CancelOrder) : Type 0 where
+  pub whole : IsListOf cancels new.scopes.items
   pub grown : IsGrown old new
 
 eqb_suc : (i j : ℕ) → eqb (suc i) (suc j) ≡ eqb i j
@@ -60,7 +60,7 @@ twice true true x y = refl
 twice true false x y = refl
 twice false b x y = refl
 
-module _ (outer : ℕ → Option ℕ) (inward : IsInward outer) (own : ℕ → Option Cut) where
+module _ (outer : ℕ → Option ℕ) (inward : IsInward outer) (own : ℕ → Option FirstCancel) where
   none_from : (s n : ℕ) (o : Option ℕ) → last_inner outer s n ≡ o → (c : ℕ) → bound o ≤ c → c < suc n → outer c ≢ Some s
   none_from s n None at zero h k e = absurd (let i = inward 0 s e in omega (arith, i.1))
   none_from s n None at (suc c) h k e = last_inner_after outer s n (suc c) (let p : place (last_inner outer s n) ≡ 0 = ap place at in omega arith) (omega arith) e
@@ -74,17 +74,17 @@ module _ (outer : ℕ → Option ℕ) (inward : IsInward outer) (own : ℕ → O
   skip_to : (s n : ℕ) (next : Option ℕ) → next ≡ last_inner outer s n → (t : ℕ) → 1 ≤ t → reached outer own s (bound next) t ≡ reached outer own s (suc n) t
   skip_to s n next is = reached_skip outer inward own s (bound next) (suc n) (bound_within s n next (sym is)) (none_from s n next (sym is))
 
-  pub spread_start : (s : ℕ) (cut : Cut) (old : List (Option Cut)) (next : Option ℕ) → next ≡ last_inner outer s (length old) → 1 ≤ s → s ≤ length old
-      → IsSpreadUpTo outer own s next cut old (set old (s - 1) (Some cut))
-  spread_start s cut old next is h k = record {
-    spread = λ i lt. slice_get-set old (s - 1) i (Some cut) (omega arith)
-        ∙ ap (λ b. cond b (Some (Some cut)) (slice_get old i))
+  pub spread_start : (s : ℕ) (first_cancel : FirstCancel) (old : List (Option FirstCancel)) (next : Option ℕ) → next ≡ last_inner outer s (length old) → 1 ≤ s → s ≤ length old
+      → IsSpreadUpTo outer own s next first_cancel old (set old (s - 1) (Some first_cancel))
+  spread_start s first_cancel old next is h k = record {
+    spread = λ i lt. slice_get-set old (s - 1) i (Some first_cancel) (omega arith)
+        ∙ ap (λ b. cond b (Some (Some first_cancel)) (slice_get old i))
         (eqb_back i s h ∙ sym (skip_to s (length old) next is (suc i) (omega arith) ∙ reached_start outer inward own s (length old) (suc i) (omega arith) (omega arith)));
     inner = λ c e. (last_inner_found outer s (length old) c (sym is ∙ e)).0;
     within = λ c e. let f = last_inner_found outer s (length old) c (sym is ∙ e) in (f.1, f.2);
   }
 
-  module _ (s c : ℕ) (cut : Cut) (old : List (Option Cut)) (next : Option ℕ) (is : next ≡ last_inner outer s (c - 1)) where
+  module _ (s c : ℕ) (first_cancel : FirstCancel) (old : List (Option FirstCancel)) (next : Option ℕ) (is : next ≡ last_inner outer s (c - 1)) where
     back : 1 ≤ c → suc (c - 1) ≡ c
     back h = omega arith
 
@@ -100,26 +100,26 @@ module _ (outer : ℕ → Option ℕ) (inward : IsInward outer) (own : ℕ → O
     next_within k d e = let f = last_inner_found outer s (c - 1) d (sym is ∙ e) in (f.1, omega (arith, f.2))
 
     -- an inner scope with an own cancel is passed over
-    pub spread_past : (new : List (Option Cut)) → is_none (own c) ≡ false → IsSpreadUpTo outer own s (Some c) cut old new → IsSpreadUpTo outer own s next cut old new
+    pub spread_past : (new : List (Option FirstCancel)) → is_none (own c) ≡ false → IsSpreadUpTo outer own s (Some c) first_cancel old new → IsSpreadUpTo outer own s next first_cancel old new
     spread_past new owned done =
         let in_ = done.within c refl in
         record {
-          spread = λ i lt. done.spread i lt ∙ ap (λ b. cond b (Some (Some cut)) (slice_get old i))
+          spread = λ i lt. done.spread i lt ∙ ap (λ b. cond b (Some (Some first_cancel)) (slice_get old i))
               (sym (next_reached (done.inner c refl) in_.0 (suc i) (omega arith) ∙ ap (λ b. reached outer own s (suc c) (suc i) || (b && reached outer own c 0 (suc i))) owned ∙ or_false _));
           inner = next_inner;
           within = next_within in_.1;
         }
 
-    -- and else the cut is put at all that it reaches from there
-    pub spread_inner : (mid new : List (Option Cut)) → length mid ≡ length old → is_none (own c) ≡ true → IsSpreadUpTo outer own s (Some c) cut old mid → IsSpread (reached outer own c 0) cut mid new
-        → IsSpreadUpTo outer own s next cut old new
+    -- and else the first cancel is put at all that it reaches from there
+    pub spread_inner : (mid new : List (Option FirstCancel)) → length mid ≡ length old → is_none (own c) ≡ true → IsSpreadUpTo outer own s (Some c) first_cancel old mid → IsSpread (reached outer own c 0) first_cancel mid new
+        → IsSpreadUpTo outer own s next first_cancel old new
     spread_inner mid new len free done more =
         let in_ = done.within c refl in
         record {
           spread = λ i lt. more i (omega arith)
-              ∙ ap (cond (reached outer own c 0 (suc i)) (Some (Some cut))) (done.spread i lt)
-              ∙ twice (reached outer own s (suc c) (suc i)) (reached outer own c 0 (suc i)) (Some (Some cut)) (slice_get old i)
-              ∙ ap (λ b. cond b (Some (Some cut)) (slice_get old i))
+              ∙ ap (cond (reached outer own c 0 (suc i)) (Some (Some first_cancel))) (done.spread i lt)
+              ∙ twice (reached outer own s (suc c) (suc i)) (reached outer own c 0 (suc i)) (Some (Some first_cancel)) (slice_get old i)
+              ∙ ap (λ b. cond b (Some (Some first_cancel)) (slice_get old i))
               (sym (next_reached (done.inner c refl) in_.0 (suc i) (omega arith) ∙ ap (λ b. reached outer own s (suc c) (suc i) || (b && reached outer own c 0 (suc i))) free));
           inner = next_inner;
           within = next_within in_.1;

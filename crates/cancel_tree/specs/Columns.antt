@@ -1,11 +1,11 @@
--- What a tree keeps beside what it was told.
+-- What a tree keeps beside its nodes.
 use Rattle.std.specs.Prelude.{◌≡◌, ℕ, suc, ◌-◌, ◌<◌, Option, Some, None, List, length, slice_get}
 use Rattle.std.proofs.Common.{get_or, set}
-use Rattle.scope_rules.specs.declared.types.records.Cut.{Cut}
-use Rattle.cancel_tree.specs.declared.rows.Told.{Told}
+use Rattle.scope_rules.specs.declared.types.records.FirstCancel.{FirstCancel}
+use Rattle.cancel_tree.specs.declared.rows.ScopeNode.{ScopeNode}
 use Rattle.cancel_tree.specs.declared.rows.Links.{Links}
 use Rattle.scope_rules.specs.Chains.{IsInward}
-use Rattle.cancel_tree.specs.Rows.{parent_of, outer_of, own_of, level_of, cut_of}
+use Rattle.cancel_tree.specs.Rows.{parent_of, outer_of, own_of, level_of, cancel_of}
 use Rattle.cancel_tree.specs.Reach.{last_inner}
 
 -- the links of a scope lead to the last scope inside it, and to the one before it in its outer scope
@@ -14,14 +14,14 @@ pub record IsLinked (outer : ℕ → Option ℕ) (links : List Links) : Type 0 w
   pub next : (i : ℕ) (l : Links) (s : ℕ) → slice_get links i ≡ Some l → outer (suc i) ≡ Some s → l.next_inner ≡ last_inner outer s i
 
 -- the columns beside what was told agree with it
-pub record AreColumns (told : List Told) (links : List Links) (cuts : List (Option Cut)) : Type 0 where
-  pub inward : IsInward (parent_of told)
-  pub rows : length links ≡ length told
-  pub columns : length cuts ≡ length told
-  pub linked : IsLinked (outer_of told) links
-  pub levels : (i : ℕ) (l : Links) → slice_get links i ≡ Some l → l.level ≡ level_of told (suc i)
-  pub named : (s : ℕ) (c : Cut) → own_of told s ≡ Some c → c.cause.scope ≡ s
-  pub cut : (i : ℕ) → i < length told → slice_get cuts i ≡ Some (cut_of told (suc i))
+pub record AreColumns (nodes : List ScopeNode) (links : List Links) (cancels : List (Option FirstCancel)) : Type 0 where
+  pub inward : IsInward (parent_of nodes)
+  pub rows : length links ≡ length nodes
+  pub columns : length cancels ≡ length nodes
+  pub linked : IsLinked (outer_of nodes) links
+  pub levels : (i : ℕ) (l : Links) → slice_get links i ≡ Some l → l.level ≡ level_of nodes (suc i)
+  pub named : (s : ℕ) (c : FirstCancel) → own_of nodes s ≡ Some c → c.cause.scope ≡ s
+  pub first_cancel : (i : ℕ) → i < length nodes → slice_get cancels i ≡ Some (cancel_of nodes (suc i))
 
 -- the links, if the scope outside, when there is one, leads to the scope. `none` is read if there are none
 abbrev pub led : List Links → Option ℕ → ℕ → Links → List Links

@@ -2,9 +2,9 @@
 use Rattle.std.specs.Prelude.{◌≡◌, ⊤, List}
 use Rattle.std.specs.Borrow.{follows_so, Fml, MutBor}
 use mathlib.Core.Option.{none}
-use Rattle.cancel_tree.specs.declared.rows.Told.{Told}
+use Rattle.cancel_tree.specs.declared.rows.ScopeNode.{ScopeNode}
 use Rattle.cancel_tree.specs.contracts.tree.Tree.{the_row}
 
--- it was told what it was told before
-abbrev pub KeepsTold : MutBor (List Told) → Fml
-KeepsTold tree = follows_so the_row the_row tree.ghost_name none (λ _ _. ⊤) (λ last. last ≡ tree.now)
+-- its nodes are as they were
+abbrev pub KeepsNodes : MutBor (List ScopeNode) → Fml
+KeepsNodes tree = follows_so the_row the_row tree.ghost_name none (λ _ _. ⊤) (λ last. last ≡ tree.now)

@@ -2,5 +2,5 @@ pub mod Rows
 pub mod Reach
 pub mod Columns
 pub mod Order
-pub mod Listed
+pub mod CancelOrder
 pub mod Lending

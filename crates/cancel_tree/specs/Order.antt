@@ -1,8 +1,8 @@
 -- The scopes in order of their cancellation.
 use Rattle.std.specs.Prelude.{◌≡◌, ℕ, ◌<◌, ◌≤◌, Bool, true, is_some, Option, Some, List, AllPairs}
 use Rattle.std.specs.List.{Contains}
-use Rattle.cancel_tree.specs.declared.rows.Told.{Told}
-use Rattle.cancel_tree.specs.Rows.{cut_of, cancelled_at}
+use Rattle.cancel_tree.specs.declared.rows.ScopeNode.{ScopeNode}
+use Rattle.cancel_tree.specs.Rows.{cancel_of, cancelled_at}
 
 -- s became cancelled before t, or at the same place, and then s has the smaller number
 pub record IsBefore (when : ℕ → Option ℕ) (s t : ℕ) : Type 0 where
@@ -20,5 +20,5 @@ pub record IsInOrder (is_cancelled : ℕ → Bool) (when : ℕ → Option ℕ) (
   pub ascends : AllPairs (IsBefore when) list
 
 -- the list is that of the tree's cancelled scopes in order of their cancellation
-abbrev pub IsCancelOrder : List Told → List ℕ → Type 0
-IsCancelOrder told list = IsInOrder (λ s. is_some (cut_of told s)) (cancelled_at told) list
+abbrev pub IsCancelOrder : List ScopeNode → List ℕ → Type 0
+IsCancelOrder nodes list = IsInOrder (λ s. is_some (cancel_of nodes s)) (cancelled_at nodes) list

@@ -1,102 +1,102 @@
--- What a tree was told: a row for each scope, in order of their numbers, which count from 1.
+-- The nodes of a tree: one for each scope, in order of their numbers, which count from 1.
 use Rattle.std.specs.Prelude.{◌≡◌, ℕ, zero, suc, ◌+◌, ◌-◌, ◌≤◌, max, Bool, cond, Option, Some, None, List, [], ◌∷◌, length, slice_get}
 use Rattle.std.specs.Option.{option_and_then, option_map, option_or}
 use Rattle.scope_rules.specs.declared.types.answers.Cause.{Cause}
 use Rattle.scope_rules.specs.declared.types.answers.CauseKind.{CauseKind}
 use Rattle.scope_rules.specs.declared.types.answers.Effective.{Effective}
-use Rattle.scope_rules.specs.declared.types.records.Cut.{Cut}
-use Rattle.cancel_tree.specs.declared.rows.Told.{Told}
-use Rattle.scope_rules.specs.Chains.{chain_by, cut_by, effective_by}
+use Rattle.scope_rules.specs.declared.types.records.FirstCancel.{FirstCancel}
+use Rattle.cancel_tree.specs.declared.rows.ScopeNode.{ScopeNode}
+use Rattle.scope_rules.specs.Chains.{chain_by, first_cancel_by, effective_by}
 
 -- the row of the scope
-abbrev pub row : List Told → ℕ → Option Told
-row told zero = None
-row told (suc i) = slice_get told i
+abbrev pub row : List ScopeNode → ℕ → Option ScopeNode
+row nodes zero = None
+row nodes (suc i) = slice_get nodes i
 
 -- the scope is one of the tree's
-abbrev pub IsAdded : List Told → ℕ → Type 0
-IsAdded told s = (1 ≤ s) × (s ≤ length told)
+abbrev pub IsAdded : List ScopeNode → ℕ → Type 0
+IsAdded nodes s = (1 ≤ s) × (s ≤ length nodes)
 
 -- the scope around a scope, shielded or not
-abbrev pub parent_of : List Told → ℕ → Option ℕ
-parent_of told s = option_and_then (λ t. t.parent) (row told s)
+abbrev pub parent_of : List ScopeNode → ℕ → Option ℕ
+parent_of nodes s = option_and_then (λ t. t.parent) (row nodes s)
 
 -- the scope whose cancels reach it: the parent of one that is not shielded
-abbrev pub outer : Told → Option ℕ
+abbrev pub outer : ScopeNode → Option ℕ
 outer t = cond t.shield None t.parent
 
-abbrev pub outer_of : List Told → ℕ → Option ℕ
-outer_of told s = option_and_then outer (row told s)
+abbrev pub outer_of : List ScopeNode → ℕ → Option ℕ
+outer_of nodes s = option_and_then outer (row nodes s)
 
 -- its own cancel
-abbrev pub own_of : List Told → ℕ → Option Cut
-own_of told s = option_and_then (λ t. t.own) (row told s)
+abbrev pub own_of : List ScopeNode → ℕ → Option FirstCancel
+own_of nodes s = option_and_then (λ t. t.own) (row nodes s)
 
 -- its own deadline
-abbrev pub deadline_of : List Told → ℕ → Option ℕ
-deadline_of told s = option_and_then (λ t. t.deadline) (row told s)
+abbrev pub deadline_of : List ScopeNode → ℕ → Option ℕ
+deadline_of nodes s = option_and_then (λ t. t.deadline) (row nodes s)
 
 -- how many scopes lie around one another from it outwards, itself included
-abbrev pub level_of : List Told → ℕ → ℕ
-level_of told s = length (chain_by (parent_of told) s)
+abbrev pub level_of : List ScopeNode → ℕ → ℕ
+level_of nodes s = length (chain_by (parent_of nodes) s)
 
 -- the level of a scope with this parent
-abbrev pub level_in : List Told → Option ℕ → ℕ
-level_in told None = 1
-level_in told (Some p) = level_of told p + 1
+abbrev pub level_in : List ScopeNode → Option ℕ → ℕ
+level_in nodes None = 1
+level_in nodes (Some p) = level_of nodes p + 1
 
 -- the earliest own cancel on its chain, the nearest on a tie
-abbrev pub cut_of : List Told → ℕ → Option Cut
-cut_of told s = cut_by (outer_of told) (own_of told) s
+abbrev pub cancel_of : List ScopeNode → ℕ → Option FirstCancel
+cancel_of nodes s = first_cancel_by (outer_of nodes) (own_of nodes) s
 
 -- the scope whose own cancel that is, and its kind
-abbrev pub cause_of : List Told → ℕ → Option Cause
-cause_of told s = option_map (λ c. c.cause) (cut_of told s)
+abbrev pub cause_of : List ScopeNode → ℕ → Option Cause
+cause_of nodes s = option_map (λ c. c.cause) (cancel_of nodes s)
 
 -- the place of that own cancel
-abbrev pub place_of : List Told → ℕ → Option ℕ
-place_of told s = option_map (λ c. c.place) (cut_of told s)
+abbrev pub place_of : List ScopeNode → ℕ → Option ℕ
+place_of nodes s = option_map (λ c. c.place) (cancel_of nodes s)
 
 -- past, if it is cancelled, and else the least deadline on its chain
-abbrev pub effective_of : List Told → ℕ → Effective
-effective_of told s = effective_by (outer_of told) (own_of told) (deadline_of told) s
+abbrev pub effective_of : List ScopeNode → ℕ → Effective
+effective_of nodes s = effective_by (outer_of nodes) (own_of nodes) (deadline_of nodes) s
 
 -- the place of its opening
-abbrev pub opened_of : List Told → ℕ → Option ℕ
-opened_of told s = option_map (λ t. t.opened) (row told s)
+abbrev pub opened_of : List ScopeNode → ℕ → Option ℕ
+opened_of nodes s = option_map (λ t. t.opened) (row nodes s)
 
 -- the place at which it became cancelled, not before its opening
-abbrev pub cancelled_at : List Told → ℕ → Option ℕ
-cancelled_at told s = option_and_then (λ n. option_map (λ c. max n c.place) (cut_of told s)) (opened_of told s)
+abbrev pub cancelled_at : List ScopeNode → ℕ → Option ℕ
+cancelled_at nodes s = option_and_then (λ n. option_map (λ c. max n c.place) (cancel_of nodes s)) (opened_of nodes s)
 
 -- no own cancel and no opening is at a later place
-pub record IsLatest (told : List Told) (place : ℕ) : Type 0 where
-  pub own : (s : ℕ) (c : Cut) → own_of told s ≡ Some c → c.place ≤ place
-  pub opening : (s n : ℕ) → opened_of told s ≡ Some n → n ≤ place
+pub record IsLatest (nodes : List ScopeNode) (place : ℕ) : Type 0 where
+  pub own : (s : ℕ) (c : FirstCancel) → own_of nodes s ≡ Some c → c.place ≤ place
+  pub opening : (s n : ℕ) → opened_of nodes s ≡ Some n → n ≤ place
 
 -- ---- what the calls make of the rows
 
--- a scope that nothing was told of but where it is, opened at this place
-abbrev pub new_row : Option ℕ → Bool → ℕ → Told
+-- the node of a scope of which only its place in the tree is known, opened at this place
+abbrev pub new_row : Option ℕ → Bool → ℕ → ScopeNode
 new_row parent shield opened = record { parent = parent; shield = shield; opened = opened; own = None; deadline = None }
 
 -- a cancel of the scope, at this place
-abbrev pub cut_at : ℕ → ℕ → CauseKind → Cut
-cut_at place scope kind = record { place = place; cause = record { scope = scope; kind = kind } }
+abbrev pub cancel_at : ℕ → ℕ → CauseKind → FirstCancel
+cancel_at place scope kind = record { place = place; cause = record { scope = scope; kind = kind } }
 
 -- an own cancel stays once it is set
-abbrev pub with_own : Cut → Told → Told
-with_own cut t = record t { own = option_or t.own (Some cut) }
+abbrev pub with_own : FirstCancel → ScopeNode → ScopeNode
+with_own first_cancel t = record t { own = option_or t.own (Some first_cancel) }
 
-abbrev pub with_deadline : Option ℕ → Told → Told
+abbrev pub with_deadline : Option ℕ → ScopeNode → ScopeNode
 with_deadline deadline t = record t { deadline = deadline }
 
 -- the rows with the i-th, from 0, changed
-abbrev pub altered : (Told → Told) → List Told → ℕ → List Told
+abbrev pub altered : (ScopeNode → ScopeNode) → List ScopeNode → ℕ → List ScopeNode
 altered f [] i = []
 altered f (t ∷ ts) zero = f t ∷ ts
 altered f (t ∷ ts) (suc i) = t ∷ altered f ts i
 
 -- the rows with that of the scope changed
-abbrev pub changed : List Told → ℕ → (Told → Told) → List Told
-changed told s f = altered f told (s - 1)
+abbrev pub changed : List ScopeNode → ℕ → (ScopeNode → ScopeNode) → List ScopeNode
+changed nodes s f = altered f nodes (s - 1)

@@ -2,7 +2,7 @@
 //! shields none comes, and which deadline is in effect. Each scope knows its cause at once.
 #![tactic(auto)]
 
-mod listed;
+mod cancel_order;
 pub mod rows;
 mod spread;
 pub mod tree;

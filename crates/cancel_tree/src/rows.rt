@@ -1,20 +1,20 @@
-//! What a tree keeps of each scope.
+//! The nodes of a tree, one for each scope, and the links between them.
 
 use scope_rules::ScopeId;
-use scope_rules::types::records::Cut;
+use scope_rules::types::records::FirstCancel;
 
-/// What a tree was told of a scope.
+/// One scope in the tree of cancels: what lies around it, and what may cancel it.
 #[derive(Clone, Copy)]
-pub struct Told {
+pub struct ScopeNode {
     pub parent: Option<ScopeId>,
     pub shield: bool,
     /// The place of its opening.
     pub opened: usize,
-    pub own: Option<Cut>,
+    pub own: Option<FirstCancel>,
     pub deadline: Option<u64>,
 }
 
-impl Told {
+impl ScopeNode {
     ghost use Rattle.std.specs.Prelude.{◌≡◌};
     ghost use Rattle.cancel_tree.specs.Rows.{outer};
 

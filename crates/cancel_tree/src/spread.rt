@@ -3,56 +3,61 @@ ghost use Rattle.scope_rules.specs.Chains.{IsInward};
 ghost use Rattle.cancel_tree.specs.Rows.{outer_of, own_of, IsAdded};
 ghost use Rattle.cancel_tree.specs.Reach.{reached, IsSpread};
 ghost use Rattle.cancel_tree.specs.Columns.{IsLinked};
-ghost use Rattle.cancel_tree.specs.Listed.{IsListOf, IsGrown};
+ghost use Rattle.cancel_tree.specs.CancelOrder.{IsListOf, IsGrown};
 
-use crate::listed::Listed;
-use crate::rows::{Links, Told};
+use crate::cancel_order::CancelOrder;
+use crate::rows::{Links, ScopeNode};
 use scope_rules::ScopeId;
-use scope_rules::types::records::Cut;
+use scope_rules::types::records::FirstCancel;
 
-/// Gives the cut to the scope, and to all inside it that no shield or own cancel is in the way of. Those
+/// Gives the first cancel to the scope, and to all inside it that no shield or own cancel is in the way of. Those
 /// that had none are listed.
 pub(crate) fn spread(
-    told: &[Told],
+    nodes: &[ScopeNode],
     links: &[Links],
-    cuts: &mut [Option<Cut>],
-    listed: &mut Listed,
+    cancels: &mut [Option<FirstCancel>],
+    listed: &mut CancelOrder,
     scope: ScopeId,
-    cut: Cut,
+    first_cancel: FirstCancel,
 )
-    requires added { IsAdded told.now scope }
-    requires rows { length links.now ≡ length told.now }
-    requires columns { length cuts.old ≡ length told.now }
-    requires inward { IsInward (outer_of told.now) }
-    requires linked { IsLinked (outer_of told.now) links.now }
-    requires whole { IsListOf cuts.old listed.old.scopes.items }
-    requires room { length cuts.old ≤ vec_capacity listed.old.scopes }
-    ensures spread { IsSpread (reached (outer_of told.now) (own_of told.now) scope 0) cut cuts.old cuts.new }
-    ensures whole { IsListOf cuts.new listed.new.scopes.items }
+    requires added { IsAdded nodes.now scope }
+    requires rows { length links.now ≡ length nodes.now }
+    requires columns { length cancels.old ≡ length nodes.now }
+    requires inward { IsInward (outer_of nodes.now) }
+    requires linked { IsLinked (outer_of nodes.now) links.now }
+    requires whole { IsListOf cancels.old listed.old.scopes.items }
+    requires room { length cancels.old ≤ vec_capacity listed.old.scopes }
+    ensures spread { IsSpread (reached (outer_of nodes.now) (own_of nodes.now) scope 0) first_cancel cancels.old cancels.new }
+    ensures whole { IsListOf cancels.new listed.new.scopes.items }
     ensures grown { IsGrown listed.old listed.new }
 {
-    put(cuts, listed, scope, cut);
+    put(cancels, listed, scope, first_cancel);
     let mut next = links[(scope - 1) as usize].first_inner;
     while let Some(inner) = next {
-        if told[(inner - 1) as usize].own.is_none() {
-            spread(told, links, cuts, listed, inner, cut);
+        if nodes[(inner - 1) as usize].own.is_none() {
+            spread(nodes, links, cancels, listed, inner, first_cancel);
         }
         next = links[(inner - 1) as usize].next_inner;
     }
 }
 
-/// Gives the cut to the scope, which is listed if it had none.
-fn put(cuts: &mut [Option<Cut>], listed: &mut Listed, scope: ScopeId, cut: Cut)
+/// Gives the first cancel to the scope, which is listed if it had none.
+fn put(
+    cancels: &mut [Option<FirstCancel>],
+    listed: &mut CancelOrder,
+    scope: ScopeId,
+    first_cancel: FirstCancel,
+)
     requires number { 1 ≤ scope }
-    requires within { scope ≤ length cuts.old }
-    requires whole { IsListOf cuts.old listed.old.scopes.items }
-    requires room { length cuts.old ≤ vec_capacity listed.old.scopes }
-    ensures put { cuts.new ≡ set cuts.old (scope - 1) (Some cut) }
-    ensures whole { IsListOf cuts.new listed.new.scopes.items }
+    requires within { scope ≤ length cancels.old }
+    requires whole { IsListOf cancels.old listed.old.scopes.items }
+    requires room { length cancels.old ≤ vec_capacity listed.old.scopes }
+    ensures put { cancels.new ≡ set cancels.old (scope - 1) (Some first_cancel) }
+    ensures whole { IsListOf cancels.new listed.new.scopes.items }
     ensures grown { IsGrown listed.old listed.new }
 {
-    if cuts[(scope - 1) as usize].is_none() {
+    if cancels[(scope - 1) as usize].is_none() {
         listed.push(scope);
     }
-    cuts[(scope - 1) as usize] = Some(cut);
+    cancels[(scope - 1) as usize] = Some(first_cancel);
 }

@@ -7,16 +7,16 @@ ghost use Rattle.scope_rules.specs.declared.types.capacity.TheConstants.{LEVEL_L
 ghost use Rattle.scope_rules.specs.Chains.{IsInward, chain_by, least_on, nearer, onward, sooner};
 ghost use Rattle.scope_rules.specs.Earliest.{IsEarliest};
 ghost use Rattle.cancel_tree.specs.Reach.{is_at_or_before, last_inner};
-ghost use Rattle.cancel_tree.specs.Rows.{IsAdded, IsLatest, cause_of, place_of, cut_of, own_of, outer_of, deadline_of, effective_of, level_of, level_in, new_row, with_own, with_deadline, changed, cut_at};
+ghost use Rattle.cancel_tree.specs.Rows.{IsAdded, IsLatest, cause_of, place_of, cancel_of, own_of, outer_of, deadline_of, effective_of, level_of, level_in, new_row, with_own, with_deadline, changed, cancel_at};
 ghost use Rattle.cancel_tree.specs.Columns.{AreLed};
 ghost use Rattle.cancel_tree.specs.Order.{IsCancelOrder};
-ghost use Rattle.cancel_tree.specs.Lending.{KeepsTold};
+ghost use Rattle.cancel_tree.specs.Lending.{KeepsNodes};
 
-use crate::listed::Listed;
-use crate::rows::{Links, Told};
+use crate::cancel_order::CancelOrder;
+use crate::rows::{Links, ScopeNode};
 use crate::spread::spread;
 use scope_rules::types::capacity::LEVEL_LIMIT;
-use scope_rules::types::records::Cut;
+use scope_rules::types::records::FirstCancel;
 use scope_rules::{Cause, CauseKind, Effective, Refusal, ScopeId};
 use std::alloc::{AllocError, Global};
 use std::marker::Model;
@@ -27,22 +27,22 @@ use std::marker::Model;
 /// event cancelled: when `cancelled_since` asks for them, or when the next event cancels a scope.
 #[derive(Drop)]
 pub struct Tree {
-    told: Vec<Told>,
+    nodes: Vec<ScopeNode>,
     links: Vec<Links>,
-    cuts: Vec<Option<Cut>>,
-    listed: Listed,
+    cancels: Vec<Option<FirstCancel>>,
+    listed: CancelOrder,
 }
 
 impl Model for Tree {
     ghost use Rattle.std.specs.Prelude.{List};
-    ghost use Rattle.cancel_tree.specs.declared.rows.Told.{Told as Row};
-    ghost use Rattle.cancel_tree.specs.Listed.{AreKept};
+    ghost use Rattle.cancel_tree.specs.declared.rows.ScopeNode.{ScopeNode as Row};
+    ghost use Rattle.cancel_tree.specs.CancelOrder.{AreKept};
 
     ghost Value = { List Row };
 
-    ghost view = { λ a. a.told.items };
+    ghost view = { λ a. a.nodes.items };
 
-    ghost invariant = { λ a. AreKept a.told.items a.links.items a.cuts.items a.listed };
+    ghost invariant = { λ a. AreKept a.nodes.items a.links.items a.cancels.items a.listed };
 }
 
 impl Tree {
@@ -51,10 +51,10 @@ impl Tree {
         ensures { result ≡ [] }
     {
         Tree {
-            told: Vec::new(alloc),
+            nodes: Vec::new(alloc),
             links: Vec::new(alloc),
-            cuts: Vec::new(alloc),
-            listed: Listed::new(alloc),
+            cancels: Vec::new(alloc),
+            listed: CancelOrder::new(alloc),
         }
     }
 
@@ -85,36 +85,36 @@ impl Tree {
         if around >= LEVEL_LIMIT {
             return Err(Refusal::TooDeep);
         }
-        let told = Told {
+        let nodes = ScopeNode {
             parent,
             shield,
             opened,
             own: None,
             deadline: None,
         };
-        let outer = told.outer();
+        let outer = nodes.outer();
         let links = Links {
             level: around + 1,
             first_inner: None,
             next_inner: self.last_inner(outer),
         };
-        let cut = self.cut_from(outer);
-        if self.listed.make_room(self.told.len() + 1).is_err() {
+        let first_cancel = self.cancel_from(outer);
+        if self.listed.make_room(self.nodes.len() + 1).is_err() {
             return Err(Refusal::Memory);
         }
         if append(
-            &mut self.told,
+            &mut self.nodes,
             &mut self.links,
-            &mut self.cuts,
-            told,
+            &mut self.cancels,
+            nodes,
             links,
-            cut,
+            first_cancel,
         )
         .is_err()
         {
             return Err(Refusal::Memory);
         }
-        self.listed.add(scope, cut.is_some(), opened);
+        self.listed.add(scope, first_cancel.is_some(), opened);
         lead_to(&mut self.links, outer, scope);
         Ok(())
     }
@@ -123,7 +123,7 @@ impl Tree {
     pub fn len(&self) -> usize
         ensures { result ≡ length self.now }
     {
-        self.told.len()
+        self.nodes.len()
     }
 
     /// How many scopes lie around one another down to this one, itself included.
@@ -156,13 +156,13 @@ impl Tree {
         }
     }
 
-    /// The cut of the scope outside.
-    fn cut_from(&self, outer: Option<ScopeId>) -> Option<Cut>
+    /// The first cancel of the scope outside.
+    fn cancel_from(&self, outer: Option<ScopeId>) -> Option<FirstCancel>
         requires { IfSome outer (IsAdded self.now) }
-        ensures { result ≡ option_and_then (cut_of self.now) outer }
+        ensures { result ≡ option_and_then (cancel_of self.now) outer }
     {
         match outer {
-            Some(outer) => self.cuts[(outer - 1) as usize],
+            Some(outer) => self.cancels[(outer - 1) as usize],
             None => None,
         }
     }
@@ -170,19 +170,19 @@ impl Tree {
     /// Whether the scope is cancelled: by its own cancel, or by that of a scope on its chain.
     pub fn is_cancelled(&self, scope: ScopeId) -> bool
         requires { IsAdded self.now scope }
-        ensures { result ≡ is_some (cut_of self.now scope) }
+        ensures { result ≡ is_some (cancel_of self.now scope) }
     {
-        self.cuts[(scope - 1) as usize].is_some()
+        self.cancels[(scope - 1) as usize].is_some()
     }
 
     /// The earliest own cancel on the chain, the nearest on a tie, with its place. The scope whose it is
     /// has no greater number.
-    pub fn cut(&self, scope: ScopeId) -> Option<Cut>
+    pub fn first_cancel(&self, scope: ScopeId) -> Option<FirstCancel>
         requires { IsAdded self.now scope }
-        ensures cut { result ≡ cut_of self.now scope }
-        ensures within { IfSome result (λ cut. cut.cause.scope ≤ scope) }
+        ensures first_cancel { result ≡ cancel_of self.now scope }
+        ensures within { IfSome result (λ first_cancel. first_cancel.cause.scope ≤ scope) }
     {
-        self.cuts[(scope - 1) as usize]
+        self.cancels[(scope - 1) as usize]
     }
 
     /// The scope on the chain whose own cancel is the earliest, the nearest on a tie, with its kind.
@@ -190,7 +190,8 @@ impl Tree {
         requires { IsAdded self.now scope }
         ensures { result ≡ cause_of self.now scope }
     {
-        self.cut(scope).map(|cut| cut.cause)
+        self.first_cancel(scope)
+            .map(|first_cancel| first_cancel.cause)
     }
 
     /// The place of the cause: that of the event that made it.
@@ -198,7 +199,8 @@ impl Tree {
         requires { IsAdded self.now scope }
         ensures { result ≡ place_of self.now scope }
     {
-        self.cut(scope).map(|cut| cut.place as u64)
+        self.first_cancel(scope)
+            .map(|first_cancel| first_cancel.place as u64)
     }
 
     /// The earliest deadline in effect for the scope (Trio, `current_effective_deadline`): past if it
@@ -210,7 +212,7 @@ impl Tree {
         if self.is_cancelled(scope) {
             return Effective::Past;
         }
-        match least_deadline(&self.told, scope) {
+        match least_deadline(&self.nodes, scope) {
             Some(deadline) => Effective::At(deadline),
             None => Effective::Never,
         }
@@ -221,7 +223,7 @@ impl Tree {
         requires { IsAdded self.now scope }
         ensures { result ≡ deadline_of self.now scope }
     {
-        self.told[(scope - 1) as usize].deadline
+        self.nodes[(scope - 1) as usize].deadline
     }
 
     /// Gives the scope this deadline, in place of the one that it had. Takes no memory.
@@ -229,7 +231,7 @@ impl Tree {
         requires { IsAdded self.old scope }
         ensures { self.new ≡ changed self.old scope (with_deadline (Some deadline)) }
     {
-        self.told[(scope - 1) as usize].deadline = Some(deadline);
+        self.nodes[(scope - 1) as usize].deadline = Some(deadline);
     }
 
     /// Takes the scope's deadline away. Takes no memory.
@@ -237,7 +239,7 @@ impl Tree {
         requires { IsAdded self.old scope }
         ensures { self.new ≡ changed self.old scope (with_deadline None) }
     {
-        self.told[(scope - 1) as usize].deadline = None;
+        self.nodes[(scope - 1) as usize].deadline = None;
     }
 
     /// Cancels the scope: it keeps the first own cancel that it is given. The cancel reaches all inside
@@ -246,27 +248,27 @@ impl Tree {
     pub fn cancel(&mut self, scope: ScopeId, kind: CauseKind, number: u64)
         requires added { IsAdded self.old scope }
         requires latest { IsLatest self.old number }
-        ensures { self.new ≡ changed self.old scope (with_own (cut_at number scope kind)) }
+        ensures { self.new ≡ changed self.old scope (with_own (cancel_at number scope kind)) }
     {
         let place = (scope - 1) as usize;
-        if self.told[place].own.is_some() {
+        if self.nodes[place].own.is_some() {
             return;
         }
-        let cut = Cut {
+        let first_cancel = FirstCancel {
             place: number as usize,
             cause: Cause { scope, kind },
         };
-        let is_cause = is_at_or_before(number, self.cuts[place]);
-        put_own(&mut self.told, scope, cut);
+        let is_cause = is_at_or_before(number, self.cancels[place]);
+        put_own(&mut self.nodes, scope, first_cancel);
         if is_cause {
             self.listed.begin(number as usize);
             spread(
-                &self.told,
+                &self.nodes,
                 &self.links,
-                &mut self.cuts,
+                &mut self.cancels,
                 &mut self.listed,
                 scope,
-                cut,
+                first_cancel,
             );
         }
     }
@@ -276,7 +278,7 @@ impl Tree {
     /// and time by the scopes that were cancelled since it was last called, with those of the last event
     /// before them.
     pub fn cancelled_since(&mut self, n: usize) -> &[ScopeId]
-        ensures* kept { sem 𝓛 (KeepsTold self.entry) }
+        ensures* kept { sem 𝓛 (KeepsNodes self.entry) }
         ensures order { (list : List ℕ) × IsCancelOrder self.old list × (result.now ≡ drop n list) }
     {
         self.listed.order();
@@ -286,22 +288,22 @@ impl Tree {
 
 /// Puts a row at the end of each column.
 fn append(
-    told: &mut Vec<Told>,
+    nodes: &mut Vec<ScopeNode>,
     links: &mut Vec<Links>,
-    cuts: &mut Vec<Option<Cut>>,
-    row: Told,
+    cancels: &mut Vec<Option<FirstCancel>>,
+    row: ScopeNode,
     link: Links,
-    cut: Option<Cut>,
+    first_cancel: Option<FirstCancel>,
 ) -> Result<(), AllocError>
-    ensures told { told.new.items ≡ (if is_ok result then told.old.items ++ row ∷ [] else told.old.items) }
+    ensures nodes { nodes.new.items ≡ (if is_ok result then nodes.old.items ++ row ∷ [] else nodes.old.items) }
     ensures links { links.new.items ≡ (if is_ok result then links.old.items ++ link ∷ [] else links.old.items) }
-    ensures cuts { cuts.new.items ≡ (if is_ok result then cuts.old.items ++ cut ∷ [] else cuts.old.items) }
+    ensures cancels { cancels.new.items ≡ (if is_ok result then cancels.old.items ++ first_cancel ∷ [] else cancels.old.items) }
 {
     links.reserve(1)?;
-    cuts.reserve(1)?;
-    told.push(row)?;
+    cancels.reserve(1)?;
+    nodes.push(row)?;
     links.push(link)?;
-    cuts.push(cut)?;
+    cancels.push(first_cancel)?;
     Ok(())
 }
 
@@ -316,24 +318,24 @@ fn lead_to(links: &mut Vec<Links>, outer: Option<ScopeId>, scope: ScopeId)
 }
 
 /// The scope, which has no own cancel, has this one.
-fn put_own(told: &mut Vec<Told>, scope: ScopeId, cut: Cut)
-    requires added { IsAdded told.old.items scope }
-    requires none { own_of told.old.items scope ≡ None }
-    ensures { told.new.items ≡ changed told.old.items scope (with_own cut) }
+fn put_own(nodes: &mut Vec<ScopeNode>, scope: ScopeId, first_cancel: FirstCancel)
+    requires added { IsAdded nodes.old.items scope }
+    requires none { own_of nodes.old.items scope ≡ None }
+    ensures { nodes.new.items ≡ changed nodes.old.items scope (with_own first_cancel) }
 {
-    told[(scope - 1) as usize].own = Some(cut);
+    nodes[(scope - 1) as usize].own = Some(first_cancel);
 }
 
 /// The least deadline on the chain of the scope.
-fn least_deadline(told: &[Told], scope: ScopeId) -> Option<u64>
-    requires added { IsAdded told.now scope }
-    requires inward { IsInward (outer_of told.now) }
-    ensures { result ≡ least_on (deadline_of told.now) (chain_by (outer_of told.now) scope) }
+fn least_deadline(nodes: &[ScopeNode], scope: ScopeId) -> Option<u64>
+    requires added { IsAdded nodes.now scope }
+    requires inward { IsInward (outer_of nodes.now) }
+    ensures { result ≡ least_on (deadline_of nodes.now) (chain_by (outer_of nodes.now) scope) }
 {
     let mut least = None;
     let mut next = Some(scope);
     while let Some(here) = next {
-        let row = &told[(here - 1) as usize];
+        let row = &nodes[(here - 1) as usize];
         least = sooner(least, row.deadline);
         next = row.outer();
     }
@@ -351,12 +353,12 @@ fn sooner(one: Option<u64>, other: Option<u64>) -> Option<u64>
     }
 }
 
-/// Whether the place is at or before that of the cut, or there is none.
-fn is_at_or_before(number: u64, cut: Option<Cut>) -> bool
-    ensures { result ≡ is_at_or_before number cut }
+/// Whether the place is at or before that of the first cancel, or there is none.
+fn is_at_or_before(number: u64, first_cancel: Option<FirstCancel>) -> bool
+    ensures { result ≡ is_at_or_before number first_cancel }
 {
-    match cut {
-        Some(cut) => number <= cut.place as u64,
+    match first_cancel {
+        Some(first_cancel) => number <= first_cancel.place as u64,
         None => true,
     }
 }
@@ -368,36 +370,36 @@ impl Tree {
         requires { IsAdded self.now scope }
         ensures { chain_by (outer_of self.now) scope ≡ scope ∷ onward (outer_of self.now scope) (chain_by (outer_of self.now)) }
     {
-        let _rows_are_kept = &self.told;
+        let _rows_are_kept = &self.nodes;
     }
 
-    /// The first cut of a scope is the nearer of its own cancel and the first cut of the scope outside.
-    pub fn first_cut_is_own_or_outer(&self, scope: ScopeId)
+    /// The first cancel of a scope is the nearer of its own cancel and the first cancel of the scope outside.
+    pub fn first_cancel_is_own_or_outer(&self, scope: ScopeId)
         requires { IsAdded self.now scope }
-        ensures { cut_of self.now scope ≡ nearer (own_of self.now scope) (option_and_then (cut_of self.now) (outer_of self.now scope)) }
+        ensures { cancel_of self.now scope ≡ nearer (own_of self.now scope) (option_and_then (cancel_of self.now) (outer_of self.now scope)) }
     {
-        let _rows_are_kept = &self.told;
+        let _rows_are_kept = &self.nodes;
     }
 
-    /// The first cut of a scope is the own cancel of a scope on its chain, none on the chain has an
+    /// The first cancel of a scope is the own cancel of a scope on its chain, none on the chain has an
     /// earlier one, and none nearer has one as early.
-    pub fn first_cut_is_the_earliest(&self, scope: ScopeId)
-        ensures { IsEarliest (own_of self.now) (chain_by (outer_of self.now) scope) (cut_of self.now scope) }
+    pub fn first_cancel_is_the_earliest(&self, scope: ScopeId)
+        ensures { IsEarliest (own_of self.now) (chain_by (outer_of self.now) scope) (cancel_of self.now scope) }
     {
-        let _rows_are_kept = &self.told;
+        let _rows_are_kept = &self.nodes;
     }
 
     /// The cause of a scope is a scope on its chain.
     pub fn cause_is_on_the_chain(&self, scope: ScopeId)
         ensures { IfSome (cause_of self.now scope) (λ cause. Contains (chain_by (outer_of self.now) scope) cause.scope) }
     {
-        let _rows_are_kept = &self.told;
+        let _rows_are_kept = &self.nodes;
     }
 
     /// There is one list of the cancelled scopes in order of their cancellation.
     pub fn cancel_order_is_one(&self)
         ensures { (one other : List ℕ) → IsCancelOrder self.now one → IsCancelOrder self.now other → one ≡ other }
     {
-        let _rows_are_kept = &self.told;
+        let _rows_are_kept = &self.nodes;
     }
 }

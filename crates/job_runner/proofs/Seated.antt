@@ -10,9 +10,9 @@ use Rattle.job_runner.specs.declared.contexts.OpenScope.{OpenScope}
 use Rattle.job_runner.specs.Lists.{KeepsOthers, ListsOne}
 use Rattle.job_runner.specs.Marks.{scope_here, scope_inside, seat_here, Shows}
 
-seat_last : (around : Option Seen) (others : List OpenScope) (last : OpenScope) → seat_here around (others ++ last ∷ []) ≡ Some last.marker
+seat_last : (around : Option Seen) (others : List OpenScope) (last : OpenScope) → seat_here around (others ++ last ∷ []) ≡ Some last.reader
 seat_last around [] last = refl
-seat_last around (first ∷ others) last = seat_last (Some first.marker) others last
+seat_last around (first ∷ others) last = seat_last (Some first.reader) others last
 
 scope_inside_last : (s : ℕ) (others : List OpenScope) (last : OpenScope) → scope_inside s (others ++ last ∷ []) ≡ Some last.scope
 scope_inside_last s [] last = refl
@@ -23,13 +23,13 @@ scope_last around [] last = refl
 scope_last around (first ∷ others) last = scope_inside_last first.scope others last
 
 -- the mark of a seat at the last scope's own cell is of that scope
-pub of_last : (around : Option Seen) (old others : List OpenScope) (before : OpenScope) (after : Seen) (shown : Option Mark) → old ≡ others ++ before ∷ [] → after.cell ≡ before.marker.cell → IfSome shown (λ mark. mark.seat ≡ after)
+pub of_last : (around : Option Seen) (old others : List OpenScope) (before : OpenScope) (after : Seen) (shown : Option Mark) → old ≡ others ++ before ∷ [] → after.cell ≡ before.reader.cell → IfSome shown (λ mark. mark.seat ≡ after)
     → IfSome shown (λ mark. scope_here around old ≡ Some mark.scope)
 of_last around old others before after None was cell seat = tt
 of_last around old others before after (Some mark) was cell seat =
     ap (scope_here around) was ∙ (scope_last around others before ∙ ap Some (sym before.of ∙ (ap (λ (c : CellValue). c.scope) (sym cell ∙ ap (λ (s : Seen). s.cell) (sym seat)) ∙ mark.of)))
 
-pub shows_last : (around : Option Seen) (old new others : List OpenScope) (before after : OpenScope) (shown : Option Mark) → old ≡ others ++ before ∷ [] → new ≡ others ++ after ∷ [] → after.marker.cell ≡ before.marker.cell → MatchOption shown ((before.marker.known ≡ None) × (after.marker.known ≡ None)) (λ mark. (mark.seat ≡ after.marker) × (after.marker.known ≡ Some (said_by mark)) × Agrees before.marker.known (said_by mark)) → Shows (seat_here around old) (seat_here around new) shown
+pub shows_last : (around : Option Seen) (old new others : List OpenScope) (before after : OpenScope) (shown : Option Mark) → old ≡ others ++ before ∷ [] → new ≡ others ++ after ∷ [] → after.reader.cell ≡ before.reader.cell → MatchOption shown ((before.reader.known ≡ None) × (after.reader.known ≡ None)) (λ mark. (mark.seat ≡ after.reader) × (after.reader.known ≡ Some (said_by mark)) × Agrees before.reader.known (said_by mark)) → Shows (seat_here around old) (seat_here around new) shown
 shows_last around old new others before after shown old_is new_is cell mark = rw (old_is, new_is, seat_last around others before, seat_last around others after) (cell, mark)
 
 pub keeps_others : (around : Option Seen) (old new others : List OpenScope) (before after : OpenScope) → old ≡ others ++ before ∷ [] → new ≡ others ++ after ∷ [] → after.scope ≡ before.scope → KeepsOthers around around old new
@@ -41,5 +41,5 @@ shown_seat before after None it = tt
 shown_seat before after (Some mark) it = it.0
 
 -- a scope that was added behind the others is listed as the last
-pub lists_pushed : (s : ℕ) (old mid new : List OpenScope) (last : OpenScope) → last.scope ≡ s → last.marker.known ≡ None → mid ≡ old → new ≡ mid ++ last ∷ [] → ListsOne s old new
+pub lists_pushed : (s : ℕ) (old mid new : List OpenScope) (last : OpenScope) → last.scope ≡ s → last.reader.known ≡ None → mid ≡ old → new ≡ mid ++ last ∷ [] → ListsOne s old new
 lists_pushed s old mid new last of fresh same is = record { listed = last; of = of; fresh = fresh; is = is ∙ ap (λ xs. xs ++ last ∷ []) same }

@@ -8,7 +8,7 @@ use Rattle.job_runner.specs.declared.contexts.OpenScope.{OpenScope}
 pub record ListsOne (s : ℕ) (old new : List OpenScope) : Type 0 where
   pub listed : OpenScope
   pub of : listed.scope ≡ s
-  pub fresh : listed.marker.known ≡ None
+  pub fresh : listed.reader.known ≡ None
   pub is : new ≡ old ++ listed ∷ []
 
 -- just the scopes are left that were opened before scope s

@@ -11,7 +11,7 @@ use Rattle.job_runner.specs.Lists.{IsUnlisted}
 -- the seat of the innermost open scope, or else the one of the scope around
 abbrev pub seat_here : Option Seen → List OpenScope → Option Seen
 seat_here around [] = around
-seat_here around (first ∷ others) = seat_here (Some first.marker) others
+seat_here around (first ∷ others) = seat_here (Some first.reader) others
 
 -- the last of these scopes, or else scope s
 abbrev pub scope_inside : ℕ → List OpenScope → Option ℕ

@@ -3,7 +3,7 @@ ghost use Rattle.job_runner.specs.Lists.{KeepsOthers};
 ghost use Rattle.job_runner.specs.Marks.{scope_here, seat_here, Shows};
 
 use crate::contexts::{OpenScope, TaskCtx};
-use crate::markers::Marker;
+use crate::readers::CellReader;
 use cancel_marks::Mark;
 use realm_lock::{Realm, RealmName};
 use scope_rules::Catalog;
@@ -22,9 +22,9 @@ impl<C: Catalog, S: Spawner<N>, N: RealmName> TaskCtx<C, S, N> {
     {
         match self.opened.pop() {
             Some(open) => {
-                let OpenScope { scope, mut marker } = open;
-                let mark = marker.look();
-                self.opened.push_reserved(OpenScope { scope, marker });
+                let OpenScope { scope, mut reader } = open;
+                let mark = reader.look();
+                self.opened.push_reserved(OpenScope { scope, reader });
                 mark
             }
             None => look_around(&mut self.around),
@@ -43,9 +43,9 @@ impl<C: Catalog, S: Spawner<N>, N: RealmName> TaskCtx<C, S, N> {
     {
         match self.opened.pop() {
             Some(open) => {
-                let OpenScope { scope, mut marker } = open;
-                let mark = marker.wait(rt, self.realm.lent());
-                self.opened.push_reserved(OpenScope { scope, marker });
+                let OpenScope { scope, mut reader } = open;
+                let mark = reader.wait(rt, self.realm.lent());
+                self.opened.push_reserved(OpenScope { scope, reader });
                 Some(mark)
             }
             None => wait_around(rt, self.realm.lent(), &mut self.around),
@@ -54,12 +54,12 @@ impl<C: Catalog, S: Spawner<N>, N: RealmName> TaskCtx<C, S, N> {
 }
 
 /// The mark of the scope around, if there is one and it is seen to be cancelled.
-fn look_around(around: &mut Option<Marker>) -> Option<Mark>
+fn look_around(around: &mut Option<CellReader>) -> Option<Mark>
     ensures shows { Shows around.old around.new result }
     ensures of { IfSome result (λ mark. scope_here around.old [] ≡ Some mark.scope) }
 {
     match around {
-        Some(marker) => marker.look(),
+        Some(reader) => reader.look(),
         None => None,
     }
 }
@@ -68,14 +68,14 @@ fn look_around(around: &mut Option<Marker>) -> Option<Mark>
 fn wait_around<C: Catalog, N: RealmName, R: Wait>(
     rt: &R,
     realm: &Realm<C, N>,
-    around: &mut Option<Marker>,
+    around: &mut Option<CellReader>,
 ) -> Option<Mark>
     ensures shows { Shows around.old around.new result }
     ensures of { IfSome result (λ mark. scope_here around.old [] ≡ Some mark.scope) }
     ensures waits { IsSome around.old → IsSome result }
 {
     match around {
-        Some(marker) => Some(marker.wait(rt, realm)),
+        Some(reader) => Some(reader.wait(rt, realm)),
         None => None,
     }
 }

@@ -2,8 +2,8 @@ ghost use Rattle.std.specs.Prelude.{◌≡◌, [], None};
 ghost use Rattle.scope_rules.specs.Scopes.{innermost};
 ghost use Rattle.realm_core.specs.Calls.{history_seen};
 
-use crate::held::HeldRealm;
-use crate::markers::Marker;
+use crate::opaque::OpaqueRealm;
+use crate::readers::CellReader;
 use realm_lock::{ActorToken, Realm, RealmName};
 use scope_rules::{Catalog, ScopeId};
 use share_ledger::OfRealm;
@@ -14,8 +14,8 @@ use thread_pool::{Spawner, Team};
 #[derive(Drop)]
 pub(crate) struct OpenScope {
     pub(crate) scope: ScopeId,
-    pub(crate) marker: Marker,
-    pub(crate) ghost of: { marker.cell.scope ≡ scope },
+    pub(crate) reader: CellReader,
+    pub(crate) ghost of: { reader.cell.scope ≡ scope },
 }
 
 /// What an actor of a realm acts by: main, or the job of a task (JEP 505 ties such calls to the thread
@@ -52,11 +52,11 @@ pub(crate) struct OpenScope {
 /// ```
 pub struct TaskCtx<C: Catalog, S: Spawner<N>, N: RealmName> {
     pub(crate) alloc: Global,
-    pub(crate) realm: HeldRealm<C, N>,
+    pub(crate) realm: OpaqueRealm<C, N>,
     pub(crate) token: OfRealm<N, ActorToken>,
     pub(crate) spawner: S,
     /// Of the scope in which the context's task was forked; main has none.
-    pub(crate) around: Option<Marker>,
+    pub(crate) around: Option<CellReader>,
     /// The scopes that are open, the latest last.
     pub(crate) opened: Vec<OpenScope>,
     /// The threads of these scopes, and the tickets of those that were joined.
@@ -77,16 +77,16 @@ impl<C: Catalog, S: Spawner<N>, N: RealmName> TaskCtx<C, S, N> {
         requires idle { innermost (history_seen token) token.actor ≡ None }
         ensures { (result.token ≡ token) × (result.opened.items ≡ []) × (result.team.running ≡ []) × (result.around ≡ None) }
     {
-        TaskCtx::of_actor(alloc, HeldRealm::new(realm), token, spawner, None)
+        TaskCtx::of_actor(alloc, OpaqueRealm::new(realm), token, spawner, None)
     }
 
     /// The context of an actor that has no scope, with the mark of the scope around it.
     pub(crate) fn of_actor(
         alloc: Global,
-        realm: HeldRealm<C, N>,
+        realm: OpaqueRealm<C, N>,
         token: ActorToken,
         spawner: S,
-        around: Option<Marker>,
+        around: Option<CellReader>,
     ) -> TaskCtx<C, S, N>
         requires { token.table ≡ N.table }
         ensures { (result.token ≡ token) × (result.opened.items ≡ []) × (result.team.running ≡ []) × (result.around ≡ around) }

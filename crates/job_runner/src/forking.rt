@@ -7,8 +7,8 @@ ghost use Rattle.job_runner.specs.Forks.{ForksJob, KeepsThread, SpawnsJob, job_o
 ghost use Rattle.thread_pool.specs.Teams.{HasRoom, HasThreadMore, IsSameTeam};
 
 use crate::contexts::TaskCtx;
-use crate::held::HeldRealm;
-use crate::markers::Marker;
+use crate::opaque::OpaqueRealm;
+use crate::readers::CellReader;
 use crate::works::JobWork;
 use realm_lock::{Forked, RealmName, Ticket};
 use scope_rules::{Catalog, ForkReply, Refusal, ScopeId, TaskId};
@@ -136,28 +136,28 @@ impl<C: Catalog, S: Spawner<N>, N: RealmName> TaskCtx<C, S, N> {
     pub(crate) fn room_for_a_thread(
         &mut self,
         scope: ScopeId,
-    ) -> Option<(HeldRealm<C, N>, Option<Marker>)>
+    ) -> Option<(OpaqueRealm<C, N>, Option<CellReader>)>
         ensures rest { self.new ≡ record self.old { team = self.new.team } }
         ensures team { IsSameTeam self.old.team self.new.team }
         ensures room { OnSome result (HasRoom self.new.team) }
         ensures around { IfSome result (λ room. IsMarkOf scope self.old.opened.items room.1) }
     {
         let realm = self.realm.again()?;
-        let around = match self.marker_of(scope) {
-            Some(marker) => Some(marker.fresh()?),
+        let around = match self.reader_of(scope) {
+            Some(reader) => Some(reader.fresh()?),
             None => None,
         };
         self.team.reserve().ok()?;
         Some((realm, around))
     }
 
-    /// The marker of the scope, if it is open in this context.
-    fn marker_of(&self, scope: ScopeId) -> Option<&Marker>
-        ensures { MatchOption result (IsUnlisted scope self.now.opened.items) (λ marker. marker.now.cell.scope ≡ scope) }
+    /// The reader of the scope, if it is open in this context.
+    fn reader_of(&self, scope: ScopeId) -> Option<&CellReader>
+        ensures { MatchOption result (IsUnlisted scope self.now.opened.items) (λ reader. reader.now.cell.scope ≡ scope) }
     {
         for open in &self.opened {
             if open.scope == scope {
-                return Some(&open.marker);
+                return Some(&open.reader);
             }
         }
         None

@@ -5,7 +5,7 @@ ghost use Rattle.join_rules.specs.Joiners.{policy_of};
 ghost use Rattle.realm_core.specs.Calls.{SeesMore};
 
 use crate::contexts::{OpenScope, TaskCtx};
-use crate::markers::Marker;
+use crate::readers::CellReader;
 use join_rules::Joiner;
 use realm_lock::RealmName;
 use scope_rules::{Catalog, Event, Options, Refusal, ScopeId};
@@ -40,8 +40,8 @@ impl<C: Catalog, S: Spawner<N>, N: RealmName> TaskCtx<C, S, N> {
             .open_marked(rt, &mut token.held, joiner, options)
         {
             Ok((scope, cell, seat)) => {
-                let marker = Marker::new(cell, seat);
-                self.opened.push_reserved(OpenScope { scope, marker });
+                let reader = CellReader::new(cell, seat);
+                self.opened.push_reserved(OpenScope { scope, reader });
                 Ok(scope)
             }
             Err(back) => Err(back),

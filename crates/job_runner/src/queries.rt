@@ -4,7 +4,7 @@ ghost use Rattle.scope_rules.specs.Cancels.{effective};
 ghost use Rattle.scope_rules.specs.Checks.{task_check};
 ghost use Rattle.scope_rules.specs.Table.{answering, until_check};
 ghost use Rattle.scope_rules.specs.Replies.{result_reply, fault_reply, binding_reply};
-ghost use Rattle.kept_realm.specs.Fits.{Fitting};
+ghost use Rattle.realm_state.specs.Fits.{Fitting};
 ghost use Rattle.realm_core.specs.Calls.{Reads, history_seen};
 ghost use Rattle.realm_core.specs.Views.{Joins, JoinsBare, MarkedViewAnswers, ViewAnswers};
 

@@ -1,6 +1,6 @@
 ghost use Rattle.std.specs.Prelude.{◌≡◌, ◌⊎◌, [], None, Some, Ok, IfOk, IfErr, IfSome, IsSome, MatchResult};
 ghost use Rattle.scope_rules.specs.declared.types.refusals.Refusal.TheVariants.{Memory, NotReady};
-ghost use Rattle.kept_realm.specs.Fits.{Fitting};
+ghost use Rattle.realm_state.specs.Fits.{Fitting};
 ghost use Rattle.realm_core.specs.Calls.{SeesMore, history_seen};
 ghost use Rattle.realm_core.specs.Waiting.{FoundUnsettled, IsOpenOf};
 ghost use Rattle.realm_core.specs.Closes.{ClosesBare, IsBegun};
@@ -11,7 +11,7 @@ ghost use Rattle.job_runner.specs.Reports.{ClosesHere, StaysHere};
 ghost use Rattle.thread_pool.specs.Teams.{AreGone};
 
 use crate::contexts::{OpenScope, TaskCtx};
-use crate::markers::Marker;
+use crate::readers::CellReader;
 use cancel_marks::Mark;
 use realm_lock::{ActorToken, CloseReport, Joined, Realm, RealmName};
 use scope_rules::{Catalog, Refusal, ScopeId, Verdict};
@@ -160,9 +160,9 @@ impl<C: Catalog, S: Spawner<N>, N: RealmName> TaskCtx<C, S, N> {
         let token = &mut self.token;
         match self.opened.pop() {
             Some(open) => {
-                let OpenScope { scope, mut marker } = open;
-                let shown = marker.wait_by(rt, realm, &mut token.held, clock, until);
-                self.opened.push_reserved(OpenScope { scope, marker });
+                let OpenScope { scope, mut reader } = open;
+                let shown = reader.wait_by(rt, realm, &mut token.held, clock, until);
+                self.opened.push_reserved(OpenScope { scope, reader });
                 shown
             }
             None => wait_around_by(rt, realm, &mut token.held, &mut self.around, clock, until),
@@ -176,7 +176,7 @@ fn wait_around_by<C: Catalog, N: RealmName, R: Wait + SystemTime, K: Clock>(
     rt: &R,
     realm: &Realm<C, N>,
     token: &mut ActorToken,
-    around: &mut Option<Marker>,
+    around: &mut Option<CellReader>,
     clock: &mut K,
     until: Option<u64>,
 ) -> Result<Option<Mark>, Refusal>
@@ -189,7 +189,7 @@ fn wait_around_by<C: Catalog, N: RealmName, R: Wait + SystemTime, K: Clock>(
     ensures passed_all { result ≡ Ok None → IsSome around.old ⊎ IsSome until → IfSome (K.reading clock.new) (λ now. HasCome (history_seen token.new) now → ⊥) }
 {
     match around {
-        Some(marker) => marker.wait_by(rt, realm, token, clock, until),
+        Some(reader) => reader.wait_by(rt, realm, token, clock, until),
         None => match until {
             Some(until) => match realm.sleep_by(rt, token, clock, until) {
                 Ok(()) => Ok(None),

@@ -4,9 +4,9 @@ ghost use Rattle.job_runner.specs.Endings.{EndsAsMay};
 ghost use Rattle.job_runner.specs.Forks.{IsReadyFor};
 
 use crate::contexts::TaskCtx;
-use crate::held::HeldRealm;
 use crate::jobs::Job;
-use crate::markers::Marker;
+use crate::opaque::OpaqueRealm;
+use crate::readers::CellReader;
 use realm_lock::{RealmName, Ticket};
 use scope_rules::Catalog;
 use share_ledger::{Answers, NamedJob};
@@ -20,8 +20,8 @@ use thread_pool::{Ready, Spawner, Work};
 pub struct JobWork<C: Catalog, N: RealmName, J: Answers> {
     pub(crate) alloc: Global,
     pub(crate) job: NamedJob<C, J>,
-    pub(crate) realm: HeldRealm<C, N>,
-    pub(crate) around: Option<Marker>,
+    pub(crate) realm: OpaqueRealm<C, N>,
+    pub(crate) around: Option<CellReader>,
 }
 
 impl<C: Catalog, N: RealmName, J: Answers> Ready for JobWork<C, N, J> {

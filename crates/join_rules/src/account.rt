@@ -15,7 +15,7 @@ use std::marker::Model;
 
 /// All that is kept of the completions so far, and which joiner they were handed to.
 #[derive(Drop)]
-pub struct Account {
+pub struct JoinerAccount {
     policy: Policy,
     tally: Tally,
     /// Whether a caller's closure is shown the list.
@@ -23,7 +23,7 @@ pub struct Account {
     seen: Vec<Completion>,
 }
 
-impl Model for Account {
+impl Model for JoinerAccount {
     ghost use Rattle.std.specs.Prelude.{◌≡◌, ◌-◌, true, length, vec_len};
     ghost use Rattle.std.specs.Vec.{vec_capacity};
     ghost use Rattle.std.specs.List.{All};
@@ -37,17 +37,17 @@ impl Model for Account {
     ghost invariant = { λ a. (a.listed ≡ true → length a.seen.items ≡ a.tally.completions) × All EntryFits a.seen.items };
 }
 
-impl Account {
+impl JoinerAccount {
     /// The account of no completion. It takes no memory.
     #[tactic(auto, unfolding(crate::specs::Totals::totals_of))]
-    pub fn new(alloc: Global, policy: Policy, listed: bool) -> Account
+    pub fn new(alloc: Global, policy: Policy, listed: bool) -> JoinerAccount
         ensures policy { result.policy ≡ policy }
         ensures listed { result.has_closure ≡ listed }
         ensures totals { result.totals ≡ totals_of [] }
         ensures completions { result.totals.completions ≡ 0 }
         ensures seen { result.seen ≡ [] }
     {
-        Account {
+        JoinerAccount {
             policy,
             tally: Tally::new(),
             listed,

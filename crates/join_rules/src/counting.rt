@@ -8,7 +8,7 @@ ghost use Rattle.scope_rules.specs.declared.types.joiners.Policy.TheVariants.{Un
 ghost use Rattle.join_rules.specs.JoinerStanding.{StandsFor, HasRoom, SameJoiner, SameButRoom};
 ghost use Rattle.join_rules.specs.Joiners.{policy_of, asks_closure};
 
-use crate::account::Account;
+use crate::account::JoinerAccount;
 use crate::joiners::Joiner;
 use crate::until::StoredTest;
 use scope_rules::{Completion, Policy};
@@ -17,7 +17,7 @@ use std::alloc::{AllocError, Global};
 /// How far a joiner has come: what it keeps of the completions that it was handed.
 #[derive(Drop)]
 pub struct Progress {
-    account: Account,
+    account: JoinerAccount,
     test: Option<StoredTest>,
     ghost listed: { is_some test ≡ account.has_closure },
     ghost ruled: { ForSome test (λ t. account.policy ≡ Until t.rule) },
@@ -36,7 +36,7 @@ impl Progress {
         let policy = joiner.policy();
         let listed = joiner.asks_closure();
         Progress {
-            account: Account::new(alloc, policy, listed),
+            account: JoinerAccount::new(alloc, policy, listed),
             test: if listed {
                 Some(joiner.into_test())
             } else {

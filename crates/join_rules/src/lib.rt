@@ -9,7 +9,7 @@ mod joiners;
 mod tally;
 mod until;
 
-pub use account::Account;
+pub use account::JoinerAccount;
 pub use counting::Progress;
 pub use joiners::Joiner;
 pub use scope_rules::Completion as Done;

@@ -1,5 +1,5 @@
 //! Tests of the realm under its lock: by one thread, and by several. What it answers to scripts beside the program is
-//! tested by `crates/growth/test-beside`.
+//! tested by `crates/fault_injection/test-beside`.
 #![tactic(auto)]
 
 #[cfg(test)]

@@ -1,12 +1,12 @@
 //! Lines of a script, given to a realm.
 
-use realm_hands::{Hands, driven};
 use realm_lock::{Realm, RealmName};
 use scope_rules::AnyEnd;
 use scope_script::{Command, Line, append_line, read_line};
 use std::alloc::Global;
 use std::sync::Wait;
 use std::test::Fail;
+use test_driver::{Hands, driven};
 
 /// The command of the line.
 pub fn command_of(line: &str) -> Result<Command, Fail> {

@@ -3,7 +3,6 @@ ghost use Rattle.std.specs.Prelude.{◌≡◌, IfOk, All};
 ghost use Rattle.share_ledger.specs.Values.{TicketValue};
 
 use crate::lines::play;
-use realm_hands::Hands;
 use realm_lock::{CloseReport, Realm, RealmName, Ticket};
 use scope_log::LogEntry;
 use scope_rules::{Actor, AnyEnd, End, Fault, Name, Refusal, ScopeId, TaskId, Value, Verdict};
@@ -11,6 +10,7 @@ use std::alloc::Global;
 use std::process::Abort;
 use std::sync::Wait;
 use std::test::Fail;
+use test_driver::Hands;
 
 /// Whether the entries have one start and one finish of the task, with that end.
 fn shows_run(entries: &[LogEntry], task: TaskId, end: End) -> bool {

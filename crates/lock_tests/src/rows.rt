@@ -10,7 +10,6 @@ use crate::waits::{
     Waker, a_cancel_wakes, a_close_wakes, a_mark_wakes, a_reject_wakes, an_end_wakes_a_close,
 };
 use crate::waits_by::a_nearer_deadline_wakes;
-use realm_hands::Hands;
 use realm_lock::{ActorToken, Realm, RealmName, Seed};
 use scope_rules::{AnyEnd, Limits};
 use std::alloc::Global;
@@ -20,6 +19,7 @@ use std::rt::Clock as SystemTime;
 use std::sync::Wait;
 use std::test::Fail;
 use std::thread::Threads;
+use test_driver::Hands;
 
 /// Which row.
 #[derive(Clone, Copy)]

@@ -7,7 +7,6 @@ use crate::common::{finish, fork_two, open};
 use crate::replay::Replay;
 use crate::views::is_seen_alike;
 use join_rules::Joiner;
-use realm_hands::Throws;
 use realm_lock::{ActorToken, Forked, Realm, RealmName, Ticket};
 use scope_rules::{
     AnyEnd, Cancelling, Counts, ForkReply, Label, Name, Options, ScopeId, TaskId, Value,
@@ -19,6 +18,7 @@ use std::sync::Wait;
 use std::test::Fail;
 use std::thread;
 use std::thread::Threads;
+use test_driver::Throws;
 
 /// How many rounds each thread makes.
 const ROUNDS: u32 = 2_500;

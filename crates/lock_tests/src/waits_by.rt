@@ -5,7 +5,7 @@ ghost use Rattle.std.specs.Prelude.{◌≡◌, Some};
 use crate::common::{fork, open};
 use crate::waits::pause;
 use join_rules::Joiner;
-use realm_lock::{ActorToken, KeptRealm, Look, Realm, RealmName};
+use realm_lock::{ActorToken, Look, Realm, RealmName, RealmState};
 use scope_rules::{AnyEnd, Options};
 use share_ledger::Clock;
 use std::process::Abort;
@@ -24,7 +24,7 @@ impl Look for Glance {
 
     ghost tells = { λ look h answer. Unit {0} };
 
-    fn look(self, _realm: &KeptRealm) {
+    fn look(self, _realm: &RealmState) {
         let Glance = self;
     }
 }

@@ -4,8 +4,8 @@ use Rattle.std.specs.Option.{option_or}
 use Rattle.scope_rules.specs.declared.types.events.Event.{Event}
 use Rattle.scope_rules.specs.History.{History, before, opening, opening_of, opened_count, tasks, is_open, is_fork}
 use Rattle.scope_rules.specs.Scopes.{outer}
-use Rattle.scope_rules.specs.Chains.{cut_by, chain_by, earliest_on}
-use Rattle.scope_rules.specs.Cancels.{is_cancelled, cut, own, own_at, own_cut}
+use Rattle.scope_rules.specs.Chains.{first_cancel_by, chain_by, earliest_on}
+use Rattle.scope_rules.specs.Cancels.{is_cancelled, first_cancel, own, own_at, own_cancel}
 use Rattle.scope_rules.proofs.Openings.{numbered_within, opens_it}
 use Rattle.scope_rules.proofs.Owing.{count_push}
 use Rattle.scope_rules.proofs.Prefixes.{count_by-take-le, option_or-none}
@@ -42,13 +42,13 @@ no_own h s none =
       | Some w ↦ λ is. let it = earliest_where (own_at h s) w (length h.events) is in let no = no_own_at h s it.0 none in let yes = it.2 in absurd cc
     ] refl
 
-none_on : (h : History) (ss : List ℕ) → opened_count h ≡ 0 → earliest_on (own_cut h) ss ≡ None
+none_on : (h : History) (ss : List ℕ) → opened_count h ≡ 0 → earliest_on (own_cancel h) ss ≡ None
 none_on h [] none = refl
 none_on h (s ∷ ss) none = rw (no_own h s none) (none_on h ss none)
 
 -- where no scope was opened, none is cancelled
 pub uncancelled : (h : History) (s : ℕ) → opened_count h ≡ 0 → is_cancelled h s ≡ false
-unfolding is_cancelled cut cut_by
+unfolding is_cancelled first_cancel first_cancel_by
 uncancelled h s none = rw (none_on h (chain_by (outer h) s) none) refl
 
 -- the realm goes on by an event that opens no scope

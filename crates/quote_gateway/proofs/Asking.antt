@@ -27,8 +27,8 @@ use Rattle.scope_rules.proofs.NewScopes.{HasNoTask, no_task_of}
 use Rattle.scope_rules.proofs.OneEventMore.{rejected_grows}
 use Rattle.scope_rules.proofs.PassedRows.{fork_passed}
 use Rattle.scope_rules.proofs.StageSteps.{next_forking}
-use Rattle.scope_kept.proofs.Over.{forks_for}
-use Rattle.scope_kept.proofs.TaskLists.{if_one, tasks_kept, tasks_forked}
+use Rattle.scope_index.proofs.Over.{forks_for}
+use Rattle.scope_index.proofs.TaskLists.{if_one, tasks_kept, tasks_forked}
 use Rattle.share_ledger.specs.declared.steps.RealmStep.{RealmStep}
 use Rattle.share_ledger.specs.declared.steps.RealmStep.TheVariants.{Happened, Asked, Retirement}
 use Rattle.share_ledger.specs.declared.steps.Holder.TheVariants.{TokenOf}

@@ -21,7 +21,7 @@ use Rattle.scope_rules.proofs.Forkings.{task_there}
 use Rattle.scope_rules.proofs.Growing.{opening_stays, forking_stays}
 use Rattle.scope_rules.proofs.OneEventMore.{later, rejected_grows}
 use Rattle.scope_rules.proofs.Openings.{and_then_some}
-use Rattle.scope_kept.proofs.AtJoin.{like_at_join}
+use Rattle.scope_index.proofs.AtJoin.{like_at_join}
 
 -- h begins as g did, with the events of g, and goes on
 pub record Follows (g h : History) : Type 0 where

@@ -16,8 +16,8 @@ use Rattle.scope_rules.proofs.Nesting.{IsOpened}
 use Rattle.scope_rules.proofs.NewScopes.{scope_passed}
 use Rattle.scope_rules.proofs.OneEventMore.{joined_grows, opening_same}
 use Rattle.scope_checks.proofs.Checked.{scope_passes}
-use Rattle.scope_kept.specs.declared.bare.BareOutcome.{BareOutcome}
-use Rattle.scope_kept.specs.Bare.{bare_of}
+use Rattle.scope_index.specs.declared.bare.BareOutcome.{BareOutcome}
+use Rattle.scope_index.specs.Bare.{bare_of}
 use Rattle.share_ledger.specs.declared.steps.RealmStep.TheVariants.{Happened}
 use Rattle.share_ledger.specs.declared.steps.Holder.TheVariants.{TokenOf}
 use Rattle.share_ledger.specs.Steps.{history_of}

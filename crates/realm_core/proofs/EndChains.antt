@@ -23,7 +23,7 @@ use Rattle.scope_log.proofs.NewLogs.{log_grows}
 use Rattle.share_ledger.specs.Steps.{advanced, LegalFrom}
 use Rattle.realm_core.specs.Ends.{end_step, ended, AreInnermost, InEndOrder}
 use Rattle.realm_core.specs.Reports.{with_end}
-use Rattle.realm_core.proofs.ClosingCuts.{closing_cancelled}
+use Rattle.realm_core.proofs.ClosingCancels.{closing_cancelled}
 
 -- ---- lists of ends
 

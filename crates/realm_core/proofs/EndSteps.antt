@@ -88,8 +88,8 @@ way_ends L a s t old now way same = (
 )
 
 -- an end, told of other names for the same
-pub told_of : (L M : Limits) (a b s u : ℕ) (xs ys new : List RealmStep) → L ≡ M → a ≡ b → xs ≡ ys → EndsInnermost L a s u xs new → EndsInnermost M b s u ys new
-told_of L M a b s u xs ys new limits actor steps e =
+pub event_reply_of : (L M : Limits) (a b s u : ℕ) (xs ys new : List RealmStep) → L ≡ M → a ≡ b → xs ≡ ys → EndsInnermost L a s u xs new → EndsInnermost M b s u ys new
+event_reply_of L M a b s u xs ys new limits actor steps e =
     subst (λ (n : ℕ). EndsInnermost M n s u ys new) actor
     (subst (λ (zs : List RealmStep). EndsInnermost M a s u zs new) steps
     (subst (λ (K : Limits). EndsInnermost K a s u xs new) limits e))

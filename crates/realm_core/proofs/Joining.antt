@@ -16,7 +16,7 @@ use Rattle.share_ledger.specs.Values.{OwnerValue}
 use Rattle.realm_core.specs.Calls.{SeesMore}
 use Rattle.realm_core.specs.Views.{Joins, JoinsBare}
 use Rattle.realm_core.specs.declared.joins.Joined.{Joined}
-use Rattle.scope_kept.specs.declared.bare.BareOutcome.{BareOutcome}
+use Rattle.scope_index.specs.declared.bare.BareOutcome.{BareOutcome}
 
 nothing_more : {A : Type 0} (xs : List A) → xs ≡ xs ++ []
 nothing_more [] = refl

@@ -12,7 +12,7 @@ mod Done
 pub mod ToldCalls
 pub mod Others
 pub mod Unopened
-pub mod ClosingCuts
+pub mod ClosingCancels
 pub mod EndChains
 pub mod Walks
 pub mod Settling

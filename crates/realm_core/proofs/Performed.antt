@@ -17,9 +17,9 @@ use Rattle.scope_rules.proofs.Accepted.{checks_at, not_refused, not_not}
 use Rattle.std.proofs.lemmas.Bool.{cases_Bool, eqb-true}
 use Rattle.scope_rules.specs.Legal.{Accepts}
 use Rattle.scope_rules.specs.Replies.{Realm, Answers, AnswersOrMemory, with_event, fork_reply, base_of}
-use Rattle.scope_checks.specs.declared.told.Told.{Told}
-use Rattle.scope_checks.specs.declared.told.Told.TheVariants as told
-use Rattle.scope_checks.specs.Telling.{noted, told_of, wants_memory, Performs, records, after_telling}
+use Rattle.scope_checks.specs.declared.event_replies.EventReply.{EventReply}
+use Rattle.scope_checks.specs.declared.event_replies.EventReply.TheVariants as told
+use Rattle.scope_checks.specs.EventReplies.{noted, event_reply_of, wants_memory, Performs, records, after_telling}
 use Rattle.scope_rules.specs.Origin.{Origin}
 use Rattle.share_ledger.specs.declared.steps.RealmStep.{RealmStep}
 use Rattle.share_ledger.specs.declared.steps.RealmStep.TheVariants.{Happened, Retirement}
@@ -28,7 +28,7 @@ use Rattle.share_ledger.specs.Steps.{advance, history_of, step_by, Passes}
 use Rattle.share_ledger.proofs.Histories.{history-push}
 use Rattle.atomic_table.specs.Seated.{TableId}
 use Rattle.share_ledger.specs.Values.{KeeperValue, OwnerValue, OwnerAgrees, is_recorded_by}
-use Rattle.kept_realm.specs.Fits.{FitsEvent}
+use Rattle.realm_state.specs.Fits.{FitsEvent}
 use Rattle.realm_core.specs.Cores.{Tied}
 use Rattle.realm_core.specs.Calls.{history_seen, step_check, Accepted, Refused, OutOfMemory, FoundSo, DidOrMemory, DidPerform}
 use Rattle.realm_core.specs.Telling.{told as told_of_keeper}
@@ -94,18 +94,18 @@ step_checks L a b (Move scope deadline) h = refl
 step_checks L a b (Tick now) h = refl
 step_checks L a b _ h = refl
 
-noted_new : (already : Bool) (t : Told) → t ≡ noted already → records (Ok t) ≡ true → already ≡ false
+noted_new : (already : Bool) (t : EventReply) → t ≡ noted already → records (Ok t) ≡ true → already ≡ false
 noted_new true t is so = absurd (cc (rw is at so))
 noted_new false t is so = refl
 
 -- what is recorded is not so already
-told_new : (h : History) (e : Event) (t : Told) → t ≡ told_of h e → records (Ok t) ≡ true → is_already h e ≡ false
+told_new : (h : History) (e : Event) (t : EventReply) → t ≡ event_reply_of h e → records (Ok t) ≡ true → is_already h e ≡ false
 told_new h (Cancel scope) t is so = noted_new (is_already h (Cancel scope)) t is so
 told_new h (BeginClose actor scope) t is so = noted_new (is_already h (BeginClose actor scope)) t is so
 told_new h _ t is so = refl
 
 -- and what is not so already is recorded
-pub told_records : (h : History) (e : Event) (t : Told) → is_already h e ≡ false → t ≡ told_of h e → records (Ok t) ≡ true
+pub told_records : (h : History) (e : Event) (t : EventReply) → is_already h e ≡ false → t ≡ event_reply_of h e → records (Ok t) ≡ true
 told_records h (Cancel scope) t new is = rw (is, new) refl
 told_records h (BeginClose actor scope) t new is = rw (is, new) refl
 told_records h _ t new is = rw is refl
@@ -115,7 +115,7 @@ noted_already true is = refl
 noted_already false is = absurd cc
 
 -- and what is said to be so already, is
-told_already : (h : History) (e : Event) → told.Already ≡ told_of h e → is_already h e ≡ true
+told_already : (h : History) (e : Event) → told.Already ≡ event_reply_of h e → is_already h e ≡ true
 told_already h (Cancel scope) is = noted_already (is_already h (Cancel scope)) is
 told_already h (BeginClose actor scope) is = noted_already (is_already h (BeginClose actor scope)) is
 told_already h _ is = absurd cc
@@ -126,7 +126,7 @@ recorded_fits fits h a (Finish task end) so = absurd cc
 recorded_fits fits h a _ so = tt
 
 -- if a command recorded its event, the event is accepted
-pub accepted_by : (L : Limits) (h : History) (e : Event) (result : Result Told Refusal) → Performs L h e result → records result ≡ true → Accepts L h e
+pub accepted_by : (L : Limits) (h : History) (e : Event) (result : Result EventReply Refusal) → Performs L h e result → records result ≡ true → Accepts L h e
 accepted_by L h e (Ok t) said so = record { passed = said.0; recorded = told_new h e t said.1 so }
 accepted_by L h e (Err r) said so = absurd cc
 
@@ -145,7 +145,7 @@ module _ (name : TableId) (realm : Realm) (keeper : KeeperValue) (tied : Tied na
       subst P (step_advances realm.history a e) (tied_next name realm keeper tied (step_by a e) (step_passes realm.limits realm.history a e ok))
 
   -- and what a command does, whether it records its event or not
-  pub tied_performed : (a : ℕ) (e : Event) (result : Result Told Refusal) (realm' : Realm) (keeper' : KeeperValue) → Performs realm.limits realm.history e result → realm' ≡ after_telling realm e result → keeper' ≡ told_of_keeper keeper (step_by a e) (records result) → Tied name realm' keeper'
+  pub tied_performed : (a : ℕ) (e : Event) (result : Result EventReply Refusal) (realm' : Realm) (keeper' : KeeperValue) → Performs realm.limits realm.history e result → realm' ≡ after_telling realm e result → keeper' ≡ told_of_keeper keeper (step_by a e) (records result) → Tied name realm' keeper'
   tied_performed a e result realm' keeper' said realm_is keeper_is =
       elim (cases_Bool (records result)) [
         | inl so ↦ rw (realm_is, keeper_is, so) (tied_with a e (accepted_by realm.limits realm.history e result said so))
@@ -187,18 +187,18 @@ module _ (name : TableId) (realm : Realm) (keeper : KeeperValue) (tied : Tied na
       already = rw tied.replay already;
     }
 
-    told_now : (e : Event) (t : Told) → Accepts realm.limits realm.history e → t ≡ told_of realm.history e → Accepted old (record old { seen = keeper.steps ++ step_by old.actor e ∷ [] }) (step_by old.actor e) (λ h. told_of h e) t
+    told_now : (e : Event) (t : EventReply) → Accepts realm.limits realm.history e → t ≡ event_reply_of realm.history e → Accepted old (record old { seen = keeper.steps ++ step_by old.actor e ∷ [] }) (step_by old.actor e) (λ h. event_reply_of h e) t
     told_now e t ok is =
         let x = step_by old.actor e in
         let passes = step_passes realm.limits realm.history old.actor e ok in
         let added = adds_now name realm keeper tied (TokenOf old.actor) old.limits old.seen agrees x passes in
         record {
           adds = record { there = keeper.steps; agrees = agrees.agrees; is = refl; accepted = passes_here name realm keeper tied (TokenOf old.actor) old.limits old.seen agrees x passes; legal = added.legal };
-          replied = is ∙ ap (λ (h : History). told_of h e) (sym tied.replay);
+          replied = is ∙ ap (λ (h : History). event_reply_of h e) (sym tied.replay);
         }
 
     -- what the command of an event did with the token
-    pub performed_now : (e : Event) (result : Result Told Refusal) (keeper' : KeeperValue) (new : OwnerValue) → Performs realm.limits realm.history e result → keeper' ≡ told_of_keeper keeper (step_by old.actor e) (records result) → new ≡ record old { seen = keeper'.steps } → DidPerform old new e result
+    pub performed_now : (e : Event) (result : Result EventReply Refusal) (keeper' : KeeperValue) (new : OwnerValue) → Performs realm.limits realm.history e result → keeper' ≡ told_of_keeper keeper (step_by old.actor e) (records result) → new ≡ record old { seen = keeper'.steps } → DidPerform old new e result
     performed_now e (Ok told.Already) keeper' new said keeper_is new_is = rw (new_is, keeper_is) (found_now e said.0 (told_already realm.history e said.1))
     performed_now e (Ok answer) keeper' new said keeper_is new_is =
         rw (new_is, keeper_is) (told_now e answer (record { passed = said.0; recorded = told_new realm.history e answer said.1 refl }) said.1)
@@ -224,7 +224,7 @@ refused_surely old new e r none (inl by) = by
 refused_surely old new e r none (inr memory) = absurd (cc (memory.1, none))
 
 -- what a fork is told is the task
-pub fork_told : (old new : OwnerValue) (a s : ℕ) (label : LabelValue) (x : RealmStep) (reply : ForkReply) → Accepted old new x (λ h. told_of h (Fork a s label)) (told.Task reply) → Accepted old new x (λ h. fork_reply h s) reply
+pub fork_told : (old new : OwnerValue) (a s : ℕ) (label : LabelValue) (x : RealmStep) (reply : ForkReply) → Accepted old new x (λ h. event_reply_of h (Fork a s label)) (told.Task reply) → Accepted old new x (λ h. fork_reply h s) reply
 fork_told old new a s label x reply did = record { adds = did.adds; replied = the_same reply (fork_reply (history_of did.adds.there) s) did.replied }
   where
     the_same : (r q : ForkReply) → told.Task r ≡ told.Task q → r ≡ q

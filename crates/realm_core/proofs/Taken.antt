@@ -30,7 +30,7 @@ use Rattle.share_ledger.proofs.Told.{seen_tells}
 use Rattle.share_ledger.proofs.Ends.{tells_history}
 use Rattle.atomic_table.specs.Seated.{TableId}
 use Rattle.share_ledger.specs.Values.{KeeperValue, TicketValue, TicketAgrees, IsWaiting}
-use Rattle.kept_realm.specs.Fits.{FitsTask}
+use Rattle.realm_state.specs.Fits.{FitsTask}
 use Rattle.realm_core.specs.Cores.{Tied}
 use Rattle.realm_core.specs.Calls.{TicketAdded}
 use Rattle.realm_core.specs.Tasks.{IsRunning}

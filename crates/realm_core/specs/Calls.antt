@@ -15,9 +15,9 @@ use Rattle.share_ledger.specs.declared.steps.RealmStep.TheVariants.{Happened, As
 use Rattle.share_ledger.specs.declared.steps.Holder.TheVariants.{TokenOf, TicketOf}
 use Rattle.share_ledger.specs.Steps.{asked, history_of, step_by}
 use Rattle.share_ledger.specs.Holders.{Adds, Looks}
-use Rattle.scope_checks.specs.declared.told.Told.{Told}
-use Rattle.scope_checks.specs.declared.told.Told.TheVariants as told
-use Rattle.scope_checks.specs.Telling.{told_of, wants_memory, noting}
+use Rattle.scope_checks.specs.declared.event_replies.EventReply.{EventReply}
+use Rattle.scope_checks.specs.declared.event_replies.EventReply.TheVariants as told
+use Rattle.scope_checks.specs.EventReplies.{event_reply_of, wants_memory, noting}
 use Rattle.share_ledger.specs.Values.{OwnerValue, TicketValue}
 
 -- what was seen with a token, as the history that it leaves
@@ -105,9 +105,9 @@ DidRecordOrMemory old new e (Ok Already) = FoundSo old new e
 DidRecordOrMemory old new e (Err refusal) = Refused old new (step_by old.actor e) refusal ⊎ OutOfMemory old new (step_by old.actor e) refusal
 
 -- what the command of the event did with the actor's token, and what it answered: said of every event at once
-abbrev pub DidPerform : OwnerValue → OwnerValue → Event → Result Told Refusal → Type 0
+abbrev pub DidPerform : OwnerValue → OwnerValue → Event → Result EventReply Refusal → Type 0
 DidPerform old new e (Ok told.Already) = FoundSo old new e
-DidPerform old new e (Ok answer) = Accepted old new (step_by old.actor e) (λ h. told_of h e) answer
+DidPerform old new e (Ok answer) = Accepted old new (step_by old.actor e) (λ h. event_reply_of h e) answer
 DidPerform old new e (Err refusal) = Refused old new (step_by old.actor e) refusal ⊎ (OutOfMemory old new (step_by old.actor e) refusal × (wants_memory (history_seen new) e ≡ true))
 
 -- ---- the words of the calls' clauses: what was done, and that nothing else of the token has changed
@@ -124,15 +124,15 @@ Records old new e result = SeesMore old new × DidRecord old new e result
 abbrev pub RecordsOrMemory : OwnerValue → OwnerValue → Event → Result Cancelling Refusal → Type 0
 RecordsOrMemory old new e result = SeesMore old new × DidRecordOrMemory old new e result
 
-abbrev pub Performed : OwnerValue → OwnerValue → Event → Result Told Refusal → Type 0
+abbrev pub Performed : OwnerValue → OwnerValue → Event → Result EventReply Refusal → Type 0
 Performed old new e result = SeesMore old new × DidPerform old new e result
 
 -- what was answered, if there is no more to say than that it was done
-abbrev pub done : Result Told Refusal → Result (Unit {0}) Refusal
+abbrev pub done : Result EventReply Refusal → Result (Unit {0}) Refusal
 done (Ok answer) = Ok tt
 done (Err refusal) = Err refusal
 
 -- what was answered to a cancel, or to the beginning of a close
-abbrev pub noted : Result Told Refusal → Result Cancelling Refusal
+abbrev pub noted : Result EventReply Refusal → Result Cancelling Refusal
 noted (Ok answer) = Ok (noting answer)
 noted (Err refusal) = Err refusal

@@ -10,8 +10,8 @@ use Rattle.scope_rules.specs.Tasks.{counts}
 use Rattle.scope_rules.specs.Outcomes.{outcome}
 use Rattle.scope_rules.specs.Checks.{scope_check}
 use Rattle.scope_log.specs.Log.{log}
-use Rattle.scope_kept.specs.declared.bare.BareOutcome.{BareOutcome}
-use Rattle.scope_kept.specs.Bare.{bare_of}
+use Rattle.scope_index.specs.declared.bare.BareOutcome.{BareOutcome}
+use Rattle.scope_index.specs.Bare.{bare_of}
 use Rattle.share_ledger.specs.declared.steps.RealmStep.TheVariants.{Happened}
 use Rattle.share_ledger.specs.Values.{OwnerValue}
 use Rattle.realm_core.specs.declared.views.View.{View}

@@ -3,11 +3,11 @@
 ghost use Rattle.std.specs.Prelude.{◌≡◌};
 ghost use Rattle.realm_core.specs.Calls.{done, noted};
 
-use scope_checks::Told;
+use scope_checks::EventReply;
 use scope_rules::{Cancelling, Refusal};
 
 /// That it was done, if there is no more to say.
-pub fn told_done(performed: Result<Told, Refusal>) -> Result<(), Refusal>
+pub fn reply_done(performed: Result<EventReply, Refusal>) -> Result<(), Refusal>
     ensures { result ≡ done performed }
 {
     match performed {
@@ -17,7 +17,7 @@ pub fn told_done(performed: Result<Told, Refusal>) -> Result<(), Refusal>
 }
 
 /// What a cancel, or the beginning of a close, did.
-pub fn told_noted(performed: Result<Told, Refusal>) -> Result<Cancelling, Refusal>
+pub fn reply_noted(performed: Result<EventReply, Refusal>) -> Result<Cancelling, Refusal>
     ensures { result ≡ noted performed }
 {
     match performed {

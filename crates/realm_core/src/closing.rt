@@ -7,7 +7,7 @@ ghost use Rattle.realm_core.specs.Telling.{Stepped};
 
 use crate::RealmName;
 use crate::state::RealmCore;
-use scope_checks::Told;
+use scope_checks::EventReply;
 use scope_rules::{Catalog, Event, Refusal, ScopeId, Verdict};
 use share_ledger::{OwnerShare, RealmStep};
 
@@ -28,7 +28,7 @@ impl<C: Catalog, N: RealmName> RealmCore<C, N> {
         let actor = share.actor();
         let _legal = self.realm.limits();
         match self.perform(share, &Event::EndClose { actor, scope })? {
-            Told::Closed(verdict) => Ok(verdict),
+            EventReply::Closed(verdict) => Ok(verdict),
             _ => unreachable!(),
         }
     }

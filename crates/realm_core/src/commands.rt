@@ -1,16 +1,16 @@
 ghost use Rattle.std.specs.Prelude.{◌≡◌, true, [], IfOk, is_ok};
 ghost use Rattle.scope_rules.specs.Replies.{base_of, recorded};
-ghost use Rattle.scope_checks.specs.Telling.{records};
+ghost use Rattle.scope_checks.specs.EventReplies.{records};
 ghost use Rattle.share_ledger.specs.Steps.{step_by};
 ghost use Rattle.share_ledger.specs.Values.{is_recorded_by};
 ghost use Rattle.realm_core.specs.Calls.{DoesOrMemory, Performed, Records, history_seen};
 ghost use Rattle.realm_core.specs.Telling.{Stepped};
 
 use crate::RealmName;
-use crate::answers::told_noted;
+use crate::answers::reply_noted;
 use crate::state::RealmCore;
 use crate::telling::{tell, tell_retired};
-use scope_checks::{Told, records};
+use scope_checks::{EventReply, records};
 use scope_rules::{Base, Cancelling, Catalog, Event, Refusal, ScopeId};
 use share_ledger::{OwnerShare, RealmStep};
 
@@ -22,7 +22,7 @@ impl<C: Catalog, N: RealmName> RealmCore<C, N> {
     /// its step, and the answer is the rules' on the steps before; else nothing is added, and the refusal,
     /// or that all is so already, is the rules' on what the token has seen by then. `Memory` is answered
     /// only if the command costs load and would be accepted there.
-    pub fn perform(&mut self, share: &mut OwnerShare, event: &Event) -> Result<Told, Refusal>
+    pub fn perform(&mut self, share: &mut OwnerShare, event: &Event) -> Result<EventReply, Refusal>
         requires named { share.old.table ≡ N.table }
         requires event { is_recorded_by share.old.actor event.now ≡ true }
         ensures steps { Stepped self.old self.new share.new (step_by share.old.actor event.now) (records result) }
@@ -45,7 +45,7 @@ impl<C: Catalog, N: RealmName> RealmCore<C, N> {
         ensures answer { Records share.old share.new (Event.BeginClose share.old.actor scope) result }
     {
         let actor = share.actor();
-        told_noted(self.perform(share, &Event::BeginClose { actor, scope }))
+        reply_noted(self.perform(share, &Event::BeginClose { actor, scope }))
     }
 
     /// Takes the events out and leaves a base, once main's outermost scope is closed; what is left goes

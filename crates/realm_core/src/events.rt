@@ -3,9 +3,9 @@ ghost use Rattle.scope_rules.specs.History.{History};
 ghost use Rattle.scope_rules.specs.Load.{weight};
 ghost use Rattle.scope_rules.specs.Table.{is_already};
 ghost use Rattle.scope_checks.specs.Entering.{Enters};
-ghost use Rattle.kept_realm.specs.Fits.{FitsEvent};
+ghost use Rattle.realm_state.specs.Fits.{FitsEvent};
 
-use kept_realm::FittingRealm;
+use realm_state::FittingRealm;
 use scope_rules::{Catalog, Event, Refusal};
 
 /// Performs the command of an event that costs no load, and of which there is no more to say than that it was

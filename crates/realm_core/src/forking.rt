@@ -6,7 +6,7 @@ ghost use Rattle.realm_core.specs.Tasks.{ticket_aside, GivesTicket};
 
 use crate::RealmName;
 use crate::state::RealmCore;
-use scope_checks::Told;
+use scope_checks::EventReply;
 use scope_rules::{Catalog, Event, ForkReply, Label, Refusal, ScopeId, TaskId};
 use share_ledger::{OwnerShare, RealmStep, Ticket};
 
@@ -43,11 +43,11 @@ impl<C: Catalog, N: RealmName> RealmCore<C, N> {
             label,
         };
         match self.realm.perform(&event, false, None) {
-            Ok(Told::Task(ForkReply::Thread(task))) => {
+            Ok(EventReply::Task(ForkReply::Thread(task))) => {
                 let ticket = self.keeper.fork(share, task, scope, &label);
                 Ok(Forked::Thread(ticket))
             }
-            Ok(Told::Task(ForkReply::Never(task))) => {
+            Ok(EventReply::Task(ForkReply::Never(task))) => {
                 self.keeper.fork_never(share, scope, &label);
                 Ok(Forked::Never(task))
             }

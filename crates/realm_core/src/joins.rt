@@ -6,7 +6,7 @@ use crate::RealmName;
 use crate::events::done;
 use crate::state::RealmCore;
 use crate::telling::tell;
-use scope_kept::BareOutcome;
+use scope_index::BareOutcome;
 use scope_log::ScopeLog;
 use scope_rules::{Catalog, Event, Outcome, Refusal, ScopeId};
 use share_ledger::{OwnerShare, RealmStep};

@@ -10,7 +10,7 @@ ghost use Rattle.realm_core.specs.Reports.{numbers, with_end, IsPrepared, ArePre
 
 use crate::ending::end_all;
 use crate::{RealmCore, RealmName};
-use kept_realm::KeptRealm;
+use realm_state::RealmState;
 use scope_checks::Readings;
 use scope_log::{LogEntry, ScopeLog};
 use scope_rules::{Actor, Catalog, Refusal, ScopeId, Verdict};
@@ -55,7 +55,7 @@ pub fn close_with_report<C: Catalog, N: RealmName>(
 
 /// What will be shown of the scope, and of those that are closed with it.
 fn prepared(
-    realm: &KeptRealm,
+    realm: &RealmState,
     alloc: Global,
     actor: Actor,
     scope: ScopeId,
@@ -72,7 +72,7 @@ fn prepared(
 
 /// What will be shown of the scopes inside the scope, the latest first.
 fn nested_logs(
-    realm: &KeptRealm,
+    realm: &RealmState,
     alloc: Global,
     actor: Actor,
     scope: ScopeId,
@@ -98,7 +98,7 @@ fn nested_logs(
 
 /// The log that the scope, whose close has begun, has once the actor's end of it is added.
 fn closing_log(
-    realm: &KeptRealm,
+    realm: &RealmState,
     alloc: Global,
     actor: Actor,
     scope: ScopeId,

@@ -1,10 +1,10 @@
 ghost use Rattle.std.specs.Prelude.{◌≡◌, ℕ, [], List, slice_get};
-ghost use Rattle.scope_kept.specs.CutsOf.{IsCancelOrderOf};
+ghost use Rattle.scope_index.specs.CancelsOf.{IsCancelOrderOf};
 ghost use Rattle.share_ledger.specs.Steps.{history_of, IsLegal};
-ghost use Rattle.kept_realm.specs.Fits.{Fitting};
+ghost use Rattle.realm_state.specs.Fits.{Fitting};
 
 use crate::RealmName;
-use kept_realm::{FittingRealm, KeptRealm};
+use realm_state::{FittingRealm, RealmState};
 use scope_rules::types::values::MAIN;
 use scope_rules::{Catalog, Limits, ScopeId};
 use share_ledger::{Keeper, OwnerShare, Seed};
@@ -40,7 +40,7 @@ impl<C: Catalog, N: RealmName> RealmCore<C, N> {
     {
         let (keeper, share) = seed.begin(limits);
         let core = RealmCore {
-            realm: FittingRealm::over(KeptRealm::new(alloc, limits)),
+            realm: FittingRealm::over(RealmState::new(alloc, limits)),
             keeper,
             name: PhantomData,
         };
@@ -56,8 +56,8 @@ impl<C: Catalog, N: RealmName> RealmCore<C, N> {
         self.realm.limits()
     }
 
-    /// The realm as it is, of which questions are asked without a token.
-    pub fn realm(&self) -> &KeptRealm
+    /// The realm as it is, which queries read without a token.
+    pub fn realm(&self) -> &RealmState
         ensures { result.now ≡ record { limits = self.now.limits; history = history_of self.now.steps } }
     {
         self.realm.realm()

@@ -7,7 +7,7 @@ ghost use Rattle.share_ledger.specs.Values.{TicketValue};
 ghost use Rattle.realm_core.specs.Tickets.{AreTicketsOf, BearsOut, is_ended_ticket_of, IsFoundFrom, IsBrought, MayPlaceOne, MayPlace};
 
 use crate::{RealmCore, RealmName};
-use kept_realm::KeptRealm;
+use realm_state::RealmState;
 use scope_checks::Readings;
 use scope_rules::{Catalog, ScopeId, Stage, TaskId};
 use share_ledger::Ticket;
@@ -17,7 +17,7 @@ use share_ledger::Ticket;
 /// each has ended. It brings them into the order of scopes and tasks, and takes no memory. If they
 /// come in that order, it takes time by how many there are; else, for each that is later, by how many
 /// are before it.
-pub fn are_tickets_of(realm: &KeptRealm, scope: ScopeId, tickets: &mut Vec<Ticket>) -> bool
+pub fn are_tickets_of(realm: &RealmState, scope: ScopeId, tickets: &mut Vec<Ticket>) -> bool
     requires opened { IsSome (opening realm.now.history scope) }
     requires unclosed { closed realm.now.history scope ≡ false }
     ensures same { IsPermutation tickets.old.items tickets.new.items }
@@ -40,7 +40,7 @@ pub fn are_tickets_of(realm: &KeptRealm, scope: ScopeId, tickets: &mut Vec<Ticke
 /// Brings the tickets of the scope's tasks that got a thread to the place and those after it, in fork
 /// order, and says which place follows; or none, if one of them isn't there, or hasn't ended.
 fn place_all(
-    realm: &KeptRealm,
+    realm: &RealmState,
     scope: ScopeId,
     tickets: &mut Vec<Ticket>,
     first: usize,
@@ -64,7 +64,7 @@ fn place_all(
 /// Brings the task's ticket to the place, if the task got a thread, and says which place follows; or
 /// none, if it isn't there or later, or hasn't ended.
 fn place_one(
-    realm: &KeptRealm,
+    realm: &RealmState,
     tickets: &mut Vec<Ticket>,
     place: usize,
     task: TaskId,

@@ -2,8 +2,8 @@ ghost use Rattle.std.specs.Prelude.{◌≡◌, true, ◌↔◌, Ok, Err, IfOk, M
 ghost use Rattle.scope_rules.specs.Checks.{scope_check};
 ghost use Rattle.realm_core.specs.Views.{ViewAnswers, MarkedViewAnswers, IsMarkOf};
 
-use kept_realm::KeptRealm;
-use scope_checks::{Readings, questions};
+use realm_state::RealmState;
+use scope_checks::{Readings, queries};
 use scope_log::ScopeLog;
 use scope_rules::{Cause, Counts, Refusal, ScopeId};
 
@@ -22,11 +22,11 @@ pub struct View {
 
 /// What there is to see of the scope. Refused for an unknown scope (`NoScope`, `Retired`), and if memory
 /// is refused (`Memory`).
-pub fn view_of(realm: &KeptRealm, scope: ScopeId) -> Result<View, Refusal>
+pub fn view_of(realm: &RealmState, scope: ScopeId) -> Result<View, Refusal>
     ensures { ViewAnswers realm.now.history scope result }
 {
-    let cause = questions::cause(realm, scope)?;
-    let counts = questions::counts(realm, scope)?;
+    let cause = queries::cause(realm, scope)?;
+    let counts = queries::counts(realm, scope)?;
     let moment = realm.moment();
     let log = realm.project(scope)?;
     Ok(View {
@@ -40,7 +40,7 @@ pub fn view_of(realm: &KeptRealm, scope: ScopeId) -> Result<View, Refusal>
 /// The same, where the scope became cancelled for this cause, by the event at this place since the base, as
 /// a mark of its own says. Refused for another cause or place (`Unavailable`).
 pub fn marked_view_of(
-    realm: &KeptRealm,
+    realm: &RealmState,
     scope: ScopeId,
     cause: Cause,
     place: usize,
@@ -54,11 +54,16 @@ pub fn marked_view_of(
 }
 
 /// Whether the scope became cancelled for this cause, by the event at this place.
-fn is_marked(realm: &KeptRealm, scope: ScopeId, cause: Cause, place: usize) -> Result<bool, Refusal>
+fn is_marked(
+    realm: &RealmState,
+    scope: ScopeId,
+    cause: Cause,
+    place: usize,
+) -> Result<bool, Refusal>
     ensures refused { MatchResult result (λ _. scope_check realm.now.history scope ≡ Ok tt) (λ refusal. scope_check realm.now.history scope ≡ Err refusal) }
     ensures marked { IfOk result (λ b. (b ≡ true) ↔ IsMarkOf realm.now.history scope cause place) }
 {
-    let told = questions::cause(realm, scope)?;
-    let at = questions::cancelled_at(realm, scope)?;
+    let told = queries::cause(realm, scope)?;
+    let at = queries::cancelled_at(realm, scope)?;
     Ok(told == Some(cause) && at == Some(place))
 }

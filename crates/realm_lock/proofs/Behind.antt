@@ -25,9 +25,9 @@ use Rattle.share_ledger.specs.declared.steps.Ask.TheVariants as ask
 use Rattle.share_ledger.specs.Steps.{advance, asked, fresh, history_of, step_by, IsLegal}
 use Rattle.share_ledger.proofs.Histories.{history-push, legal_history, beginning_legal}
 use Rattle.std.proofs.lemmas.List.{same_from_push}
-use Rattle.scope_checks.specs.declared.told.Told.{Told}
-use Rattle.scope_checks.specs.declared.told.Told.TheVariants as told
-use Rattle.scope_checks.specs.Telling.{records}
+use Rattle.scope_checks.specs.declared.event_replies.EventReply.{EventReply}
+use Rattle.scope_checks.specs.declared.event_replies.EventReply.TheVariants as told
+use Rattle.scope_checks.specs.EventReplies.{records}
 use Rattle.share_ledger.specs.Values.{OwnerValue}
 use Rattle.realm_core.specs.Calls.{history_seen, DidPerform}
 use Rattle.realm_core.specs.Cores.{CoreValue}
@@ -205,14 +205,14 @@ pub cell_there : (h : History) (s i : ℕ) (marks : MarksValue) (cell : CellValu
 cell_there h s i marks cell are place it = ap (λ (c : CellValue). c.scope) it.2 ∙ ((are.setters.own i it.0 it.1).of ∙ place)
 
 -- an open that was accepted, whose setter was added
-pub behind_open : (old new : CoreValue) (token before : OwnerValue) (a : ℕ) (policy : Policy) (options : Options) (result : Result Told Refusal) (t : Told) (s : ℕ) (cell : CellValue) (marks now : MarksValue)
+pub behind_open : (old new : CoreValue) (token before : OwnerValue) (a : ℕ) (policy : Policy) (options : Options) (result : Result EventReply Refusal) (t : EventReply) (s : ℕ) (cell : CellValue) (marks now : MarksValue)
     → IsLegal old.limits old.steps → result ≡ Ok t → t ≡ told.Scope s → Stepped old new token (Happened (event.Open a policy options)) (records result) → DidPerform before token (event.Open a policy options) (Ok t)
     → AreMarks (history_of old.steps) marks → AddsSetter marks now s cell → AreBehind (history_of new.steps) now
 behind_open old new token before a policy options result t s cell marks now lawful is told_is stepped did are adds =
     let x = Happened (event.Open a policy options) in
     let recorded : records result ≡ true = ap records (is ∙ ap Ok told_is) in
     let steps : new.steps ≡ old.steps ++ x ∷ [] = ap (λ (k : CoreValue). k.steps) (stepped.1 ∙ ap (stepping old x) recorded) in
-    let accepted = open_told before token a policy options s (subst (λ (y : Told). DidPerform before token (event.Open a policy options) (Ok y)) told_is did) in
+    let accepted = open_told before token a policy options s (subst (λ (y : EventReply). DidPerform before token (event.Open a policy options) (Ok y)) told_is did) in
     let there : accepted.adds.there ≡ old.steps = (same_from_push accepted.adds.there old.steps x x (sym accepted.adds.is ∙ (sym (ap (λ (k : CoreValue). k.steps) stepped.0) ∙ steps))).0 in
     let number : s ≡ next_scope (history_of old.steps) = accepted.replied ∙ ap (λ xs. next_scope (history_of xs)) there in
     let behind = behind_opened old.limits (history_of old.steps) a policy options s cell marks now (legal_history old.limits old.steps lawful) number are adds in

@@ -7,61 +7,61 @@ use Rattle.std.proofs.lemmas.List.Kept.{AllPairs-filter}
 use Rattle.scope_rules.specs.declared.types.capacity.Limits.{Limits}
 use Rattle.scope_rules.specs.declared.types.events.Event.{Event}
 use Rattle.scope_rules.specs.declared.types.records.Opening.{Opening}
-use Rattle.scope_rules.specs.declared.types.records.Cut.{Cut}
+use Rattle.scope_rules.specs.declared.types.records.FirstCancel.{FirstCancel}
 use Rattle.scope_rules.specs.History.{History, followed, opening}
-use Rattle.scope_rules.specs.Cancels.{cut, cause, is_cancelled, cancelled_at}
+use Rattle.scope_rules.specs.Cancels.{first_cancel, cause, is_cancelled, cancelled_at}
 use Rattle.scope_rules.specs.Legal.{Legal}
-use Rattle.scope_rules.proofs.CutsGrow.{cut_new}
+use Rattle.scope_rules.proofs.ChainsGrow.{cancel_new}
 use Rattle.scope_rules.proofs.Earlier.{opening_within, opening_shown}
 use Rattle.scope_rules.proofs.Growing.{opening_stays}
 use Rattle.scope_rules.proofs.OneEventMore.{opening_split}
-use Rattle.scope_rules.proofs.Staying.{cut_opened, cut_stays, cut_within_history}
+use Rattle.scope_rules.proofs.Staying.{cancel_opened, cancel_stays, cancel_within_history}
 use Rattle.cancel_marks.specs.declared.cancellation.Cancellation.{Cancellation}
 use Rattle.cancel_tree.specs.Order.{IsBefore, IsInOrder}
 use Rattle.cancel_tree.proofs.OrderLaws.{order_unique}
-use Rattle.scope_kept.specs.CutsOf.{IsCancelOrderOf}
+use Rattle.scope_index.specs.CancelsOf.{IsCancelOrderOf}
 use Rattle.realm_lock.specs.Marked.{mark_of, CancelsGrow}
 
--- ---- what a mark says, by the scope's cut
+-- ---- what a mark says, by the scope's first cancel
 
-uncut_unmarked : (h : History) (s : ℕ) → cut h s ≡ None → mark_of h s ≡ None
+uncancelled_unmarked : (h : History) (s : ℕ) → first_cancel h s ≡ None → mark_of h s ≡ None
 unfolding cause cancelled_at
-uncut_unmarked h s none = by (opening h s) refl
+uncancelled_unmarked h s none = by (opening h s) refl
   where
     by : (o : Option Opening) → opening h s ≡ o → mark_of h s ≡ None
     by None is = rw is refl
     by (Some o) is = rw is (rw none refl)
 
-marked_by : (h : History) (s : ℕ) (o : Opening) (c : Cut) → opening h s ≡ Some o → cut h s ≡ Some c → mark_of h s ≡ Some (record { cause = c.cause; number = max o.place c.place })
+marked_by : (h : History) (s : ℕ) (o : Opening) (c : FirstCancel) → opening h s ≡ Some o → first_cancel h s ≡ Some c → mark_of h s ≡ Some (record { cause = c.cause; number = max o.place c.place })
 unfolding cause cancelled_at
 marked_by h s o c is found = rw is (rw found refl)
 
--- a mark is of a cut of an opened scope
+-- a mark is of a first cancel of an opened scope
 pub record IsMarked (h : History) (s : ℕ) (m : Cancellation) : Type 0 where
   pub opened : Opening
   pub is : opening h s ≡ Some opened
-  pub by : Cut
-  pub found : cut h s ≡ Some by
+  pub by : FirstCancel
+  pub found : first_cancel h s ≡ Some by
   pub says : m ≡ record { cause = by.cause; number = max opened.place by.place }
 
 pub marked : (h : History) (s : ℕ) (m : Cancellation) → mark_of h s ≡ Some m → IsMarked h s m
-marked h s m is = by (cut h s) refl
+marked h s m is = by (first_cancel h s) refl
   where
-    by : (k : Option Cut) → cut h s ≡ k → IsMarked h s m
-    by None none = absurd (let nothing = uncut_unmarked h s none in cc (nothing, is))
+    by : (k : Option FirstCancel) → first_cancel h s ≡ k → IsMarked h s m
+    by None none = absurd (let nothing = uncancelled_unmarked h s none in cc (nothing, is))
     by (Some c) found =
-        let it = cut_opened h s c (opening h s) found refl in
+        let it = cancel_opened h s c (opening h s) found refl in
         let says = marked_by h s it.opened c it.is found in
         record { opened = it.opened; is = it.is; by = c; found = found; says = cc (says, is) }
 
 -- a scope has a mark if it is cancelled, with the place at which it became so
 pub mark_there : (h : History) (s : ℕ) → is_cancelled h s ≡ true → (m : Cancellation) × (mark_of h s ≡ Some m)
 unfolding is_cancelled
-mark_there h s is = by (cut h s) refl
+mark_there h s is = by (first_cancel h s) refl
   where
-    by : (k : Option Cut) → cut h s ≡ k → (m : Cancellation) × (mark_of h s ≡ Some m)
+    by : (k : Option FirstCancel) → first_cancel h s ≡ k → (m : Cancellation) × (mark_of h s ≡ Some m)
     by None none = absurd (let nothing = ap is_some none in cc (nothing, is))
-    by (Some c) found = let it = cut_opened h s c (opening h s) found refl in (record { cause = c.cause; number = max it.opened.place c.place }, marked_by h s it.opened c it.is found)
+    by (Some c) found = let it = cancel_opened h s c (opening h s) found refl in (record { cause = c.cause; number = max it.opened.place c.place }, marked_by h s it.opened c it.is found)
 
 pub cancelled_there : (h : History) (s : ℕ) (m : Cancellation) → mark_of h s ≡ Some m → (is_cancelled h s ≡ true) × (cancelled_at h s ≡ Some m.number)
 unfolding is_cancelled cancelled_at
@@ -82,7 +82,7 @@ pub no_more : (h : History) → CancelsGrow h h
 no_more h = record {
   base = refl;
   longer = omega arith;
-  kept = λ s m is. (let it = marked h s m is in (is, (let o = opening_within h s it.opened it.is in let c = cut_within_history h s it.by it.found in let n = ap (λ (x : Cancellation). x.number) it.says in omega (arith, o, c, n))));
+  kept = λ s m is. (let it = marked h s m is in (is, (let o = opening_within h s it.opened it.is in let c = cancel_within_history h s it.by it.found in let n = ap (λ (x : Cancellation). x.number) it.says in omega (arith, o, c, n))));
   fresh = λ s m none is. absurd (cc (none, is));
 }
 
@@ -98,7 +98,7 @@ grows_by L h e legal = record {
     kept : (s : ℕ) (m : Cancellation) → mark_of h s ≡ Some m → (mark_of (followed h e) s ≡ Some m) × (m.number < length h.events)
     kept s m is =
         let it = marked h s m is in
-        let there = marked_by (followed h e) s it.opened it.by (opening_stays h e s it.opened it.is) (cut_stays L h e s it.by legal it.found) in
+        let there = marked_by (followed h e) s it.opened it.by (opening_stays h e s it.opened it.is) (cancel_stays L h e s it.by legal it.found) in
         (there ∙ ap Some (sym it.says), ((no_more h).kept s m is).1)
 
     fresh : (s : ℕ) (m : Cancellation) → mark_of h s ≡ None → mark_of (followed h e) s ≡ Some m → length h.events ≤ m.number
@@ -107,17 +107,17 @@ grows_by L h e legal = record {
         let n = ap (λ (x : Cancellation). x.number) it.says in
         elim (opening_split h e s it.opened it.is) [
           | inl there ↦
-              let uncut : cut h s ≡ None = no_cut s it.opened there none in
-              let new = cut_new L h e s it.by legal (record { opened = it.opened; is = there }) uncut it.found in
+              let no_first_cancel : first_cancel h s ≡ None = no_cancel s it.opened there none in
+              let new = cancel_new L h e s it.by legal (record { opened = it.opened; is = there }) no_first_cancel it.found in
               omega (arith, n, new)
           | inr now ↦ let place = (opening_shown (length h.events) e it.opened now.1).0 in omega (arith, n, place)
         ]
       where
-        no_cut : (s : ℕ) (o : Opening) → opening h s ≡ Some o → mark_of h s ≡ None → cut h s ≡ None
-        no_cut s o is none = by (cut h s) refl
+        no_cancel : (s : ℕ) (o : Opening) → opening h s ≡ Some o → mark_of h s ≡ None → first_cancel h s ≡ None
+        no_cancel s o is none = by (first_cancel h s) refl
           where
-            by : (k : Option Cut) → cut h s ≡ k → k ≡ None
-            by None uncut = refl
+            by : (k : Option FirstCancel) → first_cancel h s ≡ k → k ≡ None
+            by None no_first_cancel = refl
             by (Some c) found = absurd (let m = marked_by h s o c is found in cc (m, none))
 
 pub grows_on : (h k l : History) → CancelsGrow h k → CancelsGrow k l → CancelsGrow h l

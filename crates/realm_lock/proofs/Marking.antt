@@ -18,8 +18,8 @@ use Rattle.scope_rules.specs.Cancels.{cause, is_cancelled, cancelled_at}
 use Rattle.scope_rules.proofs.Innermosts.{opened_after}
 use Rattle.cancel_marks.specs.declared.cancellation.Cancellation.{Cancellation}
 use Rattle.cancel_marks.specs.Seats.{CellValue, SetterValue}
-use Rattle.scope_checks.specs.Questions.{cancellation}
-use Rattle.scope_kept.specs.CutsOf.{IsCancelOrderOf}
+use Rattle.scope_checks.specs.Queries.{cancellation}
+use Rattle.scope_index.specs.CancelsOf.{IsCancelOrderOf}
 use Rattle.cancel_tree.proofs.OrderLaws.{order_unique}
 use Rattle.share_ledger.specs.Steps.{history_of}
 use Rattle.realm_core.specs.Cores.{CoreValue}

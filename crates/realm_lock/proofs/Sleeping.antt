@@ -17,10 +17,10 @@ use Rattle.share_ledger.specs.declared.steps.RealmStep.{RealmStep}
 use Rattle.share_ledger.specs.declared.steps.RealmStep.TheVariants.{Asked, Happened}
 use Rattle.share_ledger.specs.Steps.{history_of}
 use Rattle.share_ledger.proofs.Histories.{history-push}
-use Rattle.scope_kept.specs.declared.bare.BareOutcome.{BareOutcome}
-use Rattle.scope_checks.specs.declared.told.Told.{Told}
-use Rattle.scope_checks.specs.declared.told.Told.TheVariants as told
-use Rattle.scope_checks.specs.Telling.{records}
+use Rattle.scope_index.specs.declared.bare.BareOutcome.{BareOutcome}
+use Rattle.scope_checks.specs.declared.event_replies.EventReply.{EventReply}
+use Rattle.scope_checks.specs.declared.event_replies.EventReply.TheVariants as told
+use Rattle.scope_checks.specs.EventReplies.{records}
 use Rattle.scope_rules.specs.Replies.{Realm}
 use Rattle.realm_core.specs.Calls.{Performed, Refused, done, history_seen}
 use Rattle.realm_core.specs.Cores.{CoreValue}
@@ -155,7 +155,7 @@ none_after there a now due = omega (arith, at, due.come, late)
     late = due.next.coming
 
 -- what the command of a tick leaves that was accepted
-pub tick_passed : (core after final : CoreValue) (old new : OwnerValue) (now : ℕ) (result : Result Told Refusal) → final ≡ after → Stepped core after new (Asked old.actor (ask.Tick now)) (records result) → Performed old new (Tick now) result → IfOk (done result) (λ _. (final.steps ≡ new.seen) × (HasCome (history_of final.steps) now → ⊥))
+pub tick_passed : (core after final : CoreValue) (old new : OwnerValue) (now : ℕ) (result : Result EventReply Refusal) → final ≡ after → Stepped core after new (Asked old.actor (ask.Tick now)) (records result) → Performed old new (Tick now) result → IfOk (done result) (λ _. (final.steps ≡ new.seen) × (HasCome (history_of final.steps) now → ⊥))
 tick_passed core after final old new now (Ok told.Already) same stepped did = absurd (both did.1.already)
   where
     both : false ≡ true → ⊥

@@ -17,9 +17,9 @@ use Rattle.share_ledger.specs.declared.steps.Ask.TheVariants as ask
 use Rattle.share_ledger.specs.declared.steps.RealmStep.{RealmStep}
 use Rattle.share_ledger.specs.declared.steps.RealmStep.TheVariants.{Asked}
 use Rattle.share_ledger.specs.Steps.{history_of}
-use Rattle.scope_checks.specs.declared.told.Told.{Told}
-use Rattle.scope_checks.specs.declared.told.Told.TheVariants as told
-use Rattle.scope_checks.specs.Telling.{records}
+use Rattle.scope_checks.specs.declared.event_replies.EventReply.{EventReply}
+use Rattle.scope_checks.specs.declared.event_replies.EventReply.TheVariants as told
+use Rattle.scope_checks.specs.EventReplies.{records}
 use Rattle.share_ledger.specs.Values.{OwnerValue}
 use Rattle.realm_core.specs.Calls.{SeesMore, HasLooked, Looked, Performed, done, history_seen}
 use Rattle.realm_core.specs.Cores.{CoreValue}
@@ -44,7 +44,7 @@ full L h now r due is = by (over_load L h STEP_LOAD) refl
     by false fits = let said = rw (forward, fits) at is in absurd cc
 
 -- what the command of a tick did that is due
-pub tick_done : (core after : CoreValue) (old new : OwnerValue) (now : ℕ) (result : Result Told Refusal) → HasCome (history_of core.steps) now → Stepped core after new (Asked old.actor (ask.Tick now)) (records result) → Performed old new (Tick now) result → MatchResult (done result) (λ _. Ticks old new now) (TickRefused old new now)
+pub tick_done : (core after : CoreValue) (old new : OwnerValue) (now : ℕ) (result : Result EventReply Refusal) → HasCome (history_of core.steps) now → Stepped core after new (Asked old.actor (ask.Tick now)) (records result) → Performed old new (Tick now) result → MatchResult (done result) (λ _. Ticks old new now) (TickRefused old new now)
 tick_done core after old new now (Ok told.Already) due stepped did = absurd (both did.1.already)
   where
     both : false ≡ true → ⊥

@@ -3,7 +3,7 @@ use Rattle.std.specs.Prelude.{◌≡◌, ℕ, ◌+◌, ◌<◌, ◌≤◌, Optio
 use Rattle.std.specs.Option.{option_and_then, option_or}
 use Rattle.scope_rules.specs.History.{History, opened_count}
 use Rattle.scope_rules.specs.Cancels.{cause, cancelled_at}
-use Rattle.scope_kept.specs.CutsOf.{IsCancelOrderOf}
+use Rattle.scope_index.specs.CancelsOf.{IsCancelOrderOf}
 use Rattle.cancel_marks.specs.declared.cancellation.Cancellation.{Cancellation}
 use Rattle.cancel_marks.specs.Seats.{CellValue, SetterValue}
 

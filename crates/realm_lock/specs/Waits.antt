@@ -8,7 +8,7 @@ use Rattle.scope_rules.specs.History.{History}
 use Rattle.share_ledger.specs.declared.steps.Ask.TheVariants.{Tick}
 use Rattle.share_ledger.specs.declared.steps.RealmStep.TheVariants.{Asked}
 use Rattle.share_ledger.specs.Steps.{history_of}
-use Rattle.scope_kept.specs.Coming.{IsNextDeadline}
+use Rattle.scope_index.specs.Coming.{IsNextDeadline}
 use Rattle.share_ledger.specs.Values.{OwnerValue}
 use Rattle.realm_core.specs.Calls.{SeesMore, Looked, Added, Refused, OutOfMemory, history_seen}
 use Rattle.realm_core.specs.Views.{Joins}

@@ -3,12 +3,12 @@ ghost use Rattle.std.specs.List.{All};
 ghost use Rattle.scope_rules.specs.declared.types.refusals.Refusal.TheVariants.{Memory, NotReady};
 ghost use Rattle.scope_rules.specs.Verdicts.{verdict};
 ghost use Rattle.share_ledger.specs.Values.{TicketValue};
-ghost use Rattle.kept_realm.specs.Fits.{Fitting};
+ghost use Rattle.realm_state.specs.Fits.{Fitting};
 ghost use Rattle.realm_core.specs.Calls.{SeesMore, history_seen};
 ghost use Rattle.realm_core.specs.Waiting.{IsOpenOf};
 ghost use Rattle.realm_core.specs.Closes.{IsBegun, Begins, EndsLater, ClosesBare, EndsReported, HoldsBack, ClosesWith, StaysOpen};
 
-use crate::marked::MarkedCore;
+use crate::locked::LockedRealm;
 use crate::realm::Realm;
 use realm_core::{CloseReport, RealmName};
 use scope_rules::{Cancelling, Catalog, Refusal, ScopeId, Verdict};
@@ -33,7 +33,7 @@ impl<C: Catalog, N: RealmName> Realm<C, N> {
         ensures answer { ClosesBare token.old token.new scope result }
         ensures sure { IsOpenOf (history_seen token.old) token.old.actor scope → IsOk result }
     {
-        let mut locked = self.room.locked.lock(rt);
+        let mut locked = self.shared.locked.lock(rt);
         match locked.begin(token, scope) {
             Ok(_) => Ok(self.end_held(rt, locked, token, scope)),
             Err(refusal) => Err(refusal),
@@ -81,7 +81,7 @@ impl<C: Catalog, N: RealmName> Realm<C, N> {
         ensures answer { Begins token.old token.new scope result }
         ensures sure { IsOpenOf (history_seen token.old) token.old.actor scope → IsOk result }
     {
-        let mut locked = self.room.locked.lock(rt);
+        let mut locked = self.shared.locked.lock(rt);
         locked.begin(token, scope)
     }
 
@@ -93,7 +93,7 @@ impl<C: Catalog, N: RealmName> Realm<C, N> {
         ensures ends { (nested : List ℕ) × EndsLater token.old token.new scope nested }
         ensures verdict { result ≡ verdict (history_seen token.new) scope }
     {
-        let locked = self.room.locked.lock(rt);
+        let locked = self.shared.locked.lock(rt);
         self.end_held(rt, locked, token, scope)
     }
 
@@ -101,7 +101,7 @@ impl<C: Catalog, N: RealmName> Realm<C, N> {
     fn end_held<'a, R: Wait>(
         &'a self,
         rt: &R,
-        locked: MutexGuard<'a, MarkedCore<C, N>>,
+        locked: MutexGuard<'a, LockedRealm<C, N>>,
         token: &mut OwnerShare,
         scope: ScopeId,
     ) -> Verdict
@@ -140,7 +140,7 @@ impl<C: Catalog, N: RealmName> Realm<C, N> {
         ensures done { IfOk result (λ report. EndsReported token.old token.new scope tickets.old.items report) }
         ensures not { IfErr result (λ refusal. HoldsBack token.old token.new scope tickets.old.items tickets.new.items refusal) }
     {
-        let mut locked = self.room.locked.lock(rt);
+        let mut locked = self.shared.locked.lock(rt);
         for _ in rt.forever() {
             match locked.report_if_settled(token, scope, tickets) {
                 Some(answer) => return answer,

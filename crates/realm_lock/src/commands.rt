@@ -1,11 +1,11 @@
 ghost use Rattle.std.specs.Prelude.{◌≡◌, [], IfOk};
 ghost use Rattle.scope_rules.specs.Replies.{fork_reply, base_of};
-ghost use Rattle.kept_realm.specs.Fits.{Fitting};
+ghost use Rattle.realm_state.specs.Fits.{Fitting};
 ghost use Rattle.realm_core.specs.Calls.{DoesOrMemory, Records, RecordsOrMemory, history_seen};
 ghost use Rattle.realm_core.specs.Tasks.{ticket_aside, GivesTicket};
 
 use crate::realm::Realm;
-use realm_core::{Forked, RealmName, told_done, told_noted};
+use realm_core::{Forked, RealmName, reply_done, reply_noted};
 use scope_rules::{
     Base, Binding, Cancelling, Catalog, Event, Label, Name, Refusal, ScopeId, Value,
 };
@@ -35,7 +35,7 @@ impl<C: Catalog, N: RealmName> Realm<C, N> {
         ensures ticket { GivesTicket token.new scope label result }
         ensures fitting { Fitting C.fitting (history_seen token.new) }
     {
-        let mut locked = self.room.locked.lock(rt);
+        let mut locked = self.shared.locked.lock(rt);
         locked.fork(token, scope, label)
     }
 
@@ -54,8 +54,8 @@ impl<C: Catalog, N: RealmName> Realm<C, N> {
     {
         let actor = token.actor();
         let binding = Binding { key, value };
-        let mut locked = self.room.locked.lock(rt);
-        told_done(locked.perform(token, &Event::Bind { actor, binding }))
+        let mut locked = self.shared.locked.lock(rt);
+        reply_done(locked.perform(token, &Event::Bind { actor, binding }))
     }
 
     /// Takes away the actor's last own binding. Refused if the actor is no running task or main, has
@@ -67,8 +67,8 @@ impl<C: Catalog, N: RealmName> Realm<C, N> {
         ensures fitting { Fitting C.fitting (history_seen token.new) }
     {
         let actor = token.actor();
-        let mut locked = self.room.locked.lock(rt);
-        told_done(locked.perform(token, &Event::Unbind { actor }))
+        let mut locked = self.shared.locked.lock(rt);
+        reply_done(locked.perform(token, &Event::Unbind { actor }))
     }
 
     /// Begins to close the actor's scope, and with it each scope that the actor opened later and has not
@@ -85,7 +85,7 @@ impl<C: Catalog, N: RealmName> Realm<C, N> {
         ensures answer { Records token.old token.new (Event.BeginClose token.old.actor scope) result }
         ensures fitting { Fitting C.fitting (history_seen token.new) }
     {
-        let mut locked = self.room.locked.lock(rt);
+        let mut locked = self.shared.locked.lock(rt);
         locked.begin_close(token, scope)
     }
 
@@ -102,8 +102,8 @@ impl<C: Catalog, N: RealmName> Realm<C, N> {
         ensures answer { RecordsOrMemory token.old token.new (Event.Cancel scope) result }
         ensures fitting { Fitting C.fitting (history_seen token.new) }
     {
-        let mut locked = self.room.locked.lock(rt);
-        told_noted(locked.perform(token, &Event::Cancel { scope }))
+        let mut locked = self.shared.locked.lock(rt);
+        reply_noted(locked.perform(token, &Event::Cancel { scope }))
     }
 
     /// Sets the deadline of the scope anew, in milliseconds, or takes it away, with any actor's token
@@ -121,11 +121,11 @@ impl<C: Catalog, N: RealmName> Realm<C, N> {
         ensures answer { DoesOrMemory token.old token.new (RealmStep.Asked token.old.actor (Ask.Move scope deadline)) (λ _. tt) result }
         ensures fitting { Fitting C.fitting (history_seen token.new) }
     {
-        let mut locked = self.room.locked.lock(rt);
+        let mut locked = self.shared.locked.lock(rt);
         let before = locked.next_deadline();
         let told = locked.perform(token, &Event::Move { scope, deadline });
         self.wake_if_nearer(&mut locked, before);
-        told_done(told)
+        reply_done(told)
     }
 
     /// Sets the realm's time, in milliseconds, with any actor's token. Refused for a moment before the present
@@ -135,8 +135,8 @@ impl<C: Catalog, N: RealmName> Realm<C, N> {
         ensures answer { DoesOrMemory token.old token.new (RealmStep.Asked token.old.actor (Ask.Tick now)) (λ _. tt) result }
         ensures fitting { Fitting C.fitting (history_seen token.new) }
     {
-        let mut locked = self.room.locked.lock(rt);
-        told_done(locked.perform(token, &Event::Tick { now }))
+        let mut locked = self.shared.locked.lock(rt);
+        reply_done(locked.perform(token, &Event::Tick { now }))
     }
 
     /// Takes the events out and leaves a base, once main's outermost scope is closed; what is left goes
@@ -149,7 +149,7 @@ impl<C: Catalog, N: RealmName> Realm<C, N> {
         ensures base { IfOk result (λ base. history_seen token.new ≡ record { base = base; events = [] }) }
         ensures fitting { Fitting C.fitting (history_seen token.new) }
     {
-        let mut locked = self.room.locked.lock(rt);
+        let mut locked = self.shared.locked.lock(rt);
         locked.retire(token)
     }
 }

@@ -4,7 +4,7 @@ ghost use Rattle.cancel_marks.specs.Marked.{said_by};
 ghost use Rattle.scope_rules.specs.declared.types.refusals.Refusal.TheVariants.{NotReady};
 ghost use Rattle.scope_rules.specs.Tasks.{settled};
 ghost use Rattle.share_ledger.specs.Steps.{history_of};
-ghost use Rattle.kept_realm.specs.Fits.{Fitting};
+ghost use Rattle.realm_state.specs.Fits.{Fitting};
 ghost use Rattle.realm_core.specs.Calls.{Looked, SeesMore, history_seen};
 ghost use Rattle.realm_core.specs.Closes.{IsBegun};
 ghost use Rattle.realm_core.specs.Telling.{Stepped};
@@ -13,15 +13,15 @@ ghost use Rattle.realm_lock.specs.Sleeps.{IsHeldUp};
 ghost use Rattle.realm_lock.specs.Turns.{JoinsInTime, LooksInTime, PassesDue, PassesTime, TurnRefused};
 ghost use Rattle.realm_lock.specs.Waits.{HasCome, Ticks, TickRefused, shown_in};
 
-use crate::marked::MarkedCore;
+use crate::locked::LockedRealm;
 use cancel_marks::{Mark, MarkCell, Seat};
-use realm_core::{Joined, RealmName, told_done};
+use realm_core::{Joined, RealmName, reply_done};
 use scope_rules::{Catalog, Event, Refusal, ScopeId};
 use share_ledger::{OwnerShare, RealmStep};
 
 /// The holds of waits by a clock, which has read `now`: each looks whether the wait is over, and if not, ticks
 /// if a deadline has come by then, and looks again.
-impl<C: Catalog, N: RealmName> MarkedCore<C, N> {
+impl<C: Catalog, N: RealmName> LockedRealm<C, N> {
     /// Whether a deadline has come.
     fn is_due(&self, now: u64) -> bool
         ensures { IsTrue result ↔ HasCome (history_of self.now.steps) now }
@@ -44,7 +44,7 @@ impl<C: Catalog, N: RealmName> MarkedCore<C, N> {
         let result = self.core.perform(token, &Event::Tick { now });
         self.setters.catch_up(&mut self.core);
         let _fitting = self.core.limits();
-        told_done(result)
+        reply_done(result)
     }
 
     /// Passes the time: ticks if a deadline has come, and answers whether it did; else it looks.

@@ -1,5 +1,5 @@
 ghost use Rattle.std.specs.Prelude.{◌≡◌, Err};
-ghost use Rattle.kept_realm.specs.Fits.{Fitting};
+ghost use Rattle.realm_state.specs.Fits.{Fitting};
 ghost use Rattle.realm_core.specs.Calls.{history_seen};
 ghost use Rattle.realm_core.specs.Views.{Joins, JoinsBare};
 
@@ -27,7 +27,7 @@ impl<C: Catalog, N: RealmName> Realm<C, N> {
         ensures fitting { Fitting C.fitting (history_seen token.new) }
         ensures waited { result ≡ Err Refusal.NotReady → ⊥ }
     {
-        let mut locked = self.room.locked.lock(rt);
+        let mut locked = self.shared.locked.lock(rt);
         for _ in rt.forever() {
             match locked.join(token, scope) {
                 Err(Refusal::NotReady) => locked = self.sleep_at(rt, locked, scope),
@@ -56,7 +56,7 @@ impl<C: Catalog, N: RealmName> Realm<C, N> {
         ensures fitting { Fitting C.fitting (history_seen token.new) }
         ensures waited { result ≡ Err Refusal.NotReady → ⊥ }
     {
-        let mut locked = self.room.locked.lock(rt);
+        let mut locked = self.shared.locked.lock(rt);
         for _ in rt.forever() {
             match locked.join_bare(token, scope) {
                 Err(Refusal::NotReady) => {

@@ -4,12 +4,11 @@
 
 mod closing;
 mod commands;
-mod dozers;
 mod in_time;
 mod joins;
 pub mod laws;
+mod locked;
 mod looks;
-mod marked;
 mod marks;
 mod opening;
 mod queries;
@@ -18,11 +17,12 @@ mod setters;
 mod sleeps;
 mod task_calls;
 mod timed;
+mod timed_waiters;
 mod views;
 
 pub use cancel_marks::{Mark, MarkCell, Seat};
-pub use kept_realm::KeptRealm;
 pub use looks::Look;
 pub use realm::Realm;
 pub use realm_core::{BareOutcome, CloseReport, Forked, Joined, RealmName, View};
+pub use realm_state::RealmState;
 pub use share_ledger::{OwnerShare as ActorToken, Seed, Ticket};

@@ -4,8 +4,8 @@ ghost use Rattle.realm_core.specs.Calls.{Reads};
 ghost use Rattle.realm_lock.specs.Looks.{IsSeen};
 
 use crate::realm::Realm;
-use kept_realm::KeptRealm;
 use realm_core::{RealmCore, RealmName};
+use realm_state::RealmState;
 use scope_rules::Catalog;
 use share_ledger::OwnerShare;
 use std::sync::Wait;
@@ -21,7 +21,7 @@ pub trait Look {
     ghost tells: { Self → History → Self.Answer → Type 0 };
 
     /// Reads it off. The realm's lock is held meanwhile.
-    fn look(self, realm: &KeptRealm) -> Self::Answer
+    fn look(self, realm: &RealmState) -> Self::Answer
         ensures { Self.tells self realm.now.history result };
 }
 
@@ -32,7 +32,7 @@ impl<C: Catalog, N: RealmName> Realm<C, N> {
         requires named { token.old.table ≡ N.table }
         ensures { Reads token.old token.new (λ h. L.tells look h result) }
     {
-        let mut locked = self.room.locked.lock(rt);
+        let mut locked = self.shared.locked.lock(rt);
         locked.look(token);
         look.look(locked.core().realm())
     }
@@ -43,7 +43,7 @@ impl<C: Catalog, N: RealmName> Realm<C, N> {
     pub fn look_from_outside<R: Wait, L: Look>(&self, rt: &R, look: L) -> L::Answer
         ensures { IsSeen C.fitting (λ h. L.tells look h result) }
     {
-        let locked = self.room.locked.lock(rt);
+        let locked = self.shared.locked.lock(rt);
         seen(locked.core(), look)
     }
 }

@@ -2,7 +2,7 @@ ghost use Rattle.std.specs.Prelude.{◌≡◌, IfOk, IfErr, MatchResult};
 ghost use Rattle.scope_rules.specs.Replies.{next_scope};
 ghost use Rattle.scope_book.specs.Books.{refusal_alone};
 ghost use Rattle.join_rules.specs.Joiners.{policy_of};
-ghost use Rattle.kept_realm.specs.Fits.{Fitting};
+ghost use Rattle.realm_state.specs.Fits.{Fitting};
 ghost use Rattle.realm_core.specs.Calls.{DoesOrMemory, Reads, history_seen};
 ghost use Rattle.realm_lock.specs.Openings.{scope_alone, scope_marked};
 ghost use Rattle.realm_lock.specs.Cells.{CellAnswers, IsFresh};
@@ -76,7 +76,7 @@ impl<C: Catalog, N: RealmName> Realm<C, N> {
         ensures cell { MatchResult result (λ opened. opened.1.scope ≡ opened.0) (λ back. back.1 ≡ joiner) }
         ensures fitting { Fitting C.fitting (history_seen token.new) }
     {
-        let mut locked = self.room.locked.lock(rt);
+        let mut locked = self.shared.locked.lock(rt);
         let before = locked.next_deadline();
         let opened = locked.open(token, joiner, options);
         self.wake_if_nearer(&mut locked, before);
@@ -96,7 +96,7 @@ impl<C: Catalog, N: RealmName> Realm<C, N> {
         ensures answer { Reads token.old token.new (λ h. CellAnswers h scope result) }
         ensures fitting { Fitting C.fitting (history_seen token.new) }
     {
-        let mut locked = self.room.locked.lock(rt);
+        let mut locked = self.shared.locked.lock(rt);
         locked.look(token);
         let _fitting = locked.core().limits();
         let cell = locked.cell(scope)?;

@@ -5,12 +5,12 @@ ghost use Rattle.scope_rules.specs.Tasks.{state};
 ghost use Rattle.scope_rules.specs.Checks.{task_check};
 ghost use Rattle.scope_rules.specs.Table.{answering, until_check};
 ghost use Rattle.scope_rules.specs.Replies.{result_reply, fault_reply, binding_reply};
-ghost use Rattle.kept_realm.specs.Fits.{Fitting};
+ghost use Rattle.realm_state.specs.Fits.{Fitting};
 ghost use Rattle.realm_core.specs.Calls.{Reads, history_seen};
 
 use crate::realm::Realm;
 use realm_core::RealmName;
-use scope_checks::{Readings, questions};
+use scope_checks::{Readings, queries};
 use scope_rules::{Catalog, Effective, Fault, Name, Refusal, ScopeId, State, TaskId, Value};
 use share_ledger::OwnerShare;
 use std::sync::Wait;
@@ -25,10 +25,10 @@ impl<C: Catalog, N: RealmName> Realm<C, N> {
         ensures answer { Reads token.old token.new (λ h. result ≡ binding_reply h token.new.actor key.now) }
         ensures fitting { Fitting C.fitting (history_seen token.new) }
     {
-        let mut locked = self.room.locked.lock(rt);
+        let mut locked = self.shared.locked.lock(rt);
         locked.look(token);
         let _fitting = locked.core().limits();
-        questions::binding(locked.core().realm(), token.actor(), key)
+        queries::binding(locked.core().realm(), token.actor(), key)
     }
 
     /// The value of the task, read by the owner of its scope after the join (JEP 505, `Subtask.get`).
@@ -45,10 +45,10 @@ impl<C: Catalog, N: RealmName> Realm<C, N> {
         ensures answer { Reads token.old token.new (λ h. result ≡ result_reply h token.new.actor task) }
         ensures fitting { Fitting C.fitting (history_seen token.new) }
     {
-        let mut locked = self.room.locked.lock(rt);
+        let mut locked = self.shared.locked.lock(rt);
         locked.look(token);
         let _fitting = locked.core().limits();
-        questions::result(locked.core().realm(), token.actor(), task)
+        queries::result(locked.core().realm(), token.actor(), task)
     }
 
     /// The fault of the task, read by the owner of its scope after the join (JEP 505,
@@ -63,10 +63,10 @@ impl<C: Catalog, N: RealmName> Realm<C, N> {
         ensures answer { Reads token.old token.new (λ h. result ≡ fault_reply h token.new.actor task) }
         ensures fitting { Fitting C.fitting (history_seen token.new) }
     {
-        let mut locked = self.room.locked.lock(rt);
+        let mut locked = self.shared.locked.lock(rt);
         locked.look(token);
         let _fitting = locked.core().limits();
-        questions::fault(locked.core().realm(), token.actor(), task)
+        queries::fault(locked.core().realm(), token.actor(), task)
     }
 
     /// The scope that the token's actor opened last of those that it has not closed, if there is one.
@@ -75,7 +75,7 @@ impl<C: Catalog, N: RealmName> Realm<C, N> {
         ensures answer { Reads token.old token.new (λ h. result ≡ innermost h token.new.actor) }
         ensures fitting { Fitting C.fitting (history_seen token.new) }
     {
-        let mut locked = self.room.locked.lock(rt);
+        let mut locked = self.shared.locked.lock(rt);
         locked.look(token);
         let _fitting = locked.core().limits();
         locked.core().realm().innermost(token.actor())
@@ -93,10 +93,10 @@ impl<C: Catalog, N: RealmName> Realm<C, N> {
         ensures answer { Reads token.old token.new (λ h. result ≡ answering (task_check h task) (state h task)) }
         ensures fitting { Fitting C.fitting (history_seen token.new) }
     {
-        let mut locked = self.room.locked.lock(rt);
+        let mut locked = self.shared.locked.lock(rt);
         locked.look(token);
         let _fitting = locked.core().limits();
-        questions::state(locked.core().realm(), task)
+        queries::state(locked.core().realm(), task)
     }
 
     /// The earliest deadline in effect for the scope, in milliseconds, with any actor's token (Trio,
@@ -112,9 +112,9 @@ impl<C: Catalog, N: RealmName> Realm<C, N> {
         ensures answer { Reads token.old token.new (λ h. result ≡ answering (until_check h scope) (effective h scope)) }
         ensures fitting { Fitting C.fitting (history_seen token.new) }
     {
-        let mut locked = self.room.locked.lock(rt);
+        let mut locked = self.shared.locked.lock(rt);
         locked.look(token);
         let _fitting = locked.core().limits();
-        questions::effective_deadline(locked.core().realm(), scope)
+        queries::effective_deadline(locked.core().realm(), scope)
     }
 }

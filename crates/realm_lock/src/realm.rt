@@ -3,7 +3,7 @@ ghost use Rattle.scope_rules.specs.Scopes.{innermost};
 ghost use Rattle.scope_rules.specs.declared.types.refusals.Refusal.TheVariants.{Memory};
 ghost use Rattle.realm_core.specs.Calls.{history_seen};
 
-use crate::marked::MarkedCore;
+use crate::locked::LockedRealm;
 use realm_core::RealmName;
 use scope_rules::types::values::MAIN;
 use scope_rules::{Catalog, Limits, Refusal};
@@ -15,7 +15,7 @@ use std::sync::{Arc, Condvar, Mutex};
 /// under the lock, so that the check shows of any that may go to another thread that this may too; a realm's
 /// own is named if it has methods.
 #[derive(Drop)]
-pub(crate) struct Room<K: Drop> {
+pub(crate) struct Shared<K: Drop> {
     pub(crate) locked: Mutex<K>,
     pub(crate) moments: Condvar,
 }
@@ -45,7 +45,7 @@ pub(crate) struct Room<K: Drop> {
 /// ```
 #[derive(Drop)]
 pub struct Realm<C: Catalog, N: RealmName> {
-    pub(crate) room: Arc<Room<MarkedCore<C, N>>, Global>,
+    pub(crate) shared: Arc<Shared<LockedRealm<C, N>>, Global>,
 }
 
 impl<C: Catalog, N: RealmName> Realm<C, N> {
@@ -60,13 +60,13 @@ impl<C: Catalog, N: RealmName> Realm<C, N> {
         ensures made { MatchResult result (λ made. made.1 ≡ record { table = N.table; limits = limits; actor = MAIN; seen = [] }) (λ refusal. refusal ≡ Memory) }
         ensures idle { IfOk result (λ made. innermost (history_seen made.1) made.1.actor ≡ None) }
     {
-        let (locked, token) = MarkedCore::new(alloc, seed, limits);
-        let room = Room {
+        let (locked, token) = LockedRealm::new(alloc, seed, limits);
+        let shared = Shared {
             locked: Mutex::new(locked),
             moments: Condvar::new(),
         };
-        match Arc::new(alloc, room) {
-            Ok(room) => Ok((Realm { room }, token)),
+        match Arc::new(alloc, shared) {
+            Ok(shared) => Ok((Realm { shared }, token)),
             Err(_) => Err(Refusal::Memory),
         }
     }
@@ -76,8 +76,8 @@ impl<C: Catalog, N: RealmName> Realm<C, N> {
     pub fn share(&self) -> Result<Realm<C, N>, Refusal>
         ensures { MatchResult result (λ _. Unit {0}) (λ refusal. refusal ≡ Memory) }
     {
-        match Arc::try_clone(&self.room) {
-            Ok(room) => Ok(Realm { room }),
+        match Arc::try_clone(&self.shared) {
+            Ok(shared) => Ok(Realm { shared }),
             Err(_) => Err(Refusal::Memory),
         }
     }

@@ -4,10 +4,10 @@ ghost use Rattle.scope_rules.specs.Cancels.{is_cancelled};
 ghost use Rattle.share_ledger.specs.Steps.{history_of};
 ghost use Rattle.realm_lock.specs.Marked.{AddsSetter, AreBehind, AreMarks, IsCellAt, UsesSetter};
 
-use cancel_marks::{CellRoom, MarkCell, MarkSetter};
-use kept_realm::KeptRealm;
+use cancel_marks::{CellReservation, MarkCell, MarkSetter};
 use realm_core::{RealmCore, RealmName};
-use scope_checks::{Readings, questions};
+use realm_state::RealmState;
+use scope_checks::{Readings, queries};
 use scope_rules::{Catalog, ScopeId};
 use std::alloc::{AllocError, Global};
 use std::marker::Model;
@@ -15,13 +15,13 @@ use std::marker::Model;
 /// The setters of the cells of a realm's scopes, in the order of the scopes since the last retirement. They
 /// lie beside the core, and `catch_up` has them tell what that has come to know.
 #[derive(Drop)]
-pub(crate) struct Setters {
+pub(crate) struct CancelSetters {
     setters: Vec<MarkSetter>,
     // Of how many cancelled scopes they were used, in the order in which these were cancelled.
     marked: usize,
 }
 
-impl Model for Setters {
+impl Model for CancelSetters {
     ghost use Rattle.std.specs.Prelude.{vec_capacity};
     ghost use Rattle.realm_lock.specs.Marked.{MarksValue};
 
@@ -30,29 +30,29 @@ impl Model for Setters {
     ghost view = { λ s. record { setters = s.setters.items; room = vec_capacity s.setters; marked = s.marked } };
 }
 
-impl Setters {
+impl CancelSetters {
     /// Those of a realm that begins.
-    pub(crate) fn new(alloc: Global) -> Setters
+    pub(crate) fn new(alloc: Global) -> CancelSetters
         ensures { (result.setters ≡ []) × (result.marked ≡ 0) }
     {
-        Setters {
+        CancelSetters {
             setters: Vec::new(alloc),
             marked: 0,
         }
     }
 
-    /// Room for what is kept of one scope more, if it is obtained.
-    pub(crate) fn make_room(&mut self, alloc: Global) -> Option<CellRoom>
+    /// Shared for what is kept of one scope more, if it is obtained.
+    pub(crate) fn make_room(&mut self, alloc: Global) -> Option<CellReservation>
         ensures kept { self.new ≡ record self.old { room = self.new.room } }
         ensures room { OnSome result (length self.new.setters < self.new.room) }
     {
-        let room = CellRoom::new(alloc).ok()?;
+        let room = CellReservation::new(alloc).ok()?;
         self.setters.reserve(1).ok()?;
         Some(room)
     }
 
     /// Adds the setter of a scope that was opened, for which there is room, and gives its cell.
-    pub(crate) fn add(&mut self, room: CellRoom, scope: ScopeId) -> MarkCell
+    pub(crate) fn add(&mut self, room: CellReservation, scope: ScopeId) -> MarkCell
         requires { length self.old.setters < self.old.room }
         ensures { AddsSetter self.old self.new scope result }
     {
@@ -77,12 +77,12 @@ impl Setters {
     }
 
     /// Uses the setter of a cancelled scope.
-    fn use_setter(&mut self, realm: &KeptRealm, scope: ScopeId)
+    fn use_setter(&mut self, realm: &RealmState, scope: ScopeId)
         requires cancelled { is_cancelled realm.now.history scope ≡ true }
         requires each { length self.old.setters ≡ opened_count realm.now.history }
         ensures { UsesSetter realm.now.history scope self.old self.new }
     {
-        let Some((number, cause)) = questions::cancellation(realm, scope) else {
+        let Some((number, cause)) = queries::cancellation(realm, scope) else {
             unreachable!()
         };
         let place = (scope - realm.retired_scopes() - 1) as usize;
@@ -90,7 +90,7 @@ impl Setters {
     }
 
     /// Wakes who sleeps at the cell of the scope.
-    pub(crate) fn wake(&self, realm: &KeptRealm, scope: ScopeId) {
+    pub(crate) fn wake(&self, realm: &RealmState, scope: ScopeId) {
         let before = u64::from(realm.retired_scopes()) + 1;
         if let Some(place) = u64::from(scope).checked_sub(before) {
             if let Some(setter) = self.setters.get(place as usize) {

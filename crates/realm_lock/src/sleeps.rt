@@ -7,9 +7,9 @@ ghost use Rattle.share_ledger.specs.Steps.{history_of};
 ghost use Rattle.realm_lock.specs.Waits.{HasCome};
 ghost use Rattle.realm_lock.specs.Sleeps.{NANOS, sooner};
 
-use crate::dozers::Bed;
-use crate::marked::MarkedCore;
+use crate::locked::LockedRealm;
 use crate::realm::Realm;
+use crate::timed_waiters::WaitTarget;
 use realm_core::RealmName;
 use scope_rules::{Catalog, ScopeId};
 use std::rt::Clock as SystemTime;
@@ -28,16 +28,16 @@ impl<C: Catalog, N: RealmName> Realm<C, N> {
     pub(crate) fn sleep_at<'a, R: Wait>(
         &'a self,
         rt: &R,
-        locked: MutexGuard<'a, MarkedCore<C, N>>,
+        locked: MutexGuard<'a, LockedRealm<C, N>>,
         scope: ScopeId,
-    ) -> MutexGuard<'a, MarkedCore<C, N>>
+    ) -> MutexGuard<'a, LockedRealm<C, N>>
         requires busy { settled (history_of (mutex_guard_value locked).steps) scope ≡ false }
     {
         match locked.cell(scope) {
             Ok(cell) => cell.sleep(rt, locked),
             Err(_) => {
                 drop(locked);
-                self.room.locked.lock(rt)
+                self.shared.locked.lock(rt)
             }
         }
     }
@@ -45,10 +45,10 @@ impl<C: Catalog, N: RealmName> Realm<C, N> {
     /// Sleeps at the cell of the scope, of which a task waits or runs, until it is woken or a deadline has
     /// come; the clock has read `now`, and none has come by then. If the cell isn't had, since std's count
     /// of holders is full, it doesn't sleep.
-    pub(crate) fn doze_at<'a, R: Wait + SystemTime>(
+    pub(crate) fn park_at<'a, R: Wait + SystemTime>(
         &'a self,
         rt: &R,
-        locked: MutexGuard<'a, MarkedCore<C, N>>,
+        locked: MutexGuard<'a, LockedRealm<C, N>>,
         now: u64,
         scope: ScopeId,
     )
@@ -56,82 +56,82 @@ impl<C: Catalog, N: RealmName> Realm<C, N> {
         requires passed { HasCome (history_of (mutex_guard_value locked).steps) now → ⊥ }
     {
         if let Ok(cell) = locked.cell(scope) {
-            self.doze(rt, locked, now, None, Bed::Cell(cell));
+            self.park(rt, locked, now, None, WaitTarget::Cell(cell));
         }
     }
 
-    /// Sleeps in the bed until it is woken, a deadline has come, or `until`; the clock has read `now`, and no
+    /// Sleeps at the target until it is woken, a deadline has come, or `until`; the clock has read `now`, and no
     /// deadline has come by then.
-    pub(crate) fn doze<'a, R: Wait + SystemTime>(
+    pub(crate) fn park<'a, R: Wait + SystemTime>(
         &'a self,
         rt: &R,
-        locked: MutexGuard<'a, MarkedCore<C, N>>,
+        locked: MutexGuard<'a, LockedRealm<C, N>>,
         now: u64,
         until: Option<u64>,
-        bed: Bed,
+        target: WaitTarget,
     )
         requires passed { HasCome (history_of (mutex_guard_value locked).steps) now → ⊥ }
     {
         let mut locked = locked;
-        match locked.note_dozer(&bed) {
+        match locked.note_waiter(&target) {
             Some(noted) => {
                 let most = if locked.is_watching(&noted) {
                     time_to(now, locked.next_deadline(), until)
                 } else {
-                    time_to(now, locked.deadline_at(&bed), until)
+                    time_to(now, locked.deadline_at(&target), until)
                 };
-                let mut locked = self.slept(rt, locked, bed, most);
-                locked.forget_dozer(noted);
+                let mut locked = self.slept(rt, locked, target, most);
+                locked.forget_waiter(noted);
             }
             None => {
                 let most = now.saturating_add(UNNOTED_MILLIS);
                 let until = until.unwrap_or(most).min(most);
                 let most = time_to(now, locked.next_deadline(), Some(until));
-                let _locked = self.slept(rt, locked, bed, most);
+                let _locked = self.slept(rt, locked, target, most);
             }
         }
     }
 
-    /// Sleeps in the bed until it is woken, or for so long.
+    /// Sleeps at the target until it is woken, or for so long.
     fn slept<'a, R: Wait + SystemTime>(
         &'a self,
         rt: &R,
-        locked: MutexGuard<'a, MarkedCore<C, N>>,
-        bed: Bed,
+        locked: MutexGuard<'a, LockedRealm<C, N>>,
+        target: WaitTarget,
         most: Option<Duration>,
-    ) -> MutexGuard<'a, MarkedCore<C, N>> {
-        match (bed, most) {
-            (Bed::Cell(cell), Some(most)) => cell.doze(rt, locked, most),
-            (Bed::Cell(cell), None) => cell.sleep(rt, locked),
-            (Bed::Moment, Some(most)) => {
-                let (locked, _) = self.room.moments.wait_timeout(rt, locked, most);
+    ) -> MutexGuard<'a, LockedRealm<C, N>> {
+        match (target, most) {
+            (WaitTarget::Cell(cell), Some(most)) => cell.park(rt, locked, most),
+            (WaitTarget::Cell(cell), None) => cell.sleep(rt, locked),
+            (WaitTarget::Moment, Some(most)) => {
+                let (locked, _) = self.shared.moments.wait_timeout(rt, locked, most);
                 locked
             }
-            (Bed::Moment, None) => self.room.moments.wait(rt, locked),
+            (WaitTarget::Moment, None) => self.shared.moments.wait(rt, locked),
         }
     }
 
     /// A wait by a clock ends: if nobody watches, one who sleeps is woken to.
-    pub(crate) fn hand_on(&self, locked: &MarkedCore<C, N>) {
+    pub(crate) fn hand_on(&self, locked: &LockedRealm<C, N>) {
         self.wake(locked.heir());
     }
 
     /// Wakes who watches, if the next deadline is nearer now than it was.
-    pub(crate) fn wake_if_nearer(&self, locked: &mut MarkedCore<C, N>, before: Option<u64>)
+    pub(crate) fn wake_if_nearer(&self, locked: &mut LockedRealm<C, N>, before: Option<u64>)
         ensures { locked.new ≡ locked.old }
     {
         if is_nearer(locked.next_deadline(), before) {
             if let Some(place) = locked.dismiss_watcher() {
-                self.wake(locked.bed(place));
+                self.wake(locked.target(place));
             }
         }
     }
 
-    /// Wakes who sleeps in the bed.
-    fn wake(&self, bed: Option<&Bed>) {
-        match bed {
-            Some(Bed::Cell(cell)) => cell.wake(),
-            Some(Bed::Moment) => self.room.moments.notify_all(),
+    /// Wakes who sleeps at the target.
+    fn wake(&self, target: Option<&WaitTarget>) {
+        match target {
+            Some(WaitTarget::Cell(cell)) => cell.wake(),
+            Some(WaitTarget::Moment) => self.shared.moments.notify_all(),
             None => {}
         }
     }

@@ -2,7 +2,7 @@ ghost use Rattle.std.specs.Prelude.{◌≡◌, false, None, IsOk, MatchResult};
 ghost use Rattle.scope_rules.specs.Scopes.{innermost};
 ghost use Rattle.share_ledger.specs.Tickets.{given_in};
 ghost use Rattle.share_ledger.specs.Values.{IsWaiting};
-ghost use Rattle.kept_realm.specs.Fits.{Fitting};
+ghost use Rattle.realm_state.specs.Fits.{Fitting};
 ghost use Rattle.share_ledger.specs.Steps.{history_of};
 ghost use Rattle.realm_core.specs.Calls.{Added, SeesMore, TicketAdded, history_seen};
 ghost use Rattle.realm_core.specs.Tasks.{IsRunning, MayFinish};
@@ -25,7 +25,7 @@ impl<C: Catalog, N: RealmName> Realm<C, N> {
         ensures given { given_in result.task result.seen ≡ false }
         ensures fitting { Fitting C.fitting (history_of result.seen) }
     {
-        let mut locked = self.room.locked.lock(rt);
+        let mut locked = self.shared.locked.lock(rt);
         locked.reject(&mut ticket);
         ticket
     }
@@ -39,7 +39,7 @@ impl<C: Catalog, N: RealmName> Realm<C, N> {
         ensures token { SeesMore token.old token.new × Added token.old token.new (RealmStep.Happened (Event.Reject ticket.task)) }
         ensures fitting { Fitting C.fitting (history_of result.seen) × Fitting C.fitting (history_seen token.new) }
     {
-        let mut locked = self.room.locked.lock(rt);
+        let mut locked = self.shared.locked.lock(rt);
         locked.reject_with(token, &mut ticket);
         ticket
     }
@@ -53,7 +53,7 @@ impl<C: Catalog, N: RealmName> Realm<C, N> {
         ensures token { result.1 ≡ record { table = N.table; limits = ticket.limits; actor = ticket.task; seen = result.0.seen } }
         ensures fitting { Fitting C.fitting (history_of result.0.seen) }
     {
-        let mut locked = self.room.locked.lock(rt);
+        let mut locked = self.shared.locked.lock(rt);
         let token = locked.start(&mut ticket);
         (ticket, token)
     }
@@ -74,7 +74,7 @@ impl<C: Catalog, N: RealmName> Realm<C, N> {
         ensures sure { innermost (history_seen token) token.actor ≡ None → IsOk result }
         ensures fitting { MatchResult result (λ ticket. Fitting C.fitting (history_of ticket.seen)) (λ back. Fitting C.fitting (history_of back.1.seen)) }
     {
-        let mut locked = self.room.locked.lock(rt);
+        let mut locked = self.shared.locked.lock(rt);
         match locked.finish(&mut ticket, token, end) {
             Ok(()) => Ok(ticket),
             Err((refusal, token)) => Err((refusal, ticket, token)),

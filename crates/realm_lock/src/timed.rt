@@ -2,14 +2,14 @@ ghost use Rattle.std.specs.Prelude.{◌≡◌, ◌≤◌, ℕ, IsTrue, None, Som
 ghost use Rattle.once_cell.specs.Once.{Agrees};
 ghost use Rattle.cancel_marks.specs.Marked.{said_by};
 ghost use Rattle.scope_rules.specs.declared.types.refusals.Refusal.TheVariants.{NotReady};
-ghost use Rattle.kept_realm.specs.Fits.{Fitting};
+ghost use Rattle.realm_state.specs.Fits.{Fitting};
 ghost use Rattle.realm_core.specs.Calls.{SeesMore, history_seen};
 ghost use Rattle.realm_core.specs.Waiting.{FoundUnsettled, IsOpenOf};
 ghost use Rattle.realm_core.specs.Closes.{IsBegun};
 ghost use Rattle.realm_lock.specs.Waits.{HasCome, HasPassed, JoinsBy, StaysUnclosed, Stopped, StopsClosing, Waited, WaitsToClose, shown_in};
 
-use crate::dozers::Bed;
 use crate::realm::Realm;
+use crate::timed_waiters::WaitTarget;
 use cancel_marks::{Mark, MarkCell, Seat};
 use realm_core::{Joined, RealmName};
 use scope_rules::{Catalog, Refusal, ScopeId};
@@ -41,9 +41,9 @@ impl<C: Catalog, N: RealmName> Realm<C, N> {
     {
         for _ in rt.forever() {
             let now = clock.now();
-            let mut locked = self.room.locked.lock(rt);
+            let mut locked = self.shared.locked.lock(rt);
             match locked.join_in_time(token, scope, now) {
-                Err(Refusal::NotReady) => self.doze_at(rt, locked, now, scope),
+                Err(Refusal::NotReady) => self.park_at(rt, locked, now, scope),
                 Err(refusal) => {
                     self.hand_on(&locked);
                     return Err(refusal);
@@ -96,7 +96,7 @@ impl<C: Catalog, N: RealmName> Realm<C, N> {
     {
         for _ in rt.forever() {
             let now = clock.now();
-            let mut locked = self.room.locked.lock(rt);
+            let mut locked = self.shared.locked.lock(rt);
             match locked.is_settled_in_time(token, scope, now) {
                 Ok(true) => {
                     self.hand_on(&locked);
@@ -104,7 +104,7 @@ impl<C: Catalog, N: RealmName> Realm<C, N> {
                 }
                 Ok(false) => {
                     let waits_for = locked.unsettled(scope);
-                    self.doze_at(rt, locked, now, waits_for);
+                    self.park_at(rt, locked, now, waits_for);
                 }
                 Err(refusal) => {
                     self.hand_on(&locked);
@@ -138,7 +138,7 @@ impl<C: Catalog, N: RealmName> Realm<C, N> {
     {
         for _ in rt.forever() {
             let now = clock.now();
-            let mut locked = self.room.locked.lock(rt);
+            let mut locked = self.shared.locked.lock(rt);
             match locked.marked_in_time(token, cell, seat, now) {
                 Ok(None) => {
                     if is_over(until, now) {
@@ -146,7 +146,7 @@ impl<C: Catalog, N: RealmName> Realm<C, N> {
                         return Ok(None);
                     }
                     if let Ok(cell) = cell.share() {
-                        self.doze(rt, locked, now, until, Bed::Cell(cell));
+                        self.park(rt, locked, now, until, WaitTarget::Cell(cell));
                     }
                 }
                 Ok(Some(mark)) => {
@@ -180,7 +180,7 @@ impl<C: Catalog, N: RealmName> Realm<C, N> {
     {
         for _ in rt.forever() {
             let now = clock.now();
-            let mut locked = self.room.locked.lock(rt);
+            let mut locked = self.shared.locked.lock(rt);
             if let Err(refusal) = locked.pass_due(token, now) {
                 self.hand_on(&locked);
                 return Err(refusal);
@@ -189,7 +189,7 @@ impl<C: Catalog, N: RealmName> Realm<C, N> {
                 self.hand_on(&locked);
                 return Ok(());
             }
-            self.doze(rt, locked, now, Some(until), Bed::Moment);
+            self.park(rt, locked, now, Some(until), WaitTarget::Moment);
         }
         unreachable!()
     }

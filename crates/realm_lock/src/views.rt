@@ -1,7 +1,7 @@
 ghost use Rattle.std.specs.Prelude.{◌≡◌, MatchResult};
 ghost use Rattle.realm_core.specs.Calls.{Reads};
 ghost use Rattle.realm_core.specs.Views.{ViewAnswers, MarkedViewAnswers};
-ghost use Rattle.kept_realm.specs.Fits.{Fitting};
+ghost use Rattle.realm_state.specs.Fits.{Fitting};
 
 use crate::realm::Realm;
 use cancel_marks::Mark;
@@ -23,7 +23,7 @@ impl<C: Catalog, N: RealmName> Realm<C, N> {
         requires named { token.old.table ≡ N.table }
         ensures { Reads token.old token.new (λ h. ViewAnswers h scope result × Fitting C.fitting h) }
     {
-        let mut locked = self.room.locked.lock(rt);
+        let mut locked = self.shared.locked.lock(rt);
         locked.look(token);
         let _fitting = locked.core().limits();
         view_of(locked.core().realm(), scope)
@@ -42,7 +42,7 @@ impl<C: Catalog, N: RealmName> Realm<C, N> {
         requires named { token.old.table ≡ N.table }
         ensures { Reads token.old token.new (λ h. MarkedViewAnswers h scope mark.now.cause mark.now.number result × Fitting C.fitting h) }
     {
-        let mut locked = self.room.locked.lock(rt);
+        let mut locked = self.shared.locked.lock(rt);
         locked.look(token);
         let _fitting = locked.core().limits();
         marked_view_of(locked.core().realm(), scope, mark.cause, mark.number)
@@ -54,7 +54,7 @@ impl<C: Catalog, N: RealmName> Realm<C, N> {
         requires named { token.old.table ≡ N.table }
         ensures { Reads token.old token.new (λ h. MatchResult result (λ events. events.items ≡ h.events) (λ refusal. refusal ≡ Refusal.Memory) × Fitting C.fitting h) }
     {
-        let mut locked = self.room.locked.lock(rt);
+        let mut locked = self.shared.locked.lock(rt);
         let alloc = locked.alloc();
         locked.look(token);
         let _fitting = locked.core().limits();

@@ -13,14 +13,14 @@ use Rattle.scope_rules.specs.Load.{weight}
 use Rattle.scope_rules.specs.Table.{row_check, retire_row, reading_row, until_row, answering}
 use Rattle.scope_rules.specs.Tasks.{stage, state}
 use Rattle.scope_checks.proofs.Remade.{passes_too, task_passes}
-use Rattle.script_words.specs.declared.commands.Question.{Question}
-use Rattle.script_words.specs.declared.commands.Question.TheVariants as question
+use Rattle.script_words.specs.declared.commands.Query.{Query}
+use Rattle.script_words.specs.declared.commands.Query.TheVariants as query
 use Rattle.refusal_reasons.specs.declared.reasons.Reason.{Reason}
 use Rattle.refusal_reasons.specs.declared.reasons.Reason.TheVariants as reason
 use Rattle.refusal_reasons.specs.declared.reasons.TaskObstacle.TheVariants as task_is
 use Rattle.refusal_reasons.specs.declared.reasons.ActorObstacle.TheVariants as actor_is
-use Rattle.refusal_reasons.specs.Reasons.{Explained, Presupposed, scope_of, reason_of, explained, event_reason, retire_reason, reading_reason, question_reason, shows_value, shows_fault, sees}
-use Rattle.refusal_reasons.specs.Truth.{IsSo, asker, questioner, EventsAreTrue, RetirementsAreTrue, QuestionsAreTrue}
+use Rattle.refusal_reasons.specs.Reasons.{Explained, Presupposed, scope_of, reason_of, explained, event_reason, retire_reason, reading_reason, query_reason, shows_value, shows_fault, sees}
+use Rattle.refusal_reasons.specs.Truth.{IsSo, asker, questioner, EventsAreTrue, RetirementsAreTrue, QueriesAreTrue}
 use Rattle.refusal_reasons.proofs.Truth.{Says, IsTrueOf, none_of, forked, forked_in, first_passes, rest_passes, scope_says, task_says, actor_says, event_says, retire_says, reading_says, until_says}
 
 -- ---- what passed before
@@ -73,7 +73,7 @@ pub retirements_true : RetirementsAreTrue
 unfolding retire_reason
 retirements_true L h a r is = said_so L h a 0 _ (retire_says L h a) r is
 
--- ---- of questions
+-- ---- of queries
 
 -- the first says so, and if it passes the second does
 then_so : (P : Reason → Type 0) (x y : Explained) → ((r : Reason) → x ≡ Err r → P r) → (x ≡ Ok tt → (r : Reason) → y ≡ Err r → P r) → (r : Reason) → then_check x y ≡ Err r → P r
@@ -107,13 +107,13 @@ sees_so : (L : Limits) (h : History) (a : ℕ) (key : Name) (b : Bool) → not (
 sees_so L h a key true e r is = let same : reason.Actor a (actor_is.Unbound key) ≡ r = cc in subst (IsSo L h a 0) same (refl, none_of (bound_to key (bindings h a)) e)
 sees_so L h a key false e r is = absurd cc
 
-pub questions_true : QuestionsAreTrue
-unfolding question_reason
-questions_true L h (question.State task) r is = said_so L h 0 0 _ (task_says L h 0 0 task) r is
-questions_true L h (question.Stage task) r is = said_so L h 0 0 _ (task_says L h 0 0 task) r is
-questions_true L h (question.Result actor task) r is = then_so (IsSo L h actor 0) _ _ (said_so L h actor 0 _ (reading_says L h actor task)) (λ passes. value_so L h actor task (reading_passes L h actor task passes) (state h task) refl) r is
-questions_true L h (question.Fault actor task) r is = then_so (IsSo L h actor 0) _ _ (said_so L h actor 0 _ (reading_says L h actor task)) (λ passes. fault_so L h actor task (reading_passes L h actor task passes) (state h task) refl) r is
-questions_true L h (question.Cause scope) r is = said_so L h 0 0 _ (scope_says L h 0 0 scope) r is
-questions_true L h (question.Until scope) r is = said_so L h 0 0 _ (until_says L h scope) r is
-questions_true L h (question.Counts scope) r is = said_so L h 0 0 _ (scope_says L h 0 0 scope) r is
-questions_true L h (question.Get actor key) r is = then_so (IsSo L h actor 0) _ _ (said_so L h actor 0 _ (actor_says L h actor 0)) (λ _. sees_so L h actor key _ refl) r is
+pub queries_true : QueriesAreTrue
+unfolding query_reason
+queries_true L h (query.State task) r is = said_so L h 0 0 _ (task_says L h 0 0 task) r is
+queries_true L h (query.Stage task) r is = said_so L h 0 0 _ (task_says L h 0 0 task) r is
+queries_true L h (query.Result actor task) r is = then_so (IsSo L h actor 0) _ _ (said_so L h actor 0 _ (reading_says L h actor task)) (λ passes. value_so L h actor task (reading_passes L h actor task passes) (state h task) refl) r is
+queries_true L h (query.Fault actor task) r is = then_so (IsSo L h actor 0) _ _ (said_so L h actor 0 _ (reading_says L h actor task)) (λ passes. fault_so L h actor task (reading_passes L h actor task passes) (state h task) refl) r is
+queries_true L h (query.Cause scope) r is = said_so L h 0 0 _ (scope_says L h 0 0 scope) r is
+queries_true L h (query.Until scope) r is = said_so L h 0 0 _ (until_says L h scope) r is
+queries_true L h (query.Counts scope) r is = said_so L h 0 0 _ (scope_says L h 0 0 scope) r is
+queries_true L h (query.Get actor key) r is = then_so (IsSo L h actor 0) _ _ (said_so L h actor 0 _ (actor_says L h actor 0)) (λ _. sees_so L h actor key _ refl) r is

@@ -18,15 +18,15 @@ use Rattle.scope_rules.specs.Scopes.{closed, innermost}
 use Rattle.scope_rules.specs.Table.{retire_check, reading_check, until_check, value_shown, fault_shown, checked_then}
 use Rattle.scope_rules.specs.Tasks.{state}
 use Rattle.scope_checks.proofs.Remade.{row_remade, retire_remade, reading_remade, until_remade, scope_remade, task_remade, actor_remade}
-use Rattle.script_words.specs.declared.commands.Question.{Question}
-use Rattle.script_words.specs.declared.commands.Question.TheVariants as question
+use Rattle.script_words.specs.declared.commands.Query.{Query}
+use Rattle.script_words.specs.declared.commands.Query.TheVariants as query
 use Rattle.refusal_reasons.specs.declared.reasons.Reason.{Reason}
 use Rattle.refusal_reasons.specs.declared.reasons.Reason.TheVariants as reason
 use Rattle.refusal_reasons.specs.declared.reasons.ActorObstacle.TheVariants as actor_is
 use Rattle.refusal_reasons.specs.declared.reasons.RoomObstacle.{RoomObstacle}
 use Rattle.refusal_reasons.specs.Places.{pending_task}
-use Rattle.refusal_reasons.specs.Reasons.{Explained, reason_of, explained, event_reason, retire_reason, reading_reason, question_reason, shows_value, shows_fault, sees}
-use Rattle.refusal_reasons.specs.Fits.{reason_refusal, room_refusal, refusing, refused_alone, question_check, EventsFit, RetirementsFit, QuestionsFit}
+use Rattle.refusal_reasons.specs.Reasons.{Explained, reason_of, explained, event_reason, retire_reason, reading_reason, query_reason, shows_value, shows_fault, sees}
+use Rattle.refusal_reasons.specs.Fits.{reason_refusal, room_refusal, refusing, refused_alone, query_check, EventsFit, RetirementsFit, QueriesFit}
 
 either_fits : (b : Bool) (x y : Reason) (r : Refusal) → reason_refusal x ≡ r → reason_refusal y ≡ r → reason_refusal (cond b x y) ≡ r
 either_fits true x y r is also = is
@@ -82,7 +82,7 @@ pub retirements_fit : RetirementsFit
 unfolding retire_check retire_reason
 retirements_fit L h a = retire_remade refusal_of h a ∙ explained_fits L h _
 
--- ---- of questions
+-- ---- of queries
 
 -- the first that fails refuses
 then_fits : (c d : Checked) (x y : Explained) → c ≡ refusing x → d ≡ refusing y → then_check c d ≡ refusing (then_check x y)
@@ -113,13 +113,13 @@ sees_fits : (h : History) (a : ℕ) (key : Name) (o : Option Value) → refused_
 sees_fits h a key None = refl
 sees_fits h a key (Some value) = refl
 
-pub questions_fit : QuestionsFit
-unfolding question_check question_reason result_reply fault_reply binding_reply until_check
-questions_fit L h (question.State task) = task_remade refusal_of h task ∙ explained_fits L h _
-questions_fit L h (question.Stage task) = task_remade refusal_of h task ∙ explained_fits L h _
-questions_fit L h (question.Result actor task) = alone _ _ ∙ then_fits _ _ _ _ (reading_fits L h actor task) (value_fits h task (state h task))
-questions_fit L h (question.Fault actor task) = alone _ _ ∙ then_fits _ _ _ _ (reading_fits L h actor task) (fault_fits h task (state h task))
-questions_fit L h (question.Cause scope) = scope_remade refusal_of h scope ∙ explained_fits L h _
-questions_fit L h (question.Until scope) = until_remade refusal_of h scope ∙ explained_fits L h _
-questions_fit L h (question.Counts scope) = scope_remade refusal_of h scope ∙ explained_fits L h _
-questions_fit L h (question.Get actor key) = alone _ _ ∙ then_fits _ _ _ _ (actor_remade refusal_of h actor ∙ explained_fits L h _) (sees_fits h actor key (bound_to key (bindings h actor)))
+pub queries_fit : QueriesFit
+unfolding query_check query_reason result_reply fault_reply binding_reply until_check
+queries_fit L h (query.State task) = task_remade refusal_of h task ∙ explained_fits L h _
+queries_fit L h (query.Stage task) = task_remade refusal_of h task ∙ explained_fits L h _
+queries_fit L h (query.Result actor task) = alone _ _ ∙ then_fits _ _ _ _ (reading_fits L h actor task) (value_fits h task (state h task))
+queries_fit L h (query.Fault actor task) = alone _ _ ∙ then_fits _ _ _ _ (reading_fits L h actor task) (fault_fits h task (state h task))
+queries_fit L h (query.Cause scope) = scope_remade refusal_of h scope ∙ explained_fits L h _
+queries_fit L h (query.Until scope) = until_remade refusal_of h scope ∙ explained_fits L h _
+queries_fit L h (query.Counts scope) = scope_remade refusal_of h scope ∙ explained_fits L h _
+queries_fit L h (query.Get actor key) = alone _ _ ∙ then_fits _ _ _ _ (actor_remade refusal_of h actor ∙ explained_fits L h _) (sees_fits h actor key (bound_to key (bindings h actor)))

@@ -4,8 +4,8 @@ use Rattle.scope_rules.specs.declared.types.events.Event.{Event}
 use Rattle.scope_rules.specs.declared.types.events.Event.TheVariants as event
 use Rattle.script_words.specs.declared.commands.Command.{Command}
 use Rattle.script_words.specs.declared.commands.Command.TheVariants as command
-use Rattle.script_words.specs.declared.commands.Question.{Question}
-use Rattle.script_words.specs.declared.commands.Question.TheVariants as question
+use Rattle.script_words.specs.declared.commands.Query.{Query}
+use Rattle.script_words.specs.declared.commands.Query.TheVariants as query
 use Rattle.script_words.specs.declared.keywords.Keyword.{Keyword}
 use Rattle.script_words.specs.Forms.{form_said}
 use Rattle.script_words.specs.Numbers.{small_said}
@@ -41,24 +41,24 @@ task_in (event.Reject task) = Some task
 task_in (event.Finish task end) = Some task
 task_in _ = None
 
--- the same of a question
-abbrev pub actor_asked : Question → Option ℕ
-actor_asked (question.Result actor task) = Some actor
-actor_asked (question.Fault actor task) = Some actor
-actor_asked (question.Get actor key) = Some actor
+-- the same of a query
+abbrev pub actor_asked : Query → Option ℕ
+actor_asked (query.Result actor task) = Some actor
+actor_asked (query.Fault actor task) = Some actor
+actor_asked (query.Get actor key) = Some actor
 actor_asked _ = None
 
-abbrev pub scope_asked : Question → Option ℕ
-scope_asked (question.Cause scope) = Some scope
-scope_asked (question.Until scope) = Some scope
-scope_asked (question.Counts scope) = Some scope
+abbrev pub scope_asked : Query → Option ℕ
+scope_asked (query.Cause scope) = Some scope
+scope_asked (query.Until scope) = Some scope
+scope_asked (query.Counts scope) = Some scope
 scope_asked _ = None
 
-abbrev pub task_asked : Question → Option ℕ
-task_asked (question.State task) = Some task
-task_asked (question.Stage task) = Some task
-task_asked (question.Result actor task) = Some task
-task_asked (question.Fault actor task) = Some task
+abbrev pub task_asked : Query → Option ℕ
+task_asked (query.State task) = Some task
+task_asked (query.Stage task) = Some task
+task_asked (query.Result actor task) = Some task
+task_asked (query.Fault actor task) = Some task
 task_asked _ = None
 
 -- and of a command

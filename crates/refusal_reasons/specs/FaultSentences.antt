@@ -108,7 +108,7 @@ misfit_text k word = kind_text k ++ (codes " is " ++ (shown_text word ++ (codes 
 abbrev pub wrong_text : FieldKind → List ℕ → List ℕ
 wrong_text k word = alien_or (alien_in word) (misfit_text k word)
 
--- the word that may be meant, as a question
+-- the word that may be meant, as a query
 abbrev pub guess_text : Option (List ℕ) → List ℕ
 guess_text None = []
 guess_text (Some word) = codes "; did you mean " ++ (shown_text word ++ codes "?")

@@ -8,8 +8,8 @@ use Rattle.scope_rules.specs.Checks.{Checked, scope_check, task_check}
 use Rattle.scope_rules.specs.History.{History}
 use Rattle.scope_rules.specs.Replies.{result_reply, fault_reply, binding_reply}
 use Rattle.scope_rules.specs.Table.{check_of, retire_check, until_check}
-use Rattle.script_words.specs.declared.commands.Question.{Question}
-use Rattle.script_words.specs.declared.commands.Question.TheVariants as question
+use Rattle.script_words.specs.declared.commands.Query.{Query}
+use Rattle.script_words.specs.declared.commands.Query.TheVariants as query
 use Rattle.refusal_reasons.specs.declared.reasons.Reason.{Reason}
 use Rattle.refusal_reasons.specs.declared.reasons.Reason.TheVariants as reason
 use Rattle.refusal_reasons.specs.declared.reasons.ScopeObstacle.{ScopeObstacle}
@@ -20,7 +20,7 @@ use Rattle.refusal_reasons.specs.declared.reasons.ActorObstacle.{ActorObstacle}
 use Rattle.refusal_reasons.specs.declared.reasons.ActorObstacle.TheVariants as actor_is
 use Rattle.refusal_reasons.specs.declared.reasons.RoomObstacle.{RoomObstacle}
 use Rattle.refusal_reasons.specs.declared.reasons.RoomObstacle.TheVariants as room_is
-use Rattle.refusal_reasons.specs.Reasons.{Explained, event_reason, retire_reason, question_reason}
+use Rattle.refusal_reasons.specs.Reasons.{Explained, event_reason, retire_reason, query_reason}
 
 abbrev pub scope_refusal : ScopeObstacle → Refusal
 scope_refusal (scope_is.Unknown opened) = refusal.NoScope
@@ -74,16 +74,16 @@ abbrev pub refused_alone : {A : Type 0} → Result A Refusal → Checked
 refused_alone (Ok x) = Ok tt
 refused_alone (Err r) = Err r
 
--- what a question is refused for
-unfoldable pub question_check : History → Question → Checked
-question_check h (question.State task) = task_check h task
-question_check h (question.Stage task) = task_check h task
-question_check h (question.Result actor task) = refused_alone (result_reply h actor task)
-question_check h (question.Fault actor task) = refused_alone (fault_reply h actor task)
-question_check h (question.Cause scope) = scope_check h scope
-question_check h (question.Until scope) = until_check h scope
-question_check h (question.Counts scope) = scope_check h scope
-question_check h (question.Get actor key) = refused_alone (binding_reply h actor key)
+-- what a query is refused for
+unfoldable pub query_check : History → Query → Checked
+query_check h (query.State task) = task_check h task
+query_check h (query.Stage task) = task_check h task
+query_check h (query.Result actor task) = refused_alone (result_reply h actor task)
+query_check h (query.Fault actor task) = refused_alone (fault_reply h actor task)
+query_check h (query.Cause scope) = scope_check h scope
+query_check h (query.Until scope) = until_check h scope
+query_check h (query.Counts scope) = scope_check h scope
+query_check h (query.Get actor key) = refused_alone (binding_reply h actor key)
 
 -- an event has a reason just if its row refuses it, and the reason is of that refusal
 abbrev pub EventsFit : Type 0
@@ -93,6 +93,6 @@ EventsFit = (L : Limits) (h : History) (e : Event) → check_of L h e ≡ refusi
 abbrev pub RetirementsFit : Type 0
 RetirementsFit = (L : Limits) (h : History) (a : ℕ) → retire_check h a ≡ refusing (retire_reason L h a)
 
--- and so has a question
-abbrev pub QuestionsFit : Type 0
-QuestionsFit = (L : Limits) (h : History) (q : Question) → question_check h q ≡ refusing (question_reason L h q)
+-- and so has a query
+abbrev pub QueriesFit : Type 0
+QueriesFit = (L : Limits) (h : History) (q : Query) → query_check h q ≡ refusing (query_reason L h q)

@@ -17,8 +17,8 @@ use Rattle.scope_rules.specs.Load.{load}
 use Rattle.scope_rules.specs.Scopes.{closed, innermost, next_level}
 use Rattle.scope_rules.specs.Table.{row_check, retire_row, reading_row, until_row}
 use Rattle.scope_rules.specs.Tasks.{stage, state}
-use Rattle.script_words.specs.declared.commands.Question.{Question}
-use Rattle.script_words.specs.declared.commands.Question.TheVariants as question
+use Rattle.script_words.specs.declared.commands.Query.{Query}
+use Rattle.script_words.specs.declared.commands.Query.TheVariants as query
 use Rattle.refusal_reasons.specs.declared.reasons.Reason.{Reason}
 use Rattle.refusal_reasons.specs.declared.reasons.Reason.TheVariants as reason
 use Rattle.refusal_reasons.specs.declared.reasons.ScopeObstacle.TheVariants as scope_is
@@ -116,7 +116,7 @@ event_reason L h e = explained L h (row_check (λ f. f) L h e)
 unfoldable pub retire_reason : Limits → History → ℕ → Explained
 retire_reason L h a = explained L h (checks (retire_row (λ f. f) h a))
 
--- ---- of questions
+-- ---- of queries
 
 -- the state of task k shows a value
 abbrev pub shows_value : History → ℕ → State → Explained
@@ -138,13 +138,13 @@ sees h a key = refuse_if (not (is_some (bound_to key (bindings h a)))) (reason.A
 abbrev pub reading_reason : Limits → History → ℕ → ℕ → Explained
 reading_reason L h a k = explained L h (checks (reading_row (λ f. f) h a k))
 
--- why a question is refused, if it is
-unfoldable pub question_reason : Limits → History → Question → Explained
-question_reason L h (question.State task) = explained L h (known_task (λ f. f) h task)
-question_reason L h (question.Stage task) = explained L h (known_task (λ f. f) h task)
-question_reason L h (question.Result actor task) = then_check (reading_reason L h actor task) (shows_value h task (state h task))
-question_reason L h (question.Fault actor task) = then_check (reading_reason L h actor task) (shows_fault h task (state h task))
-question_reason L h (question.Cause scope) = explained L h (known_scope (λ f. f) h scope)
-question_reason L h (question.Until scope) = explained L h (checks (until_row (λ f. f) h scope))
-question_reason L h (question.Counts scope) = explained L h (known_scope (λ f. f) h scope)
-question_reason L h (question.Get actor key) = then_check (explained L h (known_actor (λ f. f) h actor)) (sees h actor key)
+-- why a query is refused, if it is
+unfoldable pub query_reason : Limits → History → Query → Explained
+query_reason L h (query.State task) = explained L h (known_task (λ f. f) h task)
+query_reason L h (query.Stage task) = explained L h (known_task (λ f. f) h task)
+query_reason L h (query.Result actor task) = then_check (reading_reason L h actor task) (shows_value h task (state h task))
+query_reason L h (query.Fault actor task) = then_check (reading_reason L h actor task) (shows_fault h task (state h task))
+query_reason L h (query.Cause scope) = explained L h (known_scope (λ f. f) h scope)
+query_reason L h (query.Until scope) = explained L h (checks (until_row (λ f. f) h scope))
+query_reason L h (query.Counts scope) = explained L h (known_scope (λ f. f) h scope)
+query_reason L h (query.Get actor key) = then_check (explained L h (known_actor (λ f. f) h actor)) (sees h actor key)

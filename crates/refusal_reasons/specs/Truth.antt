@@ -13,8 +13,8 @@ use Rattle.scope_rules.specs.Load.{load, weight}
 use Rattle.scope_rules.specs.Nests.{tasks_of}
 use Rattle.scope_rules.specs.Scopes.{joins, joined, ends, closed, closing, begins_closing, innermost, next_level}
 use Rattle.scope_rules.specs.Tasks.{stage, state}
-use Rattle.script_words.specs.declared.commands.Question.{Question}
-use Rattle.script_words.specs.declared.commands.Question.TheVariants as question
+use Rattle.script_words.specs.declared.commands.Query.{Query}
+use Rattle.script_words.specs.declared.commands.Query.TheVariants as query
 use Rattle.refusal_reasons.specs.declared.reasons.Reason.{Reason}
 use Rattle.refusal_reasons.specs.declared.reasons.Reason.TheVariants as reason
 use Rattle.refusal_reasons.specs.declared.reasons.ScopeObstacle.{ScopeObstacle}
@@ -26,7 +26,7 @@ use Rattle.refusal_reasons.specs.declared.reasons.ActorObstacle.TheVariants as a
 use Rattle.refusal_reasons.specs.declared.reasons.RoomObstacle.{RoomObstacle}
 use Rattle.refusal_reasons.specs.declared.reasons.RoomObstacle.TheVariants as room_is
 use Rattle.refusal_reasons.specs.Places.{is_pending}
-use Rattle.refusal_reasons.specs.Reasons.{event_reason, retire_reason, question_reason}
+use Rattle.refusal_reasons.specs.Reasons.{event_reason, retire_reason, query_reason}
 
 -- who asks for the event
 abbrev pub asker : Event → ℕ
@@ -42,11 +42,11 @@ asker (BeginClose actor scope) = actor
 asker (EndClose actor scope) = actor
 asker _ = 0
 
--- who asks the question
-abbrev pub questioner : Question → ℕ
-questioner (question.Result actor task) = actor
-questioner (question.Fault actor task) = actor
-questioner (question.Get actor key) = actor
+-- who asks the query
+abbrev pub questioner : Query → ℕ
+questioner (query.Result actor task) = actor
+questioner (query.Fault actor task) = actor
+questioner (query.Get actor key) = actor
 questioner _ = 0
 
 -- the event with this number, counted from 1, is there, and the test holds of its place and of it
@@ -123,6 +123,6 @@ EventsAreTrue = (L : Limits) (h : History) (e : Event) (r : Reason) → event_re
 abbrev pub RetirementsAreTrue : Type 0
 RetirementsAreTrue = (L : Limits) (h : History) (a : ℕ) (r : Reason) → retire_reason L h a ≡ Err r → IsSo L h a 0 r
 
--- and of a refused question
-abbrev pub QuestionsAreTrue : Type 0
-QuestionsAreTrue = (L : Limits) (h : History) (q : Question) (r : Reason) → question_reason L h q ≡ Err r → IsSo L h (questioner q) 0 r
+-- and of a refused query
+abbrev pub QueriesAreTrue : Type 0
+QueriesAreTrue = (L : Limits) (h : History) (q : Query) (r : Reason) → query_reason L h q ≡ Err r → IsSo L h (questioner q) 0 r

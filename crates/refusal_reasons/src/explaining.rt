@@ -5,17 +5,17 @@ ghost use Rattle.scope_rules.specs.Checks.{actor_check, task_check};
 ghost use Rattle.scope_rules.specs.Table.{row_check};
 ghost use Rattle.scope_rules.specs.Tasks.{stage, state};
 ghost use Rattle.scope_checks.specs.Passes.{Passes};
-ghost use Rattle.refusal_reasons.specs.Reasons.{Presupposed, scope_of, explained, event_reason, retire_reason, reading_reason, question_reason, shows_value, shows_fault, sees};
+ghost use Rattle.refusal_reasons.specs.Reasons.{Presupposed, scope_of, explained, event_reason, retire_reason, reading_reason, query_reason, shows_value, shows_fault, sees};
 
 use crate::events::Events;
 use crate::failures::{of_actor, of_task, reason_of, scope_of};
 use crate::reasons::{ActorObstacle, Reason, TaskObstacle};
 use scope_checks::Readings;
 use scope_checks::checks::{known_actor, known_scope, known_task};
-use scope_checks::questions::{reading_row, until_row};
+use scope_checks::queries::{reading_row, until_row};
 use scope_checks::table::{retire_row, try_event};
 use scope_rules::{Actor, Event, Failed, Limits, Name, State, TaskId};
-use script_words::Question;
+use script_words::Query;
 
 /// The reason, if a check failed.
 fn explained<R: Readings, E: Events>(
@@ -89,36 +89,36 @@ fn reading_reason<R: Readings, E: Events>(
     explained(readings, events, limits, reading_row(readings, actor, task))
 }
 
-/// Why the question is refused, if it is.
-#[tactic(auto, using(crate::proofs::Explained::scope_presupposes, crate::proofs::Explained::task_presupposes, crate::proofs::Explained::actor_presupposes, crate::proofs::Explained::until_presupposes), unfolding(crate::specs::Reasons::question_reason, scope_rules::specs::Checks::then_check))]
-pub fn question_reason<R: Readings, E: Events>(
+/// Why the query is refused, if it is.
+#[tactic(auto, using(crate::proofs::Explained::scope_presupposes, crate::proofs::Explained::task_presupposes, crate::proofs::Explained::actor_presupposes, crate::proofs::Explained::until_presupposes), unfolding(crate::specs::Reasons::query_reason, scope_rules::specs::Checks::then_check))]
+pub fn query_reason<R: Readings, E: Events>(
     readings: &R,
     events: &E,
     limits: &Limits,
-    question: &Question,
+    query: &Query,
 ) -> Result<(), Reason>
     requires { E.history events.now ≡ R.history readings.now }
-    ensures { result ≡ question_reason limits.now (R.history readings.now) question.now }
+    ensures { result ≡ query_reason limits.now (R.history readings.now) query.now }
 {
-    match *question {
-        Question::State { task } | Question::Stage { task } => {
+    match *query {
+        Query::State { task } | Query::Stage { task } => {
             explained(readings, events, limits, known_task(readings, task))
         }
-        Question::Cause { scope } | Question::Counts { scope } => {
+        Query::Cause { scope } | Query::Counts { scope } => {
             explained(readings, events, limits, known_scope(readings, scope))
         }
-        Question::Result { actor, task } => {
+        Query::Result { actor, task } => {
             reading_reason(readings, events, limits, actor, task)?;
             shows_value(readings, task)
         }
-        Question::Fault { actor, task } => {
+        Query::Fault { actor, task } => {
             reading_reason(readings, events, limits, actor, task)?;
             shows_fault(readings, task)
         }
-        Question::Until { scope } => {
+        Query::Until { scope } => {
             explained(readings, events, limits, until_row(readings, scope))
         }
-        Question::Get { actor, key } => {
+        Query::Get { actor, key } => {
             let acts = known_actor(readings, actor);
             explained(readings, events, limits, acts)?;
             sees(readings, actor, key)

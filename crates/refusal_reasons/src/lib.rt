@@ -29,7 +29,7 @@ mod shown;
 mod words;
 
 pub use events::Events;
-pub use explaining::{event_reason, question_reason, retire_reason};
+pub use explaining::{event_reason, query_reason, retire_reason};
 pub use faults::{WordFault, fault_of};
 pub use line_places::{Place, ShownPlace, place_of};
 pub use line_shown::ShownBytes;

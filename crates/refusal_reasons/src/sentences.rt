@@ -195,7 +195,7 @@ impl fmt::Display for ShownWrong<'_> {
     }
 }
 
-/// The word that may be meant, as a question.
+/// The word that may be meant, as a query.
 #[derive(Clone, Copy)]
 struct ShownGuess<'a>(Option<&'a [u8]>);
 

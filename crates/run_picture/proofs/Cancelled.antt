@@ -3,14 +3,14 @@ use Rattle.std.proofs.Common.{◌≡◌, ◌≢◌, ◌⊎◌, inl, inr, if◌th
 use Rattle.std.proofs.lemmas.Bool.{cases_eq, eq-eqb, ne_eqb, le-leb, le-ltb, leb-true, lt-ltb, ltb-true}
 use Rattle.scope_rules.proofs.EarliestLaws.{some_none}
 use Rattle.std.specs.Option.{option_and_then, option_map_or}
-use Rattle.scope_checks.specs.Questions.{cancellation}
+use Rattle.scope_checks.specs.Queries.{cancellation}
 use Rattle.scope_rules.specs.declared.types.answers.Cause.{Cause}
-use Rattle.scope_rules.specs.declared.types.records.Cut.{Cut}
+use Rattle.scope_rules.specs.declared.types.records.FirstCancel.{FirstCancel}
 use Rattle.scope_rules.specs.declared.types.records.Forking.{Forking}
 use Rattle.scope_rules.specs.declared.types.records.Opening.{Opening}
-use Rattle.scope_rules.specs.Cancels.{cancelled_at, cancelled_before, cause, cut, is_cancelled}
+use Rattle.scope_rules.specs.Cancels.{cancelled_at, cancelled_before, cause, first_cancel, is_cancelled}
 use Rattle.scope_rules.specs.History.{History, forked_count, forking, opened_count, opening, scope_numbers, scopes}
-use Rattle.scope_rules.proofs.Staying.{cut_opened}
+use Rattle.scope_rules.proofs.Staying.{cancel_opened}
 use Rattle.run_picture.specs.declared.marks.Mark.TheVariants as mark
 use Rattle.run_picture.specs.declared.marks.ShownMark.{ShownMark}
 use Rattle.run_picture.specs.declared.rows.Folded.{Folded}
@@ -31,7 +31,7 @@ use Rattle.run_picture.specs.declared.view.View.{View}
 use Rattle.run_picture.proofs.Counted.{once_counted}
 use Rattle.run_picture.proofs.Figured.{IsKind, TaskKind, band_none, events_none, figure_kind, lane_none, moments_none, shields_none}
 use Rattle.run_picture.proofs.Rowed.{no_rows, rows_drawn, sum_zero}
-use Rattle.run_picture.proofs.Truthful.{cut_there}
+use Rattle.run_picture.proofs.Truthful.{cancel_there}
 
 cancel_kind : (s : ℕ) → IsKind (is_cancel_of s)
 cancel_kind s = figure_kind no_subject no_number (is_number s)
@@ -44,14 +44,14 @@ cancel_task s x = record { labels = λ at y f is e. refl; nevers = λ p b n. ref
 -- a scope is cancelled just if there is a cancel to draw
 pub cancelled_drawn : (h : History) (s : ℕ) → is_some (cancellation h s) ≡ is_cancelled h s
 unfolding cancelled_at cause is_cancelled
-cancelled_drawn h s = by (cut h s) (opening h s) refl refl
+cancelled_drawn h s = by (first_cancel h s) (opening h s) refl refl
   where
-    by : (c : Option Cut) (o : Option Opening) → cut h s ≡ c → opening h s ≡ o → is_some (option_and_then {U = ℕ × Cause} (λ at. option_map (λ x. (at, x)) (option_map (λ x. x.cause) c)) (option_and_then (λ p. option_map (λ x. max p.place x.place) c) o)) ≡ is_some c
-    by None None cut_is opened = refl
-    by None (Some o) cut_is opened = refl
-    by (Some c) (Some o) cut_is opened = refl
-    by (Some c) None cut_is opened =
-        let it = cut_opened h s c None cut_is opened in
+    by : (c : Option FirstCancel) (o : Option Opening) → first_cancel h s ≡ c → opening h s ≡ o → is_some (option_and_then {U = ℕ × Cause} (λ at. option_map (λ x. (at, x)) (option_map (λ x. x.cause) c)) (option_and_then (λ p. option_map (λ x. max p.place x.place) c) o)) ≡ is_some c
+    by None None cancel_is opened = refl
+    by None (Some o) cancel_is opened = refl
+    by (Some c) (Some o) cancel_is opened = refl
+    by (Some c) None cancel_is opened =
+        let it = cancel_opened h s c None cancel_is opened in
         let there : opening h s ≡ Some it.opened = it.is in
         absurd cc
 
@@ -78,16 +78,16 @@ abbrev counted : History → View → Option ℕ → ℕ → ℕ
 counted h v row x = option_map_or (λ (r : ℕ). cond (is_shown v (cancellation h x)) 1 0) row 0
 
 -- the scope became cancelled in view
-abbrev cut_in_view : History → View → ℕ → Bool
-cut_in_view h v s = is_cancelled h s && shows v (cancel_place h s)
+abbrev cancel_in_view : History → View → ℕ → Bool
+cancel_in_view h v s = is_cancelled h s && shows v (cancel_place h s)
 
-shown_is : (h : History) (v : View) (s : ℕ) → is_shown v (cancellation h s) ≡ cut_in_view h v s
+shown_is : (h : History) (v : View) (s : ℕ) → is_shown v (cancellation h s) ≡ cancel_in_view h v s
 shown_is h v s = by (cancellation h s) refl
   where
-    by : (o : Option (ℕ × Cause)) → cancellation h s ≡ o → is_shown v o ≡ cut_in_view h v s
+    by : (o : Option (ℕ × Cause)) → cancellation h s ≡ o → is_shown v o ≡ cancel_in_view h v s
     by None is = ap (λ b. b && shows v (cancel_place h s)) (sym (ap is_some is) ∙ cancelled_drawn h s)
     by (Some c) is =
-        sym (ap (λ b. b && shows v (cancel_place h s)) (sym (cancelled_drawn h s) ∙ ap is_some is) ∙ ap (λ (o : Option ℕ). shows v (unwrap_or o 0)) (cut_there h s c.0 c.1 is).at)
+        sym (ap (λ b. b && shows v (cancel_place h s)) (sym (cancelled_drawn h s) ∙ ap is_some is) ∙ ap (λ (o : Option ℕ). shows v (unwrap_or o 0)) (cancel_there h s c.0 c.1 is).at)
 
 cancel_counts : (h : History) (d : Sheet) (s x : ℕ) → count_in (is_cancel_of s) (cancel_figures h d x) ≡ cond (x == s) (counted h d.view (scope_row h d x) x) 0
 unfolding cancel_figures
@@ -97,15 +97,15 @@ cancel_counts h d s x = by (scope_row h d x)
     by None = sym (zero_either (x == s))
     by (Some row) = drawn_by h d s x row (cancellation h x)
 
-cancel_once : (h : History) (d : Sheet) (s row x : ℕ) → scope_row h d s ≡ Some row → count_in (is_cancel_of s) (cancel_figures h d x) ≡ cond (x == s) (cond (cut_in_view h d.view s) 1 0) 0
+cancel_once : (h : History) (d : Sheet) (s row x : ℕ) → scope_row h d s ≡ Some row → count_in (is_cancel_of s) (cancel_figures h d x) ≡ cond (x == s) (cond (cancel_in_view h d.view s) 1 0) 0
 cancel_once h d s row x has = cancel_counts h d s x ∙ by (cases_eq x s)
   where
-    value : counted h d.view (scope_row h d s) s ≡ cond (cut_in_view h d.view s) 1 0
+    value : counted h d.view (scope_row h d s) s ≡ cond (cancel_in_view h d.view s) 1 0
     value = ap (λ o. counted h d.view o s) has ∙ ap (λ b. cond b 1 0) (shown_is h d.view s)
 
-    by : ((x ≡ s) ⊎ (x ≢ s)) → cond (x == s) (counted h d.view (scope_row h d x) x) 0 ≡ cond (x == s) (cond (cut_in_view h d.view s) 1 0) 0
+    by : ((x ≡ s) ⊎ (x ≢ s)) → cond (x == s) (counted h d.view (scope_row h d x) x) 0 ≡ cond (x == s) (cond (cancel_in_view h d.view s) 1 0) 0
     by (inl same) = ap (λ n. cond (x == s) n 0) (ap (λ y. counted h d.view (scope_row h d y) y) same ∙ value)
-    by (inr differ) = ap (λ b. cond b (counted h d.view (scope_row h d x) x) 0) (ne_eqb x s differ) ∙ sym (ap (λ b. cond b (cond (cut_in_view h d.view s) 1 0) 0) (ne_eqb x s differ))
+    by (inr differ) = ap (λ b. cond b (counted h d.view (scope_row h d x) x) 0) (ne_eqb x s differ) ∙ sym (ap (λ b. cond b (cond (cancel_in_view h d.view s) 1 0) 0) (ne_eqb x s differ))
 
 -- a scope with a row of its own is one since the base
 pub row_within : (h : History) (d : Sheet) (s row : ℕ) → scope_row h d s ≡ Some row → (h.base.scopes < s) × (s ≤ scopes h)
@@ -120,7 +120,7 @@ pub each_cancel : EachCancelHasOneMark
 each_cancel h d s row has =
     let kind = cancel_kind s in
     let within = row_within h d s row has in
-    let c = cond (cut_in_view h d.view s) 1 0 in
+    let c = cond (cancel_in_view h d.view s) 1 0 in
     let found : count_in (is_cancel_of s) (all (cancel_figures h d) (scope_numbers h)) ≡ c =
     once_counted (is_cancel_of s) (cancel_figures h d) s c (h.base.scopes + 1) (λ x. cancel_once h d s row x has) (opened_count h)
     ∙ inside (h.base.scopes + 1) s (opened_count h) c (omega (arith, within.0)) (omega (arith, within.1)) in

@@ -4,7 +4,7 @@ use Rattle.std.proofs.lemmas.Bool.{cases_eq, eq-eqb, eqb-true, ne_eqb, le-leb, l
 use Rattle.std.proofs.lemmas.List.{take_all}
 use Rattle.std.specs.List.{list_any, range_with_len}
 use Rattle.std.specs.Option.{option_and_then, option_map_or}
-use Rattle.scope_checks.specs.Questions.{cancellation}
+use Rattle.scope_checks.specs.Queries.{cancellation}
 use Rattle.scope_rules.specs.declared.types.answers.Cause.{Cause}
 use Rattle.scope_rules.specs.declared.types.answers.State.{State}
 use Rattle.scope_rules.specs.declared.types.events.Event.{Event}
@@ -32,7 +32,7 @@ use Rattle.run_picture.proofs.Counted.{once_counted}
 use Rattle.run_picture.proofs.Drawings.{everywhere_all, none_in_all}
 use Rattle.run_picture.proofs.Ended.{ended_is, started_is}
 use Rattle.run_picture.proofs.Searched.{any_alike, any_take, closed_anywhere}
-use Rattle.run_picture.proofs.Truthful.{cut_there, everywhere_or}
+use Rattle.run_picture.proofs.Truthful.{cancel_there, everywhere_or}
 
 -- ---- how many there are
 
@@ -279,7 +279,7 @@ module _ (h : History) (times : List ℕ) where
   scopes_so s = everywhere_or (IsSo h times) (λ o. One (AScope (band_in h times s o))) (opening h s) (scope_so s)
 
   arrow_so : (s : ℕ) (o : Opening) (c : ℕ × Cause) → opening h s ≡ Some o → cancellation h s ≡ Some c → Everywhere (IsSo h times) (arrow_from h times s o.actor c.0 c.1)
-  arrow_so s o c is cut = by (c.1.scope == s)
+  arrow_so s o c is first_cancel = by (c.1.scope == s)
     where
       one : (x : Opening) → opening h c.1.scope ≡ Some x → IsArrowOf h times (arrow_in times s x.actor o.actor c.0) s
       one x source = record {
@@ -292,7 +292,7 @@ module _ (h : History) (times : List ℕ) where
         source_opened = x;
         source_is = source;
         from = refl;
-        comes = record { by = c.1; from = refl; cut = cut_there h s c.0 c.1 cut };
+        comes = record { by = c.1; from = refl; first_cancel = cancel_there h s c.0 c.1 first_cancel };
       }
 
       by : (b : Bool) → Everywhere (IsSo h times) (cond b Blank (option_map_or (λ (x : Opening). One (AnArrow (arrow_in times s x.actor o.actor c.0))) (opening h c.1.scope) Blank))
@@ -300,13 +300,13 @@ module _ (h : History) (times : List ℕ) where
       by false = everywhere_or (IsSo h times) (λ (x : Opening). One (AnArrow (arrow_in times s x.actor o.actor c.0))) (opening h c.1.scope) one
 
   cancel_so : (s : ℕ) (o : Opening) (c : ℕ × Cause) → opening h s ≡ Some o → cancellation h s ≡ Some c → Everywhere (IsSo h times) (reached_from h times s o.actor c.0 c.1)
-  cancel_so s o c is cut = (record { opened = o; is = is; on = refl; place = c.0; at = refl; cut = cut_there h s c.0 c.1 cut }, arrow_so s o c is cut)
+  cancel_so s o c is first_cancel = (record { opened = o; is = is; on = refl; place = c.0; at = refl; first_cancel = cancel_there h s c.0 c.1 first_cancel }, arrow_so s o c is first_cancel)
 
   cancels_so : (s : ℕ) → Everywhere (IsSo h times) (cancel_records h times s)
   unfolding cancel_records
   cancels_so s =
       everywhere_or (IsSo h times) (cancel_from h times s) (opening h s)
-      (λ o is. everywhere_or (IsSo h times) (λ (c : ℕ × Cause). reached_from h times s o.actor c.0 c.1) (cancellation h s) (λ c cut. cancel_so s o c is cut))
+      (λ o is. everywhere_or (IsSo h times) (λ (c : ℕ × Cause). reached_from h times s o.actor c.0 c.1) (cancellation h s) (λ c first_cancel. cancel_so s o c is first_cancel))
 
 pub each_record : EachRecordIsSo
 each_record h times = (

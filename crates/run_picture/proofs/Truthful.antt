@@ -2,17 +2,17 @@
 use Rattle.std.proofs.Common.{◌≡◌, ◌⊎◌, inl, inr, ℕ, zero, suc, ◌+◌, ◌<◌, ◌≤◌, ◌==◌, ◌||◌, is_some, ◌&&◌, nat_lt, nat_le, max, not, if◌then◌else◌, Bool, true, false, cond, Option, Some, None, option_map, List, [], ◌∷◌, slice_get, refl, ap, sym, ◌∙◌, arith, subst}
 use Rattle.std.proofs.lemmas.Bool.{ltb-true}
 use Rattle.std.specs.Option.{option_and_then, option_map_or}
-use Rattle.scope_checks.specs.Questions.{cancellation}
+use Rattle.scope_checks.specs.Queries.{cancellation}
 use Rattle.scope_rules.specs.declared.types.answers.Cause.{Cause}
 use Rattle.scope_rules.specs.declared.types.answers.State.{State}
 use Rattle.scope_rules.specs.declared.types.events.Event.{Event}
 use Rattle.scope_rules.specs.declared.types.events.Event.TheVariants as event
-use Rattle.scope_rules.specs.declared.types.records.Cut.{Cut}
+use Rattle.scope_rules.specs.declared.types.records.FirstCancel.{FirstCancel}
 use Rattle.scope_rules.specs.declared.types.records.Forking.{Forking}
 use Rattle.scope_rules.specs.declared.types.records.Opening.{Opening}
 use Rattle.scope_rules.specs.declared.types.records.OwnCancel.{OwnCancel}
-use Rattle.scope_rules.specs.Cancels.{cancelled_at, cancelled_before, cause, cut, own, own_cut}
-use Rattle.scope_rules.specs.Chains.{chain_by, cut_by, earliest_on, nearer, onward, outwards}
+use Rattle.scope_rules.specs.Cancels.{cancelled_at, cancelled_before, cause, first_cancel, own, own_cancel}
+use Rattle.scope_rules.specs.Chains.{chain_by, first_cancel_by, earliest_on, nearer, onward, outwards}
 use Rattle.scope_rules.specs.History.{History, before, forking, opening, scope_numbers, tick_of}
 use Rattle.scope_rules.specs.Scopes.{around, closed, outer}
 use Rattle.scope_rules.specs.declared.types.capacity.Limits.{Limits}
@@ -63,17 +63,17 @@ everywhere_in_view P v i drawn so = everywhere_if P (shows v i) drawn Blank (λ 
 
 -- ---- from where a cancel comes
 
-none_is : (x : Cut) → None ≡ Some x → ⊥
+none_is : (x : FirstCancel) → None ≡ Some x → ⊥
 none_is x same = absurd cc
 
-from_own : (h : History) (s : ℕ) (c : Cut) → own_cut h s ≡ Some c → c.cause.scope ≡ s
+from_own : (h : History) (s : ℕ) (c : FirstCancel) → own_cancel h s ≡ Some c → c.cause.scope ≡ s
 from_own h s c is = by (own h s) is
   where
     by : (o : Option OwnCancel) → option_map (λ (w : OwnCancel). record { place = w.place; cause = record { scope = s; kind = w.kind } }) o ≡ Some c → c.cause.scope ≡ s
     by None is = absurd cc
-    by (Some w) is = ap (λ (o : Option Cut). option_map_or (λ (x : Cut). x.cause.scope) o s) (sym is)
+    by (Some w) is = ap (λ (o : Option FirstCancel). option_map_or (λ (x : FirstCancel). x.cause.scope) o s) (sym is)
 
-near_or_far : (near far : Option Cut) (c : Cut) → nearer near far ≡ Some c → (near ≡ Some c) ⊎ (far ≡ Some c)
+near_or_far : (near far : Option FirstCancel) (c : FirstCancel) → nearer near far ≡ Some c → (near ≡ Some c) ⊎ (far ≡ Some c)
 near_or_far None far c is = inr is
 near_or_far (Some near) None c is = inl is
 near_or_far (Some near) (Some far) c is = by (nat_le near.place far.place) is
@@ -92,32 +92,32 @@ outer_is h s q is =
     by o opened true shield found = absurd cc
     by o opened false shield found = (o, opened, shield, found)
 
-comes_along : (h : History) (n s : ℕ) (c : Cut) → earliest_on (own_cut h) (outwards (outer h) n s) ≡ Some c → ComesTo h c.cause.scope s
+comes_along : (h : History) (n s : ℕ) (c : FirstCancel) → earliest_on (own_cancel h) (outwards (outer h) n s) ≡ Some c → ComesTo h c.cause.scope s
 comes_along h zero s c is = absurd (none_is c is)
 comes_along h (suc n) s c is =
-    elim (near_or_far (own_cut h s) (earliest_on (own_cut h) (onward (outer h s) (outwards (outer h) n))) c is) [
+    elim (near_or_far (own_cancel h s) (earliest_on (own_cancel h) (onward (outer h s) (outwards (outer h) n))) c is) [
       | inl near ↦ subst (ComesTo h c.cause.scope) (from_own h s c near) there
       | inr far ↦ by (λ q. comes_along h n q c) (outer h s) refl far
     ]
   where
-    by : ((q : ℕ) → earliest_on (own_cut h) (outwards (outer h) n q) ≡ Some c → ComesTo h c.cause.scope q) → (o : Option ℕ) → outer h s ≡ o → earliest_on (own_cut h) (onward o (outwards (outer h) n)) ≡ Some c → ComesTo h c.cause.scope s
+    by : ((q : ℕ) → earliest_on (own_cancel h) (outwards (outer h) n q) ≡ Some c → ComesTo h c.cause.scope q) → (o : Option ℕ) → outer h s ≡ o → earliest_on (own_cancel h) (onward o (outwards (outer h) n)) ≡ Some c → ComesTo h c.cause.scope s
     by further None outside found = absurd (none_is c found)
     by further (Some q) outside found =
         let it = outer_is h s q outside in
         inwards it.1 it.2 it.3 (further q found)
 
 comes_to : (h : History) (s : ℕ) (c : Cause) → cause h s ≡ Some c → ComesTo h c.scope s
-unfolding cause cut cut_by chain_by
-comes_to h s c is = by (cut h s) refl is
+unfolding cause first_cancel first_cancel_by chain_by
+comes_to h s c is = by (first_cancel h s) refl is
   where
-    by : (o : Option Cut) → earliest_on (own_cut h) (outwards (outer h) (suc s) s) ≡ o → option_map (λ x. x.cause) o ≡ Some c → ComesTo h c.scope s
+    by : (o : Option FirstCancel) → earliest_on (own_cancel h) (outwards (outer h) (suc s) s) ≡ o → option_map (λ x. x.cause) o ≡ Some c → ComesTo h c.scope s
     by None found same = absurd cc
     by (Some x) found same =
         let cause_is : x.cause ≡ c = cc in
         subst (λ (k : Cause). ComesTo h k.scope s) cause_is (comes_along h (suc s) s x found)
 
-pub cut_there : (h : History) (s i : ℕ) (c : Cause) → cancellation h s ≡ Some (i, c) → IsCancelledAt h s i c
-cut_there h s i c is =
+pub cancel_there : (h : History) (s i : ℕ) (c : Cause) → cancellation h s ≡ Some (i, c) → IsCancelledAt h s i c
+cancel_there h s i c is =
     let it = and_then_some (λ (at : ℕ). option_map (λ (x : Cause). (at, x)) (cause h s)) (cancelled_at h s) (i, c) is in
     by it.0 it.1 (cause h s) refl it.2
   where
@@ -155,12 +155,12 @@ module _ (h : History) (d : Sheet) where
 
   cancel_so : (s row : ℕ) (c : ℕ × Cause) → scope_row h d s ≡ Some row → cancellation h s ≡ Some c → Everywhere (TellsTruth h d) (cancel_drawn h d s row c.0 c.1)
   cancel_so s row c has is =
-      let it = cut_there h s c.0 c.1 is in (
+      let it = cancel_there h s c.0 c.1 is in (
         record {
           scope = s;
           place = c.0;
           by = c.1;
-          cut = it;
+          first_cancel = it;
           row = row;
           row_is = has;
           x = refl;
@@ -204,7 +204,7 @@ module _ (h : History) (d : Sheet) where
         around_is = out.1;
         by = c.1;
         from = refl;
-        cut = cut_there h out.0 c.0 c.1 (out.2 ∙ ap Some same);
+        first_cancel = cancel_there h out.0 c.0 c.1 (out.2 ∙ ap Some same);
       }
 
   shield_so : (s : ℕ) (o : Opening) → opening h s ≡ Some o → Everywhere (TellsTruth h d) (opened_shield h d s o)

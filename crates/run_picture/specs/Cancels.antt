@@ -1,7 +1,7 @@
 -- The cancels of a picture: which scope became cancelled where, and by whose own cancel.
 use Rattle.std.specs.Prelude.{ℕ, Bool, true, false, not, nat_lt}
 use Rattle.std.specs.Option.{option_map_or}
-use Rattle.scope_checks.specs.Questions.{cancellation}
+use Rattle.scope_checks.specs.Queries.{cancellation}
 use Rattle.scope_rules.specs.declared.types.answers.Cause.{Cause}
 use Rattle.scope_rules.specs.declared.types.answers.CauseKind.{CauseKind}
 use Rattle.scope_rules.specs.declared.types.answers.CauseKind.TheVariants.{Call, Close, Joiner, Deadline}

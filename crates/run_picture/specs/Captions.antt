@@ -67,7 +67,7 @@ span_text s = codes ", " ++ unit_word s.lined ++ decimal s.from ++ span_end s.to
 unfoldable pub title_text : Title → List ℕ
 title_text t = codes "<title>" ++ subject_text t.subject ++ span_text t.span ++ fate_text t.fate ++ codes "</title>"
 
--- what is read if a label is pointed at: all of it, even if the picture cuts it
+-- what is read if a label is pointed at: all of it, even if the picture cancels it
 unfoldable pub titled_text : Label → List ℕ
 titled_text l = codes "<title>" ++ subject_text l.subject ++ fate_text l.fate ++ codes "</title>"
 

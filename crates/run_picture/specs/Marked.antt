@@ -134,7 +134,7 @@ pub record HoldsAgainst (h : History) (s source i : ℕ) : Type 0 where
   pub around_is : around h opened ≡ Some outside
   pub by : Cause
   pub from : by.scope ≡ source
-  pub cut : IsCancelledAt h outside i by
+  pub first_cancel : IsCancelledAt h outside i by
 
 -- what the mark says is so, in the row where it stands, and by the event at which it stands
 abbrev pub IsSo : History → Sheet → ShownMark → Mark → Type 0
@@ -153,7 +153,7 @@ pub record IsReachOf (h : History) (d : Sheet) (r : Reach) : Type 0 where
   pub scope : ℕ
   pub place : ℕ
   pub by : Cause
-  pub cut : IsCancelledAt h scope place by
+  pub first_cancel : IsCancelledAt h scope place by
   pub row : ℕ
   pub row_is : scope_row h d scope ≡ Some row
   pub x : r.x ≡ x_in h d place

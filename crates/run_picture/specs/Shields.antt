@@ -1,7 +1,7 @@
 -- The shields of a picture: which held off a cancel, and where.
 use Rattle.std.specs.Prelude.{ℕ, ◌+◌, ◌&&◌, Bool, not, nat_lt, Option, None, Some, if◌then◌else◌}
 use Rattle.std.specs.Option.{option_and_then, option_map_or}
-use Rattle.scope_checks.specs.Questions.{cancellation}
+use Rattle.scope_checks.specs.Queries.{cancellation}
 use Rattle.scope_rules.specs.declared.types.answers.Cause.{Cause}
 use Rattle.scope_rules.specs.declared.types.records.Opening.{Opening}
 use Rattle.scope_rules.specs.Cancels.{cancelled_before}

@@ -1,7 +1,7 @@
 -- The run as Chrome trace events, as JSON.
 use Rattle.std.specs.Prelude.{◌≡◌, ℕ, ◌-◌, ◌*◌, ◌==◌, min, if◌then◌else◌, Option, None, Some, option_map, List, ◌++◌, codes, length}
 use Rattle.std.specs.Option.{option_map_or}
-use Rattle.scope_checks.specs.Questions.{cancellation}
+use Rattle.scope_checks.specs.Queries.{cancellation}
 use Rattle.scope_rules.specs.declared.types.answers.Cause.{Cause}
 use Rattle.scope_rules.specs.declared.types.answers.State.{State}
 use Rattle.scope_rules.specs.declared.types.records.Forking.{Forking}

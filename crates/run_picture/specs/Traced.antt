@@ -89,13 +89,13 @@ pub record IsInstantOf (h : History) (times : List ℕ) (i : Instant) (s : ℕ) 
   pub on : i.track ≡ opened.actor
   pub place : ℕ
   pub at : i.at ≡ micros times place
-  pub cut : IsCancelledAt h s place i.cause
+  pub first_cancel : IsCancelledAt h s place i.cause
 
 -- scope s became cancelled at place i by a cancel of the source
 pub record CancelledFrom (h : History) (s i source : ℕ) : Type 0 where
   pub by : Cause
   pub from : by.scope ≡ source
-  pub cut : IsCancelledAt h s i by
+  pub first_cancel : IsCancelledAt h s i by
 
 -- an arrow goes from the owner of the scope whose own cancel it was to the owner of the one that it reached
 pub record IsArrowOf (h : History) (times : List ℕ) (a : Arrow) (s : ℕ) : Type 0 where

@@ -1,6 +1,6 @@
 //! Which scope became cancelled where, and by whose own cancel.
 ghost use Rattle.std.specs.Prelude.{◌≡◌, ◌++◌, OnOk, Some, string_bytes};
-ghost use Rattle.scope_checks.specs.Questions.{cancellation};
+ghost use Rattle.scope_checks.specs.Queries.{cancellation};
 ghost use Rattle.scope_rules.specs.Cancels.{cancelled_before};
 ghost use Rattle.run_picture.specs.Cancels.{cancel_drawn, cancel_figures, fails_by, is_accident, joined_by, source_y};
 ghost use Rattle.run_picture.specs.Drawing.{shown};
@@ -13,7 +13,7 @@ use crate::sites::{join_of, mark_at, scope_row, x_of};
 use crate::spots::row_y;
 use crate::strokes::Reach;
 use scope_checks::Readings;
-use scope_checks::questions::cancellation;
+use scope_checks::queries::cancellation;
 use scope_rules::types::answers::CauseKind;
 use scope_rules::types::joiners::{Policy, Rule};
 use scope_rules::{Cause, ScopeId};
@@ -27,8 +27,8 @@ pub(crate) fn is_cancelled_before<R: Readings>(readings: &R, scope: ScopeId, pla
     let Some(opening) = readings.opening(scope) else {
         return false;
     };
-    match readings.cut(scope) {
-        Some(cut) => opening.place.max(cut.place) < place,
+    match readings.first_cancel(scope) {
+        Some(first_cancel) => opening.place.max(first_cancel.place) < place,
         None => false,
     }
 }

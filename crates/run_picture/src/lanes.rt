@@ -16,7 +16,7 @@ use crate::sites::{begin_of, close_of, end_of, end_x, mark_at, span_of, start_of
 use crate::spots::row_y;
 use crate::strokes::{Bar, Shade};
 use scope_checks::Readings;
-use scope_checks::questions::cancellation;
+use scope_checks::queries::cancellation;
 use scope_rules::types::answers::CauseKind;
 use scope_rules::types::records::{Forking, Opening};
 use scope_rules::{ScopeId, State, TaskId};

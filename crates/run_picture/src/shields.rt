@@ -13,7 +13,7 @@ use crate::marks::Mark;
 use crate::sites::{mark_at, scope_row};
 use crate::spots::row_y;
 use scope_checks::Readings;
-use scope_checks::questions::cancellation;
+use scope_checks::queries::cancellation;
 use scope_rules::types::records::Opening;
 use scope_rules::{Cause, ScopeId};
 use std::alloc::AllocError;

@@ -9,7 +9,7 @@ use crate::slices::{Arrow, Instant, ScopeSlice, Stretch, TaskSlice};
 use crate::turns::{closed_at, ended_at, started_at};
 use crate::view::time_at;
 use scope_checks::Readings;
-use scope_checks::questions::cancellation;
+use scope_checks::queries::cancellation;
 use scope_rules::types::records::Forking;
 use scope_rules::{Actor, Cause, Event, ScopeId, State, TaskId};
 use std::alloc::{AllocError, Global};

@@ -1,5 +1,5 @@
 //! The sequential realm: a book of scopes and tasks that applies each command and answers each
-//! question. It is the replay of its legal history, in which every end fits its task's label.
+//! query. It is the replay of its legal history, in which every end fits its task's label.
 #![tactic(auto)]
 
 pub mod state;

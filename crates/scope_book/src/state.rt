@@ -1,4 +1,4 @@
-//! The book: what it keeps, what it is told, what it is asked.
+//! The book: its state, its commands, its queries.
 
 pub mod book;
 pub mod commands;

@@ -7,8 +7,8 @@ use Rattle.scope_rules.specs.declared.types.answers.Cancelling.TheVariants.{Alre
 use Rattle.scope_rules.specs.Origin.{Origin}
 use Rattle.scope_rules.specs.Table.{check_of, is_already, retire_check}
 use Rattle.scope_rules.specs.Replies.{Realm, Answers, AnswersOrMemory, after, after_recording, after_retiring, recording, base_of}
-use Rattle.scope_checks.specs.declared.told.Told.{Told}
-use Rattle.scope_checks.specs.Telling.{Performs, after_telling}
+use Rattle.scope_checks.specs.declared.event_replies.EventReply.{EventReply}
+use Rattle.scope_checks.specs.EventReplies.{Performs, after_telling}
 
 -- it answers the value and adds its event, or it is refused what the check refuses and adds nothing
 abbrev pub Enters : {A : Type 0} → Realm → Event → A → Result A Refusal → Realm → Type 0
@@ -30,7 +30,7 @@ NotesOrMemory old e result new =
     × (new ≡ after_recording old e result)
 
 -- whichever command it is: it is told what its event tells, and adds that or nothing
-abbrev pub Tells : Realm → Event → Result Told Refusal → Realm → Type 0
+abbrev pub Tells : Realm → Event → Result EventReply Refusal → Realm → Type 0
 Tells old e result new = Performs old.limits old.history e result × (new ≡ after_telling old e result)
 
 -- a retirement by the actor answers the base that the history leaves, and leaves it alone

@@ -1,5 +1,5 @@
 pub mod Passes
-pub mod Telling
-pub mod Questions
+pub mod EventReplies
+pub mod Queries
 pub mod Entering
 pub mod Ruled

@@ -1,10 +1,10 @@
-//! What checks and questions ask of a history, however its answers are kept.
+//! What checks and queries ask of a history, however its answers are kept.
 
 ghost use Rattle.std.specs.Prelude.{◌≡◌, Some, IfOk, IsSome, length, slice_get};
 ghost use Rattle.scope_rules.specs.History.{moment, opening, forking, scopes, tasks};
 ghost use Rattle.scope_rules.specs.Load.{load};
 ghost use Rattle.scope_rules.specs.Scopes.{joined, closed, innermost, next_level, closing, forked_in};
-ghost use Rattle.scope_rules.specs.Cancels.{is_cancelled, cut, deadline, effective};
+ghost use Rattle.scope_rules.specs.Cancels.{is_cancelled, first_cancel, deadline, effective};
 ghost use Rattle.scope_rules.specs.Tasks.{stage, state, settled, counts};
 ghost use Rattle.scope_rules.specs.Outcomes.{outcome};
 ghost use Rattle.scope_rules.specs.Verdicts.{verdict};
@@ -17,11 +17,11 @@ ghost use Rattle.scope_checks.specs.Passes.{Passes};
 use scope_rules::types::answers::{Counts, Effective, Stage, State, Verdict};
 use scope_rules::types::names::Name;
 use scope_rules::types::outcomes::Outcome;
-use scope_rules::types::records::{Cut, Forking, Opening};
+use scope_rules::types::records::{FirstCancel, Forking, Opening};
 use scope_rules::types::values::{Actor, ScopeId, TaskId, Value};
 use std::alloc::{AllocError, Global};
 
-/// The readings of a history, of which every check and every question is made. A value that keeps its
+/// The readings of a history, of which every check and every query is made. A value that keeps its
 /// answers reads them off, and one that keeps the events alone scans these. What a reading rests on, as
 /// that the history is legal, is the value's own to carry, in its model's invariant or in a ghost field;
 /// and what is asked of one scope, task or actor alone may want that the checks of it have passed.
@@ -136,8 +136,8 @@ pub trait Readings {
 
     /// The earliest own cancel on the scope's chain, if there is one: why it is cancelled, and by which
     /// event.
-    fn cut(&self, scope: ScopeId) -> Option<Cut>
-        ensures { result ≡ cut (history self.now) scope };
+    fn first_cancel(&self, scope: ScopeId) -> Option<FirstCancel>
+        ensures { result ≡ first_cancel (history self.now) scope };
 
     /// The scope's own deadline, in milliseconds, whether it counts still or not.
     fn deadline(&self, scope: ScopeId) -> Option<u64>

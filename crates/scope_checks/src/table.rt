@@ -1,4 +1,4 @@
-//! The table of checks: one function a row, which tries the checks in their order; what an event is told
+//! The table of checks: one function a row, which tries the checks in their order; what an event answers
 //! that passes its row; and what a retirement, which is no event, is refused for.
 
 ghost use Rattle.std.specs.Prelude.{◌≡◌, ◌<◌, ℕ, Option};
@@ -14,16 +14,16 @@ ghost use Rattle.scope_rules.specs.Replies.{fork_reply};
 ghost use Rattle.scope_rules.specs.Checks.{checks};
 ghost use Rattle.scope_rules.specs.Table.{row_check, retire_row, check_of, retire_check, answering};
 ghost use Rattle.scope_rules.specs.declared.types.capacity.TheConstants.{GREATEST_NUMBER};
-ghost use Rattle.scope_checks.specs.Telling.{told_of, noted};
+ghost use Rattle.scope_checks.specs.EventReplies.{event_reply_of, noted};
 
 use crate::checks::{
     fail_if, in_closing, is_innermost, known_actor, known_scope, known_task, load_fits,
     not_closing, not_joined, owned, ready, runs,
 };
+use crate::event_replies::{Accepted, EventReply};
 use crate::failures::FromFailed;
 use crate::load::{over_scopes, over_tasks};
 use crate::readings::Readings;
-use crate::told::{Accepted, Told};
 use scope_rules::Failed;
 use scope_rules::types::answers::{ForkReply, Stage};
 use scope_rules::types::capacity::{FORK_LOAD, LEVEL_LIMIT, Limits, OPEN_LOAD, STEP_LOAD};
@@ -31,9 +31,13 @@ use scope_rules::types::events::Event;
 use scope_rules::types::refusals::Refusal;
 use scope_rules::types::values::{Actor, MAIN, ScopeId, TaskId};
 
-/// What the event is told, and what it costs: the first check of its row that fails gives the refusal.
-pub fn tell<R: Readings>(readings: &R, limits: &Limits, event: &Event) -> Result<Accepted, Refusal>
-    ensures { result ≡ answering (check_of limits.now (R.history readings.now) event.now) (record { told = told_of (R.history readings.now) event.now; load = weight event.now }) }
+/// What the event answers, and what it costs: the first check of its row that fails gives the refusal.
+pub fn accept<R: Readings>(
+    readings: &R,
+    limits: &Limits,
+    event: &Event,
+) -> Result<Accepted, Refusal>
+    ensures { result ≡ answering (check_of limits.now (R.history readings.now) event.now) (record { reply = event_reply_of (R.history readings.now) event.now; load = weight event.now }) }
 {
     try_event(readings, limits, event)
 }
@@ -44,24 +48,24 @@ pub fn try_event<R: Readings, F: FromFailed>(
     limits: &Limits,
     event: &Event,
 ) -> Result<Accepted, F>
-    ensures { result ≡ answering (row_check F.made limits.now (R.history readings.now) event.now) (record { told = told_of (R.history readings.now) event.now; load = weight event.now }) }
+    ensures { result ≡ answering (row_check F.made limits.now (R.history readings.now) event.now) (record { reply = event_reply_of (R.history readings.now) event.now; load = weight event.now }) }
 {
-    let (told, load) = match *event {
+    let (reply, load) = match *event {
         Event::Open { actor, .. } => {
             open_row::<R, F>(readings, limits, actor)?;
-            (Told::Scope(readings.scopes() + 1), OPEN_LOAD)
+            (EventReply::Scope(readings.scopes() + 1), OPEN_LOAD)
         }
         Event::Fork { actor, scope, .. } => {
             fork_row::<R, F>(readings, limits, actor, scope)?;
-            (Told::Task(fork_told(readings, scope)), FORK_LOAD)
+            (EventReply::Task(fork_answer(readings, scope)), FORK_LOAD)
         }
         Event::Reject { task } | Event::Start { task } => {
             waiting_row::<R, F>(readings, task)?;
-            (Told::Done, 0)
+            (EventReply::Done, 0)
         }
         Event::Finish { task, .. } => {
             finish_row::<R, F>(readings, task)?;
-            (Told::Done, 0)
+            (EventReply::Done, 0)
         }
         Event::Cancel { scope } => {
             cancel_row::<R, F>(readings, limits, scope)?;
@@ -69,23 +73,23 @@ pub fn try_event<R: Readings, F: FromFailed>(
         }
         Event::Move { scope, .. } => {
             move_row::<R, F>(readings, limits, scope)?;
-            (Told::Done, STEP_LOAD)
+            (EventReply::Done, STEP_LOAD)
         }
         Event::Tick { now } => {
             tick_row::<R, F>(readings, limits, now)?;
-            (Told::Done, STEP_LOAD)
+            (EventReply::Done, STEP_LOAD)
         }
         Event::Bind { actor, .. } => {
             bind_row::<R, F>(readings, limits, actor)?;
-            (Told::Done, STEP_LOAD)
+            (EventReply::Done, STEP_LOAD)
         }
         Event::Unbind { actor } => {
             unbind_row::<R, F>(readings, limits, actor)?;
-            (Told::Done, STEP_LOAD)
+            (EventReply::Done, STEP_LOAD)
         }
         Event::Join { actor, scope } => {
             join_row::<R, F>(readings, actor, scope)?;
-            (Told::Done, 0)
+            (EventReply::Done, 0)
         }
         Event::BeginClose { actor, scope } => {
             begin_close_row::<R, F>(readings, actor, scope)?;
@@ -93,14 +97,14 @@ pub fn try_event<R: Readings, F: FromFailed>(
         }
         Event::EndClose { actor, scope } => {
             end_close_row::<R, F>(readings, actor, scope)?;
-            (Told::Closed(readings.verdict(scope)), 0)
+            (EventReply::Closed(readings.verdict(scope)), 0)
         }
     };
-    Ok(Accepted { told, load })
+    Ok(Accepted { reply, load })
 }
 
 /// The number of the next task, and whether it gets a thread in the scope.
-fn fork_told<R: Readings>(readings: &R, scope: ScopeId) -> ForkReply
+fn fork_answer<R: Readings>(readings: &R, scope: ScopeId) -> ForkReply
     requires { tasks (R.history readings.now) < GREATEST_NUMBER }
     ensures { result ≡ fork_reply (R.history readings.now) scope }
 {
@@ -113,13 +117,13 @@ fn fork_told<R: Readings>(readings: &R, scope: ScopeId) -> ForkReply
 }
 
 /// Whether all was so already.
-fn noted(already: bool) -> Told
+fn noted(already: bool) -> EventReply
     ensures { result ≡ noted already }
 {
     if already {
-        Told::Already
+        EventReply::Already
     } else {
-        Told::Recorded
+        EventReply::Recorded
     }
 }
 

@@ -16,7 +16,7 @@ use Rattle.scope_rules.specs.declared.types.events.Event.TheVariants.{Open, Fork
 use Rattle.scope_rules.specs.declared.types.values.Label.{Label}
 use Rattle.scope_rules.specs.History.{History, before, opening, is_fork, tasks, task_numbers}
 use Rattle.scope_rules.specs.Completions.{is_task_of}
-use Rattle.scope_rules.specs.Cancels.{cut, cause, cancelled_at}
+use Rattle.scope_rules.specs.Cancels.{first_cancel, cause, cancelled_at}
 use Rattle.scope_rules.specs.Legal.{Legal}
 use Rattle.scope_rules.proofs.Completions.{count_by-cons}
 use Rattle.scope_log.specs.declared.entries.LogEntry.{LogEntry}
@@ -169,7 +169,7 @@ module _ (h : History) (s : ℕ) where
 
   uncaused : (at : ℕ) → cancelled_at h s ≡ Some at → cause h s ≡ None → ⊥
   unfolding cancelled_at cause
-  uncaused at is why = causeless (opening h s) (cut h s) at is why
+  uncaused at is why = causeless (opening h s) (first_cancel h s) at is why
 
   marked_by : (at : Option ℕ) (c : Option Cause) → cancelled_at h s ≡ at → cause h s ≡ c → marked (places_of h s) (option_and_then (λ n. option_map (λ (x : Cause). (n, x)) c) at) (filter_map (entry_at h s) (places_of h s)) ≡ entries h s
   unfolding places_of

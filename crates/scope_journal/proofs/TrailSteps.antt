@@ -1,9 +1,9 @@
 -- How what is kept of the places of events goes on by one event.
-use Rattle.std.proofs.Common.{◌≡◌, ◌≢◌, ℕ, suc, ◌+◌, ◌<◌, ◌≤◌, Bool, true, false, Option, Some, None, List, [], ◌∷◌, ◌++◌, length, get_or, set, reverse, slice_get, refl, ap, sym, subst, ◌∙◌, arith, length-append, inl, inr}
+use Rattle.std.proofs.Common.{◌≡◌, ℕ, suc, ◌+◌, ◌≤◌, Bool, true, false, Option, Some, None, List, [], ◌∷◌, ◌++◌, length, get_or, reverse, slice_get, refl, ap, sym, subst, ◌∙◌, arith, length-append}
 use Rattle.std.proofs.lemmas.Bool.{eq-eqb, ne_eqb}
 use Rattle.std.proofs.lemmas.Grind.{get_or_default_zero}
 use Rattle.std.proofs.lemmas.List.{append-nil}
-use Rattle.std.proofs.lemmas.Option.{slice_get_within, get_or_from_slice_get}
+use Rattle.std.proofs.lemmas.Option.{get_or_from_slice_get}
 use Rattle.scope_rules.specs.declared.types.capacity.Limits.{Limits}
 use Rattle.scope_rules.specs.declared.types.events.Event.{Event}
 use Rattle.scope_rules.specs.declared.types.events.Event.TheVariants.{Open}
@@ -14,11 +14,10 @@ use Rattle.scope_rules.specs.History.{History, followed, scopes, is_open}
 use Rattle.scope_rules.specs.Legal.{Legal}
 use Rattle.scope_rules.specs.Load.{load}
 use Rattle.scope_rules.proofs.Owing.{count_push}
-use Rattle.scope_rows.specs.Steps.{altered}
 use Rattle.scope_rows.specs.Table.{place_of}
-use Rattle.scope_rows.proofs.Altering.{altered_length, altered_split, pushed_split, written}
+use Rattle.scope_rows.proofs.Altering.{altered_length}
 use Rattle.scope_rows.proofs.Keeping.{count_same}
-use Rattle.scope_rows.proofs.Places.{number_at, number_apart, entry_there}
+use Rattle.scope_rows.proofs.Places.{entry_there, place_within, AreRight, right_pushed, right_altered}
 use Rattle.scope_log.specs.Log.{is_of}
 use Rattle.scope_journal.specs.Places.{scope_of_event, if_one, places_of}
 use Rattle.scope_journal.specs.TrailTable.{TrailTable, HasTrail, last_in, trail_in, trail_to, no_trails, with_open, with_last, with_event}
@@ -73,20 +72,12 @@ linked_more h e links x same = let events : length (h.events ++ e ∷ []) ≡ le
 -- ---- an open
 
 module _ (L : Limits) (h : History) (t : TrailTable) (a : ℕ) (policy : Policy) (options : Options) (legal : Legal L h) (are : AreTrailsOf h t) where
-  trails_opened : (i last : ℕ) → slice_get (t.lasts ++ length t.links ∷ []) i ≡ Some last → IsTrailOf (followed h (Open a policy options)) (t.before + 1 + i) (t.links ++ length t.links ∷ []) last
-  trails_opened i last at =
+  trails_opened : AreRight (λ s last. IsTrailOf (followed h (Open a policy options)) s (t.links ++ length t.links ∷ []) last) t.before (t.lasts ++ length t.links ∷ [])
+  trails_opened =
       let e = Open a policy options in
-      let g = followed h e in
-      elim (pushed_split t.lasts (length t.links) i last at) [
-        | inl old ↦
-            let within = slice_get_within t.lasts i last old in
-            let apart : is_of h (t.before + 1 + i) e ≡ false = ne_eqb (scopes h + 1) (t.before + 1 + i) (λ same. absurd (omega (arith, same, within, are.numbered, are.count))) in
-            trail_stays h e (t.before + 1 + i) t.links (length t.links) last apart (are.trails i last old)
-        | inr new ↦
-            let number : scopes h + 1 ≡ t.before + 1 + i = omega (arith, new.0, are.numbered, are.count) in
-            let it = trail_new h e (scopes h + 1) t.links (eq-eqb (scopes h + 1) (scopes h + 1) refl) are.linked (next_unplaced L h legal) in
-            subst (λ s. IsTrailOf g s (t.links ++ length t.links ∷ []) last) number (subst (IsTrailOf g (scopes h + 1) (t.links ++ length t.links ∷ [])) new.1 it)
-      ]
+      right_pushed (λ s last. IsTrailOf h s t.links last) (λ s last. IsTrailOf (followed h e) s (t.links ++ length t.links ∷ []) last) t.before t.lasts (length t.links) (scopes h + 1) (omega (arith, are.numbered, are.count))
+      (λ s last less it. trail_stays h e s t.links (length t.links) last (ne_eqb (scopes h + 1) s (λ same. absurd (omega (arith, same, less)))) it)
+      (trail_new h e (scopes h + 1) t.links (eq-eqb (scopes h + 1) (scopes h + 1) refl) are.linked (next_unplaced L h legal)) are.trails
 
   one_opened : HasLoadRoom (followed h (Open a policy options)) t.room → AreTrailsOf (followed h (Open a policy options)) (with_open t)
   one_opened loaded = record {
@@ -107,19 +98,13 @@ module _ (h : History) (e : Event) (t : TrailTable) (other : is_open e ≡ false
   is_its : (scope : Option ℕ) (s : ℕ) (b : Bool) → scope_of_event h e ≡ scope → is_this scope s ≡ b → is_of h s e ≡ b
   is_its scope s b named so = event_of h s e ∙ (ap (λ (o : Option ℕ). is_this o s) named ∙ so)
 
-  trails_told : (s : ℕ) → scope_of_event h e ≡ Some s → HasTrail t s → (i last : ℕ) → slice_get (with_event t (Some s)).lasts i ≡ Some last → IsTrailOf (followed h e) (t.before + 1 + i) (with_event t (Some s)).links last
-  trails_told s named has i last at =
-      let n = (t.before + 1) + i in
-      elim (altered_split (λ was. length t.links) t.lasts (place_of t.before s) i last at) [
-        | inl here ↦
-            let number : n ≡ s = ap (λ j. (t.before + 1) + j) here.0 ∙ number_at t.before s has.0 in
-            let was : here.1.was ≡ last_in t s = sym (get_or_from_slice_get t.lasts i here.1.was 0 here.1.at) ∙ ap (λ j. get_or t.lasts j 0) here.0 in
-            let it = trail_more h e n t.links here.1.was (is_its (Some s) n true named (eq-eqb s n (sym number))) are.linked (are.trails i here.1.was here.1.at) in
-            subst (IsTrailOf (followed h e) n (with_event t (Some s)).links) here.1.is (subst (λ x. IsTrailOf (followed h e) n (t.links ++ x ∷ []) (length t.links)) was it)
-        | inr there ↦
-            let apart : s ≢ n = λ same. number_apart t.before i s has.0 there.0 (sym same) in
-            trail_stays h e n t.links (last_in t s) last (is_its (Some s) n false named (ne_eqb s n apart)) (are.trails i last there.1)
-      ]
+  trails_told : (s : ℕ) → scope_of_event h e ≡ Some s → HasTrail t s → AreRight (λ n last. IsTrailOf (followed h e) n (with_event t (Some s)).links last) t.before (with_event t (Some s)).lasts
+  trails_told s named has =
+      right_altered (λ n last. IsTrailOf h n t.links last) (λ n last. IsTrailOf (followed h e) n (t.links ++ last_in t s ∷ []) last) (λ was. length t.links) t.before t.lasts s has.0
+      (λ n last apart it. trail_stays h e n t.links (last_in t s) last (is_its (Some s) n false named (ne_eqb s n (λ same. apart (sym same)))) it)
+      (λ was at it.
+      subst (λ x. IsTrailOf (followed h e) s (t.links ++ x ∷ []) (length t.links)) (sym (get_or_from_slice_get t.lasts (place_of t.before s) was 0 at))
+      (trail_more h e s t.links was (is_its (Some s) s true named (eq-eqb s s refl)) are.linked it)) are.trails
 
   one_told : (scope : Option ℕ) → scope_of_event h e ≡ scope → ((s : ℕ) → scope ≡ Some s → HasTrail t s) → AreTrailsOf (followed h e) (with_event t scope)
   one_told (Some s) named has = record {
@@ -170,26 +155,15 @@ begins before b t is scopes =
 
 -- ---- what the calls do
 
--- the scope's last place, if it was read
-last_read : (t : TrailTable) (s at x : ℕ) → at ≡ place_of t.before s → at < length t.lasts → x ≡ get_or t.lasts at x → x ≡ last_in t s
-last_read t s at x place within read = read ∙ (get_or_default_zero t.lasts at x within ∙ ap (λ i. get_or t.lasts i 0) place)
-
 -- a walk begins at the scope's last place
 pub walk_begins : (t : TrailTable) (s x : ℕ) (ps : List ℕ) → x ≡ last_in t s → ps ≡ [] → ahead t.links (Some x) ++ reverse ps ≡ trail_in t s
 unfolding trail_in
 walk_begins t s x ps last none = rw none (append-nil (ahead t.links (Some x)) ∙ ap (trail_to t.links) last)
 
 -- what is read is the scope's last place
-pub last_was : (v t : TrailTable) (s at x : ℕ) → v ≡ t → at ≡ place_of t.before s → at < length t.lasts → x ≡ get_or v.lasts at x → x ≡ last_in t s
-last_was v t s at x same there within read = last_read t s at x there within (read ∙ ap (λ (u : TrailTable). get_or u.lasts at x) same)
-
--- what is written there moves it
-pub last_moved : (v t : TrailTable) (s at x y place : ℕ) → v ≡ t → at ≡ place_of t.before s → at < length t.lasts → x ≡ get_or v.lasts at x → y ≡ place → record v { lasts = set v.lasts at y } ≡ with_last t s place
-last_moved v t s at x y place same there within read is =
-    let length_is : length v.lasts ≡ length t.lasts = ap (λ (u : TrailTable). length u.lasts) same in
-    ap (λ z. record v { lasts = set v.lasts at z }) is
-    ∙ (ap (λ lasts. record v { lasts = lasts }) (written (λ was. place) v.lasts at (place_of t.before s) x there (omega (arith, within, length_is)) read)
-    ∙ ap (λ (u : TrailTable). record u { lasts = altered (λ was. place) u.lasts (place_of t.before s) }) same)
+pub last_was : (v t : TrailTable) (s x : ℕ) → v ≡ t → HasTrail t s → x ≡ get_or v.lasts (place_of v.before s) x → x ≡ last_in t s
+last_was v t s x same has read =
+    read ∙ (ap (λ (u : TrailTable). get_or u.lasts (place_of u.before s) x) same ∙ get_or_default_zero t.lasts (place_of t.before s) x (place_within t.before (length t.lasts) s has.0 has.1))
 
 -- the link of a scope's event is put at the end, and its last place is moved
 pub told_scope : (v t : TrailTable) (s link place room : ℕ) (links : List ℕ) → v ≡ with_last t s place → place ≡ length t.links → link ≡ last_in t s → links ≡ v.links ++ link ∷ [] → room ≡ v.room

@@ -182,7 +182,7 @@ impl Journal {
     }
 
     /// Leaves the base alone, which is that of the history.
-    pub fn restart(&mut self, base: Base)
+    pub fn reset(&mut self, base: Base)
         requires { base ≡ base_of self.old.realm.history }
         ensures { self.new.realm ≡ starting self.old.realm.limits base }
     {

@@ -7,11 +7,11 @@ ghost use Rattle.scope_rules.specs.declared.types.events.Options.{Options};
 ghost use Rattle.scope_rules.specs.declared.types.joiners.Policy.{Policy};
 ghost use Rattle.scope_rules.specs.History.{History, followed, is_open};
 ghost use Rattle.scope_rules.specs.Legal.{Legal};
-ghost use Rattle.scope_rows.specs.Table.{place_of};
 ghost use Rattle.scope_journal.specs.Places.{places_of, scope_of_event, is_of_at, IsLatest};
 ghost use Rattle.scope_journal.specs.TrailTable.{HasTrail, HasEventRoom, last_in, back, trail_in, no_trails, with_open, with_last, with_event};
 ghost use Rattle.scope_journal.specs.TrailsOf.{AreTrailsOf, HasLoadRoom};
 
+use scope_rows::Numbered;
 use scope_rules::ScopeId;
 use std::alloc::{AllocError, Global};
 use std::marker::Model;
@@ -22,20 +22,18 @@ use std::mem;
 /// event.
 #[derive(Drop)]
 pub struct Trails {
-    // How many scopes were numbered before the first that has a trail here.
-    before: u32,
     // The first event of a scope, and an event of none, has its own place.
     links: Vec<u32>,
-    lasts: Vec<u32>,
+    lasts: Numbered<u32>,
 }
 
 impl Model for Trails {
-    ghost use Rattle.std.specs.Prelude.{◌-◌, vec_capacity, vec_len};
+    ghost use Rattle.std.specs.Prelude.{vec_capacity};
     ghost use Rattle.scope_journal.specs.TrailTable.{TrailTable};
 
     ghost Value = { TrailTable };
 
-    ghost view = { λ t. record { before = t.before; links = t.links.items; lasts = t.lasts.items; room = vec_capacity t.links; spare = vec_capacity t.lasts - vec_len t.lasts } };
+    ghost view = { λ t. record { before = t.lasts.before; links = t.links.items; lasts = t.lasts.items; room = vec_capacity t.links; spare = t.lasts.spare } };
 }
 
 impl Trails {
@@ -46,9 +44,8 @@ impl Trails {
         ensures agrees { (base : Origin) → base.scopes ≡ before → AreTrailsOf (record { base = base; events = [] }) result }
     {
         Trails {
-            before,
             links: Vec::new(alloc),
-            lasts: Vec::new(alloc),
+            lasts: Numbered::new(alloc, before),
         }
     }
 
@@ -78,7 +75,7 @@ impl Trails {
         ensures last { result ≡ last_in self.now scope }
         ensures agrees { (h : History) → AreTrailsOf h self.now → IsLatest h scope (length h.events) (Some result) }
     {
-        self.lasts[self.place(scope)]
+        *self.lasts.get(scope)
     }
 
     /// The place of the event before this one of the same scope, if there is one.
@@ -116,7 +113,7 @@ impl Trails {
         ensures agrees { (h : History) → AreTrailsOf h self.old → AreTrailsOf h self.new }
         ensures err { OnErr result (self.new ≡ self.old) }
     {
-        self.lasts.reserve(1)
+        self.lasts.reserve()
     }
 
     /// Adds the event at this place, which opens the next scope, if there is room for both. It takes
@@ -129,12 +126,12 @@ impl Trails {
         ensures agrees { (L : Limits) (h : History) (actor : ℕ) (policy : Policy) (options : Options) → let g = followed h (Open actor policy options) in Legal L h → HasLoadRoom g self.old.room → AreTrailsOf h self.old → AreTrailsOf g self.new }
     {
         self.links.push_reserved(place);
-        self.lasts.push_reserved(place);
+        self.lasts.push(place);
     }
 
     /// Adds the event at this place, of the scope or of none, for which there is room. It is not an open.
     /// It takes no memory.
-    pub fn tell(&mut self, scope: Option<ScopeId>, place: u32)
+    pub fn note(&mut self, scope: Option<ScopeId>, place: u32)
         requires place { place ≡ length self.old.links }
         requires room { HasEventRoom self.old }
         requires scope { (s : ℕ) → scope ≡ Some s → HasTrail self.old s }
@@ -154,16 +151,6 @@ impl Trails {
         ensures was { result ≡ last_in self.old scope }
         ensures kept { self.new ≡ with_last self.old scope place }
     {
-        let at = self.place(scope);
-        mem::replace(&mut self.lasts[at], place)
-    }
-
-    /// Where the place of the scope's last event is.
-    fn place(&self, scope: ScopeId) -> usize
-        requires { HasTrail self.now scope }
-        ensures place { result ≡ place_of self.now.before scope }
-        ensures within { result < length self.now.lasts }
-    {
-        (scope - self.before - 1) as usize
+        mem::replace(self.lasts.get_mut(scope), place)
     }
 }

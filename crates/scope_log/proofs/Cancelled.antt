@@ -1,4 +1,4 @@
--- What cancels a scope that was not let go: its own cancel and the cut are the same, at places that
+-- What cancels a scope that was not let go: its own cancel and the first cancel are the same, at places that
 -- are moved.
 use Rattle.std.proofs.Common.{◌≡◌, ℕ, ◌+◌, ◌<◌, Bool, true, false, cond, nat_lt, max, Option, Some, None, option_map, is_some, List, ◌++◌, length, take, slice_get, refl, ap, ◌∙◌, arith, length-append}
 use Rattle.std.specs.Option.{option_or, option_and_then, option_map_or}
@@ -9,11 +9,11 @@ use Rattle.scope_rules.specs.declared.types.answers.CauseKind.{CauseKind}
 use Rattle.scope_rules.specs.declared.types.answers.CauseKind.TheVariants.{Close, Joiner, Deadline}
 use Rattle.scope_rules.specs.declared.types.records.Opening.{Opening}
 use Rattle.scope_rules.specs.declared.types.records.OwnCancel.{OwnCancel}
-use Rattle.scope_rules.specs.declared.types.records.Cut.{Cut}
+use Rattle.scope_rules.specs.declared.types.records.FirstCancel.{FirstCancel}
 use Rattle.scope_rules.specs.Search.{earliest}
 use Rattle.scope_rules.specs.History.{History, before, opening}
 use Rattle.scope_rules.specs.Scopes.{outer}
-use Rattle.scope_rules.specs.Cancels.{direct_kind, joiner_fires, overdue, kind_by, own_at, own, own_cut, cut, cause, is_cancelled, cancelled_at, cancelled_before, counting_deadline, effective}
+use Rattle.scope_rules.specs.Cancels.{direct_kind, joiner_fires, overdue, kind_by, own_at, own, own_cancel, first_cancel, cause, is_cancelled, cancelled_at, cancelled_before, counting_deadline, effective}
 use Rattle.scope_rules.proofs.Bound.{same_truth}
 use Rattle.scope_rules.proofs.Earlier.{get_take}
 use Rattle.scope_log.specs.Folding.{Retirable, unretired, retired, NamesNone}
@@ -22,7 +22,7 @@ use Rattle.scope_log.proofs.Past.{IsScope}
 use Rattle.scope_log.proofs.Numbered.{size, part, part_of_past, moved_opening, same_opening}
 use Rattle.scope_log.proofs.Named.{first_names, begun_named, map_moved}
 use Rattle.scope_log.proofs.Standing.{same_overdue, same_counting}
-use Rattle.scope_log.proofs.Chained.{moved_cut, still_some, cut_alike, effective_alike}
+use Rattle.scope_log.proofs.Chained.{moved_cancel, still_some, cancel_alike, effective_alike}
 use Rattle.scope_log.proofs.Nested.{same_covers, same_outer, outer_new}
 use Rattle.scope_log.proofs.Closing.{unopened_before}
 use Rattle.scope_log.proofs.Completed.{same_fires}
@@ -89,52 +89,52 @@ module _ (r : Retirable) (es : List Event) (none : NamesNone r es) where
       ap (earliest (own_at (unretired r es) s)) (length-append r.past.events es)
       ∙ earliest_second (own_at (unretired r es) s) (own_at (retired r es) s) (moved_own (size r)) (size r) (length es) (λ i within. own_in_past r es s i new within) (λ i within. own_later s i new)
 
-  as_cut : (n s : ℕ) (o : Option OwnCancel) → option_map (λ (w : OwnCancel). record { place = w.place; cause = record { scope = s; kind = w.kind } }) (option_map (moved_own n) o)
-      ≡ option_map (moved_cut n) (option_map (λ (w : OwnCancel). record { place = w.place; cause = record { scope = s; kind = w.kind } }) o)
-  as_cut n s None = refl
-  as_cut n s (Some w) = refl
+  as_cancel : (n s : ℕ) (o : Option OwnCancel) → option_map (λ (w : OwnCancel). record { place = w.place; cause = record { scope = s; kind = w.kind } }) (option_map (moved_own n) o)
+      ≡ option_map (moved_cancel n) (option_map (λ (w : OwnCancel). record { place = w.place; cause = record { scope = s; kind = w.kind } }) o)
+  as_cancel n s None = refl
+  as_cancel n s (Some w) = refl
 
-  same_own_cut : (s : ℕ) → IsScope r s → own_cut (unretired r es) s ≡ option_map (moved_cut (size r)) (own_cut (retired r es) s)
-  same_own_cut s new = ap (option_map (λ (w : OwnCancel). record { place = w.place; cause = record { scope = s; kind = w.kind } })) (same_own s new) ∙ as_cut (size r) s (own (retired r es) s)
+  same_own_cancel : (s : ℕ) → IsScope r s → own_cancel (unretired r es) s ≡ option_map (moved_cancel (size r)) (own_cancel (retired r es) s)
+  same_own_cancel s new = ap (option_map (λ (w : OwnCancel). record { place = w.place; cause = record { scope = s; kind = w.kind } })) (same_own s new) ∙ as_cancel (size r) s (own (retired r es) s)
 
-  pub same_cut : (s : ℕ) → IsScope r s → cut (unretired r es) s ≡ option_map (moved_cut (size r)) (cut (retired r es) s)
-  unfolding cut
-  same_cut s new =
-      cut_alike (IsScope r) (outer (unretired r es)) (outer (retired r es)) (same_outer r es none) (outer_new r es none) (size r) (own_cut (unretired r es)) (own_cut (retired r es)) same_own_cut s new
+  pub same_cancel : (s : ℕ) → IsScope r s → first_cancel (unretired r es) s ≡ option_map (moved_cancel (size r)) (first_cancel (retired r es) s)
+  unfolding first_cancel
+  same_cancel s new =
+      cancel_alike (IsScope r) (outer (unretired r es)) (outer (retired r es)) (same_outer r es none) (outer_new r es none) (size r) (own_cancel (unretired r es)) (own_cancel (retired r es)) same_own_cancel s new
 
   pub same_cause : (s : ℕ) → IsScope r s → cause (unretired r es) s ≡ cause (retired r es) s
   unfolding cause
   same_cause s new =
-      ap (option_map (λ (c : Cut). c.cause)) (same_cut s new) ∙ map_moved (moved_cut (size r)) (λ (c : Cut). c.cause) (λ (c : Cut). c.cause) (cut (retired r es) s) (λ c is. refl)
+      ap (option_map (λ (c : FirstCancel). c.cause)) (same_cancel s new) ∙ map_moved (moved_cancel (size r)) (λ (c : FirstCancel). c.cause) (λ (c : FirstCancel). c.cause) (first_cancel (retired r es) s) (λ c is. refl)
 
   pub same_cancelled : (s : ℕ) → IsScope r s → is_cancelled (unretired r es) s ≡ is_cancelled (retired r es) s
   unfolding is_cancelled
-  same_cancelled s new = ap is_some (same_cut s new) ∙ still_some (moved_cut (size r)) (cut (retired r es) s)
+  same_cancelled s new = ap is_some (same_cancel s new) ∙ still_some (moved_cancel (size r)) (first_cancel (retired r es) s)
 
   pub same_effective : (s : ℕ) → IsScope r s → effective (unretired r es) s ≡ effective (retired r es) s
   unfolding effective
   same_effective s new =
-      effective_alike (IsScope r) (outer (unretired r es)) (outer (retired r es)) (same_outer r es none) (outer_new r es none) (size r) (own_cut (unretired r es)) (own_cut (retired r es)) same_own_cut
+      effective_alike (IsScope r) (outer (unretired r es)) (outer (retired r es)) (same_outer r es none) (outer_new r es none) (size r) (own_cancel (unretired r es)) (own_cancel (retired r es)) same_own_cancel
       (counting_deadline (unretired r es)) (counting_deadline (retired r es)) (same_counting r es) s new
 
   greater_moved : (n a b : ℕ) → max (n + a) (n + b) ≡ n + max a b
   greater_moved n a b = omega arith
 
-  at_moved : (n : ℕ) (o : Opening) (c : Option Cut) → option_map (λ (x : Cut). max (n + o.place) x.place) (option_map (moved_cut n) c) ≡ option_map (λ i. n + i) (option_map (λ (x : Cut). max o.place x.place) c)
+  at_moved : (n : ℕ) (o : Opening) (c : Option FirstCancel) → option_map (λ (x : FirstCancel). max (n + o.place) x.place) (option_map (moved_cancel n) c) ≡ option_map (λ i. n + i) (option_map (λ (x : FirstCancel). max o.place x.place) c)
   at_moved n o None = refl
   at_moved n o (Some c) = ap Some (greater_moved n o.place c.place)
 
-  at_by : (n : ℕ) (o : Option Opening) (c : Option Cut) → option_and_then (λ (o : Opening). option_map (λ (x : Cut). max o.place x.place) (option_map (moved_cut n) c)) (option_map (moved_opening n) o)
-      ≡ option_map (λ i. n + i) (option_and_then (λ (o : Opening). option_map (λ (x : Cut). max o.place x.place) c) o)
+  at_by : (n : ℕ) (o : Option Opening) (c : Option FirstCancel) → option_and_then (λ (o : Opening). option_map (λ (x : FirstCancel). max o.place x.place) (option_map (moved_cancel n) c)) (option_map (moved_opening n) o)
+      ≡ option_map (λ i. n + i) (option_and_then (λ (o : Opening). option_map (λ (x : FirstCancel). max o.place x.place) c) o)
   at_by n None c = refl
   at_by n (Some o) c = at_moved n o c
 
   pub same_cancelled_at : (s : ℕ) → IsScope r s → cancelled_at (unretired r es) s ≡ option_map (λ i. size r + i) (cancelled_at (retired r es) s)
   unfolding cancelled_at
   same_cancelled_at s new =
-      ap (λ c. option_and_then (λ (o : Opening). option_map (λ (x : Cut). max o.place x.place) c) (opening (unretired r es) s)) (same_cut s new)
-      ∙ (ap (option_and_then (λ (o : Opening). option_map (λ (x : Cut). max o.place x.place) (option_map (moved_cut (size r)) (cut (retired r es) s)))) (same_opening r es s new)
-      ∙ at_by (size r) (opening (retired r es) s) (cut (retired r es) s))
+      ap (λ c. option_and_then (λ (o : Opening). option_map (λ (x : FirstCancel). max o.place x.place) c) (opening (unretired r es) s)) (same_cancel s new)
+      ∙ (ap (option_and_then (λ (o : Opening). option_map (λ (x : FirstCancel). max o.place x.place) (option_map (moved_cancel (size r)) (first_cancel (retired r es) s)))) (same_opening r es s new)
+      ∙ at_by (size r) (opening (retired r es) s) (first_cancel (retired r es) s))
 
   lt_moved : (n a b : ℕ) → nat_lt (n + a) (n + b) ≡ nat_lt a b
   lt_moved n a b =

@@ -10,7 +10,7 @@ use Rattle.scope_rules.specs.declared.types.records.Forking.{Forking}
 use Rattle.scope_rules.specs.declared.types.records.OwnCancel.{OwnCancel}
 use Rattle.scope_rules.specs.History.{History, before, opening, forking}
 use Rattle.scope_rules.specs.Completions.{is_task_of, completion_of, completions, completes}
-use Rattle.scope_rules.specs.Cancels.{move_of, deadline, overdue, direct_kind, joiner_fires, kind_by, own_at, own, own_cut, cut, is_cancelled, cancelled_at, cancelled_before}
+use Rattle.scope_rules.specs.Cancels.{move_of, deadline, overdue, direct_kind, joiner_fires, kind_by, own_at, own, own_cancel, first_cancel, is_cancelled, cancelled_at, cancelled_before}
 use Rattle.scope_log.specs.Dues.{without_due, without_dues}
 use Rattle.scope_log.proofs.Mapped.{last_mapped, filter_mapped, then_mapped, map_or_mapped}
 use Rattle.scope_log.proofs.Events.{without_before, without_length, without_at, same_moment, same_opening, same_forking, forking_without}
@@ -90,20 +90,20 @@ same_own : (h : History) → own (without_dues h) ≡ own h
 unfolding own
 same_own h = fun_ext (λ s. rw (without_length h, fun_ext (same_own_at h s)) refl)
 
-same_own_cut : (h : History) (s : ℕ) → own_cut (without_dues h) s ≡ own_cut h s
-same_own_cut h s = rw (same_own h) refl
+same_own_cancel : (h : History) (s : ℕ) → own_cancel (without_dues h) s ≡ own_cancel h s
+same_own_cancel h s = rw (same_own h) refl
 
-same_cut : (h : History) (s : ℕ) → cut (without_dues h) s ≡ cut h s
-unfolding cut
-same_cut h s = rw (same_outer h, fun_ext (same_own_cut h)) refl
+same_cancel : (h : History) (s : ℕ) → first_cancel (without_dues h) s ≡ first_cancel h s
+unfolding first_cancel
+same_cancel h s = rw (same_outer h, fun_ext (same_own_cancel h)) refl
 
 pub same_cancelled : (h : History) (s : ℕ) → is_cancelled (without_dues h) s ≡ is_cancelled h s
 unfolding is_cancelled
-same_cancelled h s = rw (same_cut h s) refl
+same_cancelled h s = rw (same_cancel h s) refl
 
 same_cancelled_at : (h : History) (s : ℕ) → cancelled_at (without_dues h) s ≡ cancelled_at h s
 unfolding cancelled_at
-same_cancelled_at h s = rw (same_opening h, same_cut h s) refl
+same_cancelled_at h s = rw (same_opening h, same_cancel h s) refl
 
 pub same_cancelled_before : (h : History) (s i : ℕ) → cancelled_before (without_dues h) s i ≡ cancelled_before h s i
 unfolding cancelled_before

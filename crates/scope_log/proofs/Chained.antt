@@ -3,12 +3,12 @@ use Rattle.std.proofs.Common.{◌≡◌, ℕ, zero, suc, ◌+◌, Bool, true, fa
 use Rattle.std.proofs.lemmas.Bool.{le-leb, leb-true}
 use Rattle.scope_rules.proofs.Bound.{same_truth}
 use Rattle.scope_rules.specs.declared.types.answers.Effective.TheVariants.{Past}
-use Rattle.scope_rules.specs.declared.types.records.Cut.{Cut}
-use Rattle.scope_rules.specs.Chains.{onward, outwards, chain_by, nearer, earliest_on, cut_by, sooner, least_on, at_moment, effective_by}
+use Rattle.scope_rules.specs.declared.types.records.FirstCancel.{FirstCancel}
+use Rattle.scope_rules.specs.Chains.{onward, outwards, chain_by, nearer, earliest_on, first_cancel_by, sooner, least_on, at_moment, effective_by}
 
--- the cut, at a place that is moved
-abbrev pub moved_cut : ℕ → Cut → Cut
-moved_cut n c = record { place = n + c.place; cause = c.cause }
+-- the first cancel, at a place that is moved
+abbrev pub moved_cancel : ℕ → FirstCancel → FirstCancel
+moved_cancel n c = record { place = n + c.place; cause = c.cause }
 
 le_moved : (n a b : ℕ) → nat_le (n + a) (n + b) ≡ nat_le a b
 le_moved n a b =
@@ -16,14 +16,14 @@ le_moved n a b =
     (λ moved. le-leb a b (omega (arith, leb-true (n + a) (n + b) moved)))
     (λ was. le-leb (n + a) (n + b) (omega (arith, leb-true a b was)))
 
-either_moved : (n : ℕ) (test : Bool) (x y : Cut) → cond test (Some (moved_cut n x)) (Some (moved_cut n y)) ≡ option_map (moved_cut n) (cond test (Some x) (Some y))
+either_moved : (n : ℕ) (test : Bool) (x y : FirstCancel) → cond test (Some (moved_cancel n x)) (Some (moved_cancel n y)) ≡ option_map (moved_cancel n) (cond test (Some x) (Some y))
 either_moved n true x y = refl
 either_moved n false x y = refl
 
-pub nearer_moved : (n : ℕ) (near far : Option Cut) → nearer (option_map (moved_cut n) near) (option_map (moved_cut n) far) ≡ option_map (moved_cut n) (nearer near far)
+pub nearer_moved : (n : ℕ) (near far : Option FirstCancel) → nearer (option_map (moved_cancel n) near) (option_map (moved_cancel n) far) ≡ option_map (moved_cancel n) (nearer near far)
 nearer_moved n None far = refl
 nearer_moved n (Some x) None = refl
-nearer_moved n (Some x) (Some y) = ap (λ b. cond b (Some (moved_cut n x)) (Some (moved_cut n y))) (le_moved n x.place y.place) ∙ either_moved n (nat_le x.place y.place) x y
+nearer_moved n (Some x) (Some y) = ap (λ b. cond b (Some (moved_cancel n x)) (Some (moved_cancel n y))) (le_moved n x.place y.place) ∙ either_moved n (nat_le x.place y.place) x y
 
 pub still_some : {A B : Type 0} (f : A → B) (o : Option A) → is_some (option_map f o) ≡ is_some o
 still_some f None = refl
@@ -44,21 +44,21 @@ module _ (Here : ℕ → Type 0) (far outer : ℕ → Option ℕ) (same : (s : �
   unfolding chain_by
   chain_alike s here = outwards_alike (suc s) s here
 
-  module _ (n : ℕ) (later own : ℕ → Option Cut) (cuts : (s : ℕ) → Here s → later s ≡ option_map (moved_cut n) (own s)) where
-    rest_moved : (m : ℕ) (o : Option ℕ) → ((p : ℕ) → o ≡ Some p → earliest_on later (outwards outer m p) ≡ option_map (moved_cut n) (earliest_on own (outwards outer m p))) → earliest_on later (onward o (outwards outer m)) ≡ option_map (moved_cut n) (earliest_on own (onward o (outwards outer m)))
+  module _ (n : ℕ) (later own : ℕ → Option FirstCancel) (cancels : (s : ℕ) → Here s → later s ≡ option_map (moved_cancel n) (own s)) where
+    rest_moved : (m : ℕ) (o : Option ℕ) → ((p : ℕ) → o ≡ Some p → earliest_on later (outwards outer m p) ≡ option_map (moved_cancel n) (earliest_on own (outwards outer m p))) → earliest_on later (onward o (outwards outer m)) ≡ option_map (moved_cancel n) (earliest_on own (onward o (outwards outer m)))
     rest_moved m None moved = refl
     rest_moved m (Some p) moved = moved p refl
 
-    earliest_moved : (m s : ℕ) → Here s → earliest_on later (outwards outer m s) ≡ option_map (moved_cut n) (earliest_on own (outwards outer m s))
+    earliest_moved : (m s : ℕ) → Here s → earliest_on later (outwards outer m s) ≡ option_map (moved_cancel n) (earliest_on own (outwards outer m s))
     earliest_moved zero s here = refl
     earliest_moved (suc m) s here =
-        ap (λ o. nearer o (earliest_on later (onward (outer s) (outwards outer m)))) (cuts s here)
-        ∙ (ap (nearer (option_map (moved_cut n) (own s))) (rest_moved m (outer s) (λ p is. earliest_moved m p (onto s p here is)))
+        ap (λ o. nearer o (earliest_on later (onward (outer s) (outwards outer m)))) (cancels s here)
+        ∙ (ap (nearer (option_map (moved_cancel n) (own s))) (rest_moved m (outer s) (λ p is. earliest_moved m p (onto s p here is)))
         ∙ nearer_moved n (own s) (earliest_on own (onward (outer s) (outwards outer m))))
 
-    pub cut_alike : (s : ℕ) → Here s → cut_by far later s ≡ option_map (moved_cut n) (cut_by outer own s)
-    unfolding cut_by chain_by
-    cut_alike s here = ap (earliest_on later) (outwards_alike (suc s) s here) ∙ earliest_moved (suc s) s here
+    pub cancel_alike : (s : ℕ) → Here s → first_cancel_by far later s ≡ option_map (moved_cancel n) (first_cancel_by outer own s)
+    unfolding first_cancel_by chain_by
+    cancel_alike s here = ap (earliest_on later) (outwards_alike (suc s) s here) ∙ earliest_moved (suc s) s here
 
     module _ (moved deadline : ℕ → Option ℕ) (moments : (s : ℕ) → Here s → moved s ≡ deadline s) where
       rest_least : (m : ℕ) (o : Option ℕ) → ((p : ℕ) → o ≡ Some p → least_on moved (outwards outer m p) ≡ least_on deadline (outwards outer m p)) → least_on moved (onward o (outwards outer m)) ≡ least_on deadline (onward o (outwards outer m))
@@ -74,6 +74,6 @@ module _ (Here : ℕ → Type 0) (far outer : ℕ → Option ℕ) (same : (s : �
       pub effective_alike : (s : ℕ) → Here s → effective_by far later moved s ≡ effective_by outer own deadline s
       unfolding chain_by
       effective_alike s here =
-          let cut : is_some (cut_by far later s) ≡ is_some (cut_by outer own s) = ap is_some (cut_alike s here) ∙ still_some (moved_cut n) (cut_by outer own s) in
+          let first_cancel : is_some (first_cancel_by far later s) ≡ is_some (first_cancel_by outer own s) = ap is_some (cancel_alike s here) ∙ still_some (moved_cancel n) (first_cancel_by outer own s) in
           let least : least_on moved (chain_by far s) ≡ least_on deadline (chain_by outer s) = ap (least_on moved) (outwards_alike (suc s) s here) ∙ least_alike (suc s) s here in
-          ap (λ t. cond t Past (at_moment (least_on moved (chain_by far s)))) cut ∙ ap (λ o. cond (is_some (cut_by outer own s)) Past (at_moment o)) least
+          ap (λ t. cond t Past (at_moment (least_on moved (chain_by far s)))) first_cancel ∙ ap (λ o. cond (is_some (first_cancel_by outer own s)) Past (at_moment o)) least

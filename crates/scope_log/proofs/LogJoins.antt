@@ -11,7 +11,7 @@ use Rattle.scope_rules.specs.declared.types.answers.CauseKind.TheVariants.{Joine
 use Rattle.scope_rules.specs.declared.types.capacity.Limits.{Limits}
 use Rattle.scope_rules.specs.declared.types.events.Event.{Event}
 use Rattle.scope_rules.specs.declared.types.events.Event.TheVariants.{Join}
-use Rattle.scope_rules.specs.declared.types.records.Cut.{Cut}
+use Rattle.scope_rules.specs.declared.types.records.FirstCancel.{FirstCancel}
 use Rattle.scope_rules.specs.declared.types.records.Opening.{Opening}
 use Rattle.scope_rules.specs.declared.types.records.OwnCancel.{OwnCancel}
 use Rattle.scope_rules.specs.Origin.{Origin}
@@ -20,17 +20,17 @@ use Rattle.scope_rules.specs.Earliest.{IsEarliest}
 use Rattle.scope_rules.specs.Search.{earliest}
 use Rattle.scope_rules.specs.History.{History, followed, opening, moment}
 use Rattle.scope_rules.specs.Scopes.{joined, joins, outer}
-use Rattle.scope_rules.specs.Cancels.{direct_kind, joiner_fires, overdue, deadline, own, own_cut, cut, cause, is_cancelled}
+use Rattle.scope_rules.specs.Cancels.{direct_kind, joiner_fires, overdue, deadline, own, own_cancel, first_cancel, cause, is_cancelled}
 use Rattle.scope_rules.specs.Table.{check_of, row_check}
 use Rattle.scope_rules.specs.Legal.{Accepts, Legal}
 use Rattle.scope_rules.proofs.Accepted.{checks_at, not_refused}
-use Rattle.scope_rules.proofs.EarliestLaws.{cut_earliest}
+use Rattle.scope_rules.proofs.EarliestLaws.{cancel_earliest}
 use Rattle.scope_rules.proofs.Growing.{opening_stays, own_stays}
 use Rattle.scope_rules.proofs.Nesting.{IsOpened}
 use Rattle.scope_rules.proofs.OneEventMore.{along, opening_same, joined_grows}
 use Rattle.scope_rules.proofs.OwnSteps.{own_from, own_next}
 use Rattle.scope_rules.proofs.Pushing.{legal_push}
-use Rattle.scope_rules.proofs.Staying.{cut_of, own_place, cut_grows}
+use Rattle.scope_rules.proofs.Staying.{cancel_of, own_place, cancel_grows}
 use Rattle.scope_rules.proofs.Timed.{moment_grows, deadline_grows}
 use Rattle.scope_log.specs.declared.entries.LogEntry.TheVariants as entry
 use Rattle.scope_log.specs.Log.{LogValue, entry_of, mark_of, mark_next, entries_next, log}
@@ -98,33 +98,33 @@ module _ (L : Limits) (h : History) (a s : ℕ) (legal : Legal L h) where
       (false_from_ne_true (overdue (followed h (Join a s)) q) (λ late. overdue_owned L h q o legal is (overdue_before h a s q o is late) none))
 
   -- a cancel that a scope has of its own stood before the join
-  own_earlier : (q : ℕ) (v w : Option OwnCancel) (c : Cut) → own h q ≡ v → own (followed h (Join a s)) q ≡ w → option_map (cut_of q) w ≡ Some c → length h.events ≤ c.place → ⊥
+  own_earlier : (q : ℕ) (v w : Option OwnCancel) (c : FirstCancel) → own h q ≡ v → own (followed h (Join a s)) q ≡ w → option_map (cancel_of q) w ≡ Some c → length h.events ≤ c.place → ⊥
   own_earlier q v None c was is found late = absurd cc
   own_earlier q (Some w) (Some x) c was is found late =
-      let same : cut_of q w ≡ c = cc (own_stays h (Join a s) q w was, is, found) in
-      absurd (omega (arith, (own_place h q w was).0, late, ap (λ (y : Cut). y.place) same))
+      let same : cancel_of q w ≡ c = cc (own_stays h (Join a s) q w was, is, found) in
+      absurd (omega (arith, (own_place h q w was).0, late, ap (λ (y : FirstCancel). y.place) same))
   own_earlier q None (Some x) c was is found late =
       let there = (own_place (followed h (Join a s)) q x is).1 in
       let opened = sym (opening_same h (Join a s) q refl) ∙ there.is in
       absurd (cc (is, unowned q there.opened opened was))
 
-  cut_by_join : (c : Option Cut) → IsOpened h s → cut h s ≡ None → cut (followed h (Join a s)) s ≡ c → c ≡ None
-  unfolding cut
-  cut_by_join None it none is = refl
-  cut_by_join (Some c) it none is =
+  cancel_by_join : (c : Option FirstCancel) → IsOpened h s → first_cancel h s ≡ None → first_cancel (followed h (Join a s)) s ≡ c → c ≡ None
+  unfolding first_cancel
+  cancel_by_join None it none is = refl
+  cancel_by_join (Some c) it none is =
       let g = followed h (Join a s) in
-      let late = (cut_grows L h (Join a s) s legal it).fresh c none is in
-      let first = subst (IsEarliest (own_cut g) (chain_by (outer g) s)) is (cut_earliest (outer g) (own_cut g) s) in
+      let late = (cancel_grows L h (Join a s) s legal it).fresh c none is in
+      let first = subst (IsEarliest (own_cancel g) (chain_by (outer g) s)) is (cancel_earliest (outer g) (own_cancel g) s) in
       let q = slice_index (chain_by (outer g) s) first.0 in
       absurd (own_earlier q (own h q) (own g q) c refl refl first.1.stands late)
 
   -- a join adds no mark
   no_mark : IsOpened h s → mark_next h (Join a s) s ≡ None
   unfolding is_cancelled cause
-  no_mark it = by (cut h s) refl
+  no_mark it = by (first_cancel h s) refl
     where
-      by : (c : Option Cut) → cut h s ≡ c → mark_next h (Join a s) s ≡ None
-      by None was = rw was (ap (λ x. mark_of (option_map (λ (y : Cut). y.cause) x)) (cut_by_join (cut (followed h (Join a s)) s) it was refl))
+      by : (c : Option FirstCancel) → first_cancel h s ≡ c → mark_next h (Join a s) s ≡ None
+      by None was = rw was (ap (λ x. mark_of (option_map (λ (y : FirstCancel). y.cause) x)) (cancel_by_join (first_cancel (followed h (Join a s)) s) it was refl))
       by (Some c) was = rw was refl
 
   join_alone : IsOpened h s → entries_next h (Join a s) s ≡ entry.Join a ∷ []

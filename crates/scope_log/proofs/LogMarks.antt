@@ -9,21 +9,21 @@ use Rattle.scope_rules.specs.declared.types.capacity.Limits.{Limits}
 use Rattle.scope_rules.specs.declared.types.answers.Cause.{Cause}
 use Rattle.scope_rules.specs.declared.types.events.Event.{Event}
 use Rattle.scope_rules.specs.declared.types.events.Event.TheVariants.{Tick}
-use Rattle.scope_rules.specs.declared.types.records.Cut.{Cut}
+use Rattle.scope_rules.specs.declared.types.records.FirstCancel.{FirstCancel}
 use Rattle.scope_rules.specs.Origin.{Origin}
 use Rattle.scope_rules.specs.Search.{earliest}
 use Rattle.scope_rules.specs.History.{History, followed, opening}
-use Rattle.scope_rules.specs.Cancels.{cut, cause, is_cancelled}
+use Rattle.scope_rules.specs.Cancels.{first_cancel, cause, is_cancelled}
 use Rattle.scope_rules.specs.Legal.{Legal}
 use Rattle.scope_rules.proofs.OneEventMore.{along}
-use Rattle.scope_rules.proofs.Staying.{cut_stays}
+use Rattle.scope_rules.proofs.Staying.{cancel_stays}
 use Rattle.scope_log.specs.declared.entries.LogEntry.{LogEntry}
 use Rattle.scope_log.specs.declared.entries.LogEntry.TheVariants as entry
 use Rattle.scope_log.specs.Log.{is_of, said, entry_of, mark_of, entries, mark_next, entries_next}
 use Rattle.scope_log.specs.LocalForms.{is_mark, cause_said, cause_in, before_mark, after_mark}
 use Rattle.scope_log.proofs.FirstParts.{first_of, before_first-cons, after_first-cons, before_first-append, after_first-append, before_first_none, after_first_none, first_of-append, first_of_two, any_of_two, pick_two}
 use Rattle.scope_log.proofs.LogSteps.{entries_grow}
-use Rattle.scope_log.proofs.NewLogs.{uncut}
+use Rattle.scope_log.proofs.NewLogs.{no_first_cancel}
 
 -- ---- the entry of an event
 
@@ -59,15 +59,15 @@ marks_shown (Some c) = refl
 
 cancelled_grows : (L : Limits) (h : History) (e : Event) (s : ℕ) → Legal L h → is_cancelled (followed h e) s ≡ (is_cancelled h s || option_map_or is_mark (mark_next h e s) false)
 unfolding is_cancelled cause
-cancelled_grows L h e s legal = by (cut h s) refl
+cancelled_grows L h e s legal = by (first_cancel h s) refl
   where
-    shown : (c : Option Cut) → is_some c ≡ option_map_or is_mark (mark_of (option_map (λ (x : Cut). x.cause) c)) false
+    shown : (c : Option FirstCancel) → is_some c ≡ option_map_or is_mark (mark_of (option_map (λ (x : FirstCancel). x.cause) c)) false
     shown None = refl
     shown (Some c) = refl
 
-    by : (c : Option Cut) → cut h s ≡ c → is_some (cut (followed h e) s) ≡ (is_some (cut h s) || option_map_or is_mark (cond (is_some (cut h s)) None (mark_of (option_map (λ (x : Cut). x.cause) (cut (followed h e) s)))) false)
-    by None was = rw was (shown (cut (followed h e) s))
-    by (Some c) was = rw was (rw (cut_stays L h e s c legal was) refl)
+    by : (c : Option FirstCancel) → first_cancel h s ≡ c → is_some (first_cancel (followed h e) s) ≡ (is_some (first_cancel h s) || option_map_or is_mark (cond (is_some (first_cancel h s)) None (mark_of (option_map (λ (x : FirstCancel). x.cause) (first_cancel (followed h e) s)))) false)
+    by None was = rw was (shown (first_cancel (followed h e) s))
+    by (Some c) was = rw was (rw (cancel_stays L h e s c legal was) refl)
 
 marked_step : (L : Limits) (h : History) (e : Event) (s : ℕ) → Legal L h → list_any is_mark (entries h s) ≡ is_cancelled h s → list_any is_mark (entries (followed h e) s) ≡ is_cancelled (followed h e) s
 marked_step L h e s legal so =
@@ -79,7 +79,7 @@ marked_step L h e s legal so =
 
 unmarked_start : (s : ℕ) (b : Origin) → list_any is_mark (entries (record { base = b; events = [] }) s) ≡ is_cancelled (record { base = b; events = [] }) s
 unfolding entries is_cancelled opening earliest
-unmarked_start s b = let g : History = record { base = b; events = [] } in sym (ap is_some (uncut g s (cut g s) refl refl))
+unmarked_start s b = let g : History = record { base = b; events = [] } in sym (ap is_some (no_first_cancel g s (first_cancel g s) refl refl))
 
 -- the entries have a mark if the scope is cancelled
 pub marked : (L : Limits) (h : History) (s : ℕ) → Legal L h → list_any is_mark (entries h s) ≡ is_cancelled h s
@@ -108,16 +108,16 @@ causeless h s e = gives_by cause_said h s e ∙ (ap (λ o. cond (is_of h s e) o 
 
 cause_grows : (L : Limits) (h : History) (e : Event) (s : ℕ) → Legal L h → cause (followed h e) s ≡ option_or (cause h s) (option_and_then cause_said (mark_next h e s))
 unfolding is_cancelled cause
-cause_grows L h e s legal = by (cut h s) refl
+cause_grows L h e s legal = by (first_cancel h s) refl
   where
-    shown : (c : Option Cut) → option_map (λ (x : Cut). x.cause) c ≡ option_and_then cause_said (mark_of (option_map (λ (x : Cut). x.cause) c))
+    shown : (c : Option FirstCancel) → option_map (λ (x : FirstCancel). x.cause) c ≡ option_and_then cause_said (mark_of (option_map (λ (x : FirstCancel). x.cause) c))
     shown None = refl
     shown (Some c) = refl
 
-    by : (c : Option Cut) → cut h s ≡ c
-        → option_map (λ (x : Cut). x.cause) (cut (followed h e) s) ≡ option_or (option_map (λ (x : Cut). x.cause) (cut h s)) (option_and_then cause_said (cond (is_some (cut h s)) None (mark_of (option_map (λ (x : Cut). x.cause) (cut (followed h e) s)))))
-    by None was = rw was (shown (cut (followed h e) s))
-    by (Some c) was = rw was (rw (cut_stays L h e s c legal was) refl)
+    by : (c : Option FirstCancel) → first_cancel h s ≡ c
+        → option_map (λ (x : FirstCancel). x.cause) (first_cancel (followed h e) s) ≡ option_or (option_map (λ (x : FirstCancel). x.cause) (first_cancel h s)) (option_and_then cause_said (cond (is_some (first_cancel h s)) None (mark_of (option_map (λ (x : FirstCancel). x.cause) (first_cancel (followed h e) s)))))
+    by None was = rw was (shown (first_cancel (followed h e) s))
+    by (Some c) was = rw was (rw (cancel_stays L h e s c legal was) refl)
 
 -- the cause is what the first entry says that says one
 cause_is : (es : List LogEntry) → cause_in es ≡ first_of cause_said es
@@ -136,7 +136,7 @@ cause_step L h e s legal so =
 
 cause_start : (s : ℕ) (b : Origin) → first_of cause_said (entries (record { base = b; events = [] }) s) ≡ cause (record { base = b; events = [] }) s
 unfolding entries first_of cause opening earliest
-cause_start s b = let g : History = record { base = b; events = [] } in sym (ap (option_map (λ (x : Cut). x.cause)) (uncut g s (cut g s) refl refl))
+cause_start s b = let g : History = record { base = b; events = [] } in sym (ap (option_map (λ (x : FirstCancel). x.cause)) (no_first_cancel g s (first_cancel g s) refl refl))
 
 -- the mark says the cause
 pub cause_told : (L : Limits) (h : History) (s : ℕ) → Legal L h → cause_in (entries h s) ≡ cause h s

@@ -7,73 +7,73 @@ use Rattle.std.specs.Option.{option_and_then}
 use Rattle.std.specs.List.{flat_map, range_with_len, cons_option}
 use Rattle.scope_rules.specs.declared.types.capacity.Limits.{Limits}
 use Rattle.scope_rules.specs.declared.types.events.Event.{Event}
-use Rattle.scope_rules.specs.declared.types.records.Cut.{Cut}
+use Rattle.scope_rules.specs.declared.types.records.FirstCancel.{FirstCancel}
 use Rattle.scope_rules.specs.declared.types.records.Opening.{Opening}
 use Rattle.scope_rules.specs.History.{History, followed, opening}
-use Rattle.scope_rules.specs.Cancels.{cut, cause, is_cancelled, cancelled_at}
+use Rattle.scope_rules.specs.Cancels.{first_cancel, cause, is_cancelled, cancelled_at}
 use Rattle.scope_rules.specs.Legal.{Legal}
-use Rattle.scope_rules.proofs.CutsGrow.{cut_new}
+use Rattle.scope_rules.proofs.ChainsGrow.{cancel_new}
 use Rattle.scope_rules.proofs.Earlier.{opening_within}
 use Rattle.scope_rules.proofs.Growing.{opening_stays, opening_place}
 use Rattle.scope_rules.proofs.Numbers.{range_push}
 use Rattle.scope_rules.proofs.OneEventMore.{last_event, opening_split}
 use Rattle.scope_rules.proofs.Prefixes.{get_push}
 use Rattle.scope_rules.proofs.Pushing.{before_push, before_last}
-use Rattle.scope_rules.proofs.Staying.{cut_opened, cut_stays, cut_within_history}
+use Rattle.scope_rules.proofs.Staying.{cancel_opened, cancel_stays, cancel_within_history}
 use Rattle.scope_log.specs.declared.entries.LogEntry.{LogEntry}
 use Rattle.scope_log.specs.declared.entries.LogEntry.TheVariants as entry
 use Rattle.scope_log.specs.Log.{entry_of, entry_at, mark_of, mark_at, entries_at, entries, mark_next, entries_next}
 
 -- ---- marks
 
--- the mark at place i of a scope that was opened and cut so
-abbrev mark_by : Option Opening → Option Cut → ℕ → Option LogEntry
-mark_by o c i = option_and_then (λ (at : ℕ). cond (at == i) (mark_of (option_map (λ (x : Cut). x.cause) c)) None) (option_and_then (λ (y : Opening). option_map (λ (x : Cut). max y.place x.place) c) o)
+-- the mark at place i of a scope that was opened and first cancel so
+abbrev mark_by : Option Opening → Option FirstCancel → ℕ → Option LogEntry
+mark_by o c i = option_and_then (λ (at : ℕ). cond (at == i) (mark_of (option_map (λ (x : FirstCancel). x.cause) c)) None) (option_and_then (λ (y : Opening). option_map (λ (x : FirstCancel). max y.place x.place) c) o)
 
-mark_is : (h : History) (s i : ℕ) → mark_at h s i ≡ mark_by (opening h s) (cut h s) i
+mark_is : (h : History) (s i : ℕ) → mark_at h s i ≡ mark_by (opening h s) (first_cancel h s) i
 unfolding cancelled_at cause
 mark_is h s i = refl
 
-same_mark : (o p : Option Opening) (c d : Option Cut) (i : ℕ) → o ≡ p → c ≡ d → mark_by o c i ≡ mark_by p d i
-same_mark o p c d i opened cut_so = rw opened (rw cut_so refl)
+same_mark : (o p : Option Opening) (c d : Option FirstCancel) (i : ℕ) → o ≡ p → c ≡ d → mark_by o c i ≡ mark_by p d i
+same_mark o p c d i opened cancel_so = rw opened (rw cancel_so refl)
 
 no_mark : (o : Option Opening) (i : ℕ) → mark_by o None i ≡ None
 no_mark None i = refl
 no_mark (Some o) i = refl
 
-mark_elsewhere : (o : Opening) (c : Cut) (i : ℕ) → max o.place c.place ≢ i → mark_by (Some o) (Some c) i ≡ None
+mark_elsewhere : (o : Opening) (c : FirstCancel) (i : ℕ) → max o.place c.place ≢ i → mark_by (Some o) (Some c) i ≡ None
 mark_elsewhere o c i other = ap (λ b. cond b (Some (entry.Cancelled c.cause)) None) (ne_eqb (max o.place c.place) i other)
 
-mark_here : (o : Opening) (c : Cut) (i : ℕ) → max o.place c.place ≡ i → mark_by (Some o) (Some c) i ≡ Some (entry.Cancelled c.cause)
+mark_here : (o : Opening) (c : FirstCancel) (i : ℕ) → max o.place c.place ≡ i → mark_by (Some o) (Some c) i ≡ Some (entry.Cancelled c.cause)
 mark_here o c i here = ap (λ b. cond b (Some (entry.Cancelled c.cause)) None) (eq-eqb (max o.place c.place) i here)
 
 module _ (L : Limits) (h : History) (e : Event) (s : ℕ) (legal : Legal L h) where
   -- an old mark stands before the event
-  old_place : (c : Cut) (o : Opening) → cut h s ≡ Some c → opening h s ≡ Some o → max o.place c.place < length h.events
-  old_place c o was opened = omega (arith, cut_within_history h s c was, opening_within h s o opened)
+  old_place : (c : FirstCancel) (o : Opening) → first_cancel h s ≡ Some c → opening h s ≡ Some o → max o.place c.place < length h.events
+  old_place c o was opened = omega (arith, cancel_within_history h s c was, opening_within h s o opened)
 
   -- a new one stands at it
-  new_place : (c : Cut) (o : Opening) → cut h s ≡ None → cut (followed h e) s ≡ Some c → opening (followed h e) s ≡ Some o → max o.place c.place ≡ length h.events
+  new_place : (c : FirstCancel) (o : Opening) → first_cancel h s ≡ None → first_cancel (followed h e) s ≡ Some c → opening (followed h e) s ≡ Some o → max o.place c.place ≡ length h.events
   new_place c o none is opened = elim (opening_split h e s o opened) [
     | inl old ↦
-        let at = cut_new L h e s c legal (record { opened = o; is = old }) none is in
+        let at = cancel_new L h e s c legal (record { opened = o; is = old }) none is in
         omega (arith, at, opening_within h s o old)
     | inr new ↦
         let at = opening_place (length h.events) e o new.1 in
-        omega (arith, at, cut_within_history (followed h e) s c is, length-append h.events (e ∷ []))
+        omega (arith, at, cancel_within_history (followed h e) s c is, length-append h.events (e ∷ []))
   ]
 
   marks_stay : (i : ℕ) → i < length h.events → mark_at (followed h e) s i ≡ mark_at h s i
-  marks_stay i within = mark_is (followed h e) s i ∙ (by (cut h s) (cut (followed h e) s) refl refl ∙ sym (mark_is h s i))
+  marks_stay i within = mark_is (followed h e) s i ∙ (by (first_cancel h s) (first_cancel (followed h e) s) refl refl ∙ sym (mark_is h s i))
     where
-      by : (c d : Option Cut) → cut h s ≡ c → cut (followed h e) s ≡ d → mark_by (opening (followed h e) s) (cut (followed h e) s) i ≡ mark_by (opening h s) (cut h s) i
+      by : (c d : Option FirstCancel) → first_cancel h s ≡ c → first_cancel (followed h e) s ≡ d → mark_by (opening (followed h e) s) (first_cancel (followed h e) s) i ≡ mark_by (opening h s) (first_cancel h s) i
       by (Some c) d was is =
-          let it = cut_opened h s c (opening h s) was refl in
-          same_mark _ _ _ _ i (opening_stays h e s it.opened it.is ∙ sym it.is) (cut_stays L h e s c legal was ∙ sym was)
+          let it = cancel_opened h s c (opening h s) was refl in
+          same_mark _ _ _ _ i (opening_stays h e s it.opened it.is ∙ sym it.is) (cancel_stays L h e s c legal was ∙ sym was)
       by None None was is =
           same_mark _ _ _ _ i refl is ∙ (no_mark (opening (followed h e) s) i ∙ sym (same_mark _ _ _ _ i refl was ∙ no_mark (opening h s) i))
       by None (Some d) was is =
-          let it = cut_opened (followed h e) s d (opening (followed h e) s) is refl in
+          let it = cancel_opened (followed h e) s d (opening (followed h e) s) is refl in
           let at = new_place d it.opened was is it.is in
           same_mark _ _ _ _ i it.is is
           ∙ (mark_elsewhere it.opened d i (λ same. absurd (omega (arith, same, at, within)))
@@ -81,18 +81,18 @@ module _ (L : Limits) (h : History) (e : Event) (s : ℕ) (legal : Legal L h) wh
 
   mark_new : mark_at (followed h e) s (length h.events) ≡ mark_next h e s
   unfolding is_cancelled cause
-  mark_new = mark_is (followed h e) s (length h.events) ∙ by (cut h s) (cut (followed h e) s) refl refl
+  mark_new = mark_is (followed h e) s (length h.events) ∙ by (first_cancel h s) (first_cancel (followed h e) s) refl refl
     where
-      by : (c d : Option Cut) → cut h s ≡ c → cut (followed h e) s ≡ d → mark_by (opening (followed h e) s) (cut (followed h e) s) (length h.events) ≡ mark_next h e s
+      by : (c d : Option FirstCancel) → first_cancel h s ≡ c → first_cancel (followed h e) s ≡ d → mark_by (opening (followed h e) s) (first_cancel (followed h e) s) (length h.events) ≡ mark_next h e s
       by (Some c) d was is =
-          let it = cut_opened h s c (opening h s) was refl in
+          let it = cancel_opened h s c (opening h s) was refl in
           let early = old_place c it.opened was it.is in
-          same_mark _ _ _ _ (length h.events) (opening_stays h e s it.opened it.is) (cut_stays L h e s c legal was)
+          same_mark _ _ _ _ (length h.events) (opening_stays h e s it.opened it.is) (cancel_stays L h e s c legal was)
           ∙ (mark_elsewhere it.opened c (length h.events) (λ same. absurd (omega (arith, same, early)))
           ∙ rw was refl)
       by None None was is = same_mark _ _ _ _ (length h.events) refl is ∙ (no_mark (opening (followed h e) s) (length h.events) ∙ rw was (rw is refl))
       by None (Some d) was is =
-          let it = cut_opened (followed h e) s d (opening (followed h e) s) is refl in
+          let it = cancel_opened (followed h e) s d (opening (followed h e) s) is refl in
           same_mark _ _ _ _ (length h.events) it.is is
           ∙ (mark_here it.opened d (length h.events) (new_place d it.opened was is it.is)
           ∙ rw was (rw is refl))

@@ -17,7 +17,7 @@ use Rattle.scope_rules.specs.Completions.{is_task_of}
 use Rattle.scope_rules.specs.Tasks.{rejects, rejected, starts, started, finishes, finished, stage}
 use Rattle.scope_rules.specs.Legal.{Accepts, Legal}
 use Rattle.scope_rules.proofs.CompletionSteps.{is_task_stays}
-use Rattle.scope_rules.proofs.CutsGrow.{cancelled_before_stays, cancelled_by_now}
+use Rattle.scope_rules.proofs.ChainsGrow.{cancelled_before_stays, cancelled_by_now}
 use Rattle.scope_rules.proofs.Earlier.{forking_within, forking_shown}
 use Rattle.scope_rules.proofs.Forkings.{IsForked, forked_after}
 use Rattle.scope_rules.proofs.Nesting.{IsOpened, forked_opened}

@@ -7,13 +7,13 @@ use Rattle.std.proofs.lemmas.List.FromFn.{length-range_with_len}
 use Rattle.std.specs.Option.{option_and_then}
 use Rattle.std.specs.List.{flat_map, filter_map, range_with_len, cons_option}
 use Rattle.scope_rules.specs.declared.types.answers.Cause.{Cause}
-use Rattle.scope_rules.specs.declared.types.records.Cut.{Cut}
+use Rattle.scope_rules.specs.declared.types.records.FirstCancel.{FirstCancel}
 use Rattle.scope_rules.specs.declared.types.records.Opening.{Opening}
 use Rattle.scope_rules.specs.History.{History, opening}
-use Rattle.scope_rules.specs.Cancels.{cut, cause, cancelled_at}
+use Rattle.scope_rules.specs.Cancels.{first_cancel, cause, cancelled_at}
 use Rattle.scope_rules.proofs.Earlier.{opening_within}
 use Rattle.scope_rules.proofs.Numbers.{range_push}
-use Rattle.scope_rules.proofs.Staying.{cut_within_history}
+use Rattle.scope_rules.proofs.Staying.{cancel_within_history}
 use Rattle.scope_log.specs.declared.entries.LogEntry.{LogEntry}
 use Rattle.scope_log.specs.declared.entries.LogEntry.TheVariants as entry
 use Rattle.scope_log.specs.Log.{LogValue, entry_at, mark_of, mark_at, entries_at, entries}
@@ -54,16 +54,16 @@ module _ (h : History) (s : ℕ) where
   mark_there : (at : ℕ) (c : Cause) → cancelled_at h s ≡ Some at → cause h s ≡ Some c → mark_at h s at ≡ Some (entry.Cancelled c)
   mark_there at c is why = ap (option_and_then (λ n. cond (n == at) (mark_of (cause h s)) None)) is ∙ (ap (λ b. cond b (mark_of (cause h s)) None) (eq-eqb at at refl) ∙ ap mark_of why)
 
-  within_by : (o : Option Opening) (c : Option Cut) (at : ℕ) → opening h s ≡ o → cut h s ≡ c → option_and_then (λ (y : Opening). option_map (λ (x : Cut). max y.place x.place) c) o ≡ Some at → at < length h.events
+  within_by : (o : Option Opening) (c : Option FirstCancel) (at : ℕ) → opening h s ≡ o → first_cancel h s ≡ c → option_and_then (λ (y : Opening). option_map (λ (x : FirstCancel). max y.place x.place) c) o ≡ Some at → at < length h.events
   within_by (Some o) (Some c) at opened why is =
       let same : max o.place c.place ≡ at = cc in
-      omega (arith, same, opening_within h s o opened, cut_within_history h s c why)
+      omega (arith, same, opening_within h s o opened, cancel_within_history h s c why)
   within_by _ _ at opened why is = absurd cc
 
   -- a scope becomes cancelled by an event of the history
   pub cancelled_within : (at : ℕ) → cancelled_at h s ≡ Some at → at < length h.events
   unfolding cancelled_at
-  cancelled_within at is = within_by (opening h s) (cut h s) at refl refl is
+  cancelled_within at is = within_by (opening h s) (first_cancel h s) at refl refl is
 
   marked_entries : (at : ℕ) (c : Cause) → cancelled_at h s ≡ Some at → cause h s ≡ Some c → entries h s ≡ entries_from h s 0 (at + 1) ++ entry.Cancelled c ∷ entries_from h s (at + 1) (length h.events - (at + 1))
   unfolding entries
@@ -101,7 +101,7 @@ picked_length f (n ∷ ns) = by (f n) (picked_length f ns)
     by None so = omega (arith, so)
     by (Some x) so = omega (arith, so)
 
-pub causeless : (o : Option Opening) (c : Option Cut) (at : ℕ) → option_and_then (λ (y : Opening). option_map (λ (x : Cut). max y.place x.place) c) o ≡ Some at → option_map (λ (x : Cut). x.cause) c ≡ None → ⊥
+pub causeless : (o : Option Opening) (c : Option FirstCancel) (at : ℕ) → option_and_then (λ (y : Opening). option_map (λ (x : FirstCancel). max y.place x.place) c) o ≡ Some at → option_map (λ (x : FirstCancel). x.cause) c ≡ None → ⊥
 causeless (Some o) None at is none = absurd cc
 causeless (Some o) (Some c) at is none = absurd cc
 causeless None c at is none = absurd cc
@@ -119,7 +119,7 @@ entries_short h s = by (cancelled_at h s) refl
     by (Some at) is = caused (cause h s) refl
       where
         caused : (c : Option Cause) → cause h s ≡ c → length (entries h s) ≤ length h.events + 1
-        caused None why = absurd (causeless (opening h s) (cut h s) at is why)
+        caused None why = absurd (causeless (opening h s) (first_cancel h s) at is why)
         caused (Some c) why =
             let rest = length h.events - (at + 1) in
             let size = ap length (marked_entries h s at c is why) ∙ length-append (entries_from h s 0 (at + 1)) (entry.Cancelled c ∷ entries_from h s (at + 1) rest) in

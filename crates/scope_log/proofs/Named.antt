@@ -36,7 +36,7 @@ module _ (r : Retirable) (es : List Event) (none : NamesNone r es) where
 pub opened_new : (r : Retirable) (es : List Event) (s : ℕ) (o : Opening) → opening (retired r es) s ≡ Some o → IsScope r s
 opened_new r es s o is = let it = scope_number (retired r es) s o is in greater (scopes r.past) s (omega (arith, it.2))
 
--- ---- what is moved, under a question of it
+-- ---- what is moved, under a query of it
 
 pub then_moved : {A B C : Type 0} (moved : B → A) (f : A → Option C) (g : B → Option C) (o : Option B) → ((x : B) → o ≡ Some x → f (moved x) ≡ g x) → option_and_then f (option_map moved o) ≡ option_and_then g o
 then_moved moved f g None same = refl

@@ -5,11 +5,11 @@ use Rattle.std.specs.List.{cons_option}
 use Rattle.scope_rules.specs.declared.types.capacity.Limits.{Limits}
 use Rattle.scope_rules.specs.declared.types.events.Event.{Event}
 use Rattle.scope_rules.specs.declared.types.events.Event.TheVariants.{Open, Fork, Reject, Start, Finish, Cancel, Move, Join, BeginClose, EndClose}
-use Rattle.scope_rules.specs.declared.types.records.Cut.{Cut}
+use Rattle.scope_rules.specs.declared.types.records.FirstCancel.{FirstCancel}
 use Rattle.scope_rules.specs.declared.types.records.Opening.{Opening}
 use Rattle.scope_rules.specs.Origin.{Origin}
 use Rattle.scope_rules.specs.History.{History, followed, opening, scopes}
-use Rattle.scope_rules.specs.Cancels.{cut, cause, is_cancelled}
+use Rattle.scope_rules.specs.Cancels.{first_cancel, cause, is_cancelled}
 use Rattle.scope_rules.specs.Completions.{is_task_of}
 use Rattle.scope_rules.specs.Table.{row_check}
 use Rattle.scope_rules.specs.Legal.{Accepts, Legal}
@@ -21,7 +21,7 @@ use Rattle.scope_rules.proofs.Nesting.{IsOpened, forked_opened}
 use Rattle.scope_rules.proofs.NewScopes.{scope_passed}
 use Rattle.scope_rules.proofs.OneEventMore.{along}
 use Rattle.scope_rules.proofs.PassedRows.{IsOwner, fork_passed, begin_close_passed, end_close_passed}
-use Rattle.scope_rules.proofs.Staying.{cut_opened}
+use Rattle.scope_rules.proofs.Staying.{cancel_opened}
 use Rattle.scope_log.specs.Log.{LogValue, is_of, said, entry_of, entries, mark_next, mark_of, entries_next, log}
 use Rattle.scope_log.specs.LogLaws.{LogGoesOn}
 use Rattle.scope_log.proofs.LogSteps.{entries_grow}
@@ -61,12 +61,12 @@ none_before : (h : History) (e : Event) (s : ℕ) (o : Option Opening) → openi
 none_before h e s None none is = is
 none_before h e s (Some o) none is = absurd (unopened (followed h e) s none (record { opened = o; is = opening_stays h e s o is }))
 
--- nor is it cut
-pub uncut : (h : History) (s : ℕ) (c : Option Cut) → opening h s ≡ None → cut h s ≡ c → cut h s ≡ None
-uncut h s None none is = is
-uncut h s (Some c) none is = absurd (unopened h s none (cut_opened h s c (opening h s) is refl))
+-- nor is it first cancel
+pub no_first_cancel : (h : History) (s : ℕ) (c : Option FirstCancel) → opening h s ≡ None → first_cancel h s ≡ c → first_cancel h s ≡ None
+no_first_cancel h s None none is = is
+no_first_cancel h s (Some c) none is = absurd (unopened h s none (cancel_opened h s c (opening h s) is refl))
 
-unmarked : (b : Bool) (c : Option Cut) → c ≡ None → cond b None (mark_of (option_map (λ (x : Cut). x.cause) c)) ≡ None
+unmarked : (b : Bool) (c : Option FirstCancel) → c ≡ None → cond b None (mark_of (option_map (λ (x : FirstCancel). x.cause) c)) ≡ None
 unmarked true c none = refl
 unmarked false c none = rw none refl
 
@@ -75,7 +75,7 @@ unfolding cause
 nothing_next L h e s legal ok none =
     let unnamed = false_from_ne_true (is_of h s e) (λ so. unopened (followed h e) s none (named_opened L h s e legal ok so)) in
     let no_entry : entry_of h s e ≡ None = ap (λ b. cond b (said h e) None) unnamed in
-    let no_mark : mark_next h e s ≡ None = unmarked (is_cancelled h s) (cut (followed h e) s) (uncut (followed h e) s (cut (followed h e) s) none refl) in
+    let no_mark : mark_next h e s ≡ None = unmarked (is_cancelled h s) (first_cancel (followed h e) s) (no_first_cancel (followed h e) s (first_cancel (followed h e) s) none refl) in
     rw no_entry (ap (λ o. cons_option o []) no_mark)
 
 HasNoEntries : History → Type 0

@@ -1,4 +1,4 @@
--- Questions over the numbers of tasks and of scopes.
+-- Queries over the numbers of tasks and of scopes.
 use Rattle.std.proofs.Common.{◌≡◌, ℕ, zero, suc, ◌+◌, ◌≤◌, Bool, true, false, cond, Option, List, ◌∷◌, map, count_by, refl, ap, ◌∙◌, arith}
 use Rattle.std.specs.List.{list_any, range_with_len, filter, filter_map, cons_option}
 use Rattle.scope_rules.specs.declared.types.events.Event.{Event}

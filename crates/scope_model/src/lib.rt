@@ -1,5 +1,5 @@
 //! The model of task scopes: the rules and the log of a scope (`scope_rules` and `scope_log`, all of
-//! which it hands on), and a plain evaluator that answers each question by scanning the list of events.
+//! which it hands on), and a plain evaluator that answers each query by scanning the list of events.
 #![tactic(auto)]
 
 pub mod plain;

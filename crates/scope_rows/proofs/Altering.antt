@@ -18,10 +18,10 @@ altered_other f (x ∷ xs) (suc i) zero apart = refl
 altered_other f (x ∷ xs) (suc i) (suc j) apart = altered_other f xs i j (λ same. apart (ap suc same))
 
 -- a change that writes the element
-pub altered_set : {R : Type 0} (f : R → R) (xs : List R) (i : ℕ) (d : R) → i < length xs → set xs i (f (get_or xs i d)) ≡ altered f xs i
-altered_set f [] i d within = absurd (omega arith)
-altered_set f (x ∷ xs) zero d within = refl
-altered_set f (x ∷ xs) (suc i) d within = ap (λ ys. x ∷ ys) (altered_set f xs i d (omega arith))
+pub altered_set : {R : Type 0} (xs : List R) (i : ℕ) (x : R) → i < length xs → set xs i x ≡ altered (λ old. x) xs i
+altered_set [] i x within = absurd (omega arith)
+altered_set (y ∷ ys) zero x within = refl
+altered_set (y ∷ ys) (suc i) x within = ap (λ zs. y ∷ zs) (altered_set ys i x (omega arith))
 
 -- the element there after the change
 pub record IsChanged {R : Type 0} (f : R → R) (xs : List R) (i : ℕ) (y : R) : Type 0 where
@@ -58,5 +58,19 @@ pushed_split (z ∷ xs) x (suc i) y at =
     elim (pushed_split xs x i y at) [ inl there ↦ inl there | inr last ↦ inr (ap suc last.0, last.1) ]
 
 -- an element that was read and is written changed
-pub written : {R : Type 0} (f : R → R) (xs : List R) (i j : ℕ) (x : R) → i ≡ j → i < length xs → x ≡ get_or xs i x → set xs i (f x) ≡ altered f xs j
-written f xs i j x same within read = ap (λ y. set xs i (f y)) read ∙ altered_set f xs i x within ∙ ap (altered f xs) same
+pub altered_read : {R : Type 0} (f : R → R) (xs : List R) (i : ℕ) (x : R) → x ≡ get_or xs i x → altered (λ old. f x) xs i ≡ altered f xs i
+altered_read f [] i x read = refl
+altered_read f (y ∷ ys) zero x read = ap (λ z. f z ∷ ys) read
+altered_read f (y ∷ ys) (suc i) x read = ap (λ zs. y ∷ zs) (altered_read f ys i x read)
+
+-- the element there after a change
+pub altered_here : {R : Type 0} (f : R → R) (xs : List R) (i : ℕ) (d : R) → i < length xs → get_or (altered f xs i) i d ≡ f (get_or xs i d)
+altered_here f [] i d within = absurd (omega arith)
+altered_here f (x ∷ xs) zero d within = refl
+altered_here f (x ∷ xs) (suc i) d within = altered_here f xs i d (omega arith)
+
+-- an element that was read and is written as it was
+pub altered_back : {R : Type 0} (xs : List R) (i : ℕ) (x : R) → x ≡ get_or xs i x → altered (λ old. x) xs i ≡ xs
+altered_back [] i x read = refl
+altered_back (y ∷ ys) zero x read = ap (λ z. z ∷ ys) read
+altered_back (y ∷ ys) (suc i) x read = ap (λ zs. y ∷ zs) (altered_back ys i x read)

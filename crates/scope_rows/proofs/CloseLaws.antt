@@ -22,7 +22,7 @@ use Rattle.scope_rows.specs.Agreement.{AreRowsOf, IsScopeRow}
 use Rattle.scope_rows.specs.Steps.{altered, closing_row, violated_row, marked, marked_within, walk_length, is_this, close_begun}
 use Rattle.scope_rows.proofs.Altering.{altered_length, altered_split}
 use Rattle.scope_rows.proofs.Places.{scope_at, number_at, number_apart}
-use Rattle.scope_rows.proofs.Frames.{scope_on, scope_kept, joining_same, closed_same, violated_same}
+use Rattle.scope_rows.proofs.Frames.{scope_on, scope_index, joining_same, closed_same, violated_same}
 use Rattle.scope_rows.proofs.Keeping.{count_same, counts_kept, tasks_kept}
 use Rattle.scope_rows.proofs.EndLaws.{below_is}
 use Rattle.scope_rows.proofs.Reading.{innermost_says}
@@ -118,7 +118,7 @@ module _ (L : Limits) (h : History) (t : RowTable) (a s : ℕ) (legal : Legal L 
       let k = (t.scopes_before + 1) + i in
       let was = are.scopes i r (sym (walked.missed i (inl uncovered)) ∙ at) in
       let other : (s == k) ≡ false = ne_eqb s k (λ same. apart (sym same)) in
-      scope_kept h e k r was refl uncovered refl (ap (λ b. b && covers_another h k) other) (counts_kept L h e k legal refl (λ j. (refl, refl, refl)))
+      scope_index h e k r was refl uncovered refl (ap (λ b. b && covers_another h k) other) (counts_kept L h e k legal refl (λ j. (refl, refl, refl)))
 
   -- the rows of all scopes
   begun_scopes : (i : ℕ) (r : ScopeRow) → slice_get (altered (violated_row (not (is_this (innermost_of t a) s))) (marked t.scopes_before s (innermost_of t a) t.scopes) (place_of t.scopes_before s)) i ≡ Some r

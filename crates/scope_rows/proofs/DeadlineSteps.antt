@@ -1,7 +1,6 @@
 -- How what is kept of own deadlines goes on by one event.
-use Rattle.std.proofs.Common.{◌≡◌, ◌≢◌, ℕ, ◌+◌, ◌<◌, false, cond, Option, Some, None, [], ◌∷◌, length, set, refl, ap, sym, subst, ◌∙◌, arith, length-append, inl, inr}
+use Rattle.std.proofs.Common.{◌≡◌, ◌≢◌, ℕ, ◌+◌, false, cond, Option, Some, None, [], ◌∷◌, refl, ap, sym, subst, ◌∙◌, arith, length-append}
 use Rattle.std.proofs.lemmas.Bool.{eq-eqb, ne_eqb}
-use Rattle.std.proofs.lemmas.Option.{slice_get_within}
 use Rattle.std.specs.Option.{option_and_then, option_map_or, option_or}
 use Rattle.scope_rules.specs.declared.types.capacity.Limits.{Limits}
 use Rattle.scope_rules.specs.declared.types.events.Event.{Event}
@@ -22,9 +21,9 @@ use Rattle.scope_rules.proofs.OneEventMore.{opening_same, opening_other}
 use Rattle.scope_rules.proofs.Owing.{count_push}
 use Rattle.scope_rules.proofs.Prefixes.{last_of-push}
 use Rattle.scope_rows.specs.Table.{place_of}
-use Rattle.scope_rows.proofs.Altering.{altered_length, altered_set, altered_split, pushed_split}
+use Rattle.scope_rows.proofs.Altering.{altered_length}
 use Rattle.scope_rows.proofs.Keeping.{count_same}
-use Rattle.scope_rows.proofs.Places.{number_at, number_apart, entry_there, opened_numbered}
+use Rattle.scope_rows.proofs.Places.{entry_there, opened_numbered, right_altered, right_pushed}
 use Rattle.scope_rows.specs.DeadlineTable.{DeadlineTable, HasDeadline, deadline_in, no_deadlines, with_open, with_deadline}
 use Rattle.scope_rows.specs.DeadlinesOf.{AreDeadlinesOf, moves_deadlines}
 
@@ -105,17 +104,10 @@ module _ (L : Limits) (h : History) (t : DeadlineTable) (a : ℕ) (policy : Poli
   one_opened = record {
     numbered = are.numbered;
     count = let longer = length-append t.deadlines (options.deadline ∷ []) in let pushed = count_push is_open h.events (Open a policy options) in omega (arith, longer, pushed, are.count);
-    deadlines = λ i d at.
-        let s = t.before + 1 + i in
-        elim (pushed_split t.deadlines options.deadline i d at) [
-          | inl old ↦
-              let within = slice_get_within t.deadlines i d old in
-              let apart : scopes h + 1 ≢ s = λ same. omega (arith, same, within, are.numbered, are.count) in
-              are.deadlines i d old ∙ sym (same_deadline h (Open a policy options) s (opening_other h (Open a policy options) s apart) refl)
-          | inr new ↦
-              let number : scopes h + 1 ≡ s = omega (arith, new.0, are.numbered, are.count) in
-              sym new.1 ∙ (sym new_deadline ∙ ap (deadline (followed h (Open a policy options))) number)
-        ];
+    deadlines =
+        let e = Open a policy options in
+        right_pushed (λ n d. d ≡ deadline h n) (λ n d. d ≡ deadline (followed h e) n) t.before t.deadlines options.deadline (scopes h + 1) (omega (arith, are.numbered, are.count))
+        (λ n d less it. it ∙ sym (same_deadline h e n (opening_other h e n (λ same. omega (arith, same, less))) refl)) (sym new_deadline) are.deadlines;
   }
 
 -- an open adds a scope with its deadline
@@ -124,13 +116,6 @@ opened_agrees L h t u a policy options d is given_so legal are =
     subst (AreDeadlinesOf (followed h (Open a policy options))) (sym (is ∙ ap (with_open t) (sym given_so))) (one_opened L h t a policy options legal are)
 
 -- ---- a move
-
--- what is written at the scope's place is its deadline
-pub deadline_written : (v t : DeadlineTable) (s at : ℕ) (d : Option ℕ) → v ≡ t → at ≡ place_of t.before s → at < length t.deadlines → record v { deadlines = set v.deadlines at d } ≡ with_deadline t s d
-deadline_written v t s at d same place within =
-    ap (λ (u : DeadlineTable). record u { deadlines = set u.deadlines at d }) same
-    ∙ (ap (λ i. record t { deadlines = set t.deadlines i d }) place
-    ∙ ap (λ ds. record t { deadlines = ds }) (altered_set (λ old. d) t.deadlines (place_of t.before s) None (omega (arith, within, place))))
 
 module _ (h : History) (t : DeadlineTable) (s : ℕ) (d : Option ℕ) (has : HasDeadline t s) (are : AreDeadlinesOf h t) where
   moved_here : deadline (followed h (Move s d)) s ≡ d
@@ -145,16 +130,8 @@ module _ (h : History) (t : DeadlineTable) (s : ℕ) (d : Option ℕ) (has : Has
   one_moved = record {
     numbered = are.numbered;
     count = altered_length (λ old. d) t.deadlines (place_of t.before s) ∙ (are.count ∙ sym (count_same is_open h (Move s d) refl));
-    deadlines = λ i x at.
-        let n = (t.before + 1) + i in
-        elim (altered_split (λ old. d) t.deadlines (place_of t.before s) i x at) [
-          | inl here ↦
-              let number : n ≡ s = ap (λ j. (t.before + 1) + j) here.0 ∙ number_at t.before s has.0 in
-              sym here.1.is ∙ (sym moved_here ∙ ap (deadline (followed h (Move s d))) (sym number))
-          | inr there ↦
-              let apart : s ≢ n = λ same. number_apart t.before i s has.0 there.0 (sym same) in
-              are.deadlines i x there.1 ∙ sym (moved_there n apart)
-        ];
+    deadlines =
+        right_altered (λ n x. x ≡ deadline h n) (λ n x. x ≡ deadline (followed h (Move s d)) n) (λ old. d) t.before t.deadlines s has.0 (λ n x apart it. it ∙ sym (moved_there n (λ same. apart (sym same)))) (λ x at it. sym moved_here) are.deadlines;
   }
 
 -- a move sets the deadline of its scope

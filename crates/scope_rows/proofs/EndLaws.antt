@@ -1,5 +1,5 @@
 -- The rows after the end of a close.
-use Rattle.std.proofs.Common.{◌≡◌, ◌≢◌, ℕ, ◌+◌, ◌||◌, true, Some, slice_get, refl, ap, sym, subst, ◌∙◌, inl, inr}
+use Rattle.std.proofs.Common.{◌≡◌, ◌≢◌, ℕ, ◌||◌, true, Some, refl, ap, sym, ◌∙◌}
 use Rattle.std.proofs.lemmas.Bool.{eq-eqb, ne_eqb, or_right}
 use Rattle.std.specs.Option.{option_and_then}
 use Rattle.scope_rules.specs.declared.types.capacity.Limits.{Limits}
@@ -16,9 +16,9 @@ use Rattle.scope_rows.specs.declared.records.ScopeRow.{ScopeRow}
 use Rattle.scope_rows.specs.Table.{RowTable, place_of}
 use Rattle.scope_rows.specs.Agreement.{AreRowsOf, IsScopeRow}
 use Rattle.scope_rows.specs.Steps.{altered, closed_row, below_of, close_ended}
-use Rattle.scope_rows.proofs.Altering.{altered_length, altered_split}
-use Rattle.scope_rows.proofs.Places.{ScopeRowAt, scope_at, scope_row_is, number_at, number_apart}
-use Rattle.scope_rows.proofs.Frames.{scope_on, scope_kept, joining_same, closing_same, violated_same}
+use Rattle.scope_rows.proofs.Altering.{altered_length}
+use Rattle.scope_rows.proofs.Places.{ScopeRowAt, scope_at, scope_row_is, AreRight, right_altered}
+use Rattle.scope_rows.proofs.Frames.{scope_on, scope_index, joining_same, closing_same, violated_same}
 use Rattle.scope_rows.proofs.Keeping.{count_same, counts_kept}
 use Rattle.scope_rows.proofs.InnerMoves.{main_moved, tasks_moved, tasks_length}
 use Rattle.scope_rows.proofs.Actors.{actor_has}
@@ -40,23 +40,15 @@ module _ (L : Limits) (h : History) (t : RowTable) (a s : ℕ) (legal : Legal L 
   -- the row of another scope
   ended_elsewhere : (n : ℕ) (r : ScopeRow) → n ≢ s → IsScopeRow h n r → IsScopeRow (followed h (EndClose a s)) n r
   ended_elsewhere n r apart it =
-      scope_kept h (EndClose a s) n r it refl refl (ne_eqb s n (λ same. apart (sym same))) refl (counts_kept L h (EndClose a s) n legal refl (λ j. (refl, refl, refl)))
+      scope_index h (EndClose a s) n r it refl refl (ne_eqb s n (λ same. apart (sym same))) refl (counts_kept L h (EndClose a s) n legal refl (λ j. (refl, refl, refl)))
 
   -- the scope has a row
   row_at : ScopeRowAt h t s
   row_at = let owner = (end_close_passed L h a s ok).owner in scope_at h t s are (record { opened = owner.opened; is = owner.is })
 
   -- the rows of all scopes
-  ended_scopes : (i : ℕ) (r : ScopeRow) → slice_get (altered closed_row t.scopes (place_of t.scopes_before s)) i ≡ Some r → IsScopeRow (followed h (EndClose a s)) (t.scopes_before + 1 + i) r
-  ended_scopes i r at =
-      let e = EndClose a s in
-      elim (altered_split closed_row t.scopes (place_of t.scopes_before s) i r at) [
-        | inl here ↦
-            let number : (t.scopes_before + 1) + i ≡ s = ap (λ n. (t.scopes_before + 1) + n) here.0 ∙ number_at t.scopes_before s row_at.has.0 in
-            let was = subst (λ n. IsScopeRow h n here.1.was) number (are.scopes i here.1.was here.1.at) in
-            subst (λ n. IsScopeRow (followed h e) n r) (sym number) (subst (λ x. IsScopeRow (followed h e) s x) here.1.is (ended_here here.1.was was))
-        | inr there ↦ ended_elsewhere ((t.scopes_before + 1) + i) r (number_apart t.scopes_before i s row_at.has.0 there.0) (are.scopes i r there.1)
-      ]
+  ended_scopes : AreRight (IsScopeRow (followed h (EndClose a s))) t.scopes_before (altered closed_row t.scopes (place_of t.scopes_before s))
+  ended_scopes = right_altered (IsScopeRow h) (IsScopeRow (followed h (EndClose a s))) closed_row t.scopes_before t.scopes s row_at.has.0 ended_elsewhere (λ r at it. ended_here r it) are.scopes
 
   -- the actor's innermost scope is the one below
   inner_now : innermost (followed h (EndClose a s)) a ≡ below_of t.scopes_before t.scopes s

@@ -1,5 +1,5 @@
 -- The rows after a fork.
-use Rattle.std.proofs.Common.{◌≡◌, ℕ, ◌+◌, ◌==◌, Bool, true, false, cond, Option, Some, None, [], ◌∷◌, ◌++◌, length, slice_get, refl, ap, sym, subst, ◌∙◌, arith, inl, inr, length-append}
+use Rattle.std.proofs.Common.{◌≡◌, ℕ, ◌+◌, ◌==◌, Bool, true, false, cond, Option, Some, None, [], ◌∷◌, ◌++◌, length, refl, ap, sym, ◌∙◌, arith, length-append}
 use Rattle.std.proofs.lemmas.Bool.{eq-eqb, ne_eqb, or_from}
 use Rattle.std.specs.Option.{option_map_or}
 use Rattle.scope_rules.specs.declared.types.capacity.Limits.{Limits}
@@ -20,13 +20,12 @@ use Rattle.scope_rules.proofs.PassedRows.{fork_passed}
 use Rattle.scope_rules.proofs.StageSteps.{next_forking, stage_forked}
 use Rattle.scope_rules.proofs.StateSteps.{no_ending, state_is}
 use Rattle.scope_rows.specs.declared.records.ScopeRow.{ScopeRow}
-use Rattle.scope_rows.specs.declared.records.TaskRow.{TaskRow}
 use Rattle.scope_rows.specs.Table.{RowTable, place_of}
 use Rattle.scope_rows.specs.Agreement.{AreRowsOf, IsScopeRow, IsTaskRow}
 use Rattle.scope_rows.specs.Steps.{altered, recount, count_fork, new_task_row, forked}
-use Rattle.scope_rows.proofs.Altering.{altered_length, altered_split, pushed_split}
-use Rattle.scope_rows.proofs.Places.{opened_has, number_at, number_apart}
-use Rattle.scope_rows.proofs.Frames.{scope_on, scope_kept, task_kept, joining_same, closing_same, closed_same, violated_same}
+use Rattle.scope_rows.proofs.Altering.{altered_length}
+use Rattle.scope_rows.proofs.Places.{opened_has, AreRight, right_altered, right_pushed}
+use Rattle.scope_rows.proofs.Frames.{scope_on, scope_index, task_kept, joining_same, closing_same, closed_same, violated_same}
 use Rattle.scope_rows.proofs.Keeping.{count_same}
 use Rattle.scope_rows.proofs.CountMoves.{fork_elsewhere, fork_counted}
 use Rattle.scope_rows.proofs.Unforked.{next_unforked, unforked_innermost, unforked_unfinished}
@@ -73,32 +72,22 @@ module _ (L : Limits) (h : History) (t : RowTable) (f : Forking) (cancelled : Bo
 
   -- the row of another scope
   scope_elsewhere : (s : ℕ) (r : ScopeRow) → (f.scope == s) ≡ false → IsScopeRow h s r → IsScopeRow (followed h (Fork f.actor f.scope f.label)) s r
-  scope_elsewhere s r other it = scope_kept h (Fork f.actor f.scope f.label) s r it refl refl refl refl (fork_elsewhere L h f legal s (cond cancelled Never Waiting) other forking_is stage_is)
+  scope_elsewhere s r other it = scope_index h (Fork f.actor f.scope f.label) s r it refl refl refl refl (fork_elsewhere L h f legal s (cond cancelled Never Waiting) other forking_is stage_is)
 
   -- the rows of all scopes
-  forked_scopes : (i : ℕ) (r : ScopeRow) → slice_get (altered (recount (count_fork cancelled)) t.scopes (place_of t.scopes_before f.scope)) i ≡ Some r → IsScopeRow (followed h (Fork f.actor f.scope f.label)) (t.scopes_before + 1 + i) r
-  forked_scopes i r at =
+  forked_scopes : AreRight (IsScopeRow (followed h (Fork f.actor f.scope f.label))) t.scopes_before (altered (recount (count_fork cancelled)) t.scopes (place_of t.scopes_before f.scope))
+  forked_scopes =
       let owner = (fork_passed L h f.actor f.scope f.label ok).owner in
       let has = opened_has h t f.scope are (record { opened = owner.opened; is = owner.is }) in
-      let s = (t.scopes_before + 1) + i in
-      elim (altered_split (recount (count_fork cancelled)) t.scopes (place_of t.scopes_before f.scope) i r at) [
-        | inl here ↦
-            let number : f.scope ≡ s = sym (ap (λ n. (t.scopes_before + 1) + n) here.0 ∙ number_at t.scopes_before f.scope has.0) in
-            subst (λ x. IsScopeRow (followed h (Fork f.actor f.scope f.label)) s x) here.1.is (scope_here s here.1.was (eq-eqb f.scope s number) (are.scopes i here.1.was here.1.at))
-        | inr other ↦
-            let apart = number_apart t.scopes_before i f.scope has.0 other.0 in
-            scope_elsewhere s r (ne_eqb f.scope s (λ same. apart (sym same))) (are.scopes i r other.1)
-      ]
+      right_altered (IsScopeRow h) (IsScopeRow (followed h (Fork f.actor f.scope f.label))) (recount (count_fork cancelled)) t.scopes_before t.scopes f.scope has.0
+      (λ n r apart it. scope_elsewhere n r (ne_eqb f.scope n (λ same. apart (sym same))) it) (λ r at it. scope_here f.scope r (eq-eqb f.scope f.scope refl) it) are.scopes
 
   -- the rows of all tasks
-  forked_tasks : (i : ℕ) (r : TaskRow) → slice_get (t.tasks ++ new_task_row f.scope f.place cancelled ∷ []) i ≡ Some r → IsTaskRow (followed h (Fork f.actor f.scope f.label)) (t.tasks_before + 1 + i) r
-  forked_tasks i r at =
-      elim (pushed_split t.tasks (new_task_row f.scope f.place cancelled) i r at) [
-        | inl old ↦ task_kept L h (Fork f.actor f.scope f.label) ((t.tasks_before + 1) + i) r legal (are.tasks i r old) refl refl refl (inner ((t.tasks_before + 1) + i))
-        | inr new ↦
-            let number : tasks h + 1 ≡ (t.tasks_before + 1) + i = omega (arith, new.0, are.tasks_before, are.task_count) in
-            subst (λ n. IsTaskRow (followed h (Fork f.actor f.scope f.label)) n r) number (subst (λ x. IsTaskRow (followed h (Fork f.actor f.scope f.label)) (tasks h + 1) x) new.1 new_row)
-      ]
+  forked_tasks : AreRight (IsTaskRow (followed h (Fork f.actor f.scope f.label))) t.tasks_before (t.tasks ++ new_task_row f.scope f.place cancelled ∷ [])
+  forked_tasks =
+      let e = Fork f.actor f.scope f.label in
+      right_pushed (IsTaskRow h) (IsTaskRow (followed h e)) t.tasks_before t.tasks (new_task_row f.scope f.place cancelled) (tasks h + 1) (omega (arith, are.tasks_before, are.task_count))
+      (λ n r less it. task_kept L h e n r legal it refl refl refl (inner n)) new_row are.tasks
 
   -- the rows with the new task agree after the fork
   pub rows_forked : AreRowsOf (followed h (Fork f.actor f.scope f.label)) (forked t f.scope f.place cancelled)

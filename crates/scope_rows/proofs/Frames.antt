@@ -15,7 +15,7 @@ use Rattle.scope_rules.specs.Verdicts.{violated, begins_for}
 use Rattle.scope_rules.specs.Tasks.{rejects, starts, finishes, ending_of, stage, state, counts}
 use Rattle.scope_rules.specs.Bindings.{stack}
 use Rattle.scope_rules.specs.Legal.{Legal}
-use Rattle.scope_rules.proofs.CutsGrow.{parent_stays}
+use Rattle.scope_rules.proofs.ChainsGrow.{parent_stays}
 use Rattle.scope_rules.proofs.Earlier.{opening_within}
 use Rattle.scope_rules.proofs.Growing.{opening_stays, forking_stays}
 use Rattle.scope_rules.proofs.OneEventMore.{closing_grows, closed_grows}
@@ -72,9 +72,9 @@ pub violated_same : (h : History) (e : Event) (s : ℕ) → begins_for h s e ≡
 violated_same h e s none = violated_grows h e s ∙ or_from_none (violated h s) (begins_for h s e) none
 
 -- an event that says nothing of the scope leaves its row
-pub scope_kept : (h : History) (e : Event) (s : ℕ) (r : ScopeRow) → IsScopeRow h s r → joins s e ≡ false → begins_closing h s e ≡ false → ends s e ≡ false → begins_for h s e ≡ false → counts (followed h e) s ≡ counts h s
+pub scope_index : (h : History) (e : Event) (s : ℕ) (r : ScopeRow) → IsScopeRow h s r → joins s e ≡ false → begins_closing h s e ≡ false → ends s e ≡ false → begins_for h s e ≡ false → counts (followed h e) s ≡ counts h s
     → IsScopeRow (followed h e) s r
-scope_kept h e s r it unjoined unbegun unended unviolated same =
+scope_index h e s r it unjoined unbegun unended unviolated same =
     scope_on h e s r r.joined r.closing r.closed r.violated r.counts it
     (joining_same h e s unjoined ∙ it.joined) (closing_same h e s unbegun ∙ it.closing) (closed_same h e s unended ∙ it.closed) (violated_same h e s unviolated ∙ it.violated) (same ∙ it.counts)
 

@@ -1,5 +1,5 @@
 -- The rows of tasks, and main's innermost scope, after an event that moves the innermost scope of one actor.
-use Rattle.std.proofs.Common.{◌≡◌, ◌≢◌, ℕ, ◌+◌, ◌==◌, Bool, true, false, cond, Option, Some, None, unwrap_or, length, slice_get, refl, ap, sym, subst, ◌∙◌, arith, inl, inr}
+use Rattle.std.proofs.Common.{◌≡◌, ◌≢◌, ℕ, ◌+◌, ◌==◌, Bool, true, false, cond, Option, Some, None, unwrap_or, length, slice_get, refl, ap, sym, ◌∙◌, arith, inl, inr}
 use Rattle.std.proofs.lemmas.Bool.{eqb-true, eq-eqb, ne_eqb}
 use Rattle.scope_rules.specs.declared.types.capacity.Limits.{Limits}
 use Rattle.scope_rules.specs.declared.types.events.Event.{Event}
@@ -13,8 +13,8 @@ use Rattle.scope_rows.specs.declared.records.TaskRow.{TaskRow}
 use Rattle.scope_rows.specs.Table.{RowTable, HasActor, HasTask, inner_of, place_of}
 use Rattle.scope_rows.specs.Agreement.{AreRowsOf, IsTaskRow}
 use Rattle.scope_rows.specs.Steps.{altered, with_inner, main_with, tasks_with}
-use Rattle.scope_rows.proofs.Altering.{altered_length, altered_split}
-use Rattle.scope_rows.proofs.Places.{number_at, number_apart}
+use Rattle.scope_rows.proofs.Altering.{altered_length}
+use Rattle.scope_rows.proofs.Places.{AreRight, right_altered}
 use Rattle.scope_rows.proofs.Frames.{task_moved, task_kept}
 
 -- an actor that is not main has a row
@@ -40,24 +40,15 @@ module _ (L : Limits) (h : History) (e : Event) (t : RowTable) (a : ℕ) (i : Op
   main_moved = main_by (a == 0) refl
 
   -- the row of another task
-  kept : (j : ℕ) (r : TaskRow) → slice_get t.tasks j ≡ Some r → (t.tasks_before + 1) + j ≢ a → IsTaskRow (followed h e) (t.tasks_before + 1 + j) r
-  kept j r at apart =
-      let k = (t.tasks_before + 1) + j in
-      let un = none k in
-      task_kept L h e k r legal (are.tasks j r at) un.0 un.1 un.2 (others k apart)
+  kept : (k : ℕ) (r : TaskRow) → k ≢ a → IsTaskRow h k r → IsTaskRow (followed h e) k r
+  kept k r apart it = let un = none k in task_kept L h e k r legal it un.0 un.1 un.2 (others k apart)
 
-  tasks_by : (b : Bool) → (a == 0) ≡ b → (j : ℕ) (r : TaskRow) → slice_get (cond b t.tasks (altered (with_inner i) t.tasks (place_of t.tasks_before a))) j ≡ Some r → IsTaskRow (followed h e) (t.tasks_before + 1 + j) r
-  tasks_by true main j r at = let zero_it : a ≡ 0 = eqb-true a 0 main in kept j r at (λ same. absurd (omega (arith, same, zero_it)))
-  tasks_by false other j r at =
-      let task = not_main t a other has in
-      elim (altered_split (with_inner i) t.tasks (place_of t.tasks_before a) j r at) [
-        | inl here ↦
-            let number : (t.tasks_before + 1) + j ≡ a = ap (λ n. (t.tasks_before + 1) + n) here.0 ∙ number_at t.tasks_before a task.0 in
-            let was = subst (λ n. IsTaskRow h n here.1.was) number (are.tasks j here.1.was here.1.at) in
-            let un = none a in
-            subst (λ n. IsTaskRow (followed h e) n r) (sym number) (subst (λ x. IsTaskRow (followed h e) a x) here.1.is (task_moved L h e a here.1.was (unwrap_or i 0) legal was un.0 un.1 un.2 (now ∙ sym (inner_numbered (followed h e) a i now))))
-        | inr there ↦ kept j r there.1 (number_apart t.tasks_before j a task.0 there.0)
-      ]
+  tasks_by : (b : Bool) → (a == 0) ≡ b → AreRight (IsTaskRow (followed h e)) t.tasks_before (cond b t.tasks (altered (with_inner i) t.tasks (place_of t.tasks_before a)))
+  tasks_by true main = λ j r at. let zero_it : a ≡ 0 = eqb-true a 0 main in kept ((t.tasks_before + 1) + j) r (λ same. absurd (omega (arith, same, zero_it))) (are.tasks j r at)
+  tasks_by false other =
+      let un = none a in
+      right_altered (IsTaskRow h) (IsTaskRow (followed h e)) (with_inner i) t.tasks_before t.tasks a (not_main t a other has).0 kept
+      (λ r at it. task_moved L h e a r (unwrap_or i 0) legal it un.0 un.1 un.2 (now ∙ sym (inner_numbered (followed h e) a i now))) are.tasks
 
   -- the rows of all tasks
   pub tasks_moved : (j : ℕ) (r : TaskRow) → slice_get (tasks_with t a i) j ≡ Some r → IsTaskRow (followed h e) (t.tasks_before + 1 + j) r

@@ -1,5 +1,5 @@
 -- The rows after a join.
-use Rattle.std.proofs.Common.{◌≡◌, ◌≢◌, ℕ, ◌+◌, false, cond, Some, None, length, refl, ap, sym, subst, ◌∙◌, inl, inr}
+use Rattle.std.proofs.Common.{◌≡◌, ◌≢◌, ℕ, false, cond, Some, None, length, refl, ap, sym, subst, ◌∙◌}
 use Rattle.std.proofs.lemmas.Bool.{eq-eqb, ne_eqb}
 use Rattle.std.specs.Option.{option_or}
 use Rattle.scope_rules.specs.declared.types.capacity.Limits.{Limits}
@@ -17,10 +17,10 @@ use Rattle.scope_rows.specs.declared.records.ScopeRow.{ScopeRow}
 use Rattle.scope_rows.specs.Table.{RowTable, HasScope, place_of}
 use Rattle.scope_rows.specs.Agreement.{AreRowsOf, IsScopeRow}
 use Rattle.scope_rows.specs.Steps.{joined_row, joined as joined_rows}
-use Rattle.scope_rows.proofs.Altering.{altered_length, altered_split}
-use Rattle.scope_rows.proofs.Places.{opened_has, number_at, number_apart}
+use Rattle.scope_rows.proofs.Altering.{altered_length}
+use Rattle.scope_rows.proofs.Places.{opened_has, right_altered}
 use Rattle.scope_rows.proofs.Joinings.{joining_grows, unjoined}
-use Rattle.scope_rows.proofs.Frames.{scope_on, scope_kept, closing_same, closed_same, violated_same}
+use Rattle.scope_rows.proofs.Frames.{scope_on, scope_index, closing_same, closed_same, violated_same}
 use Rattle.scope_rows.proofs.Keeping.{count_same, counts_kept, tasks_kept}
 
 -- what is accepted to be joined was opened, and isn't joined
@@ -43,7 +43,7 @@ joined_here L h a s r legal none it =
 -- the row of another scope
 joined_elsewhere : (L : Limits) (h : History) (a s n : ℕ) (r : ScopeRow) → Legal L h → n ≢ s → IsScopeRow h n r → IsScopeRow (followed h (Join a s)) n r
 joined_elsewhere L h a s n r legal apart it =
-    scope_kept h (Join a s) n r it (ne_eqb s n (λ same. apart (sym same))) refl refl refl (counts_kept L h (Join a s) n legal refl (λ j. (refl, refl, refl)))
+    scope_index h (Join a s) n r it (ne_eqb s n (λ same. apart (sym same))) refl refl refl (counts_kept L h (Join a s) n legal refl (λ j. (refl, refl, refl)))
 
 -- the rows with the place of the join agree after it
 pub rows_joined : (L : Limits) (h : History) (t : RowTable) (a s place : ℕ) → Legal L h → Accepts L h (Join a s) → AreRowsOf h t → place ≡ length h.events → AreRowsOf (followed h (Join a s)) (joined_rows t s place)
@@ -58,15 +58,8 @@ rows_joined L h t a s place legal ok are now =
       main = inner 0 ∙ are.main;
       scope_count = altered_length (joined_row place) t.scopes (place_of t.scopes_before s) ∙ (are.scope_count ∙ sym (count_same is_open h e refl));
       task_count = are.task_count ∙ sym (count_same is_fork h e refl);
-      scopes = λ i r at.
-          elim (altered_split (joined_row place) t.scopes (place_of t.scopes_before s) i r at) [
-            | inl here ↦
-                let number : (t.scopes_before + 1) + i ≡ s = ap (λ n. (t.scopes_before + 1) + n) here.0 ∙ number_at t.scopes_before s has.0 in
-                let was = subst (λ n. IsScopeRow h n here.1.was) number (are.scopes i here.1.was here.1.at) in
-                let new = joined_here L h a s here.1.was legal passed.1 was in
-                let row : joined_row (length h.events) here.1.was ≡ r = ap (λ n. joined_row n here.1.was) (sym now) ∙ here.1.is in
-                subst (λ n. IsScopeRow (followed h e) n r) (sym number) (subst (λ x. IsScopeRow (followed h e) s x) row new)
-            | inr there ↦ joined_elsewhere L h a s ((t.scopes_before + 1) + i) r legal (number_apart t.scopes_before i s has.0 there.0) (are.scopes i r there.1)
-          ];
+      scopes =
+          right_altered (IsScopeRow h) (IsScopeRow (followed h e)) (joined_row place) t.scopes_before t.scopes s has.0 (λ n r apart it. joined_elsewhere L h a s n r legal apart it)
+          (λ r at it. subst (λ n. IsScopeRow (followed h e) s (joined_row n r)) (sym now) (joined_here L h a s r legal passed.1 it)) are.scopes;
       tasks = tasks_kept L h e t legal are (λ j. (refl, refl, refl)) inner;
     }

@@ -15,7 +15,7 @@ use Rattle.scope_rules.proofs.TallySteps.{tally_stays}
 use Rattle.scope_rows.specs.declared.records.TaskRow.{TaskRow}
 use Rattle.scope_rows.specs.Table.{RowTable}
 use Rattle.scope_rows.specs.Agreement.{AreRowsOf, IsTaskRow}
-use Rattle.scope_rows.proofs.Frames.{scope_kept, task_kept, counts_same}
+use Rattle.scope_rows.proofs.Frames.{scope_index, task_kept, counts_same}
 
 -- a kind of event is counted no more often by an event of another kind
 pub count_same : (kind : Event → Bool) (h : History) (e : Event) → kind e ≡ false → count_by kind (followed h e).events ≡ count_by kind h.events
@@ -56,7 +56,7 @@ rows_quiet L h e t legal quiet are =
       task_count = are.task_count ∙ sym (count_same is_fork h e quiet.forks_none);
       scopes = λ i r at.
           let s = t.scopes_before + 1 + i in
-          scope_kept h e s r (are.scopes i r at) (quiet.joins_none s) (quiet.begins_none s) (quiet.ends_none s) (quiet.violates_none s) (counts_kept L h e s legal quiet.forks_none quiet.tasks);
+          scope_index h e s r (are.scopes i r at) (quiet.joins_none s) (quiet.begins_none s) (quiet.ends_none s) (quiet.violates_none s) (counts_kept L h e s legal quiet.forks_none quiet.tasks);
       tasks = tasks_kept L h e t legal are quiet.tasks inner;
     }
 

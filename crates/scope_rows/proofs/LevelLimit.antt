@@ -14,7 +14,7 @@ use Rattle.scope_rules.specs.Scopes.{surrounding, around, parent, level, next_le
 use Rattle.scope_rules.specs.Table.{row_check}
 use Rattle.scope_rules.specs.Legal.{Legal, Accepts}
 use Rattle.scope_rules.proofs.Accepted.{checks_at, not_refused}
-use Rattle.scope_rules.proofs.CutsGrow.{parent_stays}
+use Rattle.scope_rules.proofs.ChainsGrow.{parent_stays}
 use Rattle.scope_rules.proofs.Growing.{opening_place}
 use Rattle.scope_rules.proofs.Levels.{level_by_parent}
 use Rattle.scope_rules.proofs.Nesting.{IsOpened, legal_before, opened_before, surrounding_opened}

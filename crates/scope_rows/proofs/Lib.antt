@@ -1,4 +1,5 @@
 pub mod Altering
+pub mod Entries
 pub mod Places
 pub mod Joinings
 pub mod Writing

@@ -1,14 +1,14 @@
 -- The walk that marks scopes as closing, step by step.
-use Rattle.std.proofs.Common.{◌≡◌, ◌≢◌, ℕ, zero, suc, ◌+◌, ◌<◌, ◌≤◌, ◌==◌, Bool, true, false, cond, Option, Some, None, List, length, get_or, slice_get, set, IfSome, refl, ap, sym, subst, ◌∙◌, arith, inl, inr}
+use Rattle.std.proofs.Common.{◌≡◌, ◌≢◌, ℕ, zero, suc, ◌+◌, ◌<◌, ◌≤◌, ◌==◌, Bool, true, false, cond, Option, Some, None, List, length, get_or, slice_get, IfSome, refl, ap, sym, subst, ◌∙◌, arith, inl, inr}
 use Rattle.std.specs.Option.{option_and_then}
 use Rattle.std.proofs.lemmas.Bool.{eq-eqb, ne_eqb}
-use Rattle.std.proofs.lemmas.Option.{slice_get-get_or}
 use Rattle.scope_rows.specs.declared.records.ScopeRow.{ScopeRow}
-use Rattle.scope_rows.specs.Table.{IsNumbered, place_of, row_of}
+use Rattle.scope_rows.specs.Table.{IsNumbered, place_of}
+use Rattle.scope_rows.specs.Numbered.{Entries}
 use Rattle.scope_rows.specs.Steps.{altered, below_of, closing_row, onward_from, marked_within, walk_length, marked}
 use Rattle.scope_rows.specs.Wants.{AreLinked}
-use Rattle.scope_rows.proofs.Altering.{altered_length, altered_split, altered_set}
-use Rattle.scope_rows.proofs.Places.{row_is, place_within}
+use Rattle.scope_rows.proofs.Altering.{altered_length, altered_split, altered_read}
+use Rattle.scope_rows.proofs.Places.{row_is, place_within, number_read}
 
 -- what is left to mark makes of the rows so far what there was to mark made of the rows at first
 pub record IsMarkedOn (before s : ℕ) (next : Option ℕ) (rows : List ScopeRow) (from : Option ℕ) (first : List ScopeRow) : Type 0 where
@@ -48,14 +48,6 @@ linked_on before rows p linked i r b at below =
       | inl here ↦ linked i here.1.was b here.1.at (ap (λ (x : ScopeRow). x.below) here.1.is ∙ below)
       | inr there ↦ linked i r b there.1 below
     ]
-
--- the row of a scope that is there
-row_there : (before : ℕ) (rows : List ScopeRow) (n : ℕ) (d : ScopeRow) → IsNumbered before rows n → row_of before rows n ≡ Some (get_or rows (place_of before n) d)
-row_there before rows n d has = row_is before rows n has.0 ∙ slice_get-get_or rows (place_of before n) d (place_within before (length rows) n has.0 has.1)
-
--- what is below a scope, by its row
-pub below_there : (before : ℕ) (rows : List ScopeRow) (n : ℕ) (d : ScopeRow) → IsNumbered before rows n → below_of before rows n ≡ (get_or rows (place_of before n) d).below
-below_there before rows n d has = ap (option_and_then (λ (r : ScopeRow). r.below)) (row_there before rows n d has)
 
 -- where the walk goes on is below, or nowhere
 onward_below : (before s : ℕ) (rows : List ScopeRow) (here b : ℕ) → AreLinked before rows → IsNumbered before rows here → onward_from before s rows here ≡ Some b → (before < b) × (b < here)
@@ -120,26 +112,42 @@ marked_length (suc n) before s None rows = refl
 marked_length (suc n) before s (Some here) rows =
     marked_length n before s (onward_from before s rows here) (altered closing_row rows (place_of before here)) ∙ altered_length closing_row rows (place_of before here)
 
+-- so a scope that had a row has one
+pub marked_numbered : (before s : ℕ) (next : Option ℕ) (rows : List ScopeRow) → IsNumbered before rows s → IsNumbered before (marked before s next rows) s
+unfolding marked
+marked_numbered before s next rows has = (has.0, omega (arith, has.1, marked_length (walk_length next) before s next rows))
+
 -- a step of the walk that writes the row
-pub step_written : (before s here : ℕ) (rows : List ScopeRow) (from : Option ℕ) (first : List ScopeRow) (next : Option ℕ) (d : ScopeRow) → IsWalked before s (Some here) rows from first → next ≡ onward_from before s rows here
-    → IsWalked before s next (set rows (place_of before here) (closing_row (get_or rows (place_of before here) d))) from first
-step_written before s here rows from first next d so is =
-    let within = place_within before (length rows) here so.within.0 so.within.1 in
-    subst (λ xs. IsWalked before s next xs from first) (sym (altered_set closing_row rows (place_of before here) d within)) (walk_step before s here rows from first next so is)
+pub step_written : (before s here : ℕ) (rows : List ScopeRow) (from : Option ℕ) (first : List ScopeRow) (next : Option ℕ) (row : ScopeRow) → IsWalked before s (Some here) rows from first → next ≡ onward_from before s rows here → row ≡ get_or rows (place_of before here) row
+    → IsWalked before s next (altered (λ old. closing_row row) rows (place_of before here)) from first
+step_written before s here rows from first next row so is read =
+    subst (λ xs. IsWalked before s next xs from first) (sym (altered_read closing_row rows (place_of before here) row read)) (walk_step before s here rows from first next so is)
 
 -- the walk ends at the scope
 pub onward_end : (before s here : ℕ) (rows : List ScopeRow) → here ≡ s → None ≡ onward_from before s rows here
 onward_end before s here rows same = ap (λ b. cond b None (below_of before rows here)) (sym (eq-eqb here s same))
 
 -- and else goes on below
-pub onward_on : (before s here : ℕ) (rows : List ScopeRow) (d : ScopeRow) → here ≢ s → IsNumbered before rows here → (get_or rows (place_of before here) d).below ≡ onward_from before s rows here
-onward_on before s here rows d other has =
-    sym (below_there before rows here d has) ∙ ap (λ b. cond b None (below_of before rows here)) (sym (ne_eqb here s other))
+pub onward_on : (before s here : ℕ) (rows : List ScopeRow) (row : ScopeRow) → here ≢ s → IsNumbered before rows here → row ≡ get_or rows (place_of before here) row → row.below ≡ onward_from before s rows here
+onward_on before s here rows row other has read =
+    sym (ap (option_and_then (λ (r : ScopeRow). r.below)) (number_read before rows here row has read)) ∙ ap (λ b. cond b None (below_of before rows here)) (sym (ne_eqb here s other))
 
 -- the walk goes down, by the row that is read
-pub walk_shrinks : (before s here : ℕ) (rows : List ScopeRow) (from : Option ℕ) (first : List ScopeRow) (now : Option ℕ) (d : ScopeRow) → now ≡ Some here → IsWalked before s now rows from first → here ≢ s
-    → walk_length (get_or rows (place_of before here) d).below < walk_length now
-walk_shrinks before s here rows from first now d is so other =
+pub walk_shrinks : (before s here : ℕ) (rows : List ScopeRow) (from : Option ℕ) (first : List ScopeRow) (now : Option ℕ) (row : ScopeRow) → now ≡ Some here → IsWalked before s now rows from first → here ≢ s → row ≡ get_or rows (place_of before here) row
+    → walk_length row.below < walk_length now
+walk_shrinks before s here rows from first now row is so other read =
     let walked = subst (λ o. IsWalked before s o rows from first) is so in
-    subst (λ o. walk_length (get_or rows (place_of before here) d).below < walk_length o) (sym is)
-    (walk_falls before s here rows from first (get_or rows (place_of before here) d).below walked (onward_on before s here rows d other walked.within))
+    subst (λ o. walk_length row.below < walk_length o) (sym is) (walk_falls before s here rows from first row.below walked (onward_on before s here rows row other walked.within read))
+
+-- ---- the walk over a list that goes by numbers
+
+pub record IsWalk (s : ℕ) (next : Option ℕ) (rows : Entries ScopeRow) (from : Option ℕ) (first : Entries ScopeRow) : Type 0 where
+  pub before : rows.before ≡ first.before
+  pub spare : rows.spare ≡ first.spare
+  pub walked : IsWalked rows.before s next rows.items from first.items
+
+-- the marks are written when the walk is at its end
+pub walk_written : (s : ℕ) (next : Option ℕ) (rows : Entries ScopeRow) (from : Option ℕ) (first : Entries ScopeRow) → next ≡ None → IsWalk s next rows from first → rows ≡ record first { items = marked first.before s from first.items }
+walk_written s next rows from first none so =
+    ap (λ xs. record rows { items = xs }) (walk_end rows.before s next rows.items from first.items none so.walked)
+    ∙ (ap (λ b. record { before = b; items = marked b s from first.items; spare = rows.spare }) so.before ∙ ap (λ n. record first { items = marked first.before s from first.items; spare = n }) so.spare)

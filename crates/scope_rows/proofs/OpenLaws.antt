@@ -1,5 +1,5 @@
 -- The rows after an open.
-use Rattle.std.proofs.Common.{◌≡◌, ◌≢◌, ℕ, ◌+◌, Some, Option, [], ◌∷◌, ◌++◌, length, slice_get, refl, ap, sym, subst, ◌∙◌, arith, inl, inr, length-append}
+use Rattle.std.proofs.Common.{◌≡◌, ◌≢◌, ℕ, ◌+◌, Some, Option, [], ◌∷◌, ◌++◌, length, refl, ap, sym, ◌∙◌, arith, length-append}
 use Rattle.std.specs.Option.{option_and_then}
 use Rattle.scope_rules.specs.declared.types.capacity.Limits.{Limits}
 use Rattle.scope_rules.specs.declared.types.events.Event.TheVariants.{Open}
@@ -15,12 +15,11 @@ use Rattle.scope_rules.proofs.OneEventMore.{forking_same}
 use Rattle.scope_rules.proofs.Owing.{count_push}
 use Rattle.scope_rules.proofs.PassedRows.{open_passed}
 use Rattle.scope_rules.proofs.Pushing.{before_last}
-use Rattle.scope_rows.specs.declared.records.ScopeRow.{ScopeRow}
 use Rattle.scope_rows.specs.Table.{RowTable, innermost_of}
 use Rattle.scope_rows.specs.Agreement.{AreRowsOf, IsScopeRow}
 use Rattle.scope_rows.specs.Steps.{new_scope_row, opened}
-use Rattle.scope_rows.proofs.Altering.{pushed_split}
-use Rattle.scope_rows.proofs.Frames.{scope_kept, joining_same, closing_same, closed_same, violated_same, counts_by}
+use Rattle.scope_rows.proofs.Places.{AreRight, right_pushed}
+use Rattle.scope_rows.proofs.Frames.{scope_index, joining_same, closing_same, closed_same, violated_same, counts_by}
 use Rattle.scope_rows.proofs.Keeping.{count_same, counts_kept}
 use Rattle.scope_rows.proofs.InnerMoves.{main_moved, tasks_moved, tasks_length}
 use Rattle.scope_rows.proofs.Reading.{innermost_says}
@@ -67,15 +66,11 @@ module _ (L : Limits) (h : History) (t : RowTable) (o : Opening) (inside : Optio
       }
 
   -- the rows of all scopes
-  opened_scopes : (i : ℕ) (r : ScopeRow) → slice_get (t.scopes ++ new_scope_row o inside (innermost_of t o.actor) height ∷ []) i ≡ Some r → IsScopeRow (followed h (Open o.actor o.policy o.options)) (t.scopes_before + 1 + i) r
-  opened_scopes i r at =
+  opened_scopes : AreRight (IsScopeRow (followed h (Open o.actor o.policy o.options))) t.scopes_before (t.scopes ++ new_scope_row o inside (innermost_of t o.actor) height ∷ [])
+  opened_scopes =
       let e = Open o.actor o.policy o.options in
-      elim (pushed_split t.scopes (new_scope_row o inside (innermost_of t o.actor) height) i r at) [
-        | inl old ↦ scope_kept h e ((t.scopes_before + 1) + i) r (are.scopes i r old) refl refl refl refl (counts_kept L h e ((t.scopes_before + 1) + i) legal refl (λ j. (refl, refl, refl)))
-        | inr new ↦
-            let number : scopes h + 1 ≡ (t.scopes_before + 1) + i = omega (arith, new.0, are.scopes_before, are.scope_count) in
-            subst (λ n. IsScopeRow (followed h e) n r) number (subst (λ x. IsScopeRow (followed h e) (scopes h + 1) x) new.1 new_row)
-      ]
+      right_pushed (IsScopeRow h) (IsScopeRow (followed h e)) t.scopes_before t.scopes (new_scope_row o inside (innermost_of t o.actor) height) (scopes h + 1) (omega (arith, are.scopes_before, are.scope_count))
+      (λ n r less it. scope_index h e n r it refl refl refl refl (counts_kept L h e n legal refl (λ j. (refl, refl, refl)))) new_row are.scopes
 
   -- the rows with the new scope agree after the open
   pub rows_opened : AreRowsOf (followed h (Open o.actor o.policy o.options)) (opened t o inside height)

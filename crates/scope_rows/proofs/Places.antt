@@ -1,8 +1,8 @@
 -- Where the row of a scope or a task stands.
-use Rattle.std.proofs.Common.{◌≡◌, ◌≢◌, ℕ, ◌+◌, ◌<◌, ◌≤◌, cond, Option, Some, None, List, length, slice_get, slice_index_or, ap, sym, ◌∙◌, arith, subst}
+use Rattle.std.proofs.Common.{◌≡◌, ◌≢◌, ℕ, ◌+◌, ◌<◌, ◌≤◌, cond, Option, Some, None, List, [], ◌∷◌, ◌++◌, length, slice_get, slice_index_or, ap, sym, ◌∙◌, arith, subst, inl, inr}
 use Rattle.std.specs.Option.{option_map_or}
 use Rattle.std.proofs.lemmas.Bool.{lt-ltb}
-use Rattle.std.proofs.lemmas.Option.{slice_get-get_or}
+use Rattle.std.proofs.lemmas.Option.{slice_get-get_or, slice_get_within}
 use Rattle.scope_rules.specs.declared.types.records.Forking.{Forking}
 use Rattle.scope_rules.specs.History.{History, forking, opened_count}
 use Rattle.scope_rules.proofs.Nesting.{IsOpened}
@@ -12,7 +12,8 @@ use Rattle.scope_rows.specs.declared.records.ScopeRow.{ScopeRow}
 use Rattle.scope_rows.specs.declared.records.TaskRow.{TaskRow}
 use Rattle.scope_rows.specs.Table.{RowTable, IsNumbered, HasScope, HasTask, place_of, row_of, scope_row, task_row, scope_of}
 use Rattle.scope_rows.specs.Agreement.{AreRowsOf, IsScopeRow, IsTaskRow}
-use Rattle.scope_rows.proofs.Altering.{there_is}
+use Rattle.scope_rows.specs.Steps.{altered}
+use Rattle.scope_rows.proofs.Altering.{there_is, altered_split, pushed_split}
 
 -- the place of a number's row is within the rows
 pub place_within : (before len n : ℕ) → before < n → n ≤ before + len → place_of before n < len
@@ -30,6 +31,10 @@ number_apart before i n more apart same = apart (omega arith)
 pub row_is : {R : Type 0} (before : ℕ) (rows : List R) (n : ℕ) → before < n → row_of before rows n ≡ slice_get rows (place_of before n)
 row_is before rows n more = ap (λ b. cond b (slice_get rows (place_of before n)) None) (lt-ltb before n more)
 
+-- the row of a number, which was read
+pub number_read : {R : Type 0} (before : ℕ) (rows : List R) (n : ℕ) (row : R) → IsNumbered before rows n → row ≡ slice_index_or rows (place_of before n) row → row_of before rows n ≡ Some row
+number_read before rows n row has read = row_is before rows n has.0 ∙ (slice_get-get_or rows (place_of before n) row (place_within before (length rows) n has.0 has.1) ∙ ap Some (sym read))
+
 -- the row of a scope, which says what the history says
 pub record ScopeRowAt (h : History) (t : RowTable) (s : ℕ) : Type 0 where
   pub row : ScopeRow
@@ -44,17 +49,42 @@ pub record TaskRowAt (h : History) (t : RowTable) (k : ℕ) : Type 0 where
   pub says : IsTaskRow h k row
   pub has : HasTask t k
 
+-- each entry is right of its number
+abbrev pub AreRight : {R : Type 0} → (ℕ → R → Type 0) → ℕ → List R → Type 0
+AreRight {R} says before rows = (i : ℕ) (r : R) → slice_get rows i ≡ Some r → says (before + 1 + i) r
+
 -- if each row is right, so is the row of a number
-row_there : {R : Type 0} (says : ℕ → R → Type 0) (before : ℕ) (rows : List R) (n : ℕ) → IsNumbered before rows n → ((i : ℕ) (r : R) → slice_get rows i ≡ Some r → says (before + 1 + i) r) → (r : R) × (slice_get rows (place_of before n) ≡ Some r) × says n r
+row_there : {R : Type 0} (says : ℕ → R → Type 0) (before : ℕ) (rows : List R) (n : ℕ) → IsNumbered before rows n → AreRight says before rows → (r : R) × (slice_get rows (place_of before n) ≡ Some r) × says n r
 row_there says before rows n has right =
     let it = there_is rows (place_of before n) (place_within before (length rows) n has.0 has.1) in
     (it.0, it.1, subst (λ m. says m it.0) (number_at before n has.0) (right (place_of before n) it.0 it.1))
 
 -- and so is what is read there, whatever is read if there is none
-pub entry_there : {R : Type 0} (says : ℕ → R → Type 0) (before : ℕ) (rows : List R) (n : ℕ) (other : R) → IsNumbered before rows n → ((i : ℕ) (r : R) → slice_get rows i ≡ Some r → says (before + 1 + i) r) → says n (slice_index_or rows (place_of before n) other)
+pub entry_there : {R : Type 0} (says : ℕ → R → Type 0) (before : ℕ) (rows : List R) (n : ℕ) (other : R) → IsNumbered before rows n → AreRight says before rows → says n (slice_index_or rows (place_of before n) other)
 entry_there says before rows n other has right =
     let at = slice_get-get_or rows (place_of before n) other (place_within before (length rows) n has.0 has.1) in
     subst (λ m. says m (slice_index_or rows (place_of before n) other)) (number_at before n has.0) (right (place_of before n) (slice_index_or rows (place_of before n) other) at)
+
+-- an entry is put at the end, and the others stay right
+pub right_pushed : {R : Type 0} (says next : ℕ → R → Type 0) (before : ℕ) (rows : List R) (x : R) (n : ℕ) → n ≡ before + length rows + 1 → ((m : ℕ) (r : R) → m < n → says m r → next m r) → next n x → AreRight says before rows → AreRight next before (rows ++ x ∷ [])
+right_pushed says next before rows x n number others new right i r at =
+    elim (pushed_split rows x i r at) [
+      | inl old ↦ others ((before + 1) + i) r (let within = slice_get_within rows i r old in omega (arith, within, number)) (right i r old)
+      | inr last ↦ let same : n ≡ (before + 1) + i = omega (arith, number, last.0) in subst (λ m. next m r) same (subst (next n) last.1 new)
+    ]
+
+-- the entry of a number is changed, and the others stay right
+pub right_altered : {R : Type 0} (says next : ℕ → R → Type 0) (f : R → R) (before : ℕ) (rows : List R) (n : ℕ) → before < n → ((m : ℕ) (r : R) → m ≢ n → says m r → next m r) → ((r : R) → slice_get rows (place_of before n) ≡ Some r → says n r → next n (f r))
+    → AreRight says before rows → AreRight next before (altered f rows (place_of before n))
+right_altered says next f before rows n more others here right i y at =
+    elim (altered_split f rows (place_of before n) i y at) [
+      | inl it ↦
+          let number : (before + 1) + i ≡ n = ap (λ j. (before + 1) + j) it.0 ∙ number_at before n more in
+          let was = subst (λ m. says m it.1.was) number (right i it.1.was it.1.at) in
+          let there = ap (slice_get rows) (sym it.0) ∙ it.1.at in
+          subst (λ m. next m y) (sym number) (subst (next n) it.1.is (here it.1.was there was))
+      | inr it ↦ others ((before + 1) + i) y (number_apart before i n more it.0) (right i y it.1)
+    ]
 
 -- a scope of the rows has a right row
 pub scope_there : (h : History) (t : RowTable) (s : ℕ) → AreRowsOf h t → HasScope t s → ScopeRowAt h t s

@@ -1,8 +1,7 @@
 -- What is read of the rows is what the history says.
-use Rattle.std.proofs.Common.{◌≡◌, ◌≢◌, ℕ, ◌<◌, ◌≤◌, ◌==◌, Bool, true, false, cond, nat_lt, is_some, Option, Some, None, List, length, get_or, slice_get, Bor, IfSome, MatchOption, refl, ap, sym, subst, ◌∙◌, arith}
+use Rattle.std.proofs.Common.{◌≡◌, ◌≢◌, ℕ, ◌<◌, ◌≤◌, ◌==◌, Bool, true, false, cond, nat_lt, Option, Some, None, List, slice_get, Bor, MatchOption, refl, ap, sym, subst, ◌∙◌, arith}
 use Rattle.std.specs.Option.{option_map, option_and_then}
-use Rattle.std.proofs.lemmas.Bool.{ltb-true, ltb-false, eqb-true, eq-eqb}
-use Rattle.std.proofs.lemmas.Option.{slice_get-get_or, slice_get_past}
+use Rattle.std.proofs.lemmas.Bool.{ltb-true, eqb-true, eq-eqb}
 use Rattle.scope_rules.specs.declared.types.capacity.Limits.{Limits}
 use Rattle.scope_rules.specs.declared.types.records.Forking.{Forking}
 use Rattle.scope_rules.specs.declared.types.records.Opening.{Opening}
@@ -13,17 +12,8 @@ use Rattle.scope_rows.specs.declared.records.ScopeRow.{ScopeRow}
 use Rattle.scope_rows.specs.declared.records.TaskRow.{TaskRow}
 use Rattle.scope_rows.specs.Table.{RowTable, place_of, row_of, scope_row, task_row, inner_of, innermost_of}
 use Rattle.scope_rows.specs.Agreement.{AreRowsOf, IsScopeRow, IsTaskRow}
-use Rattle.scope_rows.proofs.Places.{row_is, number_at, scope_at, task_at, scope_row_is, task_row_is}
+use Rattle.scope_rows.proofs.Places.{number_at, scope_at, task_at, scope_row_is, task_row_is}
 use Rattle.scope_rows.proofs.Unforked.{unforked_innermost}
-
--- what a slice gives at a place
-pub got : {R : Type 0} (xs : List R) (i : ℕ) (o : Option (Bor R)) → is_some o ≡ nat_lt i (length xs) → IfSome o (λ x. x.now ≡ get_or xs i x.now) → option_map (λ x. x.now) o ≡ slice_get xs i
-got xs i None test is = sym (slice_get_past xs i (ltb-false i (length xs) (sym test)))
-got xs i (Some x) test is = sym (slice_get-get_or xs i x.now (ltb-true i (length xs) (sym test)) ∙ ap Some (sym is))
-
--- the row of a number that is read
-pub row_got : {R : Type 0} (before : ℕ) (rows : List R) (n : ℕ) (o : Option R) → before < n → o ≡ slice_get rows (place_of before n) → o ≡ row_of before rows n
-row_got before rows n o more read = read ∙ sym (row_is before rows n more)
 
 -- a row stands after the numbers before
 row_after : {R : Type 0} (before : ℕ) (rows : List R) (n : ℕ) (r : R) → row_of before rows n ≡ Some r → (before < n) × (slice_get rows (place_of before n) ≡ Some r)

@@ -1,5 +1,5 @@
 -- The rows after a reject, a start and an end of a task.
-use Rattle.std.proofs.Common.{◌≡◌, ℕ, ◌+◌, ◌==◌, Bool, true, false, cond, Some, None, length, slice_get, refl, ap, sym, subst, ◌∙◌, inl, inr}
+use Rattle.std.proofs.Common.{◌≡◌, ℕ, ◌==◌, Bool, true, false, cond, Some, None, length, refl, ap, sym, subst, ◌∙◌}
 use Rattle.std.proofs.lemmas.Bool.{eq-eqb, ne_eqb}
 use Rattle.scope_rules.specs.declared.types.capacity.Limits.{Limits}
 use Rattle.scope_rules.specs.declared.types.answers.Counts.{Counts}
@@ -27,9 +27,9 @@ use Rattle.scope_rows.specs.declared.records.TaskRow.{TaskRow}
 use Rattle.scope_rows.specs.Table.{RowTable, place_of, scope_of}
 use Rattle.scope_rows.specs.Agreement.{AreRowsOf, IsScopeRow, IsTaskRow}
 use Rattle.scope_rows.specs.Steps.{altered, recount, moved, stage_row, ended_row, state_at_end, taken, rejected, started, finished, count_taken, count_finish}
-use Rattle.scope_rows.proofs.Altering.{altered_length, altered_split}
-use Rattle.scope_rows.proofs.Places.{task_at, number_at, number_apart, scope_of_is, opened_has}
-use Rattle.scope_rows.proofs.Frames.{scope_on, scope_kept, task_on, task_kept, joining_same, closing_same, closed_same, violated_same}
+use Rattle.scope_rows.proofs.Altering.{altered_length}
+use Rattle.scope_rows.proofs.Places.{task_at, scope_of_is, opened_has, AreRight, right_altered}
+use Rattle.scope_rows.proofs.Frames.{scope_on, scope_index, task_on, task_kept, joining_same, closing_same, closed_same, violated_same}
 use Rattle.scope_rows.proofs.Keeping.{count_same}
 use Rattle.scope_rows.proofs.CountMoves.{NamesAlone, is_taken, counts_elsewhere, counts_taken, counts_finished}
 use Rattle.scope_rules.proofs.Nesting.{forked_opened}
@@ -74,38 +74,21 @@ module _ (L : Limits) (h : History) (e : Event) (t : RowTable) (k : ℕ) (f : Fo
 
   -- the row of another
   scope_elsewhere : (s : ℕ) (r : ScopeRow) → (f.scope == s) ≡ false → IsScopeRow h s r → IsScopeRow (followed h e) s r
-  scope_elsewhere s r other it = scope_kept h e s r it (so.none.joins_none s) (so.none.begins_none s) (so.none.ends_none s) (so.none.violates_none s) (so.elsewhere s other)
+  scope_elsewhere s r other it = scope_index h e s r it (so.none.joins_none s) (so.none.begins_none s) (so.none.ends_none s) (so.none.violates_none s) (so.elsewhere s other)
 
   -- the rows of all scopes
-  moved_scopes : (i : ℕ) (r : ScopeRow) → slice_get (altered (recount g) t.scopes (place_of t.scopes_before (scope_of t k))) i ≡ Some r → IsScopeRow (followed h e) (t.scopes_before + 1 + i) r
-  moved_scopes i r at =
-      let of : scope_of t k ≡ f.scope = scope_of_is h t k f are is in
+  moved_scopes : AreRight (IsScopeRow (followed h e)) t.scopes_before (altered (recount g) t.scopes (place_of t.scopes_before (scope_of t k)))
+  moved_scopes =
       let has = opened_has h t f.scope are (forked_opened L h k f legal is) in
-      let there = subst (λ n. slice_get (altered (recount g) t.scopes (place_of t.scopes_before n)) i ≡ Some r) of at in
-      let s = (t.scopes_before + 1) + i in
-      elim (altered_split (recount g) t.scopes (place_of t.scopes_before f.scope) i r there) [
-        | inl here ↦
-            let number : f.scope ≡ s = sym (ap (λ n. (t.scopes_before + 1) + n) here.0 ∙ number_at t.scopes_before f.scope has.0) in
-            subst (λ x. IsScopeRow (followed h e) s x) here.1.is (scope_here s here.1.was (eq-eqb f.scope s number) (are.scopes i here.1.was here.1.at))
-        | inr other ↦
-            let apart = number_apart t.scopes_before i f.scope has.0 other.0 in
-            scope_elsewhere s r (ne_eqb f.scope s (λ same. apart (sym same))) (are.scopes i r other.1)
-      ]
+      subst (λ n. AreRight (IsScopeRow (followed h e)) t.scopes_before (altered (recount g) t.scopes (place_of t.scopes_before n))) (sym (scope_of_is h t k f are is))
+      (right_altered (IsScopeRow h) (IsScopeRow (followed h e)) (recount g) t.scopes_before t.scopes f.scope has.0 (λ n r apart it. scope_elsewhere n r (ne_eqb f.scope n (λ same. apart (sym same))) it)
+      (λ r at it. scope_here f.scope r (eq-eqb f.scope f.scope refl) it) are.scopes)
 
   -- the rows of all tasks
-  moved_tasks : (i : ℕ) (r : TaskRow) → slice_get (altered row t.tasks (place_of t.tasks_before k)) i ≡ Some r → IsTaskRow (followed h e) (t.tasks_before + 1 + i) r
-  moved_tasks i r at =
+  moved_tasks : AreRight (IsTaskRow (followed h e)) t.tasks_before (altered row t.tasks (place_of t.tasks_before k))
+  moved_tasks =
       let has = (task_at h t k are (record { forked = f; is = is })).has in
-      let j = (t.tasks_before + 1) + i in
-      elim (altered_split row t.tasks (place_of t.tasks_before k) i r at) [
-        | inl here ↦
-            let number : j ≡ k = ap (λ n. (t.tasks_before + 1) + n) here.0 ∙ number_at t.tasks_before k has.0 in
-            let was = subst (λ n. IsTaskRow h n here.1.was) number (are.tasks i here.1.was here.1.at) in
-            subst (λ n. IsTaskRow (followed h e) n r) (sym number) (subst (λ x. IsTaskRow (followed h e) k x) here.1.is (so.task here.1.was was))
-        | inr other ↦
-            let un = so.names.others j (number_apart t.tasks_before i k has.0 other.0) in
-            task_kept L h e j r legal (are.tasks i r other.1) un.0 un.1 un.2 (inner j)
-      ]
+      right_altered (IsTaskRow h) (IsTaskRow (followed h e)) row t.tasks_before t.tasks k has.0 (λ n r apart it. let un = so.names.others n apart in task_kept L h e n r legal it un.0 un.1 un.2 (inner n)) (λ r at it. so.task r it) are.tasks
 
   -- the rows with the task moved agree after the event
   rows_moved : AreRowsOf (followed h e) (moved t k row g)

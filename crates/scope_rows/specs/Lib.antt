@@ -4,3 +4,5 @@ pub mod Steps
 pub mod Wants
 pub mod DeadlineTable
 pub mod DeadlinesOf
+pub mod Numbered
+pub mod NumberedLends

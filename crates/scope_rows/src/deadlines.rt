@@ -1,7 +1,7 @@
 //! The own deadline of each scope: that of its last move, or else of its opening, whether it counts still
 //! or not.
 
-ghost use Rattle.std.specs.Prelude.{◌≡◌, ℕ, ◌≤◌, ◌<◌, [], OnOk, OnErr, length};
+ghost use Rattle.std.specs.Prelude.{◌≡◌, ℕ, ◌≤◌, [], OnOk, OnErr};
 ghost use Rattle.scope_rules.specs.Origin.{Origin};
 ghost use Rattle.scope_rules.specs.declared.types.capacity.Limits.{Limits};
 ghost use Rattle.scope_rules.specs.declared.types.events.Event.TheVariants.{Open, Move};
@@ -10,11 +10,10 @@ ghost use Rattle.scope_rules.specs.declared.types.joiners.Policy.{Policy};
 ghost use Rattle.scope_rules.specs.History.{History, followed};
 ghost use Rattle.scope_rules.specs.Cancels.{deadline};
 ghost use Rattle.scope_rules.specs.Legal.{Legal};
-ghost use Rattle.scope_rows.specs.Table.{place_of};
 ghost use Rattle.scope_rows.specs.DeadlineTable.{HasDeadline, deadline_in, no_deadlines, with_open, with_deadline};
 ghost use Rattle.scope_rows.specs.DeadlinesOf.{AreDeadlinesOf};
 
-use crate::numbered::place_of;
+use crate::numbered::Numbered;
 use scope_rules::ScopeId;
 use std::alloc::{AllocError, Global};
 use std::marker::Model;
@@ -23,18 +22,15 @@ use std::marker::Model;
 /// Each call takes constant time.
 #[derive(Drop)]
 pub struct OwnDeadlines {
-    // How many scopes were numbered before the first that has a deadline here.
-    before: u32,
-    deadlines: Vec<Option<u64>>,
+    deadlines: Numbered<Option<u64>>,
 }
 
 impl Model for OwnDeadlines {
-    ghost use Rattle.std.specs.Prelude.{◌-◌, vec_capacity, vec_len};
     ghost use Rattle.scope_rows.specs.DeadlineTable.{DeadlineTable};
 
     ghost Value = { DeadlineTable };
 
-    ghost view = { λ d. record { before = d.before; deadlines = d.deadlines.items; spare = vec_capacity d.deadlines - vec_len d.deadlines } };
+    ghost view = { λ d. record { before = d.deadlines.before; deadlines = d.deadlines.items; spare = d.deadlines.spare } };
 }
 
 impl OwnDeadlines {
@@ -45,8 +41,7 @@ impl OwnDeadlines {
         ensures agrees { (base : Origin) → base.scopes ≡ before → AreDeadlinesOf (record { base = base; events = [] }) result }
     {
         OwnDeadlines {
-            before,
-            deadlines: Vec::new(alloc),
+            deadlines: Numbered::new(alloc, before),
         }
     }
 
@@ -56,7 +51,7 @@ impl OwnDeadlines {
         ensures table { result ≡ deadline_in self.now scope }
         ensures agrees { (h : History) → AreDeadlinesOf h self.now → result ≡ deadline h scope }
     {
-        self.deadlines[self.place(scope)]
+        *self.deadlines.get(scope)
     }
 
     /// Makes room for one scope more. It is refused for memory alone, and then changes nothing.
@@ -66,7 +61,7 @@ impl OwnDeadlines {
         ensures agrees { (h : History) → AreDeadlinesOf h self.old → AreDeadlinesOf h self.new }
         ensures err { OnErr result (self.new ≡ self.old) }
     {
-        self.deadlines.reserve(1)
+        self.deadlines.reserve()
     }
 
     /// Adds a scope, for which there is room: it has the next number, and this deadline. It takes no
@@ -76,7 +71,7 @@ impl OwnDeadlines {
         ensures kept { self.new ≡ with_open self.old deadline }
         ensures agrees { (L : Limits) (h : History) (actor : ℕ) (policy : Policy) (options : Options) → Legal L h → options.deadline ≡ deadline → AreDeadlinesOf h self.old → AreDeadlinesOf (followed h (Open actor policy options)) self.new }
     {
-        self.deadlines.push_reserved(deadline);
+        self.deadlines.push(deadline);
     }
 
     /// Moves the scope's deadline, or takes it away. It takes no memory.
@@ -85,16 +80,6 @@ impl OwnDeadlines {
         ensures kept { self.new ≡ with_deadline self.old scope deadline }
         ensures agrees { (h : History) → AreDeadlinesOf h self.old → AreDeadlinesOf (followed h (Move scope deadline)) self.new }
     {
-        let at = self.place(scope);
-        self.deadlines[at] = deadline;
-    }
-
-    /// The place of the scope's deadline.
-    fn place(&self, scope: ScopeId) -> usize
-        requires { HasDeadline self.now scope }
-        ensures place { result ≡ place_of self.now.before scope }
-        ensures within { result < length self.now.deadlines }
-    {
-        place_of(self.before, scope)
+        *self.deadlines.get_mut(scope) = deadline;
     }
 }

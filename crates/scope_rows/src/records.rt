@@ -3,7 +3,7 @@
 use scope_rules::types::records::Opening;
 use scope_rules::{Counts, ScopeId, Stage, State};
 
-/// What is kept of a scope.
+/// The row of a scope.
 #[derive(Clone, Copy)]
 pub struct ScopeRow {
     pub opening: Opening,
@@ -24,7 +24,7 @@ pub struct ScopeRow {
     pub counts: Counts,
 }
 
-/// What is kept of a task. What else its fork said is in the history alone.
+/// The row of a task. What else its fork said is in the history alone.
 #[derive(Clone, Copy)]
 pub struct TaskRow {
     /// The scope that it was forked in.

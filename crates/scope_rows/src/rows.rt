@@ -1,17 +1,17 @@
-//! The rows, and what is asked of them.
+//! The rows, and what queries read of them.
 
-ghost use Rattle.std.specs.Prelude.{◌≡◌, ◌≤◌, ◌<◌, ◌+◌, MatchOption, None, [], OnOk, OnErr, length, slice_get, Some, option_map};
+ghost use Rattle.std.specs.Prelude.{◌≡◌, ◌≤◌, ◌+◌, MatchOption, None, [], OnOk, OnErr, length, slice_get, Some, option_map};
 ghost use Rattle.scope_rules.specs.Origin.{Origin};
 ghost use Rattle.scope_rules.specs.History.{History, opened_count, forked_count, scopes, tasks, opening, forking};
 ghost use Rattle.scope_rules.specs.Scopes.{innermost};
 ghost use Rattle.scope_rules.specs.Legal.{Legal};
 ghost use Rattle.scope_rules.specs.declared.types.capacity.Limits.{Limits};
 ghost use Rattle.scope_rows.specs.Agreement.{AreRowsOf, IsScopeRow, IsTaskRow};
-ghost use Rattle.scope_rows.specs.Table.{RowTable, HasScope, HasTask, HasActor, scope_row, task_row, inner_of, innermost_of, empty_table, place_of};
+ghost use Rattle.scope_rows.specs.Table.{RowTable, HasActor, scope_row, task_row, inner_of, innermost_of, empty_table};
 ghost use Rattle.scope_rows.specs.Steps.{restarted, with_innermost};
 ghost use Rattle.scope_rows.specs.Wants.{HasScopeNumbers, HasTaskNumbers};
 
-use crate::numbered::{place_of, row_of};
+use crate::numbered::Numbered;
 use crate::records::{ScopeRow, TaskRow};
 use scope_rules::types::values::MAIN;
 use scope_rules::{Actor, ScopeId, TaskId};
@@ -25,20 +25,17 @@ mod tasks;
 /// Each call takes constant time, but for `begin_close`, which takes time by the scopes that it covers.
 #[derive(Drop)]
 pub struct Rows {
-    scopes_before: u32,
-    tasks_before: u32,
     main_innermost: Option<ScopeId>,
-    scopes: Vec<ScopeRow>,
-    tasks: Vec<TaskRow>,
+    scopes: Numbered<ScopeRow>,
+    tasks: Numbered<TaskRow>,
 }
 
 impl Model for Rows {
-    ghost use Rattle.std.specs.Prelude.{◌-◌, vec_capacity, vec_len};
     ghost use Rattle.scope_rows.specs.Table.{RowTable};
 
     ghost Value = { RowTable };
 
-    ghost view = { λ a. record { scopes_before = a.scopes_before; tasks_before = a.tasks_before; main_innermost = a.main_innermost; scopes = a.scopes.items; tasks = a.tasks.items; scope_room = vec_capacity a.scopes - vec_len a.scopes; task_room = vec_capacity a.tasks - vec_len a.tasks } };
+    ghost view = { λ a. record { scopes_before = a.scopes.before; tasks_before = a.tasks.before; main_innermost = a.main_innermost; scopes = a.scopes.items; tasks = a.tasks.items; scope_room = a.scopes.spare; task_room = a.tasks.spare } };
 }
 
 impl Rows {
@@ -58,11 +55,9 @@ impl Rows {
         ensures agrees { (base : Origin) → base.scopes ≡ scopes_before → base.tasks ≡ tasks_before → AreRowsOf (record { base = base; events = [] }) result }
     {
         Rows {
-            scopes_before,
-            tasks_before,
             main_innermost: None,
-            scopes: Vec::new(alloc),
-            tasks: Vec::new(alloc),
+            scopes: Numbered::new(alloc, scopes_before),
+            tasks: Numbered::new(alloc, tasks_before),
         }
     }
 
@@ -71,7 +66,7 @@ impl Rows {
         ensures row { option_map (λ row. row.now) result ≡ scope_row self.now scope }
         ensures agrees { (h : History) → AreRowsOf h self.now → MatchOption result (opening h scope ≡ None) (λ row. IsScopeRow h scope row.now) }
     {
-        row_of(&self.scopes, self.scopes_before, scope)
+        self.scopes.find(scope)
     }
 
     /// The row of the task, if it was forked since the base.
@@ -79,7 +74,7 @@ impl Rows {
         ensures row { option_map (λ row. row.now) result ≡ task_row self.now task }
         ensures agrees { (h : History) → AreRowsOf h self.now → MatchOption result (forking h task ≡ None) (λ row. IsTaskRow h task row.now) }
     {
-        row_of(&self.tasks, self.tasks_before, task)
+        self.tasks.find(task)
     }
 
     /// The latest scope that the actor opened and has not closed.
@@ -101,7 +96,7 @@ impl Rows {
         ensures before { result ≡ self.now.scopes_before }
         ensures agrees { (h : History) → AreRowsOf h self.now → result ≡ h.base.scopes }
     {
-        self.scopes_before
+        self.scopes.before()
     }
 
     /// How many tasks were numbered before.
@@ -109,7 +104,7 @@ impl Rows {
         ensures before { result ≡ self.now.tasks_before }
         ensures agrees { (h : History) → AreRowsOf h self.now → result ≡ h.base.tasks }
     {
-        self.tasks_before
+        self.tasks.before()
     }
 
     /// How many scopes were opened since the base.
@@ -134,7 +129,7 @@ impl Rows {
         ensures number { result ≡ self.now.scopes_before + length self.now.scopes }
         ensures agrees { (h : History) → AreRowsOf h self.now → result ≡ scopes h }
     {
-        self.scopes_before + self.scopes.len() as u32
+        self.scopes.before() + self.scopes.len() as u32
     }
 
     /// The number of the last task, the base's counted.
@@ -143,7 +138,7 @@ impl Rows {
         ensures number { result ≡ self.now.tasks_before + length self.now.tasks }
         ensures agrees { (h : History) → AreRowsOf h self.now → result ≡ tasks h }
     {
-        self.tasks_before + self.tasks.len() as u32
+        self.tasks.before() + self.tasks.len() as u32
     }
 
     /// Makes room for one scope more.
@@ -156,7 +151,7 @@ impl Rows {
         ensures kept { self.new ≡ record self.old { scope_room = self.new.scope_room } }
         ensures err { OnErr result (self.new ≡ self.old) }
     {
-        self.scopes.reserve(1)
+        self.scopes.reserve()
     }
 
     /// Makes room for one task more.
@@ -169,38 +164,18 @@ impl Rows {
         ensures kept { self.new ≡ record self.old { task_room = self.new.task_room } }
         ensures err { OnErr result (self.new ≡ self.old) }
     {
-        self.tasks.reserve(1)
+        self.tasks.reserve()
     }
 
     /// Leaves no rows, if so many scopes and tasks were numbered before. It keeps the memory, and
     /// takes none.
-    pub fn restart(&mut self, scopes_before: u32, tasks_before: u32)
+    pub fn reset(&mut self, scopes_before: u32, tasks_before: u32)
         ensures rows { self.new ≡ restarted self.old scopes_before tasks_before }
         ensures agrees { (base : Origin) → base.scopes ≡ scopes_before → base.tasks ≡ tasks_before → AreRowsOf (record { base = base; events = [] }) self.new }
     {
-        self.scopes.clear();
-        self.tasks.clear();
+        self.scopes.reset(scopes_before);
+        self.tasks.reset(tasks_before);
         self.main_innermost = None;
-        self.scopes_before = scopes_before;
-        self.tasks_before = tasks_before;
-    }
-
-    /// The place of the scope's row.
-    fn scope_place(&self, scope: ScopeId) -> usize
-        requires { HasScope self.now scope }
-        ensures place { result ≡ place_of self.now.scopes_before scope }
-        ensures within { result < length self.now.scopes }
-    {
-        place_of(self.scopes_before, scope)
-    }
-
-    /// The place of the task's row.
-    fn task_place(&self, task: TaskId) -> usize
-        requires { HasTask self.now task }
-        ensures place { result ≡ place_of self.now.tasks_before task }
-        ensures within { result < length self.now.tasks }
-    {
-        place_of(self.tasks_before, task)
     }
 
     /// Says what the actor's innermost scope is.
@@ -211,8 +186,7 @@ impl Rows {
         if actor == MAIN {
             self.main_innermost = innermost;
         } else {
-            let at = place_of(self.tasks_before, actor);
-            self.tasks[at].innermost = innermost.unwrap_or(0);
+            self.tasks.get_mut(actor).innermost = innermost.unwrap_or(0);
         }
     }
 }

@@ -1,8 +1,8 @@
 -- The laws of chains whose outer scopes have smaller numbers: what stands at a scope, by what stands at the scope outside it.
 use Rattle.std.proofs.Common.{◌≡◌, ℕ, zero, suc, ◌<◌, ◌≤◌, Option, Some, None, ◌∷◌, length, refl, ap, sym, ◌∙◌, arith}
 use Rattle.std.specs.Option.{option_and_then}
-use Rattle.scope_rules.specs.declared.types.records.Cut.{Cut}
-use Rattle.scope_rules.specs.Chains.{onward, outwards, chain_by, nearer, earliest_on, cut_by, sooner, least_on}
+use Rattle.scope_rules.specs.declared.types.records.FirstCancel.{FirstCancel}
+use Rattle.scope_rules.specs.Chains.{onward, outwards, chain_by, nearer, earliest_on, first_cancel_by, sooner, least_on}
 use Rattle.scope_rules.specs.Chains.{IsInward}
 
 below : (P : ℕ → Type 0) → ((t : ℕ) → ((p : ℕ) → p < t → P p) → P t) → (n t : ℕ) → t < n → P t
@@ -34,11 +34,11 @@ module _ (outer : ℕ → Option ℕ) (inward : IsInward outer) where
         | Some p ↦ λ e. let i = inward s p e in outwards_steps s (suc p) p (omega (arith, i.1)) (omega arith)
       ] refl)
 
-  pub cut_law : (own : ℕ → Option Cut) (s : ℕ) → cut_by outer own s ≡ nearer (own s) (option_and_then (cut_by outer own) (outer s))
-  unfolding cut_by
-  cut_law own s =
+  pub cancel_law : (own : ℕ → Option FirstCancel) (s : ℕ) → first_cancel_by outer own s ≡ nearer (own s) (option_and_then (first_cancel_by outer own) (outer s))
+  unfolding first_cancel_by
+  cancel_law own s =
       ap (earliest_on own) (chain_law s)
-      ∙ ap (nearer (own s)) (elim (outer s) as (λ o. earliest_on own (onward o (chain_by outer)) ≡ option_and_then (cut_by outer own) o) [ None ↦ refl | Some p ↦ refl ])
+      ∙ ap (nearer (own s)) (elim (outer s) as (λ o. earliest_on own (onward o (chain_by outer)) ≡ option_and_then (first_cancel_by outer own) o) [ None ↦ refl | Some p ↦ refl ])
 
   pub level_law : (s : ℕ) → length (chain_by outer s) ≡ suc (length (onward (outer s) (chain_by outer)))
   level_law s = ap length (chain_law s)
@@ -51,17 +51,17 @@ module _ (outer : ℕ → Option ℕ) (inward : IsInward outer) where
 -- ---- what stays the same up to a number, if a scope and what is outside it stay the same
 
 module _ (outer new : ℕ → Option ℕ) (inward : IsInward outer) (n : ℕ) (same : (t : ℕ) → t ≤ n → new t ≡ outer t) (inward_new : IsInward new) where
-  pub cut_kept : (own own_new : ℕ → Option Cut) → ((t : ℕ) → t ≤ n → own_new t ≡ own t) → (t : ℕ) → 1 ≤ t → t ≤ n → cut_by new own_new t ≡ cut_by outer own t
-  cut_kept own own_new same_own t h k =
-      along outer inward (λ u. u ≤ n → cut_by new own_new u ≡ cut_by outer own u)
-      (λ u h ih k. cut_law new inward_new own_new u
-      ∙ ap (λ o. nearer (own_new u) (option_and_then (cut_by new own_new) o)) (same u k)
-      ∙ ap (λ x. nearer x (option_and_then (cut_by new own_new) (outer u))) (same_own u k)
-      ∙ ap (nearer (own u)) (elim (outer u) as (λ o. outer u ≡ o → option_and_then (cut_by new own_new) o ≡ option_and_then (cut_by outer own) o) [
+  pub cancel_kept : (own own_new : ℕ → Option FirstCancel) → ((t : ℕ) → t ≤ n → own_new t ≡ own t) → (t : ℕ) → 1 ≤ t → t ≤ n → first_cancel_by new own_new t ≡ first_cancel_by outer own t
+  cancel_kept own own_new same_own t h k =
+      along outer inward (λ u. u ≤ n → first_cancel_by new own_new u ≡ first_cancel_by outer own u)
+      (λ u h ih k. cancel_law new inward_new own_new u
+      ∙ ap (λ o. nearer (own_new u) (option_and_then (first_cancel_by new own_new) o)) (same u k)
+      ∙ ap (λ x. nearer x (option_and_then (first_cancel_by new own_new) (outer u))) (same_own u k)
+      ∙ ap (nearer (own u)) (elim (outer u) as (λ o. outer u ≡ o → option_and_then (first_cancel_by new own_new) o ≡ option_and_then (first_cancel_by outer own) o) [
         | None ↦ λ e. refl
         | Some p ↦ λ e. ih p e (omega (arith, (inward u p e).1))
       ] refl)
-      ∙ sym (cut_law outer inward own u))
+      ∙ sym (cancel_law outer inward own u))
       t h k
 
   pub chain_kept : (t : ℕ) → 1 ≤ t → t ≤ n → chain_by new t ≡ chain_by outer t
@@ -78,7 +78,7 @@ module _ (outer new : ℕ → Option ℕ) (inward : IsInward outer) (n : ℕ) (s
 
 -- ---- where nothing lies farther out
 
-pub nearer_none : (near : Option Cut) → nearer near None ≡ near
+pub nearer_none : (near : Option FirstCancel) → nearer near None ≡ near
 nearer_none None = refl
 nearer_none (Some near) = refl
 

@@ -18,7 +18,7 @@ use Rattle.scope_rules.proofs.Growing.{opening_place, opening_number, forking_nu
 use Rattle.scope_rules.proofs.PassedRows.{IsActor, EndRow, opener_passed, ender_passed}
 use Rattle.scope_rules.proofs.OneEventMore.{along, opening_ends_none, opening_split, closed_grows, closed_split, closed_stays, opening_later, forking_later}
 use Rattle.scope_rules.proofs.Innermosts.{opened_after, innermost_none, innermost_unclosed, innermost_later}
-use Rattle.scope_rules.proofs.CutsGrow.{parent_stays}
+use Rattle.scope_rules.proofs.ChainsGrow.{parent_stays}
 use Rattle.scope_rules.proofs.Forkings.{forked_after, main_unforked, forking_row, forker_owns}
 use Rattle.scope_rules.proofs.Stages.{running_unsettled, running_forked, unsettled_forked}
 use Rattle.scope_rules.proofs.SettledTasks.{settled_task}

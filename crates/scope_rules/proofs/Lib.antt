@@ -30,7 +30,7 @@ pub mod Levels
 pub mod PassedRows
 pub mod OneEventMore
 pub mod Innermosts
-pub mod CutsGrow
+pub mod ChainsGrow
 pub mod Forkings
 pub mod Stages
 pub mod SettledTasks

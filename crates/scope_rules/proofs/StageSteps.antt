@@ -17,7 +17,7 @@ use Rattle.scope_rules.proofs.Growing.{forking_stays}
 use Rattle.scope_rules.proofs.Nesting.{IsOpened}
 use Rattle.scope_rules.proofs.PassedRows.{fork_passed, start_passed, reject_passed, finish_passed, starter_passed, rejecter_passed, finisher_passed}
 use Rattle.scope_rules.proofs.OneEventMore.{along, rejected_grows, started_grows, finished_grows, forking_grows, forking_same, forking_other}
-use Rattle.scope_rules.proofs.CutsGrow.{cancelled_before_stays, cancelled_by_now}
+use Rattle.scope_rules.proofs.ChainsGrow.{cancelled_before_stays, cancelled_by_now}
 use Rattle.scope_rules.proofs.Forkings.{IsForked, forked_after}
 use Rattle.scope_rules.proofs.Stages.{staged, same_staged, stage_is, stage_grows, waiting_forked, running_forked}
 

@@ -14,7 +14,7 @@ use Rattle.scope_rules.specs.Legal.{Accepts, Legal}
 use Rattle.scope_rules.proofs.Growing.{forking_stays}
 use Rattle.scope_rules.proofs.PassedRows.{rejecter_passed}
 use Rattle.scope_rules.proofs.OneEventMore.{rejected_grows, started_grows, finished_grows}
-use Rattle.scope_rules.proofs.CutsGrow.{cancelled_before_stays}
+use Rattle.scope_rules.proofs.ChainsGrow.{cancelled_before_stays}
 use Rattle.scope_rules.proofs.Forkings.{IsForked}
 use Rattle.scope_rules.proofs.Earlier.{forking_within}
 use Rattle.scope_rules.proofs.Nesting.{forked_opened}

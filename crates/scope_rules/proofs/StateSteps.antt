@@ -16,7 +16,7 @@ use Rattle.scope_rules.specs.Cancels.{is_cancelled}
 use Rattle.scope_rules.specs.Tasks.{finishes, finished, ending, ending_at, ending_of, state, state_of, state_by_end}
 use Rattle.scope_rules.specs.Legal.{Legal}
 use Rattle.scope_rules.proofs.Accepted.{or_left, or_right}
-use Rattle.scope_rules.proofs.CutsGrow.{cancelled_before_stays, cancelled_by_now}
+use Rattle.scope_rules.proofs.ChainsGrow.{cancelled_before_stays, cancelled_by_now}
 use Rattle.scope_rules.proofs.Growing.{forking_stays}
 use Rattle.scope_rules.proofs.Nesting.{forked_opened}
 use Rattle.scope_rules.proofs.OneEventMore.{last_event}

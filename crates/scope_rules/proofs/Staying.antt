@@ -9,11 +9,11 @@ use Rattle.scope_rules.specs.declared.types.events.Event.{Event}
 use Rattle.scope_rules.specs.declared.types.events.Event.TheVariants.{Tick}
 use Rattle.scope_rules.specs.declared.types.records.OwnCancel.{OwnCancel}
 use Rattle.scope_rules.specs.declared.types.records.Opening.{Opening}
-use Rattle.scope_rules.specs.declared.types.records.Cut.{Cut}
+use Rattle.scope_rules.specs.declared.types.records.FirstCancel.{FirstCancel}
 use Rattle.scope_rules.specs.History.{History, before, followed, opening}
 use Rattle.scope_rules.specs.Scopes.{surrounding, outer}
-use Rattle.scope_rules.specs.Cancels.{own, own_at, kind_by, own_cut, cut, cause}
-use Rattle.scope_rules.specs.Chains.{onward, outwards, chain_by, nearer, earliest_on, cut_by}
+use Rattle.scope_rules.specs.Cancels.{own, own_at, kind_by, own_cancel, first_cancel, cause}
+use Rattle.scope_rules.specs.Chains.{onward, outwards, chain_by, nearer, earliest_on, first_cancel_by}
 use Rattle.scope_rules.specs.Legal.{Legal}
 use Rattle.scope_rules.proofs.Searching.{earliest_where}
 use Rattle.scope_rules.proofs.Openings.{and_then_some, if_some}
@@ -22,42 +22,42 @@ use Rattle.scope_rules.proofs.Growing.{own_grows, opening_stays}
 use Rattle.scope_rules.proofs.Nesting.{IsOpened, outer_opened, opened_before, opened_some, same_onward}
 use Rattle.scope_rules.proofs.Earlier.{opening_within}
 
--- an own cancel, as a cut
-abbrev pub cut_of : ℕ → OwnCancel → Cut
-cut_of s w = record { place = w.place; cause = record { scope = s; kind = w.kind } }
+-- an own cancel, as a first cancel
+abbrev pub cancel_of : ℕ → OwnCancel → FirstCancel
+cancel_of s w = record { place = w.place; cause = record { scope = s; kind = w.kind } }
 
--- how a cut goes on: what there is stays, and what is new comes at place n or later
-pub record Grows (n : ℕ) (o p : Option Cut) : Type 0 where
-  pub kept : (c : Cut) → o ≡ Some c → (p ≡ Some c) × (c.place < n)
-  pub fresh : (c : Cut) → o ≡ None → p ≡ Some c → n ≤ c.place
+-- how a first cancel goes on: what there is stays, and what is new comes at place n or later
+pub record Grows (n : ℕ) (o p : Option FirstCancel) : Type 0 where
+  pub kept : (c : FirstCancel) → o ≡ Some c → (p ≡ Some c) × (c.place < n)
+  pub fresh : (c : FirstCancel) → o ≡ None → p ≡ Some c → n ≤ c.place
 
-cond_cut : (b : Bool) (x y c : Cut) → cond b (Some x) (Some y) ≡ Some c → (x ≡ c) ⊎ (y ≡ c)
-cond_cut true x y c is = inl cc
-cond_cut false x y c is = inr cc
+cond_cancel : (b : Bool) (x y c : FirstCancel) → cond b (Some x) (Some y) ≡ Some c → (x ≡ c) ⊎ (y ≡ c)
+cond_cancel true x y c is = inl cc
+cond_cancel false x y c is = inr cc
 
-cond_none : (b : Bool) (x y : Cut) → cond b (Some x) (Some y) ≡ None → ⊥
+cond_none : (b : Bool) (x y : FirstCancel) → cond b (Some x) (Some y) ≡ None → ⊥
 cond_none true x y is = absurd cc
 cond_none false x y is = absurd cc
 
-lower_place : (n : ℕ) (x c : Cut) → x ≡ c → x.place < n → c.place < n
-lower_place n x c same low = subst (λ (y : Cut). y.place < n) same low
+lower_place : (n : ℕ) (x c : FirstCancel) → x ≡ c → x.place < n → c.place < n
+lower_place n x c same low = subst (λ (y : FirstCancel). y.place < n) same low
 
-higher_place : (n : ℕ) (x c : Cut) → x ≡ c → n ≤ x.place → n ≤ c.place
-higher_place n x c same high = subst (λ (y : Cut). n ≤ y.place) same high
+higher_place : (n : ℕ) (x c : FirstCancel) → x ≡ c → n ≤ x.place → n ≤ c.place
+higher_place n x c same high = subst (λ (y : FirstCancel). n ≤ y.place) same high
 
-both : (n : ℕ) (x y : Cut) → x.place < n → y.place < n → Grows n (nearer (Some x) (Some y)) (nearer (Some x) (Some y))
+both : (n : ℕ) (x y : FirstCancel) → x.place < n → y.place < n → Grows n (nearer (Some x) (Some y)) (nearer (Some x) (Some y))
 both n x y first second = record {
-  kept = λ c is. (is, elim (cond_cut (nat_le x.place y.place) x y c is) [ inl same ↦ lower_place n x c same first | inr same ↦ lower_place n y c same second ]);
+  kept = λ c is. (is, elim (cond_cancel (nat_le x.place y.place) x y c is) [ inl same ↦ lower_place n x c same first | inr same ↦ lower_place n y c same second ]);
   fresh = λ c none is. absurd (cond_none (nat_le x.place y.place) x y none);
 }
 
-near_stays : (n : ℕ) (x : Cut) (far : Option Cut) → x.place < n → ((c : Cut) → far ≡ Some c → n ≤ c.place) → nearer (Some x) far ≡ Some x
+near_stays : (n : ℕ) (x : FirstCancel) (far : Option FirstCancel) → x.place < n → ((c : FirstCancel) → far ≡ Some c → n ≤ c.place) → nearer (Some x) far ≡ Some x
 near_stays n x None low high = refl
 near_stays n x (Some y) low high =
     let less : nat_le x.place y.place ≡ true = le-leb x.place y.place (omega (arith, low, high y refl)) in
     ap (λ b. cond b (Some x) (Some y)) less
 
-far_by : (b : Bool) (x y : Cut) → b ≡ false → cond b (Some x) (Some y) ≡ Some y
+far_by : (b : Bool) (x y : FirstCancel) → b ≡ false → cond b (Some x) (Some y) ≡ Some y
 far_by true x y is = absurd cc
 far_by false x y is = refl
 
@@ -65,18 +65,18 @@ above : (m n : ℕ) (b : Bool) → nat_le m n ≡ b → n < m → b ≡ false
 above m n true is more = absurd (omega (arith, leb-true m n is, more))
 above m n false is more = refl
 
-far_stays : (n : ℕ) (y : Cut) (near : Option Cut) → y.place < n → ((c : Cut) → near ≡ Some c → n ≤ c.place) → nearer near (Some y) ≡ Some y
+far_stays : (n : ℕ) (y : FirstCancel) (near : Option FirstCancel) → y.place < n → ((c : FirstCancel) → near ≡ Some c → n ≤ c.place) → nearer near (Some y) ≡ Some y
 far_stays n y None low high = refl
 far_stays n y (Some x) low high = far_by (nat_le x.place y.place) x y (above x.place y.place (nat_le x.place y.place) refl (omega (arith, low, high x refl)))
 
-new_only : (n : ℕ) (a b : Option Cut) (c : Cut) → ((x : Cut) → a ≡ Some x → n ≤ x.place) → ((x : Cut) → b ≡ Some x → n ≤ x.place) → nearer a b ≡ Some c → n ≤ c.place
+new_only : (n : ℕ) (a b : Option FirstCancel) (c : FirstCancel) → ((x : FirstCancel) → a ≡ Some x → n ≤ x.place) → ((x : FirstCancel) → b ≡ Some x → n ≤ x.place) → nearer a b ≡ Some c → n ≤ c.place
 new_only n None b c first second is = second c is
 new_only n (Some x) None c first second is = first c is
 new_only n (Some x) (Some y) c first second is =
-    elim (cond_cut (nat_le x.place y.place) x y c is) [ inl same ↦ higher_place n x c same (first x refl) | inr same ↦ higher_place n y c same (second y refl) ]
+    elim (cond_cancel (nat_le x.place y.place) x y c is) [ inl same ↦ higher_place n x c same (first x refl) | inr same ↦ higher_place n y c same (second y refl) ]
 
 -- the nearer of two goes on as they do
-nearer_grows : (n : ℕ) (a b a' b' : Option Cut) → Grows n a a' → Grows n b b' → Grows n (nearer a b) (nearer a' b')
+nearer_grows : (n : ℕ) (a b a' b' : Option FirstCancel) → Grows n a a' → Grows n b b' → Grows n (nearer a b) (nearer a' b')
 nearer_grows n None None a' b' first second = record {
   kept = λ c is. absurd cc;
   fresh = λ c none is. new_only n a' b' c (λ x it. first.fresh x refl it) (λ x it. second.fresh x refl it) is;
@@ -124,30 +124,30 @@ own_place h s w is =
     let at = own_at_place h s there.0 w there.2 in
     (omega (arith, there.1, at.0), opened_before h (there.0 + 1) s (opened_some (before h (there.0 + 1)) s (opening (before h (there.0 + 1)) s) refl at.1))
 
-cut_place : (h : History) (s : ℕ) (o : Option OwnCancel) (c : Cut) → own h s ≡ o → option_map (cut_of s) o ≡ Some c → (w : OwnCancel) × (own h s ≡ Some w) × (cut_of s w ≡ c)
-cut_place h s None c is found = absurd cc
-cut_place h s (Some w) c is found = (w, is, cc)
+cancel_place : (h : History) (s : ℕ) (o : Option OwnCancel) (c : FirstCancel) → own h s ≡ o → option_map (cancel_of s) o ≡ Some c → (w : OwnCancel) × (own h s ≡ Some w) × (cancel_of s w ≡ c)
+cancel_place h s None c is found = absurd cc
+cancel_place h s (Some w) c is found = (w, is, cc)
 
-own_none : (h : History) (s : ℕ) (o : Option OwnCancel) → own h s ≡ o → option_map (cut_of s) o ≡ None → own h s ≡ None
+own_none : (h : History) (s : ℕ) (o : Option OwnCancel) → own h s ≡ o → option_map (cancel_of s) o ≡ None → own h s ≡ None
 own_none h s None is none = is
 own_none h s (Some w) is none = absurd cc
 
 -- the own cancel of a scope goes on so
-own_cut_grows : (h : History) (e : Event) (s : ℕ) → Grows (length h.events) (own_cut h s) (own_cut (followed h e) s)
-own_cut_grows h e s = record {
+own_cancel_grows : (h : History) (e : Event) (s : ℕ) → Grows (length h.events) (own_cancel h s) (own_cancel (followed h e) s)
+own_cancel_grows h e s = record {
   kept = λ c is.
-      let it = cut_place h s (own h s) c refl is in
+      let it = cancel_place h s (own h s) c refl is in
       let stays : own (followed h e) s ≡ Some it.0 = own_grows h e s ∙ ap (λ o. option_or o (own_at (followed h e) s (length h.events))) it.1 in
-      (ap (option_map (cut_of s)) stays ∙ ap Some it.2, lower_place (length h.events) (cut_of s it.0) c it.2 (own_place h s it.0 it.1).0);
+      (ap (option_map (cancel_of s)) stays ∙ ap Some it.2, lower_place (length h.events) (cancel_of s it.0) c it.2 (own_place h s it.0 it.1).0);
   fresh = λ c none is.
-      let it = cut_place (followed h e) s (own (followed h e) s) c refl is in
+      let it = cancel_place (followed h e) s (own (followed h e) s) c refl is in
       let here : own_at (followed h e) s (length h.events) ≡ Some it.0 = sym (ap (λ o. option_or o (own_at (followed h e) s (length h.events))) (own_none h s (own h s) refl none)) ∙ (sym (own_grows h e s) ∙ it.1) in
-      higher_place (length h.events) (cut_of s it.0) c it.2 (omega (arith, (own_at_place (followed h e) s (length h.events) it.0 here).0));
+      higher_place (length h.events) (cancel_of s it.0) c it.2 (omega (arith, (own_at_place (followed h e) s (length h.events) it.0 here).0));
 }
 
-earliest_grows : (h : History) (e : Event) (ss : List ℕ) → Grows (length h.events) (earliest_on (own_cut h) ss) (earliest_on (own_cut (followed h e)) ss)
+earliest_grows : (h : History) (e : Event) (ss : List ℕ) → Grows (length h.events) (earliest_on (own_cancel h) ss) (earliest_on (own_cancel (followed h e)) ss)
 earliest_grows h e [] = record { kept = λ c is. absurd cc; fresh = λ c none is. absurd cc }
-earliest_grows h e (s ∷ ss) = nearer_grows (length h.events) (own_cut h s) (earliest_on (own_cut h) ss) (own_cut (followed h e) s) (earliest_on (own_cut (followed h e)) ss) (own_cut_grows h e s) (earliest_grows h e ss)
+earliest_grows h e (s ∷ ss) = nearer_grows (length h.events) (own_cancel h s) (earliest_on (own_cancel h) ss) (own_cancel (followed h e) s) (earliest_on (own_cancel (followed h e)) ss) (own_cancel_grows h e s) (earliest_grows h e ss)
 
 -- the outer scope of a scope stays
 pub outer_stays : (h : History) (e : Event) (s : ℕ) → IsOpened h s → outer (followed h e) s ≡ outer h s
@@ -176,43 +176,43 @@ chain_unopened : (h : History) (s : ℕ) → opening h s ≡ None → chain_by (
 unfolding chain_by
 chain_unopened h s none = ap (λ o. s ∷ onward o (outwards (outer h) s)) (outer_unopened h s none)
 
--- what is cut was opened
-pub cut_opened : (h : History) (s : ℕ) (c : Cut) (o : Option Opening) → cut h s ≡ Some c → opening h s ≡ o → IsOpened h s
-unfolding cut cut_by
-cut_opened h s c (Some o) found is = record { opened = o; is = is }
-cut_opened h s c None found is =
-    let alone : earliest_on (own_cut h) (chain_by (outer h) s) ≡ earliest_on (own_cut h) (s ∷ []) = ap (earliest_on (own_cut h)) (chain_unopened h s is) in
+-- what is first cancel was opened
+pub cancel_opened : (h : History) (s : ℕ) (c : FirstCancel) (o : Option Opening) → first_cancel h s ≡ Some c → opening h s ≡ o → IsOpened h s
+unfolding first_cancel first_cancel_by
+cancel_opened h s c (Some o) found is = record { opened = o; is = is }
+cancel_opened h s c None found is =
+    let alone : earliest_on (own_cancel h) (chain_by (outer h) s) ≡ earliest_on (own_cancel h) (s ∷ []) = ap (earliest_on (own_cancel h)) (chain_unopened h s is) in
     let none : own h s ≡ None = own_unopened h s (own h s) is refl in
-    let uncut : nearer (own_cut h s) None ≡ None = ap (λ o. nearer (option_map (cut_of s) o) None) none in
-    absurd (cc (alone, uncut, found))
+    let no_first_cancel : nearer (own_cancel h s) None ≡ None = ap (λ o. nearer (option_map (cancel_of s) o) None) none in
+    absurd (cc (alone, no_first_cancel, found))
 
--- a cut never moves once it stands
-pub cut_stays : (L : Limits) (h : History) (e : Event) (s : ℕ) (c : Cut) → Legal L h → cut h s ≡ Some c → cut (followed h e) s ≡ Some c
-unfolding cut cut_by chain_by
-cut_stays L h e s c legal found =
-    let it = cut_opened h s c (opening h s) found refl in
-    ap (earliest_on (own_cut (followed h e))) (chain_stays L h e (suc s) s legal it)
+-- a first cancel never moves once it stands
+pub cancel_stays : (L : Limits) (h : History) (e : Event) (s : ℕ) (c : FirstCancel) → Legal L h → first_cancel h s ≡ Some c → first_cancel (followed h e) s ≡ Some c
+unfolding first_cancel first_cancel_by chain_by
+cancel_stays L h e s c legal found =
+    let it = cancel_opened h s c (opening h s) found refl in
+    ap (earliest_on (own_cancel (followed h e))) (chain_stays L h e (suc s) s legal it)
     ∙ ((earliest_grows h e (outwards (outer h) (suc s) s)).kept c found).0
 
--- how the cut of a scope goes on
-pub cut_grows : (L : Limits) (h : History) (e : Event) (s : ℕ) → Legal L h → IsOpened h s → Grows (length h.events) (cut h s) (cut (followed h e) s)
-unfolding cut cut_by chain_by
-cut_grows L h e s legal it =
-    let P : List ℕ → Type 0 = λ ss. Grows (length h.events) (earliest_on (own_cut h) (outwards (outer h) (suc s) s)) (earliest_on (own_cut (followed h e)) ss) in
+-- how the first cancel of a scope goes on
+pub cancel_grows : (L : Limits) (h : History) (e : Event) (s : ℕ) → Legal L h → IsOpened h s → Grows (length h.events) (first_cancel h s) (first_cancel (followed h e) s)
+unfolding first_cancel first_cancel_by chain_by
+cancel_grows L h e s legal it =
+    let P : List ℕ → Type 0 = λ ss. Grows (length h.events) (earliest_on (own_cancel h) (outwards (outer h) (suc s) s)) (earliest_on (own_cancel (followed h e)) ss) in
     subst P (sym (chain_stays L h e (suc s) s legal it)) (earliest_grows h e (outwards (outer h) (suc s) s))
 
--- a cut stands at a place of the history
-pub cut_within_history : (h : History) (s : ℕ) (c : Cut) → cut h s ≡ Some c → c.place < length h.events
-unfolding cut cut_by
-cut_within_history h s c is = ((earliest_grows h (Tick 0) (chain_by (outer h) s)).kept c is).1
+-- a first cancel stands at a place of the history
+pub cancel_within_history : (h : History) (s : ℕ) (c : FirstCancel) → first_cancel h s ≡ Some c → c.place < length h.events
+unfolding first_cancel first_cancel_by
+cancel_within_history h s c is = ((earliest_grows h (Tick 0) (chain_by (outer h) s)).kept c is).1
 
-cause_cut : (o : Option Cut) (c : Cause) → option_map (λ (x : Cut). x.cause) o ≡ Some c → (d : Cut) × (o ≡ Some d) × (d.cause ≡ c)
-cause_cut None c is = absurd cc
-cause_cut (Some d) c is = (d, refl, cc)
+cause_cancel : (o : Option FirstCancel) (c : Cause) → option_map (λ (x : FirstCancel). x.cause) o ≡ Some c → (d : FirstCancel) × (o ≡ Some d) × (d.cause ≡ c)
+cause_cancel None c is = absurd cc
+cause_cancel (Some d) c is = (d, refl, cc)
 
 -- a cancelled scope stays cancelled, with its cause
 pub cause_stays : (L : Limits) (h : History) (e : Event) (s : ℕ) (c : Cause) → Legal L h → cause h s ≡ Some c → cause (followed h e) s ≡ Some c
 unfolding cause
 cause_stays L h e s c legal is =
-    let it = cause_cut (cut h s) c is in
-    ap (option_map (λ (x : Cut). x.cause)) (cut_stays L h e s it.0 legal it.1) ∙ ap Some it.2
+    let it = cause_cancel (first_cancel h s) c is in
+    ap (option_map (λ (x : FirstCancel). x.cause)) (cancel_stays L h e s it.0 legal it.1) ∙ ap Some it.2

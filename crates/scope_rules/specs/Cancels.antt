@@ -8,10 +8,10 @@ use Rattle.scope_rules.specs.declared.types.answers.CauseKind.TheVariants.{Call,
 use Rattle.scope_rules.specs.declared.types.answers.Cause.{Cause}
 use Rattle.scope_rules.specs.declared.types.answers.Effective.{Effective}
 use Rattle.scope_rules.specs.declared.types.records.OwnCancel.{OwnCancel}
-use Rattle.scope_rules.specs.declared.types.records.Cut.{Cut}
+use Rattle.scope_rules.specs.declared.types.records.FirstCancel.{FirstCancel}
 use Rattle.scope_rules.specs.Joining.{fires}
 use Rattle.scope_rules.specs.Search.{earliest, last_of}
-use Rattle.scope_rules.specs.Chains.{cut_by, effective_by}
+use Rattle.scope_rules.specs.Chains.{first_cancel_by, effective_by}
 use Rattle.scope_rules.specs.History.{History, before, opening, moment}
 use Rattle.scope_rules.specs.Scopes.{joined, covers, outer}
 use Rattle.scope_rules.specs.Completions.{completions, completes}
@@ -52,23 +52,23 @@ unfoldable pub own : History → ℕ → Option OwnCancel
 own h s = earliest (own_at h s) (length h.events)
 
 -- the own cancel of scope s, as a cause
-abbrev pub own_cut : History → ℕ → Option Cut
-own_cut h s = option_map (λ w. record { place = w.place; cause = record { scope = s; kind = w.kind } }) (own h s)
+abbrev pub own_cancel : History → ℕ → Option FirstCancel
+own_cancel h s = option_map (λ w. record { place = w.place; cause = record { scope = s; kind = w.kind } }) (own h s)
 
 -- the earliest own cancel on the chain of scope s, the nearest on a tie, with its place
-unfoldable pub cut : History → ℕ → Option Cut
-cut h s = cut_by (outer h) (own_cut h) s
+unfoldable pub first_cancel : History → ℕ → Option FirstCancel
+first_cancel h s = first_cancel_by (outer h) (own_cancel h) s
 
 -- why scope s is cancelled
 unfoldable pub cause : History → ℕ → Option Cause
-cause h s = option_map (λ c. c.cause) (cut h s)
+cause h s = option_map (λ c. c.cause) (first_cancel h s)
 
 unfoldable pub is_cancelled : History → ℕ → Bool
-is_cancelled h s = is_some (cut h s)
+is_cancelled h s = is_some (first_cancel h s)
 
 -- the place of the event by which scope s became cancelled, not before its opening
 unfoldable pub cancelled_at : History → ℕ → Option ℕ
-cancelled_at h s = option_and_then (λ o. option_map (λ c. max o.place c.place) (cut h s)) (opening h s)
+cancelled_at h s = option_and_then (λ o. option_map (λ c. max o.place c.place) (first_cancel h s)) (opening h s)
 
 -- scope s became cancelled before place i
 unfoldable pub cancelled_before : History → ℕ → ℕ → Bool
@@ -80,4 +80,4 @@ counting_deadline h s = if joined h s then None else deadline h s
 
 -- the earliest deadline in effect for scope s
 unfoldable pub effective : History → ℕ → Effective
-effective h s = effective_by (outer h) (own_cut h) (counting_deadline h) s
+effective h s = effective_by (outer h) (own_cancel h) (counting_deadline h) s

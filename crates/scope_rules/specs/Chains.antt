@@ -2,7 +2,7 @@
 -- scope's number: the scope outside it, its own cancel, its deadline. A history and a tree that is
 -- kept speak by these same definitions.
 use Rattle.std.specs.Prelude.{◌≡◌, ℕ, zero, suc, ◌+◌, ◌<◌, ◌≤◌, min, nat_le, is_some, Option, Some, None, List, [], ◌∷◌, if◌then◌else◌}
-use Rattle.scope_rules.specs.declared.types.records.Cut.{Cut}
+use Rattle.scope_rules.specs.declared.types.records.FirstCancel.{FirstCancel}
 use Rattle.scope_rules.specs.declared.types.answers.Effective.{Effective}
 use Rattle.scope_rules.specs.declared.types.answers.Effective.TheVariants.{Past, At, Never}
 
@@ -25,20 +25,20 @@ outwards outer (suc n) s = s ∷ onward (outer s) (outwards outer n)
 unfoldable pub chain_by : (ℕ → Option ℕ) → ℕ → List ℕ
 chain_by outer s = outwards outer (suc s) s
 
--- of a cut and one from farther out the earlier, and on a tie the nearer
-abbrev pub nearer : Option Cut → Option Cut → Option Cut
+-- of a first cancel and one from farther out the earlier, and on a tie the nearer
+abbrev pub nearer : Option FirstCancel → Option FirstCancel → Option FirstCancel
 nearer None far = far
 nearer (Some near) None = Some near
 nearer (Some near) (Some far) = if nat_le near.place far.place then Some near else Some far
 
 -- the earliest own cancel of the scopes, the first of them on a tie
-abbrev pub earliest_on : (ℕ → Option Cut) → List ℕ → Option Cut
+abbrev pub earliest_on : (ℕ → Option FirstCancel) → List ℕ → Option FirstCancel
 earliest_on own [] = None
 earliest_on own (s ∷ ss) = nearer (own s) (earliest_on own ss)
 
 -- the earliest own cancel on the chain of the scope, the nearest on a tie
-unfoldable pub cut_by : (ℕ → Option ℕ) → (ℕ → Option Cut) → ℕ → Option Cut
-cut_by outer own s = earliest_on own (chain_by outer s)
+unfoldable pub first_cancel_by : (ℕ → Option ℕ) → (ℕ → Option FirstCancel) → ℕ → Option FirstCancel
+first_cancel_by outer own s = earliest_on own (chain_by outer s)
 
 -- the lesser of two deadlines, if they are set
 abbrev pub sooner : Option ℕ → Option ℕ → Option ℕ
@@ -55,10 +55,10 @@ abbrev pub at_moment : Option ℕ → Effective
 at_moment None = Never
 at_moment (Some d) = At d
 
--- past, if the scope is cut, and else the least deadline on its chain
-abbrev pub effective_by : (ℕ → Option ℕ) → (ℕ → Option Cut) → (ℕ → Option ℕ) → ℕ → Effective
-effective_by outer own deadline s = if is_some (cut_by outer own s) then Past else at_moment (least_on deadline (chain_by outer s))
+-- past, if the scope is first cancel, and else the least deadline on its chain
+abbrev pub effective_by : (ℕ → Option ℕ) → (ℕ → Option FirstCancel) → (ℕ → Option ℕ) → ℕ → Effective
+effective_by outer own deadline s = if is_some (first_cancel_by outer own s) then Past else at_moment (least_on deadline (chain_by outer s))
 
--- the cut, with so much added to its scope's number: as it is if others were numbered before
-abbrev pub shifted : ℕ → Cut → Cut
+-- the first cancel, with so much added to its scope's number: as it is if others were numbered before
+abbrev pub shifted : ℕ → FirstCancel → FirstCancel
 shifted b c = record { place = c.place; cause = record { scope = b + c.cause.scope; kind = c.cause.kind } }

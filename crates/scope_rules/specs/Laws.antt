@@ -11,7 +11,7 @@ use Rattle.scope_rules.specs.History.{History, followed, scopes, tasks, opening,
 use Rattle.scope_rules.specs.Chains.{onward}
 use Rattle.scope_rules.specs.Earliest.{IsEarliest}
 use Rattle.scope_rules.specs.Scopes.{chain, outer}
-use Rattle.scope_rules.specs.Cancels.{own, own_at, own_cut, cut, cause}
+use Rattle.scope_rules.specs.Cancels.{own, own_at, own_cancel, first_cancel, cause}
 use Rattle.scope_rules.specs.Legal.{Legal}
 
 -- an own cancel never moves once it is set
@@ -22,10 +22,10 @@ OwnCancelStays = (h : History) (e : Event) (s : ℕ) (w : OwnCancel) → own h s
 abbrev pub OwnCancelGrows : Type 0
 OwnCancelGrows = (h : History) (e : Event) (s : ℕ) → own (followed h e) s ≡ option_or (own h s) (own_at (followed h e) s (length h.events))
 
--- the cut is the earliest own cancel on the chain, the nearest on a tie; if there is none, no
+-- the first cancel is the earliest own cancel on the chain, the nearest on a tie; if there is none, no
 -- scope of the chain has an own cancel
-abbrev pub CutIsEarliest : Type 0
-CutIsEarliest = (h : History) (s : ℕ) → IsEarliest (own_cut h) (chain h s) (cut h s)
+abbrev pub FirstCancelIsEarliest : Type 0
+FirstCancelIsEarliest = (h : History) (s : ℕ) → IsEarliest (own_cancel h) (chain h s) (first_cancel h s)
 
 -- the chain of a scope is the scope and the chain of its outer scope
 abbrev pub ChainGoesOutwards : Type 0

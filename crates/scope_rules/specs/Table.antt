@@ -1,5 +1,5 @@
 -- The table of checks: what each event is refused for, in the order in which it is tried, and which
--- events are answered that all is so already. Then what questions are refused for.
+-- events are answered that all is so already. Then what queries are refused for.
 use Rattle.std.specs.Prelude.{ℕ, ◌==◌, Bool, false, not, nat_lt, Result, Ok, Err, is_some, List, [], ◌∷◌, length, if◌then◌else◌}
 use Rattle.std.specs.Option.{option_map_or}
 use Rattle.scope_rules.specs.declared.types.values.Value.{Value}

@@ -1,7 +1,7 @@
 //! Laws that hold of every history, above the definitions. Each function does nothing: its contract
 //! is the law.
 
-ghost use Rattle.scope_rules.specs.Laws.{OwnCancelStays, OwnCancelGrows, CutIsEarliest, ChainGoesOutwards, OuterIsSmaller, CauseStays, NumbersNeverFall, ScopeNumberStays, TaskNumberStays, ScopeNumberGivenOnce, TaskNumberGivenOnce};
+ghost use Rattle.scope_rules.specs.Laws.{OwnCancelStays, OwnCancelGrows, FirstCancelIsEarliest, ChainGoesOutwards, OuterIsSmaller, CauseStays, NumbersNeverFall, ScopeNumberStays, TaskNumberStays, ScopeNumberGivenOnce, TaskNumberGivenOnce};
 
 pub mod bindings;
 pub mod closing;
@@ -18,7 +18,7 @@ pub fn own_cancel_stays()
 /// The cause of a scope is the own cancel of a member of its chain: none on the chain is earlier, and
 /// those nearer are later, so the nearest wins a tie.
 pub fn cause_is_earliest()
-    ensures { CutIsEarliest }
+    ensures { FirstCancelIsEarliest }
 {}
 
 /// The chain of a scope is the scope and the chain of its outer scope, whose number is smaller.

@@ -15,11 +15,11 @@ use Rattle.script_words.specs.declared.commands.Command.TheVariants.{Do, Retire}
 use Rattle.script_words.specs.declared.reply.Reply.{Reply}
 use Rattle.script_words.specs.declared.reply.Reply.TheVariants as reply
 use Rattle.scope_rules.specs.Table.{check_of, is_already, retire_check, answering}
-use Rattle.scope_checks.specs.declared.told.Told.{Told}
-use Rattle.scope_checks.specs.declared.told.Told.TheVariants as told
+use Rattle.scope_checks.specs.declared.event_replies.EventReply.{EventReply}
+use Rattle.scope_checks.specs.declared.event_replies.EventReply.TheVariants as told
 use Rattle.scope_checks.specs.Entering.{Tells}
-use Rattle.scope_checks.specs.Telling.{told_of as told_of_event, noted, after_telling, wants_memory}
-use Rattle.scope_script.specs.Replying.{replied, refused_or, told_of, passed_reply, told_base, is_join, reply_of, reply_to, realm_after, Performs, PerformsOrStops}
+use Rattle.scope_checks.specs.EventReplies.{event_reply_of as told_of_event, noted, after_telling, wants_memory}
+use Rattle.scope_script.specs.Replying.{replied, refused_or, event_reply_of, passed_reply, told_base, is_join, reply_of, reply_to, realm_after, Performs, PerformsOrStops}
 
 -- what was told of a cancel or a close, as a reply
 noted_reply : (e : Event) (said : Reply) (already : Bool) → reply_of e told.Recorded ≡ said → reply_of e (noted already) ≡ (if already then reply.Already else said)
@@ -63,7 +63,7 @@ leaves old h (event.BeginClose actor scope) = noted_leaves old (event.BeginClose
 leaves old h (event.EndClose actor scope) = refl
 
 -- an event that was accepted has the reply of scripts
-pub accepted : (old new : Realm) (e : Event) (told : Told) → is_join (Do e) ≡ false → Tells old e (Ok told) new → Performs old (Do e) new (reply_of e told)
+pub accepted : (old new : Realm) (e : Event) (told : EventReply) → is_join (Do e) ≡ false → Tells old e (Ok told) new → Performs old (Do e) new (reply_of e told)
 unfolding reply_to realm_after
 accepted old new e told no_join is =
     let check = is.0.0 in
@@ -96,7 +96,7 @@ pub join_refused : (old new : Realm) (actor scope : ℕ) (r : Refusal) → Answe
 unfolding reply_to realm_after
 join_refused old new actor scope r is leaves =
     let e = event.Join actor scope in
-    let done = exactly old new e (check_of old.limits old.history e) (told_of old.history e) (Err r) (reply.Refused r) refl is leaves in
+    let done = exactly old new e (check_of old.limits old.history e) (event_reply_of old.history e) (Err r) (reply.Refused r) refl is leaves in
     inr (record { reply = done.0; realm = done.1 })
 
 value_read : (check : Checked) (value : Option Outcome) (x : Outcome) → AnswersValue check value (Ok x) → value ≡ Some x
@@ -109,8 +109,8 @@ unfolding reply_to realm_after
 joined old new actor scope x is leaves read =
     let e = event.Join actor scope in
     let there : outcome (with_event old e).history scope ≡ Some x = ap (λ (r : Realm). outcome r.history scope) (sym leaves) ∙ value_read (outcome_check new.history scope) (outcome new.history scope) x read in
-    let told : reply.Outcome x ≡ told_of old.history e = rw there refl in
-    let done = exactly old new e (check_of old.limits old.history e) (told_of old.history e) (Ok tt) (reply.Outcome x) told is leaves in
+    let told : reply.Outcome x ≡ event_reply_of old.history e = rw there refl in
+    let done = exactly old new e (check_of old.limits old.history e) (event_reply_of old.history e) (Ok tt) (reply.Outcome x) told is leaves in
     inr (record { reply = done.0; realm = done.1 })
 
 -- the join is recorded, and there was no memory to read what it gave
@@ -118,7 +118,7 @@ pub join_stands : (old new : Realm) (actor scope : ℕ) → Answers (check_of ol
 unfolding realm_after
 join_stands old new actor scope is leaves =
     let e = event.Join actor scope in
-    let done = exactly old new e (check_of old.limits old.history e) (told_of old.history e) (Ok tt) (told_of old.history e) refl is leaves in
+    let done = exactly old new e (check_of old.limits old.history e) (event_reply_of old.history e) (Ok tt) (event_reply_of old.history e) refl is leaves in
     inl (record { memory = refl; stopped = done.1 })
 
 retired_by : (old new : Realm) (check : Checked) (value : Origin) (result : Result Origin Refusal) (said : Reply) → said ≡ replied told_base result → AnswersOrMemory check value result → new ≡ after_retiring old result → ((said ≡ reply.Refused Memory) × (new ≡ old)) ⊎ ((said ≡ replied told_base (answering check value)) × (new ≡ after_retiring old check))

@@ -13,14 +13,14 @@ use Rattle.scope_rules.specs.Checks.{scope_check, task_check, actor_check}
 use Rattle.scope_rules.specs.Table.{is_already, until_check, reading_check, checked_then, answering, value_shown, fault_shown}
 use Rattle.scope_rules.specs.Replies.{result_reply, fault_reply, binding_reply}
 use Rattle.scope_rules.proofs.Accepted.{or_left, or_right}
-use Rattle.script_words.specs.declared.commands.Question.{Question}
-use Rattle.script_words.specs.declared.commands.Question.TheVariants as question
+use Rattle.script_words.specs.declared.commands.Query.{Query}
+use Rattle.script_words.specs.declared.commands.Query.TheVariants as query
 use Rattle.script_words.specs.declared.reply.Reply.TheVariants as reply
 use Rattle.scope_log.specs.Folding.{is_let_go, names_let_go, Retirable, left, unretired, retired, NamesNone}
 use Rattle.scope_log.specs.RetiringLaws.{AnswersAlike, ScopeAlike, TaskAlike}
 use Rattle.scope_log.proofs.Alike.{answers_alike}
 use Rattle.scope_rules.proofs.Pushing.{entry_of_push}
-use Rattle.scope_script.specs.Replying.{replied, told_of, passed_reply, answer_to}
+use Rattle.scope_script.specs.Replying.{replied, event_reply_of, passed_reply, answer_to}
 use Rattle.scope_script.specs.Retiring.{asks_let_go}
 
 -- one event more
@@ -45,7 +45,7 @@ module _ (r : Retirable) (es : List Event) (none : NamesNone r es) where
   of_task k new = alike.of_tasks k new
 
   -- what an accepted event is told
-  pub told_alike : (e : Event) → names_let_go (left r) e ≡ false → told_of (unretired r es) e ≡ told_of (retired r es) e
+  pub told_alike : (e : Event) → names_let_go (left r) e ≡ false → event_reply_of (unretired r es) e ≡ event_reply_of (retired r es) e
   told_alike (event.Open actor policy options) new = ap (λ n. reply.Scope (n + 1)) alike.scopes
   told_alike (event.Fork actor scope label) new =
       let known = or_right (is_let_go (tasks r.past) actor) (is_let_go (scopes r.past) scope) new in
@@ -64,37 +64,37 @@ module _ (r : Retirable) (es : List Event) (none : NamesNone r es) where
 
   pub passed_alike : (e : Event) → names_let_go (left r) e ≡ false → passed_reply (unretired r es) e ≡ passed_reply (retired r es) e
   passed_alike e new =
-      ap (λ b. cond b reply.Already (told_of (unretired r es) e)) (alike.events e new).already ∙ ap (cond (is_already (retired r es) e) reply.Already) (told_alike e new)
+      ap (λ b. cond b reply.Already (event_reply_of (unretired r es) e)) (alike.events e new).already ∙ ap (cond (is_already (retired r es) e) reply.Already) (told_alike e new)
 
-  -- what a question is answered
-  pub answers_to : (asked : Question) → asks_let_go (left r) asked ≡ false → answer_to (unretired r es) asked ≡ answer_to (retired r es) asked
+  -- what a query is answered
+  pub answers_to : (asked : Query) → asks_let_go (left r) asked ≡ false → answer_to (unretired r es) asked ≡ answer_to (retired r es) asked
   unfolding answer_to result_reply fault_reply binding_reply
-  answers_to (question.State task) new =
+  answers_to (query.State task) new =
       let it = of_task task new in
       ap (λ c. replied reply.State (answering c (state (unretired r es) task))) it.checked ∙ ap (λ x. replied reply.State (answering (task_check (retired r es) task) x)) it.state
-  answers_to (question.Stage task) new =
+  answers_to (query.Stage task) new =
       let it = of_task task new in
       ap (λ c. replied reply.Stage (answering c (stage (unretired r es) task))) it.checked ∙ ap (λ x. replied reply.Stage (answering (task_check (retired r es) task) x)) it.stage
-  answers_to (question.Result actor task) new =
+  answers_to (query.Result actor task) new =
       let a = or_left (is_let_go (tasks r.past) actor) (is_let_go (tasks r.past) task) new in
       let k = or_right (is_let_go (tasks r.past) actor) (is_let_go (tasks r.past) task) new in
       ap (λ c. replied reply.Value (checked_then c (value_shown (state (unretired r es) task)))) (alike.read actor task a k)
       ∙ ap (λ x. replied reply.Value (checked_then (reading_check (retired r es) actor task) (value_shown x))) (of_task task k).state
-  answers_to (question.Fault actor task) new =
+  answers_to (query.Fault actor task) new =
       let a = or_left (is_let_go (tasks r.past) actor) (is_let_go (tasks r.past) task) new in
       let k = or_right (is_let_go (tasks r.past) actor) (is_let_go (tasks r.past) task) new in
       ap (λ c. replied reply.Fault (checked_then c (fault_shown (state (unretired r es) task)))) (alike.read actor task a k)
       ∙ ap (λ x. replied reply.Fault (checked_then (reading_check (retired r es) actor task) (fault_shown x))) (of_task task k).state
-  answers_to (question.Cause scope) new =
+  answers_to (query.Cause scope) new =
       let it = of_scope scope new in
       ap (λ c. replied reply.Cause (answering c (cause (unretired r es) scope))) it.checked ∙ ap (λ x. replied reply.Cause (answering (scope_check (retired r es) scope) x)) it.cause
-  answers_to (question.Until scope) new =
+  answers_to (query.Until scope) new =
       let it = of_scope scope new in
       ap (λ c. replied reply.Until (answering c (effective (unretired r es) scope))) it.until_checked ∙ ap (λ x. replied reply.Until (answering (until_check (retired r es) scope) x)) it.until
-  answers_to (question.Counts scope) new =
+  answers_to (query.Counts scope) new =
       let it = of_scope scope new in
       ap (λ c. replied reply.Counts (answering c (counts (unretired r es) scope))) it.checked ∙ ap (λ x. replied reply.Counts (answering (scope_check (retired r es) scope) x)) it.counts
-  answers_to (question.Get actor key) new =
+  answers_to (query.Get actor key) new =
       let it = of_task actor new in
       ap (λ c. replied reply.Value (checked_then c (ok_or (bound_to key (bindings (unretired r es) actor)) NotBound))) it.acts
       ∙ ap (λ bs. replied reply.Value (checked_then (actor_check (retired r es) actor) (ok_or (bound_to key bs) NotBound))) it.bindings

@@ -15,14 +15,14 @@ use Rattle.script_words.specs.declared.commands.Command.TheVariants.{Do, Retire,
 use Rattle.script_words.specs.declared.reply.Reply.{Reply}
 use Rattle.script_words.specs.declared.reply.Reply.TheVariants as reply
 use Rattle.scope_rules.specs.Table.{check_of, is_already, retire_check, answering}
-use Rattle.scope_script.specs.Replying.{replied, refused_or, told_of, told_base, is_join, reply_to, realm_after, realm_stopped, Performs, PerformsOrStops}
+use Rattle.scope_script.specs.Replying.{replied, refused_or, event_reply_of, told_base, is_join, reply_to, realm_after, realm_stopped, Performs, PerformsOrStops}
 
 outcome_is_told : (o : Option Outcome) → replied reply.Outcome (ok_or o NotJoined) ≡ reply.Refused Memory → ⊥
 outcome_is_told (Some x) is = cc
 outcome_is_told None is = cc
 
 -- no event is told that memory was refused
-event_is_told : (h : History) (e : Event) → told_of h e ≡ reply.Refused Memory → ⊥
+event_is_told : (h : History) (e : Event) → event_reply_of h e ≡ reply.Refused Memory → ⊥
 event_is_told h (event.Open actor policy options) is = cc
 event_is_told h (event.Fork actor scope label) is = cc
 event_is_told h (event.Reject task) is = cc
@@ -49,7 +49,7 @@ retire_refused old (Err r) value is = refl
 -- a command that is told so changes nothing
 leaves_all : (old : Realm) (c : Command) → reply.Refused Memory ≡ reply_to old c → realm_after old c ≡ old
 unfolding reply_to realm_after
-leaves_all old (Do e) is = refused_by_check old e (check_of old.limits old.history e) (is_already old.history e) (told_of old.history e) (event_is_told old.history e) is
+leaves_all old (Do e) is = refused_by_check old e (check_of old.limits old.history e) (is_already old.history e) (event_reply_of old.history e) (event_is_told old.history e) is
 leaves_all old (Retire actor) is = retire_refused old (retire_check old.history actor) (base_of old.history) is
 leaves_all old (Ask asked) is = refl
 

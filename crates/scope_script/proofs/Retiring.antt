@@ -17,7 +17,7 @@ use Rattle.scope_rules.specs.Replies.{Realm, starting, with_event, after_retirin
 use Rattle.scope_rules.proofs.Accepted.{checks_at, not_refused, or_left, or_right}
 use Rattle.scope_rules.proofs.Pushing.{legal_push}
 use Rattle.script_words.specs.declared.commands.Command.{Command}
-use Rattle.script_words.specs.declared.commands.Question.{Question}
+use Rattle.script_words.specs.declared.commands.Query.{Query}
 use Rattle.script_words.specs.declared.commands.Command.TheVariants.{Do, Retire, Ask}
 use Rattle.script_words.specs.declared.reply.Reply.{Reply}
 use Rattle.scope_log.specs.Folding.{names_let_go, Retirable, left, unretired, retired, NamesNone}
@@ -202,7 +202,7 @@ retires_here : (f : Folded) (actor : ℕ) → StepsAlike f (whole f) (realm_afte
 unfolding realm_after
 retires_here f actor = retires_by f actor (retire_check (retired f.past f.since) actor) refl
 
-asks : (f : Folded) (asked : Question) → asks_let_go (left f.past) asked ≡ false → (reply_to (whole f) (Ask asked) ≡ reply_to (rest f) (Ask asked)) × StepsAlike f (realm_after (whole f) (Ask asked)) (realm_after (rest f) (Ask asked))
+asks : (f : Folded) (asked : Query) → asks_let_go (left f.past) asked ≡ false → (reply_to (whole f) (Ask asked) ≡ reply_to (rest f) (Ask asked)) × StepsAlike f (realm_after (whole f) (Ask asked)) (realm_after (rest f) (Ask asked))
 unfolding reply_to realm_after
 asks f asked new = (answers_to f.past f.since f.none asked new, stays f)
 

@@ -13,12 +13,12 @@ use Rattle.scope_rules.specs.Verdicts.{verdict}
 use Rattle.scope_rules.specs.Checks.{Checked, scope_check, task_check}
 use Rattle.scope_rules.specs.Replies.{Realm, with_event, after_retiring, next_scope, fork_reply, base_of, result_reply, fault_reply, binding_reply}
 use Rattle.scope_rules.specs.Table.{check_of, is_already, retire_check, until_check, answering}
-use Rattle.scope_checks.specs.declared.told.Told.{Told}
-use Rattle.scope_checks.specs.declared.told.Told.TheVariants as told
+use Rattle.scope_checks.specs.declared.event_replies.EventReply.{EventReply}
+use Rattle.scope_checks.specs.declared.event_replies.EventReply.TheVariants as told
 use Rattle.script_words.specs.declared.commands.Command.{Command}
 use Rattle.script_words.specs.declared.commands.Command.TheVariants.{Do, Retire, Ask}
-use Rattle.script_words.specs.declared.commands.Question.{Question}
-use Rattle.script_words.specs.declared.commands.Question.TheVariants as question
+use Rattle.script_words.specs.declared.commands.Query.{Query}
+use Rattle.script_words.specs.declared.commands.Query.TheVariants as query
 use Rattle.script_words.specs.declared.reply.Reply.{Reply}
 use Rattle.script_words.specs.declared.reply.Reply.TheVariants as reply
 
@@ -33,20 +33,20 @@ refused_or (Ok done) said = said
 refused_or (Err r) said = reply.Refused r
 
 -- what an event is told that is accepted on the history
-abbrev pub told_of : History → Event → Reply
-told_of h (event.Open actor policy options) = reply.Scope (next_scope h)
-told_of h (event.Fork actor scope label) = reply.Task (fork_reply h scope)
-told_of h (event.Reject task) = reply.Rejected
-told_of h (event.Start task) = reply.Started
-told_of h (event.Finish task end) = reply.Finished
-told_of h (event.Cancel scope) = reply.Cancelled
-told_of h (event.Move scope deadline) = reply.Moved
-told_of h (event.Tick now) = reply.Moment now
-told_of h (event.Bind actor pair) = reply.Bound
-told_of h (event.Unbind actor) = reply.Unbound
-told_of h (event.Join actor scope) = replied reply.Outcome (ok_or (outcome (followed h (event.Join actor scope)) scope) NotJoined)
-told_of h (event.BeginClose actor scope) = reply.Closing
-told_of h (event.EndClose actor scope) = reply.Closed (verdict h scope)
+abbrev pub event_reply_of : History → Event → Reply
+event_reply_of h (event.Open actor policy options) = reply.Scope (next_scope h)
+event_reply_of h (event.Fork actor scope label) = reply.Task (fork_reply h scope)
+event_reply_of h (event.Reject task) = reply.Rejected
+event_reply_of h (event.Start task) = reply.Started
+event_reply_of h (event.Finish task end) = reply.Finished
+event_reply_of h (event.Cancel scope) = reply.Cancelled
+event_reply_of h (event.Move scope deadline) = reply.Moved
+event_reply_of h (event.Tick now) = reply.Moment now
+event_reply_of h (event.Bind actor pair) = reply.Bound
+event_reply_of h (event.Unbind actor) = reply.Unbound
+event_reply_of h (event.Join actor scope) = replied reply.Outcome (ok_or (outcome (followed h (event.Join actor scope)) scope) NotJoined)
+event_reply_of h (event.BeginClose actor scope) = reply.Closing
+event_reply_of h (event.EndClose actor scope) = reply.Closed (verdict h scope)
 
 -- the reply to an event that was recorded and tells no more
 abbrev pub done_reply : Event → Reply
@@ -62,7 +62,7 @@ done_reply (event.BeginClose actor scope) = reply.Closing
 done_reply other = reply.Already
 
 -- the reply to an event that was told so by its realm; the realm tells nothing of what a join gave
-abbrev pub reply_of : Event → Told → Reply
+abbrev pub reply_of : Event → EventReply → Reply
 reply_of e (told.Scope scope) = reply.Scope scope
 reply_of e (told.Task task) = reply.Task task
 reply_of e told.Recorded = done_reply e
@@ -72,7 +72,7 @@ reply_of e told.Done = done_reply e
 
 -- what an event is told that no check refuses
 abbrev pub passed_reply : History → Event → Reply
-passed_reply h e = if is_already h e then reply.Already else told_of h e
+passed_reply h e = if is_already h e then reply.Already else event_reply_of h e
 
 -- no check refuses the event, and it is not so already
 abbrev pub is_accepted : Realm → Event → Bool
@@ -82,16 +82,16 @@ is_accepted realm e = is_ok (check_of realm.limits realm.history e) && not (is_a
 abbrev pub told_base : Origin → Reply
 told_base b = reply.Retired b.scopes b.tasks
 
--- what a question is answered
-unfoldable pub answer_to : History → Question → Reply
-answer_to h (question.State task) = replied reply.State (answering (task_check h task) (state h task))
-answer_to h (question.Stage task) = replied reply.Stage (answering (task_check h task) (stage h task))
-answer_to h (question.Result actor task) = replied reply.Value (result_reply h actor task)
-answer_to h (question.Fault actor task) = replied reply.Fault (fault_reply h actor task)
-answer_to h (question.Cause scope) = replied reply.Cause (answering (scope_check h scope) (cause h scope))
-answer_to h (question.Until scope) = replied reply.Until (answering (until_check h scope) (effective h scope))
-answer_to h (question.Counts scope) = replied reply.Counts (answering (scope_check h scope) (counts h scope))
-answer_to h (question.Get actor key) = replied reply.Value (binding_reply h actor key)
+-- what a query is answered
+unfoldable pub answer_to : History → Query → Reply
+answer_to h (query.State task) = replied reply.State (answering (task_check h task) (state h task))
+answer_to h (query.Stage task) = replied reply.Stage (answering (task_check h task) (stage h task))
+answer_to h (query.Result actor task) = replied reply.Value (result_reply h actor task)
+answer_to h (query.Fault actor task) = replied reply.Fault (fault_reply h actor task)
+answer_to h (query.Cause scope) = replied reply.Cause (answering (scope_check h scope) (cause h scope))
+answer_to h (query.Until scope) = replied reply.Until (answering (until_check h scope) (effective h scope))
+answer_to h (query.Counts scope) = replied reply.Counts (answering (scope_check h scope) (counts h scope))
+answer_to h (query.Get actor key) = replied reply.Value (binding_reply h actor key)
 
 -- what the command is answered in the realm, were memory no matter
 unfoldable pub reply_to : Realm → Command → Reply

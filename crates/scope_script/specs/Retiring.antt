@@ -7,24 +7,24 @@ use Rattle.scope_rules.specs.Origin.{Origin, the_start}
 use Rattle.scope_rules.specs.Replies.{Realm, starting}
 use Rattle.script_words.specs.declared.commands.Command.{Command}
 use Rattle.script_words.specs.declared.commands.Command.TheVariants.{Do, Retire, Ask}
-use Rattle.script_words.specs.declared.commands.Question.{Question}
-use Rattle.script_words.specs.declared.commands.Question.TheVariants as question
+use Rattle.script_words.specs.declared.commands.Query.{Query}
+use Rattle.script_words.specs.declared.commands.Query.TheVariants as query
 use Rattle.script_words.specs.declared.reply.Reply.{Reply}
 use Rattle.script_words.specs.declared.reply.Reply.TheVariants.{Refused}
 use Rattle.script_words.specs.ReplyText.{reply_text}
 use Rattle.scope_log.specs.Folding.{is_let_go, names_let_go}
 use Rattle.scope_script.specs.Replying.{reply_to, realm_after}
 
--- the question names a scope or a task that was discarded
-abbrev pub asks_let_go : Origin → Question → Bool
-asks_let_go b (question.State task) = is_let_go b.tasks task
-asks_let_go b (question.Stage task) = is_let_go b.tasks task
-asks_let_go b (question.Result actor task) = is_let_go b.tasks actor || is_let_go b.tasks task
-asks_let_go b (question.Fault actor task) = is_let_go b.tasks actor || is_let_go b.tasks task
-asks_let_go b (question.Cause scope) = is_let_go b.scopes scope
-asks_let_go b (question.Until scope) = is_let_go b.scopes scope
-asks_let_go b (question.Counts scope) = is_let_go b.scopes scope
-asks_let_go b (question.Get actor key) = is_let_go b.tasks actor
+-- the query names a scope or a task that was discarded
+abbrev pub asks_let_go : Origin → Query → Bool
+asks_let_go b (query.State task) = is_let_go b.tasks task
+asks_let_go b (query.Stage task) = is_let_go b.tasks task
+asks_let_go b (query.Result actor task) = is_let_go b.tasks actor || is_let_go b.tasks task
+asks_let_go b (query.Fault actor task) = is_let_go b.tasks actor || is_let_go b.tasks task
+asks_let_go b (query.Cause scope) = is_let_go b.scopes scope
+asks_let_go b (query.Until scope) = is_let_go b.scopes scope
+asks_let_go b (query.Counts scope) = is_let_go b.scopes scope
+asks_let_go b (query.Get actor key) = is_let_go b.tasks actor
 
 -- the command names one; what a retirement names does not matter
 abbrev pub tells_let_go : Origin → Command → Bool

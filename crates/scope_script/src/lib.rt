@@ -10,7 +10,7 @@ pub mod streams;
 pub use performing::answers::reply_of;
 pub use performing::commands::{perform, perform_all};
 pub use script_words as words;
-pub use script_words::{Command, LINE_LIMIT, Line, Question, Reply, append_line, read_line};
+pub use script_words::{Command, LINE_LIMIT, Line, Query, Reply, append_line, read_line};
 pub use session::cutting::first_line;
 pub use session::run::{Mode, Ran, ScriptFault, run, run_tallied, run_text};
 pub use session::tally::Tally;

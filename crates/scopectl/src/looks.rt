@@ -2,7 +2,7 @@
 
 use crate::act::FAULT;
 use job_runner::{Clock, SystemClock};
-use realm_lock::{KeptRealm, Look, Realm, RealmName};
+use realm_lock::{Look, Realm, RealmName, RealmState};
 use scope_rules::{Base, Due, Event, Limits};
 use scope_script::Watched;
 use script_jobs::{View, shown};
@@ -126,7 +126,7 @@ impl Look for Counting {
 
     ghost tells = { λ look h answer. ⊤ };
 
-    fn look(self, realm: &KeptRealm) -> usize {
+    fn look(self, realm: &RealmState) -> usize {
         realm.event_count()
     }
 }
@@ -142,7 +142,7 @@ impl Look for Copying {
 
     ghost tells = { λ look h answer. ⊤ };
 
-    fn look(self, realm: &KeptRealm) -> Result<Vec<Event>, AllocError> {
+    fn look(self, realm: &RealmState) -> Result<Vec<Event>, AllocError> {
         realm.copied_events(self.0)
     }
 }

@@ -143,7 +143,7 @@ impl Envs {
 
     /// Drops the environments of all tasks, and keeps main's: so many tasks were numbered before.
     /// It takes no memory.
-    pub fn restart(&mut self, before: u32)
+    pub fn reset(&mut self, before: u32)
         ensures kept { self.new ≡ restarted self.old before }
         ensures agrees { (h : History) → AreEnvsOf h self.old → before ≡ tasks h → AreEnvsOf (record { base = base_of h; events = [] }) self.new }
     {

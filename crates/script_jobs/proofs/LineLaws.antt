@@ -123,7 +123,7 @@ module _ (L : Limits) where
     unfolding realm_after
     by_command (Do e) says = done e says (is_accepted s.realm e) (if is_accepted s.realm e then with_event s.realm e else s.realm) refl
     by_command (Retire actor) says = retired (is_ok (retire_check s.realm.history actor)) (if is_ok (retire_check s.realm.history actor) then starting s.realm.limits (base_of s.realm.history) else s.realm) refl
-    by_command (Ask question) says = same_next
+    by_command (Ask query) says = same_next
 
     by_line : (l : Line) → line_said line ≡ l → Next (realm_after_line s.realm l) (lines_after s.lines s.number s.realm.history (realm_after_line s.realm l).history)
     unfolding realm_after_line

@@ -21,12 +21,12 @@ use Rattle.scope_rules.specs.Scopes.{joins, joined}
 use Rattle.scope_rules.specs.Table.{check_of, is_already, retire_check, answering, row_check}
 use Rattle.scope_rules.proofs.Joined.{outcome_there}
 use Rattle.script_words.specs.declared.commands.Command.TheVariants.{Do, Retire, Ask}
-use Rattle.script_words.specs.declared.commands.Question.{Question}
-use Rattle.script_words.specs.declared.commands.Question.TheVariants as question
+use Rattle.script_words.specs.declared.commands.Query.{Query}
+use Rattle.script_words.specs.declared.commands.Query.TheVariants as query
 use Rattle.script_words.specs.declared.reply.Reply.{Reply}
 use Rattle.script_words.specs.declared.reply.Reply.TheVariants as reply
-use Rattle.scope_script.specs.Replying.{replied, refused_or, told_of, told_base, answer_to, reply_to}
-use Rattle.refusal_reasons.specs.Fits.{refused_alone, question_check, EventsFit, RetirementsFit, QuestionsFit}
+use Rattle.scope_script.specs.Replying.{replied, refused_or, event_reply_of, told_base, answer_to, reply_to}
+use Rattle.refusal_reasons.specs.Fits.{refused_alone, query_check, EventsFit, RetirementsFit, QueriesFit}
 use Rattle.script_jobs.specs.Whys.{command_reason}
 use Rattle.script_jobs.specs.Fits.{refusal_said, RepliesFit}
 
@@ -58,7 +58,7 @@ join_told realm a s passes =
     let known = scope_passes (followed h e) s owner.opened (opening_stays h e s owner.opened owner.is) in
     outcome_there (followed h e) s (outcome_passes (followed h e) s known (joined_then h a s))
 
-told_fits : (realm : Realm) (e : Event) → check_of realm.limits realm.history e ≡ Ok tt → refusal_said (told_of realm.history e) ≡ Ok tt
+told_fits : (realm : Realm) (e : Event) → check_of realm.limits realm.history e ≡ Ok tt → refusal_said (event_reply_of realm.history e) ≡ Ok tt
 told_fits realm (event.Open actor policy options) passes = refl
 told_fits realm (event.Fork actor scope label) passes = refl
 told_fits realm (event.Reject task) passes = refl
@@ -78,7 +78,7 @@ do_fits (Ok done) true told fits = refl
 do_fits (Ok done) false told fits = fits refl
 do_fits (Err r) already told fits = refl
 
--- ---- retirements and questions
+-- ---- retirements and queries
 
 retire_fits : (c : Checked) (b : Origin) → refusal_said (replied told_base (answering c b)) ≡ c
 retire_fits (Ok done) b = refl
@@ -93,19 +93,19 @@ module _ {A : Type 0} (tell : A → Reply) (tells : (x : A) → refusal_said (te
   result_fits (Ok x) = tells x
   result_fits (Err r) = refl
 
-question_fits : (h : History) (q : Question) → refusal_said (answer_to h q) ≡ question_check h q
-unfolding answer_to question_check
-question_fits h (question.State task) = answer_fits reply.State (λ x. refl) _ _
-question_fits h (question.Stage task) = answer_fits reply.Stage (λ x. refl) _ _
-question_fits h (question.Result actor task) = result_fits reply.Value (λ x. refl) (result_reply h actor task)
-question_fits h (question.Fault actor task) = result_fits reply.Fault (λ x. refl) (fault_reply h actor task)
-question_fits h (question.Cause scope) = answer_fits reply.Cause (λ x. refl) _ _
-question_fits h (question.Until scope) = answer_fits reply.Until (λ x. refl) _ _
-question_fits h (question.Counts scope) = answer_fits reply.Counts (λ x. refl) _ _
-question_fits h (question.Get actor key) = result_fits reply.Value (λ x. refl) (binding_reply h actor key)
+query_fits : (h : History) (q : Query) → refusal_said (answer_to h q) ≡ query_check h q
+unfolding answer_to query_check
+query_fits h (query.State task) = answer_fits reply.State (λ x. refl) _ _
+query_fits h (query.Stage task) = answer_fits reply.Stage (λ x. refl) _ _
+query_fits h (query.Result actor task) = result_fits reply.Value (λ x. refl) (result_reply h actor task)
+query_fits h (query.Fault actor task) = result_fits reply.Fault (λ x. refl) (fault_reply h actor task)
+query_fits h (query.Cause scope) = answer_fits reply.Cause (λ x. refl) _ _
+query_fits h (query.Until scope) = answer_fits reply.Until (λ x. refl) _ _
+query_fits h (query.Counts scope) = answer_fits reply.Counts (λ x. refl) _ _
+query_fits h (query.Get actor key) = result_fits reply.Value (λ x. refl) (binding_reply h actor key)
 
-pub replies_fit : EventsFit → RetirementsFit → QuestionsFit → RepliesFit
+pub replies_fit : EventsFit → RetirementsFit → QueriesFit → RepliesFit
 unfolding reply_to command_reason
-replies_fit events retirements questions realm (Do e) = do_fits (check_of realm.limits realm.history e) (is_already realm.history e) (told_of realm.history e) (told_fits realm e) ∙ events realm.limits realm.history e
-replies_fit events retirements questions realm (Retire actor) = retire_fits (retire_check realm.history actor) (base_of realm.history) ∙ retirements realm.limits realm.history actor
-replies_fit events retirements questions realm (Ask asked) = question_fits realm.history asked ∙ questions realm.limits realm.history asked
+replies_fit events retirements queries realm (Do e) = do_fits (check_of realm.limits realm.history e) (is_already realm.history e) (event_reply_of realm.history e) (told_fits realm e) ∙ events realm.limits realm.history e
+replies_fit events retirements queries realm (Retire actor) = retire_fits (retire_check realm.history actor) (base_of realm.history) ∙ retirements realm.limits realm.history actor
+replies_fit events retirements queries realm (Ask asked) = query_fits realm.history asked ∙ queries realm.limits realm.history asked

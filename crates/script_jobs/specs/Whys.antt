@@ -3,7 +3,7 @@ use Rattle.std.specs.Prelude.{ℕ, List, Option, Some, None, Ok, Err, codes}
 use Rattle.scope_rules.specs.Replies.{Realm}
 use Rattle.script_words.specs.declared.commands.Command.{Command}
 use Rattle.script_words.specs.declared.commands.Command.TheVariants.{Do, Retire, Ask}
-use Rattle.refusal_reasons.specs.Reasons.{Explained, event_reason, retire_reason, question_reason}
+use Rattle.refusal_reasons.specs.Reasons.{Explained, event_reason, retire_reason, query_reason}
 use Rattle.refusal_reasons.specs.Sentences.{sentence}
 use Rattle.refusal_reasons.specs.FaultSentences.{line_fault_text}
 use Rattle.script_jobs.specs.declared.whys.Why.{Why}
@@ -13,7 +13,7 @@ use Rattle.script_jobs.specs.declared.whys.Why.TheVariants as why
 unfoldable pub command_reason : Realm → Command → Explained
 command_reason realm (Do e) = event_reason realm.limits realm.history e
 command_reason realm (Retire actor) = retire_reason realm.limits realm.history actor
-command_reason realm (Ask question) = question_reason realm.limits realm.history question
+command_reason realm (Ask query) = query_reason realm.limits realm.history query
 
 -- that the reason is why, if there is one
 abbrev pub why_if : Explained → Option Why

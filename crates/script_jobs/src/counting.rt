@@ -4,7 +4,7 @@ ghost use Rattle.scope_book.specs.Books.{history_of};
 ghost use Rattle.scope_script.specs.Tallies.{is_refused, no_refusals, one_more, with_bad_word, with_reply};
 ghost use Rattle.script_jobs.specs.Counts.{count_in, is_untouched};
 
-use kept_realm::KeptRealm;
+use realm_state::RealmState;
 use scope_script::{Ran, Reply, Tally};
 
 /// How many lines of a script were refused, and whether it looks like another kind of text.
@@ -17,7 +17,7 @@ pub struct Count {
 }
 
 /// Whether nothing was ever recorded in the realm.
-fn is_untouched(realm: &KeptRealm) -> bool
+fn is_untouched(realm: &RealmState) -> bool
     ensures { result ≡ is_untouched realm.now.history }
 {
     let base = realm.base();
@@ -29,7 +29,7 @@ fn is_untouched(realm: &KeptRealm) -> bool
 }
 
 /// What there is to count of a script that left this realm, and of which so many lines were refused.
-pub(crate) fn count_in(tally: Tally, realm: &KeptRealm) -> Count
+pub(crate) fn count_in(tally: Tally, realm: &RealmState) -> Count
     ensures { result ≡ count_in tally realm.now.history }
 {
     let is_foreign = tally.refused > 0 && tally.refused == tally.bad_words && is_untouched(realm);

@@ -60,7 +60,7 @@ impl Phrases {
             12 => self.time(),
             13 => self.binding(),
             14 => self.rare(),
-            _ => self.question(),
+            _ => self.query(),
         }
     }
 
@@ -177,8 +177,8 @@ impl Phrases {
         }
     }
 
-    /// A question of a task or a scope.
-    fn question(&mut self) -> Result<String, AllocError> {
+    /// A query of a task or a scope.
+    fn query(&mut self) -> Result<String, AllocError> {
         match self.random.below(7) {
             0 => self.of_task("state"),
             1 => self.of_task("stage"),

@@ -3,10 +3,9 @@ ghost use Rattle.std.specs.Prelude.{◌≡◌, Some};
 ghost use Rattle.scope_book.specs.Books.{realm_of};
 ghost use Rattle.script_jobs.specs.Whys.{command_reason, command_why, why_if, why_text};
 
-use kept_realm::KeptRealm;
+use realm_state::RealmState;
 use refusal_reasons::{
-    Events, Reason, ShownFault, ShownReason, WordFault, event_reason, question_reason,
-    retire_reason,
+    Events, Reason, ShownFault, ShownReason, WordFault, event_reason, query_reason, retire_reason,
 };
 use scope_book::BookState;
 use scope_rules::{AnyEnd, ScopeId};
@@ -27,7 +26,7 @@ pub enum Why {
 /// The events of a realm since its base.
 #[derive(Drop)]
 struct RealmEvents<'a> {
-    realm: &'a KeptRealm,
+    realm: &'a RealmState,
 }
 
 impl Events for RealmEvents<'_> {
@@ -72,7 +71,7 @@ fn command_reason(book: &BookState<AnyEnd>, command: &Command) -> Result<(), Rea
     match command {
         Command::Do(event) => event_reason(realm, events, &limits, event),
         Command::Retire { actor } => retire_reason(realm, events, &limits, *actor),
-        Command::Ask(question) => question_reason(realm, events, &limits, question),
+        Command::Ask(query) => query_reason(realm, events, &limits, query),
     }
 }
 

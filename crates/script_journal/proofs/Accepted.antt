@@ -19,7 +19,7 @@ use Rattle.scope_rules.proofs.Joined.{outcome_there}
 use Rattle.scope_rules.proofs.OneEventMore.{opening_same, joined_grows}
 use Rattle.script_words.specs.declared.commands.Command.TheVariants.{Do}
 use Rattle.script_words.specs.declared.reply.Reply.TheVariants as reply
-use Rattle.scope_script.specs.Replying.{replied, told_of, reply_to, realm_after}
+use Rattle.scope_script.specs.Replying.{replied, event_reply_of, reply_to, realm_after}
 use Rattle.scope_script.specs.Tallies.{is_refused}
 
 -- the realm of the limits with the history
@@ -60,7 +60,7 @@ gave : (o : Option Outcome) → (o ≡ None → ⊥) → is_refused (replied rep
 gave None some = absurd (some refl)
 gave (Some x) some = refl
 
-told_unrefused : (L : Limits) (h : History) (e : Event) → Accepts L h e → is_refused (told_of h e) ≡ false
+told_unrefused : (L : Limits) (h : History) (e : Event) → Accepts L h e → is_refused (event_reply_of h e) ≡ false
 told_unrefused L h (event.Join actor scope) is = gave (outcome (followed h (event.Join actor scope)) scope) (outcome_there (followed h (event.Join actor scope)) scope (may_be_asked L h actor scope is))
 told_unrefused L h (event.Open actor policy options) is = refl
 told_unrefused L h (event.Fork actor scope label) is = refl

@@ -7,7 +7,7 @@ ghost use Rattle.script_journal.specs.Journals.{RunsTo};
 
 use crate::fitting::events_fit;
 use crate::script_of;
-use kept_realm::KeptRealm;
+use realm_state::RealmState;
 use std::alloc::{AllocError, Global};
 
 /// The journal of the realm: what happened since its last retirement, as a script. If the realm began fresh,
@@ -15,7 +15,7 @@ use std::alloc::{AllocError, Global};
 ///
 /// # Errors
 /// Memory alone.
-pub fn journal_of(alloc: Global, realm: &KeptRealm) -> Result<String, AllocError>
+pub fn journal_of(alloc: Global, realm: &RealmState) -> Result<String, AllocError>
     ensures text { IfOk result (λ text. string_bytes text ≡ script_text realm.now.history) }
     ensures runs { IfOk result (λ text. realm.now.history.base ≡ the_start → RunsTo realm.now.limits (string_bytes text) (without_dues realm.now.history)) }
 {

@@ -17,7 +17,7 @@ use Rattle.scope_rules.specs.declared.types.events.Binding.{Binding}
 use Rattle.scope_rules.specs.declared.types.names.Name.{Name}
 use Rattle.scope_rules.specs.declared.types.values.Label.{Label}
 use Rattle.scope_rules.specs.declared.types.events.Event.TheVariants as event
-use Rattle.script_words.specs.declared.commands.Question.TheVariants as question
+use Rattle.script_words.specs.declared.commands.Query.TheVariants as query
 use Rattle.script_words.specs.declared.commands.Command.TheVariants as command
 use Rattle.script_words.specs.declared.commands.Line.TheVariants as line
 use Rattle.script_words.specs.Fields.{just_one, just_two, just_three}
@@ -110,7 +110,7 @@ bind_read actor binding small fits =
     let third = value_read binding.value fits in
     rw first (rw second (rw third refl))
 
-get_read : (actor : ℕ) (key : Name) → IsSmall actor → get_said (decimal actor ∷ text_of key ∷ []) ≡ Some (command.Ask (question.Get actor key))
+get_read : (actor : ℕ) (key : Name) → IsSmall actor → get_said (decimal actor ∷ text_of key ∷ []) ≡ Some (command.Ask (query.Get actor key))
 unfolding get_said just_two
 get_read actor key small =
     let first = small_read actor small in
@@ -137,11 +137,11 @@ words_say_the_command (command.Do (event.Join actor scope)) fits = let read = tw
 words_say_the_command (command.Do (event.BeginClose actor scope)) fits = let read = two_numbers_read actor scope fits.0 fits.1 in rw read refl
 words_say_the_command (command.Do (event.EndClose actor scope)) fits = let read = two_numbers_read actor scope fits.0 fits.1 in rw read refl
 words_say_the_command (command.Retire actor) fits = let read = number_alone_read actor fits in rw read refl
-words_say_the_command (command.Ask (question.State task)) fits = let read = number_alone_read task fits in rw read refl
-words_say_the_command (command.Ask (question.Stage task)) fits = let read = number_alone_read task fits in rw read refl
-words_say_the_command (command.Ask (question.Result actor task)) fits = let read = two_numbers_read actor task fits.0 fits.1 in rw read refl
-words_say_the_command (command.Ask (question.Fault actor task)) fits = let read = two_numbers_read actor task fits.0 fits.1 in rw read refl
-words_say_the_command (command.Ask (question.Cause scope)) fits = let read = number_alone_read scope fits in rw read refl
-words_say_the_command (command.Ask (question.Until scope)) fits = let read = number_alone_read scope fits in rw read refl
-words_say_the_command (command.Ask (question.Counts scope)) fits = let read = number_alone_read scope fits in rw read refl
-words_say_the_command (command.Ask (question.Get actor key)) fits = let read = get_read actor key fits in rw read refl
+words_say_the_command (command.Ask (query.State task)) fits = let read = number_alone_read task fits in rw read refl
+words_say_the_command (command.Ask (query.Stage task)) fits = let read = number_alone_read task fits in rw read refl
+words_say_the_command (command.Ask (query.Result actor task)) fits = let read = two_numbers_read actor task fits.0 fits.1 in rw read refl
+words_say_the_command (command.Ask (query.Fault actor task)) fits = let read = two_numbers_read actor task fits.0 fits.1 in rw read refl
+words_say_the_command (command.Ask (query.Cause scope)) fits = let read = number_alone_read scope fits in rw read refl
+words_say_the_command (command.Ask (query.Until scope)) fits = let read = number_alone_read scope fits in rw read refl
+words_say_the_command (command.Ask (query.Counts scope)) fits = let read = number_alone_read scope fits in rw read refl
+words_say_the_command (command.Ask (query.Get actor key)) fits = let read = get_read actor key fits in rw read refl

@@ -8,7 +8,7 @@ use Rattle.scope_rules.specs.declared.types.events.Expiry.{Expiry}
 use Rattle.scope_rules.specs.declared.types.events.Expiry.TheVariants as expiry
 use Rattle.script_words.specs.declared.commands.Command.{Command}
 use Rattle.scope_rules.specs.declared.types.events.Event.TheVariants as event
-use Rattle.script_words.specs.declared.commands.Question.TheVariants as question
+use Rattle.script_words.specs.declared.commands.Query.TheVariants as query
 use Rattle.script_words.specs.declared.commands.Command.TheVariants as command
 use Rattle.script_words.specs.declared.lines.TheConstants.{LINE_LIMIT}
 use Rattle.script_words.specs.Lines.{line_said}
@@ -92,14 +92,14 @@ are_words (command.Do (event.Join actor scope)) fits = two_numbers _ actor scope
 are_words (command.Do (event.BeginClose actor scope)) fits = two_numbers _ actor scope refl fits
 are_words (command.Do (event.EndClose actor scope)) fits = two_numbers _ actor scope refl fits
 are_words (command.Retire actor) fits = one_number _ actor refl fits
-are_words (command.Ask (question.State task)) fits = one_number _ task refl fits
-are_words (command.Ask (question.Stage task)) fits = one_number _ task refl fits
-are_words (command.Ask (question.Result actor task)) fits = two_numbers _ actor task refl fits
-are_words (command.Ask (question.Fault actor task)) fits = two_numbers _ actor task refl fits
-are_words (command.Ask (question.Cause scope)) fits = one_number _ scope refl fits
-are_words (command.Ask (question.Until scope)) fits = one_number _ scope refl fits
-are_words (command.Ask (question.Counts scope)) fits = one_number _ scope refl fits
-are_words (command.Ask (question.Get actor key)) fits = number_and _ actor (text_of key) refl fits (name_is_word key)
+are_words (command.Ask (query.State task)) fits = one_number _ task refl fits
+are_words (command.Ask (query.Stage task)) fits = one_number _ task refl fits
+are_words (command.Ask (query.Result actor task)) fits = two_numbers _ actor task refl fits
+are_words (command.Ask (query.Fault actor task)) fits = two_numbers _ actor task refl fits
+are_words (command.Ask (query.Cause scope)) fits = one_number _ scope refl fits
+are_words (command.Ask (query.Until scope)) fits = one_number _ scope refl fits
+are_words (command.Ask (query.Counts scope)) fits = one_number _ scope refl fits
+are_words (command.Ask (query.Get actor key)) fits = number_and _ actor (text_of key) refl fits (name_is_word key)
 
 short_line : (n : ℕ) → n ≤ LINE_LIMIT → nat_lt LINE_LIMIT n ≡ false
 short_line n short = grind (arith, nat_tests)

@@ -6,7 +6,7 @@ use Rattle.scope_rules.specs.declared.types.values.Label.{Label}
 use Rattle.scope_rules.specs.Ends.{EndValue}
 use Rattle.script_words.specs.declared.commands.Command.{Command}
 use Rattle.scope_rules.specs.declared.types.events.Event.TheVariants as event
-use Rattle.script_words.specs.declared.commands.Question.TheVariants as question
+use Rattle.script_words.specs.declared.commands.Query.TheVariants as query
 use Rattle.script_words.specs.declared.commands.Command.TheVariants as command
 use Rattle.script_words.specs.declared.keywords.Keyword.{Keyword}
 use Rattle.script_words.specs.declared.keywords.Keyword.TheVariants as keyword
@@ -90,7 +90,7 @@ bind_said args = number_and_two name_said value_said (λ actor key value. comman
 
 -- `get A NAME`, without its first word
 unfoldable pub get_said : List (List ℕ) → Option Command
-get_said args = number_and name_said (λ actor key. command.Ask (question.Get actor key)) args
+get_said args = number_and name_said (λ actor key. command.Ask (query.Get actor key)) args
 
 -- the command of a form with this number
 unfoldable pub one_number_said : OneNumber → ℕ → Command
@@ -99,19 +99,19 @@ one_number_said one.Start n = command.Do (event.Start n)
 one_number_said one.Cancel n = command.Do (event.Cancel n)
 one_number_said one.Unbind n = command.Do (event.Unbind n)
 one_number_said one.Retire n = command.Retire n
-one_number_said one.State n = command.Ask (question.State n)
-one_number_said one.Stage n = command.Ask (question.Stage n)
-one_number_said one.Cause n = command.Ask (question.Cause n)
-one_number_said one.Until n = command.Ask (question.Until n)
-one_number_said one.Counts n = command.Ask (question.Counts n)
+one_number_said one.State n = command.Ask (query.State n)
+one_number_said one.Stage n = command.Ask (query.Stage n)
+one_number_said one.Cause n = command.Ask (query.Cause n)
+one_number_said one.Until n = command.Ask (query.Until n)
+one_number_said one.Counts n = command.Ask (query.Counts n)
 
 -- the command of a form with these numbers
 unfoldable pub two_numbers_said : TwoNumbers → ℕ → ℕ → Command
 two_numbers_said two.Join a b = command.Do (event.Join a b)
 two_numbers_said two.Close a b = command.Do (event.BeginClose a b)
 two_numbers_said two.Closed a b = command.Do (event.EndClose a b)
-two_numbers_said two.ResultOf a b = command.Ask (question.Result a b)
-two_numbers_said two.FaultOf a b = command.Ask (question.Fault a b)
+two_numbers_said two.ResultOf a b = command.Ask (query.Result a b)
+two_numbers_said two.FaultOf a b = command.Ask (query.Fault a b)
 
 -- the command with this keyword and these arguments
 unfoldable pub form_said : Keyword → List (List ℕ) → Option Command

@@ -16,7 +16,7 @@ use Rattle.scope_rules.specs.declared.types.events.Expiry.{Expiry}
 use Rattle.scope_rules.specs.declared.types.events.Expiry.TheVariants as expiry
 use Rattle.script_words.specs.declared.commands.Command.{Command}
 use Rattle.scope_rules.specs.declared.types.events.Event.TheVariants as event
-use Rattle.script_words.specs.declared.commands.Question.TheVariants as question
+use Rattle.script_words.specs.declared.commands.Query.TheVariants as query
 use Rattle.script_words.specs.declared.commands.Command.TheVariants as command
 use Rattle.script_words.specs.declared.commands.Line.TheVariants as line
 use Rattle.script_words.specs.Lines.{fields_said, line_said}
@@ -76,14 +76,14 @@ words_of (command.Do (event.Join actor scope)) = codes "join" ∷ decimal actor 
 words_of (command.Do (event.BeginClose actor scope)) = codes "close" ∷ decimal actor ∷ decimal scope ∷ []
 words_of (command.Do (event.EndClose actor scope)) = codes "closed" ∷ decimal actor ∷ decimal scope ∷ []
 words_of (command.Retire actor) = codes "retire" ∷ decimal actor ∷ []
-words_of (command.Ask (question.State task)) = codes "state" ∷ decimal task ∷ []
-words_of (command.Ask (question.Stage task)) = codes "stage" ∷ decimal task ∷ []
-words_of (command.Ask (question.Result actor task)) = codes "result" ∷ decimal actor ∷ decimal task ∷ []
-words_of (command.Ask (question.Fault actor task)) = codes "fault" ∷ decimal actor ∷ decimal task ∷ []
-words_of (command.Ask (question.Cause scope)) = codes "cause" ∷ decimal scope ∷ []
-words_of (command.Ask (question.Until scope)) = codes "until" ∷ decimal scope ∷ []
-words_of (command.Ask (question.Counts scope)) = codes "counts" ∷ decimal scope ∷ []
-words_of (command.Ask (question.Get actor key)) = codes "get" ∷ decimal actor ∷ text_of key ∷ []
+words_of (command.Ask (query.State task)) = codes "state" ∷ decimal task ∷ []
+words_of (command.Ask (query.Stage task)) = codes "stage" ∷ decimal task ∷ []
+words_of (command.Ask (query.Result actor task)) = codes "result" ∷ decimal actor ∷ decimal task ∷ []
+words_of (command.Ask (query.Fault actor task)) = codes "fault" ∷ decimal actor ∷ decimal task ∷ []
+words_of (command.Ask (query.Cause scope)) = codes "cause" ∷ decimal scope ∷ []
+words_of (command.Ask (query.Until scope)) = codes "until" ∷ decimal scope ∷ []
+words_of (command.Ask (query.Counts scope)) = codes "counts" ∷ decimal scope ∷ []
+words_of (command.Ask (query.Get actor key)) = codes "get" ∷ decimal actor ∷ text_of key ∷ []
 
 -- the number of a scope, a task or an actor, or a count
 abbrev pub IsSmall : ℕ → Type 0
@@ -124,14 +124,14 @@ HasWords (command.Do (event.Join actor scope)) = IsSmall actor × IsSmall scope
 HasWords (command.Do (event.BeginClose actor scope)) = IsSmall actor × IsSmall scope
 HasWords (command.Do (event.EndClose actor scope)) = IsSmall actor × IsSmall scope
 HasWords (command.Retire actor) = IsSmall actor
-HasWords (command.Ask (question.State task)) = IsSmall task
-HasWords (command.Ask (question.Stage task)) = IsSmall task
-HasWords (command.Ask (question.Result actor task)) = IsSmall actor × IsSmall task
-HasWords (command.Ask (question.Fault actor task)) = IsSmall actor × IsSmall task
-HasWords (command.Ask (question.Cause scope)) = IsSmall scope
-HasWords (command.Ask (question.Until scope)) = IsSmall scope
-HasWords (command.Ask (question.Counts scope)) = IsSmall scope
-HasWords (command.Ask (question.Get actor key)) = IsSmall actor
+HasWords (command.Ask (query.State task)) = IsSmall task
+HasWords (command.Ask (query.Stage task)) = IsSmall task
+HasWords (command.Ask (query.Result actor task)) = IsSmall actor × IsSmall task
+HasWords (command.Ask (query.Fault actor task)) = IsSmall actor × IsSmall task
+HasWords (command.Ask (query.Cause scope)) = IsSmall scope
+HasWords (command.Ask (query.Until scope)) = IsSmall scope
+HasWords (command.Ask (query.Counts scope)) = IsSmall scope
+HasWords (command.Ask (query.Get actor key)) = IsSmall actor
 
 -- the words of a command say that command
 abbrev pub WordsSayTheCommand : Type 0

@@ -19,12 +19,12 @@ pub enum Command {
     /// `retire A`
     Retire { actor: Actor },
     /// What changes nothing.
-    Ask(Question),
+    Ask(Query),
 }
 
 /// What can be asked of a realm.
 #[derive(Clone, Copy)]
-pub enum Question {
+pub enum Query {
     /// `state K`
     State { task: TaskId },
     /// `stage K`

@@ -3,7 +3,7 @@ ghost use Rattle.script_words.specs.Fields.{fields};
 ghost use Rattle.script_words.specs.Forms.{number_alone, two_numbers, number_and_word, fork_said, ok_said, fail_said, new_deadline_said, move_said, tick_said, bind_said, get_said, one_number_said, two_numbers_said, form_said};
 ghost use Rattle.script_words.specs.Written.{Writes};
 
-use crate::commands::{Command, Line, Question};
+use crate::commands::{Command, Line, Query};
 use crate::fields::{just_one, just_two, next_field};
 use crate::keywords::{Keyword, OneNumber, TwoNumbers};
 use crate::numbers::{moment, next_moment, next_small};
@@ -46,12 +46,12 @@ pub(crate) fn tell(line: &mut Line, event: Event)
     *line = Line::Command(Command::Do(event));
 }
 
-/// Writes that the question is asked.
+/// Writes the query.
 #[inline(always)]
-fn ask(line: &mut Line, question: Question)
-    ensures { line.new ≡ Line.Command (Command.Ask question) }
+fn ask(line: &mut Line, query: Query)
+    ensures { line.new ≡ Line.Command (Command.Ask query) }
 {
-    *line = Line::Command(Command::Ask(question));
+    *line = Line::Command(Command::Ask(query));
 }
 
 /// Writes the command of a form with this number.
@@ -65,11 +65,11 @@ fn one_number(form: OneNumber, number: u32, line: &mut Line)
         OneNumber::Cancel => tell(line, Event::Cancel { scope: number }),
         OneNumber::Unbind => tell(line, Event::Unbind { actor: number }),
         OneNumber::Retire => *line = Line::Command(Command::Retire { actor: number }),
-        OneNumber::State => ask(line, Question::State { task: number }),
-        OneNumber::Stage => ask(line, Question::Stage { task: number }),
-        OneNumber::Cause => ask(line, Question::Cause { scope: number }),
-        OneNumber::Until => ask(line, Question::Until { scope: number }),
-        OneNumber::Counts => ask(line, Question::Counts { scope: number }),
+        OneNumber::State => ask(line, Query::State { task: number }),
+        OneNumber::Stage => ask(line, Query::Stage { task: number }),
+        OneNumber::Cause => ask(line, Query::Cause { scope: number }),
+        OneNumber::Until => ask(line, Query::Until { scope: number }),
+        OneNumber::Counts => ask(line, Query::Counts { scope: number }),
     }
 }
 
@@ -83,8 +83,8 @@ fn two_numbers(form: TwoNumbers, actor: u32, number: u32, line: &mut Line)
         TwoNumbers::Join => tell(line, Event::Join { actor, scope }),
         TwoNumbers::Close => tell(line, Event::BeginClose { actor, scope }),
         TwoNumbers::Closed => tell(line, Event::EndClose { actor, scope }),
-        TwoNumbers::ResultOf => ask(line, Question::Result { actor, task }),
-        TwoNumbers::FaultOf => ask(line, Question::Fault { actor, task }),
+        TwoNumbers::ResultOf => ask(line, Query::Result { actor, task }),
+        TwoNumbers::FaultOf => ask(line, Query::Fault { actor, task }),
     }
 }
 
@@ -240,7 +240,7 @@ fn get(args: &[u8], line: &mut Line) -> Option<()>
     let (actor, key) = number_and_word(args)?;
     ask(
         line,
-        Question::Get {
+        Query::Get {
             actor,
             key: name(key)?,
         },

@@ -36,7 +36,7 @@ pub mod reply_laws;
 pub mod reply_lines;
 mod words;
 
-pub use commands::{Command, Line, Question};
+pub use commands::{Command, Line, Query};
 pub use fields::{field_len, just_one, just_three, just_two, next_field, without_spaces};
 pub use forms::new_deadline;
 pub use joiners::policy;

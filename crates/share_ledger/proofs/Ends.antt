@@ -18,7 +18,7 @@ use Rattle.scope_rules.proofs.PassedRows.{fork_passed}
 use Rattle.scope_rules.proofs.Growing.{forking_stays}
 use Rattle.scope_rules.proofs.Earlier.{forking_within}
 use Rattle.scope_rules.proofs.Nesting.{IsOpened, forked_opened}
-use Rattle.scope_rules.proofs.CutsGrow.{cancelled_before_stays, cancelled_by_now}
+use Rattle.scope_rules.proofs.ChainsGrow.{cancelled_before_stays, cancelled_by_now}
 use Rattle.scope_rules.proofs.Forkings.{forked_after}
 use Rattle.scope_rules.proofs.Prefixes.{option_or-none, option_or-assoc}
 use Rattle.scope_rules.proofs.StageSteps.{next_forking}

@@ -5,7 +5,7 @@ use std::thread::Parker;
 
 /// How often a thread spins before it sleeps: for some ten microseconds, about as long as falling asleep and waking
 /// take. An item that comes meanwhile costs neither side a system call.
-const LOOKS: u32 = 6_000;
+const SPINS: u32 = 6_000;
 
 /// Where one thread waits for what another puts there.
 #[derive(Drop)]
@@ -40,15 +40,15 @@ impl<T: Drop> Handoff<T> {
 
     /// Waits until it is woken, and takes what was put there. One thread waits at a handoff.
     pub(crate) fn wait<R: Wait>(&self, rt: &R) -> Option<T> {
-        self.look();
+        self.spin();
         self.bell.park(rt);
         self.rung.store(false, Ordering::SeqCst);
         self.item.lock(rt).take()
     }
 
     /// Spins until the bell has rung, or some times.
-    fn look(&self) {
-        for _ in 0..LOOKS {
+    fn spin(&self) {
+        for _ in 0..SPINS {
             if self.rung.load(Ordering::SeqCst) {
                 return;
             }

@@ -5,7 +5,7 @@ ghost use Rattle.scope_rules.specs.Checks.{scope_check};
 ghost use Rattle.scope_rules.specs.Nests.{info};
 ghost use Rattle.tree_dump.specs.Tree.{task_told};
 
-use scope_checks::{Readings, questions};
+use scope_checks::{Readings, queries};
 use scope_rules::types::infos::ScopeInfo;
 use scope_rules::{Label, ScopeId, Stage, State, TaskId};
 
@@ -26,7 +26,7 @@ pub(crate) fn info_at<R: Readings>(readings: &R, place: Option<ScopeId>) -> Opti
     ensures info { result ≡ option_and_then (info (R.history readings.now)) place }
     ensures passes { IfSome result (λ i. Passes (scope_check (R.history readings.now) i.scope)) }
 {
-    match questions::info(readings, place?) {
+    match queries::info(readings, place?) {
         Ok(info) => Some(info),
         Err(_) => None,
     }

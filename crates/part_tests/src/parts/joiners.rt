@@ -4,7 +4,7 @@ ghost use Rattle.std.specs.Prelude.{◌≡◌, ◌≤◌, length, count_by};
 ghost use Rattle.scope_rules.specs.Joining.{meets, has_succeeded};
 
 use super::{boxed, name, pages};
-use join_rules::{Account, CompletionTest, Joiner, Progress, StoredTest, UntilTest};
+use join_rules::{CompletionTest, Joiner, JoinerAccount, Progress, StoredTest, UntilTest};
 use scope_rules::{Completion, End, Fault, Policy, Refusal, Rule, TaskId, Value};
 use std::alloc::{AllocError, Global};
 use std::process::Abort;
@@ -289,7 +289,7 @@ fn fires_at_the_second(
     listed: bool,
     test: Option<&StoredTest>,
 ) -> Result<bool, AllocError> {
-    let mut account = Account::new(alloc, policy, listed);
+    let mut account = JoinerAccount::new(alloc, policy, listed);
     let end = Ok(Value::Num(1));
     account.count(Completion { task: 1, end })?;
     account.count(Completion { task: 2, end })?;

@@ -2,7 +2,7 @@
 //! and by others.
 ghost use Rattle.std.specs.Prelude.{◌≡◌};
 
-use cancel_marks::{Cancellation, CellRoom, Mark, MarkCell, MarkSetter, Seat, laws};
+use cancel_marks::{Cancellation, CellReservation, Mark, MarkCell, MarkSetter, Seat, laws};
 use scope_rules::{Cause, CauseKind, ScopeId};
 use std::process::Abort;
 use std::test::Fail;
@@ -64,7 +64,7 @@ fn is_set_once(setter: &mut MarkSetter) -> bool {
 
 #[test]
 fn a_cell_is_set_once(rt: HostRuntime) -> Result<(), Fail> {
-    let (mut setter, _cell) = CellRoom::new(rt.alloc())?.of(SCOPE);
+    let (mut setter, _cell) = CellReservation::new(rt.alloc())?.of(SCOPE);
     assert!(rt; is_set_once(&mut setter));
     Ok(())
 }
@@ -76,8 +76,8 @@ fn is_set_alone(setter: &mut MarkSetter, other: &MarkSetter) -> bool {
 
 #[test]
 fn cells_are_set_one_by_one(rt: HostRuntime) -> Result<(), Fail> {
-    let (mut setter, _cell) = CellRoom::new(rt.alloc())?.of(SCOPE);
-    let (other, _other) = CellRoom::new(rt.alloc())?.of(SCOPE);
+    let (mut setter, _cell) = CellReservation::new(rt.alloc())?.of(SCOPE);
+    let (other, _other) = CellReservation::new(rt.alloc())?.of(SCOPE);
     assert!(rt; is_set_alone(&mut setter, &other));
     Ok(())
 }
@@ -102,7 +102,7 @@ fn check_both<R: Threads + Abort>(rt: &R, cell: MarkCell, mut seat: Seat) -> Res
 
 #[test]
 fn threads_are_shown_the_same(rt: HostRuntime) -> Result<(), Fail> {
-    let (mut setter, cell) = CellRoom::new(rt.alloc())?.of(SCOPE);
+    let (mut setter, cell) = CellReservation::new(rt.alloc())?.of(SCOPE);
     let mut seat = cell.seat();
     assert!(rt; cell.checkpoint(&mut seat).is_none());
     assert!(rt; set(&mut setter, REACHED));

@@ -19,9 +19,9 @@ fn by_turns(alloc: Global) -> Result<Trails, AllocError>
     trails.open(0);
     trails.reserve_scope()?;
     trails.open(1);
-    trails.tell(None, 2);
-    trails.tell(Some(5), 3);
-    trails.tell(Some(4), 4);
+    trails.note(None, 2);
+    trails.note(Some(5), 3);
+    trails.note(Some(4), 4);
     Ok(trails)
 }
 

@@ -61,27 +61,27 @@ enum Step {
     Add(Option<ScopeId>),
     Cancel(ScopeId, u64),
     /// The i-th of the scopes from the n-th that was cancelled on.
-    Listed(usize, usize, Option<ScopeId>),
+    CancelOrder(usize, usize, Option<ScopeId>),
 }
 
-use Step::{Add, Cancel, Listed};
+use Step::{Add, Cancel, CancelOrder};
 
 /// The second scope and the third, inside it, are cancelled by one call, and the first by a later one.
 const IN_ORDER: [Step; 14] = [
     Add(None),
     Add(None),
     Add(Some(2)),
-    Listed(0, 0, None),
+    CancelOrder(0, 0, None),
     Cancel(2, 4),
-    Listed(0, 0, Some(2)),
-    Listed(0, 1, Some(3)),
-    Listed(1, 0, Some(3)),
-    Listed(2, 0, None),
+    CancelOrder(0, 0, Some(2)),
+    CancelOrder(0, 1, Some(3)),
+    CancelOrder(1, 0, Some(3)),
+    CancelOrder(2, 0, None),
     Cancel(1, 6),
-    Listed(2, 0, Some(1)),
-    Listed(0, 0, Some(2)),
-    Listed(0, 3, None),
-    Listed(9, 0, None),
+    CancelOrder(2, 0, Some(1)),
+    CancelOrder(0, 0, Some(2)),
+    CancelOrder(0, 3, None),
+    CancelOrder(9, 0, None),
 ];
 
 /// Two calls at one place stand by the numbers, whichever was first, with a query between them; a scope
@@ -90,13 +90,13 @@ const AT_ONE_PLACE: [Step; 10] = [
     Add(None),
     Add(None),
     Cancel(2, 3),
-    Listed(0, 0, Some(2)),
+    CancelOrder(0, 0, Some(2)),
     Cancel(1, 3),
-    Listed(0, 0, Some(1)),
-    Listed(0, 1, Some(2)),
+    CancelOrder(0, 0, Some(1)),
+    CancelOrder(0, 1, Some(2)),
     Add(Some(1)),
-    Listed(0, 2, Some(3)),
-    Listed(3, 0, None),
+    CancelOrder(0, 2, Some(3)),
+    CancelOrder(3, 0, None),
 ];
 
 /// Takes the step on the tree, and says whether it found what it wants.
@@ -107,7 +107,7 @@ fn take(tree: &mut Driven, step: Step) -> bool {
             tree.cancel(scope, CauseKind::Call, place);
             true
         }
-        Listed(n, i, wanted) => tree.cancelled_since(n, i) == wanted,
+        CancelOrder(n, i, wanted) => tree.cancelled_since(n, i) == wanted,
     }
 }
 

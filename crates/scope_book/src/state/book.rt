@@ -1,16 +1,16 @@
 ghost use Rattle.std.specs.Prelude.{◌≡◌, ℕ, List, slice_get, vec_len};
 ghost use Rattle.scope_rules.specs.Origin.{the_start};
 ghost use Rattle.scope_rules.specs.Replies.{starting, base_check, AnswersOrMemory};
-ghost use Rattle.scope_kept.specs.CutsOf.{IsCancelOrderOf};
-ghost use Rattle.kept_realm.specs.Fits.{Fitting};
+ghost use Rattle.scope_index.specs.CancelsOf.{IsCancelOrderOf};
+ghost use Rattle.realm_state.specs.Fits.{Fitting};
 ghost use Rattle.scope_checks.specs.Ruled.{IsRuled};
 
 use join_rules::StoredTest;
-use kept_realm::{FittingRealm, KeptRealm};
+use realm_state::{FittingRealm, RealmState};
 use scope_rules::{Base, Catalog, Limits, Refusal, ScopeId};
 use std::alloc::Global;
 
-/// The book of a realm: it applies each command, and answers each question by the rules. It is the
+/// The book of a realm: it applies each command, and answers each query by the rules. It is the
 /// replay of its history, which is legal, within the limits, and fitting by the catalog `C`.
 ///
 /// The callers' closures lie beside the realm, one place for each scope since the base. No fact ties
@@ -61,7 +61,7 @@ impl<C: Catalog> BookState<C> {
         requires { vec_len tests ≡ 0 }
         ensures { realm_of result ≡ starting limits the_start }
     {
-        let realm = FittingRealm::over(KeptRealm::new(alloc, limits));
+        let realm = FittingRealm::over(RealmState::new(alloc, limits));
         BookState { realm, tests }
     }
 
@@ -70,7 +70,7 @@ impl<C: Catalog> BookState<C> {
     pub fn with_base(alloc: Global, limits: Limits, base: Base) -> Result<BookState<C>, Refusal>
         ensures { AnswersOrMemory (base_check limits base) (starting limits base) (realm_given result) }
     {
-        let realm = FittingRealm::over(KeptRealm::with_base(alloc, limits, base)?);
+        let realm = FittingRealm::over(RealmState::with_base(alloc, limits, base)?);
         let tests = Vec::new(alloc);
         Ok(BookState { realm, tests })
     }
@@ -84,8 +84,8 @@ impl<C: Catalog> BookState<C> {
         self.realm.limits()
     }
 
-    /// The realm, of which questions are asked, as every other reading of a history is (`scope_checks`).
-    pub fn realm(&self) -> &KeptRealm
+    /// The realm state that queries read, as they read any other history (`scope_checks`).
+    pub fn realm(&self) -> &RealmState
         ensures { result.now ≡ realm_of self.now }
     {
         self.realm.realm()

@@ -5,14 +5,14 @@ ghost use Rattle.scope_rules.specs.ClosingLaws.{IsWhole};
 ghost use Rattle.scope_rules.specs.Replies.{next_scope, fork_reply};
 ghost use Rattle.join_rules.specs.Joiners.{policy_of};
 ghost use Rattle.scope_book.specs.Books.{realm_of, history_of, refusal_alone};
-ghost use Rattle.scope_checks.specs.Telling.{Answered};
+ghost use Rattle.scope_checks.specs.EventReplies.{Answered};
 ghost use Rattle.scope_checks.specs.Entering.{Enters, EntersOrMemory, Notes, NotesOrMemory, Retires, Tells};
-ghost use Rattle.kept_realm.specs.Fits.{FitsTask, FitsEvent};
+ghost use Rattle.realm_state.specs.Fits.{FitsTask, FitsEvent};
 
 use crate::state::book::BookState;
 use join_rules::{Joiner, StoredTest};
-use kept_realm::KeptRealm;
-use scope_checks::{Readings, Told, table};
+use realm_state::RealmState;
+use scope_checks::{EventReply, Readings, table};
 use scope_rules::{
     Actor, Base, Binding, Cancelling, Catalog, End, Event, ForkReply, Label, Name, Options,
     Refusal, ScopeId, TaskId, Value, Verdict,
@@ -46,7 +46,7 @@ impl<C: Catalog> BookState<C> {
             return Err((refusal, joiner));
         }
         match self.realm.perform(&event, listed, None) {
-            Ok(Told::Scope(scope)) => {
+            Ok(EventReply::Scope(scope)) => {
                 self.tests.push_reserved(if listed {
                     Some(joiner.into_test())
                 } else {
@@ -73,7 +73,7 @@ impl<C: Catalog> BookState<C> {
             label,
         };
         match self.perform(&event)? {
-            Told::Task(reply) => Ok(reply),
+            EventReply::Task(reply) => Ok(reply),
             _ => unreachable!(),
         }
     }
@@ -187,23 +187,23 @@ impl<C: Catalog> BookState<C> {
         let told = self.perform(&Event::EndClose { actor, scope })?;
         let _legal = self.limits();
         match told {
-            Told::Closed(verdict) => Ok(verdict),
+            EventReply::Closed(verdict) => Ok(verdict),
             _ => unreachable!(),
         }
     }
 
     /// Performs the command of the event, whichever it is: a scope that it opens has the joiner that its
     /// policy says, and no closure. It is refused as the event's own call is.
-    pub fn perform(&mut self, event: &Event) -> Result<Told, Refusal>
+    pub fn perform(&mut self, event: &Event) -> Result<EventReply, Refusal>
         requires fits { FitsEvent C.fitting (history_of self.old) event.now }
         ensures { Tells (realm_of self.old) event.now result (realm_of self.new) }
     {
         match event {
             Event::Open { .. } => {
                 self.make_room(event)?;
-                let told = self.realm.perform(event, false, None)?;
+                let reply = self.realm.perform(event, false, None)?;
                 self.tests.push_reserved(None);
-                Ok(told)
+                Ok(reply)
             }
             Event::Finish { task, .. } => {
                 let test = test_of(&self.tests, self.realm.realm(), *task);
@@ -223,7 +223,7 @@ impl<C: Catalog> BookState<C> {
         if self.tests.reserve(1).is_ok() {
             return Ok(());
         }
-        match table::tell(self.realm(), &self.limits(), event) {
+        match table::accept(self.realm(), &self.limits(), event) {
             Ok(_) => Err(Refusal::Memory),
             Err(refusal) => Err(refusal),
         }
@@ -245,7 +245,7 @@ impl<C: Catalog> BookState<C> {
 /// The closure that the joiner of the task's scope asks, if it has one.
 fn test_of<'a>(
     tests: &'a [Option<StoredTest>],
-    realm: &KeptRealm,
+    realm: &RealmState,
     task: TaskId,
 ) -> Option<&'a StoredTest> {
     let scope = realm.forked_in(task)?;

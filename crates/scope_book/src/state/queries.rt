@@ -11,7 +11,7 @@ ghost use Rattle.scope_log.specs.Previews.{preview};
 ghost use Rattle.scope_book.specs.Books.{limits_of, history_of};
 
 use crate::state::book::BookState;
-use scope_checks::{Readings, questions};
+use scope_checks::{Readings, queries};
 use scope_log::{Preview, ScopeLog};
 use scope_rules::{
     Actor, Catalog, Cause, Counts, Effective, Event, Fault, Name, Outcome, Refusal, ScopeId, Stage,
@@ -25,14 +25,14 @@ impl<C: Catalog> BookState<C> {
     pub fn state(&self, task: TaskId) -> Result<State, Refusal>
         ensures { result ≡ answering (task_check (history_of self.now) task) (state (history_of self.now) task) }
     {
-        questions::state(self.realm(), task)
+        queries::state(self.realm(), task)
     }
 
     /// How far the task has come. Refused for an unknown task (`NoTask`, `Retired`).
     pub fn stage(&self, task: TaskId) -> Result<Stage, Refusal>
         ensures { result ≡ answering (task_check (history_of self.now) task) (stage (history_of self.now) task) }
     {
-        questions::stage(self.realm(), task)
+        queries::stage(self.realm(), task)
     }
 
     /// The value of the task, read by the owner of its scope after the join (JEP 505, `Subtask.get`).
@@ -42,7 +42,7 @@ impl<C: Catalog> BookState<C> {
     pub fn result(&self, actor: Actor, task: TaskId) -> Result<Value, Refusal>
         ensures { result ≡ result_reply (history_of self.now) actor task }
     {
-        questions::result(self.realm(), actor, task)
+        queries::result(self.realm(), actor, task)
     }
 
     /// The fault of the task, read by the owner of its scope after the join (JEP 505,
@@ -50,14 +50,14 @@ impl<C: Catalog> BookState<C> {
     pub fn fault(&self, actor: Actor, task: TaskId) -> Result<Fault, Refusal>
         ensures { result ≡ fault_reply (history_of self.now) actor task }
     {
-        questions::fault(self.realm(), actor, task)
+        queries::fault(self.realm(), actor, task)
     }
 
     /// Why the scope is cancelled, if it is. Refused for an unknown scope (`NoScope`, `Retired`).
     pub fn cause(&self, scope: ScopeId) -> Result<Option<Cause>, Refusal>
         ensures { result ≡ answering (scope_check (history_of self.now) scope) (cause (history_of self.now) scope) }
     {
-        questions::cause(self.realm(), scope)
+        queries::cause(self.realm(), scope)
     }
 
     /// The place of the event by which the scope became cancelled, if it is, counted from 0 since the
@@ -65,7 +65,7 @@ impl<C: Catalog> BookState<C> {
     pub fn cancelled_at(&self, scope: ScopeId) -> Result<Option<usize>, Refusal>
         ensures { result ≡ answering (scope_check (history_of self.now) scope) (cancelled_at (history_of self.now) scope) }
     {
-        questions::cancelled_at(self.realm(), scope)
+        queries::cancelled_at(self.realm(), scope)
     }
 
     /// The earliest deadline in effect for the scope (Trio, `current_effective_deadline`), in
@@ -73,7 +73,7 @@ impl<C: Catalog> BookState<C> {
     pub fn effective_deadline(&self, scope: ScopeId) -> Result<Effective, Refusal>
         ensures { result ≡ answering (until_check (history_of self.now) scope) (effective (history_of self.now) scope) }
     {
-        questions::effective_deadline(self.realm(), scope)
+        queries::effective_deadline(self.realm(), scope)
     }
 
     /// How many tasks of the scope are at each stage. Refused for an unknown scope (`NoScope`,
@@ -81,7 +81,7 @@ impl<C: Catalog> BookState<C> {
     pub fn counts(&self, scope: ScopeId) -> Result<Counts, Refusal>
         ensures { result ≡ answering (scope_check (history_of self.now) scope) (counts (history_of self.now) scope) }
     {
-        questions::counts(self.realm(), scope)
+        queries::counts(self.realm(), scope)
     }
 
     /// What the actor sees the key bound to (JEP 506, `ScopedValue.get`). Refused if the actor is no
@@ -89,7 +89,7 @@ impl<C: Catalog> BookState<C> {
     pub fn binding(&self, actor: Actor, key: &Name) -> Result<Value, Refusal>
         ensures { result ≡ binding_reply (history_of self.now) actor key.now }
     {
-        questions::binding(self.realm(), actor, key)
+        queries::binding(self.realm(), actor, key)
     }
 
     /// The realm's time, in milliseconds.
@@ -104,7 +104,7 @@ impl<C: Catalog> BookState<C> {
     pub fn outcome(&self, scope: ScopeId) -> Result<Outcome, Refusal>
         ensures { AnswersValue (outcome_check (history_of self.now) scope) (outcome (history_of self.now) scope) result }
     {
-        questions::outcome(self.realm(), *self.tests.allocator(), scope)
+        queries::outcome(self.realm(), *self.tests.allocator(), scope)
     }
 
     /// The log of the scope: its own events since the base, in order, with the mark of its cancellation

@@ -5,7 +5,7 @@ ghost use Rattle.scope_rules.specs.Nests.{outermost, inner_reply, task_inner_rep
 ghost use Rattle.scope_book.specs.Books.{history_of};
 
 use crate::state::book::BookState;
-use scope_checks::{Readings, questions};
+use scope_checks::{Readings, queries};
 use scope_rules::types::values::MAIN;
 use scope_rules::{Catalog, Label, Refusal, ScopeId, ScopeInfo, TaskId};
 
@@ -24,7 +24,7 @@ impl<C: Catalog> BookState<C> {
     pub fn inner(&self, scope: ScopeId) -> Result<Option<ScopeId>, Refusal>
         ensures { result ≡ inner_reply (history_of self.now) scope }
     {
-        questions::inner(self.realm(), scope)
+        queries::inner(self.realm(), scope)
     }
 
     /// The task's outermost scope: the first that it opened and has not closed. Refused for an unknown
@@ -32,7 +32,7 @@ impl<C: Catalog> BookState<C> {
     pub fn task_inner(&self, task: TaskId) -> Result<Option<ScopeId>, Refusal>
         ensures { result ≡ task_inner_reply (history_of self.now) task }
     {
-        questions::task_inner(self.realm(), task)
+        queries::task_inner(self.realm(), task)
     }
 
     /// What there is to say of the scope by itself. Refused for an unknown scope (`NoScope`,
@@ -40,14 +40,14 @@ impl<C: Catalog> BookState<C> {
     pub fn info(&self, scope: ScopeId) -> Result<ScopeInfo, Refusal>
         ensures { result ≡ info_reply (history_of self.now) scope }
     {
-        questions::info(self.realm(), scope)
+        queries::info(self.realm(), scope)
     }
 
     /// The label that the task was forked with. Refused for an unknown task (`NoTask`, `Retired`).
     pub fn label(&self, task: TaskId) -> Result<Label, Refusal>
         ensures { result ≡ label_reply (history_of self.now) task }
     {
-        questions::label(self.realm(), task)
+        queries::label(self.realm(), task)
     }
 
     /// The task that was forked in the scope after so many others, if there is one. Refused for an
@@ -55,6 +55,6 @@ impl<C: Catalog> BookState<C> {
     pub fn task_at(&self, scope: ScopeId, index: usize) -> Result<Option<TaskId>, Refusal>
         ensures { result ≡ task_at_reply (history_of self.now) scope index }
     {
-        questions::task_at(self.realm(), scope, index)
+        queries::task_at(self.realm(), scope, index)
     }
 }

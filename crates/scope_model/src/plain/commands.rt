@@ -207,7 +207,7 @@ impl Plain {
         let (Ok(answered), Ok(kept)) = (view.base_after(alloc), view.base_after(alloc)) else {
             return Err(Refusal::Memory);
         };
-        self.restart(kept);
+        self.reset(kept);
         Ok(answered)
     }
 }

@@ -13,7 +13,7 @@ use scope_rules::types::refusals::Refusal;
 use std::alloc::Global;
 use std::marker::Model;
 
-/// A realm that keeps its journal, and beside it the events as they are, and answers each question by
+/// A realm that keeps its journal, and beside it the events as they are, and answers each query by
 /// scanning these. It is slow on purpose: it is the definitions' plain program, against which faster ones
 /// are tested.
 #[derive(Drop)]
@@ -109,11 +109,11 @@ impl Plain {
     }
 
     /// Leaves the base alone, which is the history's.
-    pub(crate) fn restart(&mut self, base: Base)
+    pub(crate) fn reset(&mut self, base: Base)
         requires { base ≡ base_of self.old.history }
         ensures { self.new ≡ starting self.old.limits base }
     {
-        self.journal.restart(base);
+        self.journal.reset(base);
         self.events.clear();
     }
 }

@@ -11,7 +11,7 @@ ghost use Rattle.scope_log.specs.Previews.{preview};
 
 use crate::plain::evaluator::Plain;
 use scope_checks::checks::scope_check;
-use scope_checks::{questions, table};
+use scope_checks::{queries, table};
 use scope_log::{Preview, ScopeLog};
 use scope_rules::types::answers::{Cause, Counts, Effective, Stage, State};
 use scope_rules::types::events::Event;
@@ -27,14 +27,14 @@ impl Plain {
     pub fn state(&self, task: TaskId) -> Result<State, Refusal>
         ensures { result ≡ answering (task_check self.now.history task) (state self.now.history task) }
     {
-        questions::state(&self.view(), task)
+        queries::state(&self.view(), task)
     }
 
     /// How far the task has come. Refused for an unknown task (`NoTask`, `Retired`).
     pub fn stage(&self, task: TaskId) -> Result<Stage, Refusal>
         ensures { result ≡ answering (task_check self.now.history task) (stage self.now.history task) }
     {
-        questions::stage(&self.view(), task)
+        queries::stage(&self.view(), task)
     }
 
     /// The value of the task, read by the owner of its scope after the join (JEP 505, `Subtask.get`).
@@ -44,7 +44,7 @@ impl Plain {
     pub fn result(&self, actor: Actor, task: TaskId) -> Result<Value, Refusal>
         ensures { result ≡ result_reply self.now.history actor task }
     {
-        questions::result(&self.view(), actor, task)
+        queries::result(&self.view(), actor, task)
     }
 
     /// The fault of the task, read by the owner of its scope after the join (JEP 505,
@@ -52,14 +52,14 @@ impl Plain {
     pub fn fault(&self, actor: Actor, task: TaskId) -> Result<Fault, Refusal>
         ensures { result ≡ fault_reply self.now.history actor task }
     {
-        questions::fault(&self.view(), actor, task)
+        queries::fault(&self.view(), actor, task)
     }
 
     /// Why the scope is cancelled, if it is. Refused for an unknown scope (`NoScope`, `Retired`).
     pub fn cause(&self, scope: ScopeId) -> Result<Option<Cause>, Refusal>
         ensures { result ≡ answering (scope_check self.now.history scope) (cause self.now.history scope) }
     {
-        questions::cause(&self.view(), scope)
+        queries::cause(&self.view(), scope)
     }
 
     /// The place of the event by which the scope became cancelled, if it is, counted from 0 since the
@@ -67,7 +67,7 @@ impl Plain {
     pub fn cancelled_at(&self, scope: ScopeId) -> Result<Option<usize>, Refusal>
         ensures { result ≡ answering (scope_check self.now.history scope) (cancelled_at self.now.history scope) }
     {
-        questions::cancelled_at(&self.view(), scope)
+        queries::cancelled_at(&self.view(), scope)
     }
 
     /// The earliest deadline in effect for the scope (Trio, `current_effective_deadline`), in
@@ -75,7 +75,7 @@ impl Plain {
     pub fn effective_deadline(&self, scope: ScopeId) -> Result<Effective, Refusal>
         ensures { result ≡ answering (until_check self.now.history scope) (effective self.now.history scope) }
     {
-        questions::effective_deadline(&self.view(), scope)
+        queries::effective_deadline(&self.view(), scope)
     }
 
     /// How many tasks of the scope are at each stage. Refused for an unknown scope (`NoScope`,
@@ -83,7 +83,7 @@ impl Plain {
     pub fn counts(&self, scope: ScopeId) -> Result<Counts, Refusal>
         ensures { result ≡ answering (scope_check self.now.history scope) (counts self.now.history scope) }
     {
-        questions::counts(&self.view(), scope)
+        queries::counts(&self.view(), scope)
     }
 
     /// What the actor sees the key bound to (JEP 506, `ScopedValue.get`). Refused if the actor is no
@@ -91,7 +91,7 @@ impl Plain {
     pub fn binding(&self, actor: Actor, key: &Name) -> Result<Value, Refusal>
         ensures { result ≡ binding_reply self.now.history actor key.now }
     {
-        questions::binding(&self.view(), actor, key)
+        queries::binding(&self.view(), actor, key)
     }
 
     /// The realm's time, in milliseconds.
@@ -106,7 +106,7 @@ impl Plain {
     pub fn outcome(&self, scope: ScopeId) -> Result<Outcome, Refusal>
         ensures { AnswersValue (outcome_check self.now.history scope) (outcome self.now.history scope) result }
     {
-        questions::outcome(&self.view(), self.allocator(), scope)
+        queries::outcome(&self.view(), self.allocator(), scope)
     }
 
     /// The log of the scope: its own events since the base, in order, with the mark of its cancellation

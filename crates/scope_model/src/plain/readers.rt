@@ -2,7 +2,7 @@ ghost use Rattle.std.specs.Prelude.{◌≡◌};
 ghost use Rattle.scope_rules.specs.Nests.{outermost, inner_reply, task_inner_reply, task_at_reply, label_reply, info_reply};
 
 use crate::plain::evaluator::Plain;
-use scope_checks::questions;
+use scope_checks::queries;
 use scope_rules::types::infos::ScopeInfo;
 use scope_rules::types::refusals::Refusal;
 use scope_rules::types::values::{Label, MAIN, ScopeId, TaskId};
@@ -22,7 +22,7 @@ impl Plain {
     pub fn inner(&self, scope: ScopeId) -> Result<Option<ScopeId>, Refusal>
         ensures { result ≡ inner_reply self.now.history scope }
     {
-        questions::inner(&self.view(), scope)
+        queries::inner(&self.view(), scope)
     }
 
     /// The task's outermost scope: the first that it opened and has not closed. Refused for an unknown
@@ -30,7 +30,7 @@ impl Plain {
     pub fn task_inner(&self, task: TaskId) -> Result<Option<ScopeId>, Refusal>
         ensures { result ≡ task_inner_reply self.now.history task }
     {
-        questions::task_inner(&self.view(), task)
+        queries::task_inner(&self.view(), task)
     }
 
     /// What there is to say of the scope by itself. Refused for an unknown scope (`NoScope`,
@@ -38,14 +38,14 @@ impl Plain {
     pub fn info(&self, scope: ScopeId) -> Result<ScopeInfo, Refusal>
         ensures { result ≡ info_reply self.now.history scope }
     {
-        questions::info(&self.view(), scope)
+        queries::info(&self.view(), scope)
     }
 
     /// The label that the task was forked with. Refused for an unknown task (`NoTask`, `Retired`).
     pub fn label(&self, task: TaskId) -> Result<Label, Refusal>
         ensures { result ≡ label_reply self.now.history task }
     {
-        questions::label(&self.view(), task)
+        queries::label(&self.view(), task)
     }
 
     /// The task that was forked in the scope after so many others, if there is one. Refused for an
@@ -53,6 +53,6 @@ impl Plain {
     pub fn task_at(&self, scope: ScopeId, index: usize) -> Result<Option<TaskId>, Refusal>
         ensures { result ≡ task_at_reply self.now.history scope index }
     {
-        questions::task_at(&self.view(), scope, index)
+        queries::task_at(&self.view(), scope, index)
     }
 }

@@ -2,12 +2,12 @@ ghost use Rattle.std.specs.Prelude.{◌≡◌, ◌<◌, ◌≤◌, ◌+◌, leng
 ghost use Rattle.scope_rules.specs.Search.{last_of, earliest};
 ghost use Rattle.scope_rules.specs.Chains.{outwards, nearer, earliest_on, sooner, least_on};
 ghost use Rattle.scope_rules.specs.Scopes.{outer};
-ghost use Rattle.scope_rules.specs.Cancels.{move_of, deadline, overdue, direct_kind, kind_by, own_at, own, own_cut, cut, cause, is_cancelled, cancelled_at, cancelled_before, counting_deadline, effective};
+ghost use Rattle.scope_rules.specs.Cancels.{move_of, deadline, overdue, direct_kind, kind_by, own_at, own, own_cancel, first_cancel, cause, is_cancelled, cancelled_at, cancelled_before, counting_deadline, effective};
 
 use crate::scan::view::HistoryView;
 use scope_rules::types::answers::{Cause, CauseKind, Effective};
 use scope_rules::types::events::Event;
-use scope_rules::types::records::{Cut, OwnCancel};
+use scope_rules::types::records::{FirstCancel, OwnCancel};
 use scope_rules::types::values::ScopeId;
 
 impl<'a> HistoryView<'a> {
@@ -123,11 +123,11 @@ impl<'a> HistoryView<'a> {
     }
 
     /// The scope's own cancel, as a cause.
-    fn own_cut(&self, scope: ScopeId) -> Option<Cut>
-        ensures { result ≡ own_cut self.now scope }
+    fn own_cancel(&self, scope: ScopeId) -> Option<FirstCancel>
+        ensures { result ≡ own_cancel self.now scope }
     {
         let own = self.own(scope)?;
-        Some(Cut {
+        Some(FirstCancel {
             place: own.place,
             cause: Cause {
                 scope,
@@ -139,26 +139,26 @@ impl<'a> HistoryView<'a> {
     /// The earliest own cancel of the scopes from the scope outwards, of which it looks at so many;
     /// the nearest on a tie.
     #[tactic(auto, using(scope_rules::proofs::ChainLaws::nearer_none))]
-    fn cut_within(&self, count: u64, scope: ScopeId) -> Option<Cut>
-        ensures { result ≡ earliest_on (own_cut self.now) (outwards (outer self.now) count scope) }
+    fn cancel_within(&self, count: u64, scope: ScopeId) -> Option<FirstCancel>
+        ensures { result ≡ earliest_on (own_cancel self.now) (outwards (outer self.now) count scope) }
     {
         if count == 0 {
             return None;
         }
-        let own = self.own_cut(scope);
+        let own = self.own_cancel(scope);
         match self.outer(scope) {
-            Some(outer) => nearer(own, self.cut_within(count - 1, outer)),
+            Some(outer) => nearer(own, self.cancel_within(count - 1, outer)),
             None => own,
         }
     }
 
     /// Why the scope is cancelled, with the place of the event that did it: the earliest own cancel
     /// on its chain, the nearest on a tie.
-    #[tactic(auto, unfolding(scope_rules::specs::Cancels::cut, scope_rules::specs::Chains::cut_by, scope_rules::specs::Chains::chain_by))]
-    pub fn cut(&self, scope: ScopeId) -> Option<Cut>
-        ensures { result ≡ cut self.now scope }
+    #[tactic(auto, unfolding(scope_rules::specs::Cancels::first_cancel, scope_rules::specs::Chains::first_cancel_by, scope_rules::specs::Chains::chain_by))]
+    pub fn first_cancel(&self, scope: ScopeId) -> Option<FirstCancel>
+        ensures { result ≡ first_cancel self.now scope }
     {
-        self.cut_within(u64::from(scope) + 1, scope)
+        self.cancel_within(u64::from(scope) + 1, scope)
     }
 
     /// Why the scope is cancelled.
@@ -166,8 +166,8 @@ impl<'a> HistoryView<'a> {
     pub fn cause(&self, scope: ScopeId) -> Option<Cause>
         ensures { result ≡ cause self.now scope }
     {
-        let cut = self.cut(scope)?;
-        Some(cut.cause)
+        let first_cancel = self.first_cancel(scope)?;
+        Some(first_cancel.cause)
     }
 
     /// Whether the scope is cancelled.
@@ -175,7 +175,7 @@ impl<'a> HistoryView<'a> {
     pub fn is_cancelled(&self, scope: ScopeId) -> bool
         ensures { result ≡ is_cancelled self.now scope }
     {
-        self.cut(scope).is_some()
+        self.first_cancel(scope).is_some()
     }
 
     /// The place of the event by which the scope became cancelled, not before its opening.
@@ -184,8 +184,8 @@ impl<'a> HistoryView<'a> {
         ensures { result ≡ cancelled_at self.now scope }
     {
         let opening = self.opening(scope)?;
-        let cut = self.cut(scope)?;
-        Some(opening.place.max(cut.place))
+        let first_cancel = self.first_cancel(scope)?;
+        Some(opening.place.max(first_cancel.place))
     }
 
     /// Whether the scope became cancelled before the place.
@@ -227,7 +227,7 @@ impl<'a> HistoryView<'a> {
     }
 
     /// The earliest deadline in effect for the scope (Trio, `current_effective_deadline`).
-    #[tactic(auto, unfolding(scope_rules::specs::Cancels::effective, scope_rules::specs::Cancels::is_cancelled, scope_rules::specs::Cancels::cut, scope_rules::specs::Chains::chain_by))]
+    #[tactic(auto, unfolding(scope_rules::specs::Cancels::effective, scope_rules::specs::Cancels::is_cancelled, scope_rules::specs::Cancels::first_cancel, scope_rules::specs::Chains::chain_by))]
     pub fn effective(&self, scope: ScopeId) -> Effective
         ensures { result ≡ effective self.now scope }
     {
@@ -255,7 +255,7 @@ fn move_of(scope: ScopeId, event: &Event) -> Option<Option<u64>>
 }
 
 /// The earlier of the two; the near one on a tie.
-fn nearer(near: Option<Cut>, far: Option<Cut>) -> Option<Cut>
+fn nearer(near: Option<FirstCancel>, far: Option<FirstCancel>) -> Option<FirstCancel>
     ensures { result ≡ nearer near far }
 {
     match (near, far) {

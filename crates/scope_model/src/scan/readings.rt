@@ -3,7 +3,7 @@ use scope_checks::Readings;
 use scope_rules::types::answers::{Counts, Effective, Stage, State, Verdict};
 use scope_rules::types::names::Name;
 use scope_rules::types::outcomes::Outcome;
-use scope_rules::types::records::{Cut, Forking, Opening};
+use scope_rules::types::records::{FirstCancel, Forking, Opening};
 use scope_rules::types::values::{Actor, ScopeId, TaskId, Value};
 use std::alloc::{AllocError, Global};
 
@@ -103,8 +103,8 @@ impl<'a> Readings for HistoryView<'a> {
         self.counts(scope)
     }
 
-    fn cut(&self, scope: ScopeId) -> Option<Cut> {
-        self.cut(scope)
+    fn first_cancel(&self, scope: ScopeId) -> Option<FirstCancel> {
+        self.first_cancel(scope)
     }
 
     fn deadline(&self, scope: ScopeId) -> Option<u64> {

@@ -8,10 +8,12 @@ ghost use Rattle.scope_rules.specs.Legal.{Legal, Accepts};
 ghost use Rattle.scope_rules.specs.declared.types.capacity.Limits.{Limits};
 ghost use Rattle.scope_rules.specs.declared.types.events.Event.TheVariants.{Open, Join, BeginClose, EndClose};
 ghost use Rattle.scope_rows.specs.Agreement.{AreRowsOf};
-ghost use Rattle.scope_rows.specs.Table.{HasScope, IsNumbered};
+ghost use Rattle.scope_rows.specs.Table.{HasScope};
+ghost use Rattle.scope_rows.specs.Numbered.{HasEntry};
 ghost use Rattle.scope_rows.specs.Steps.{opened, joined, marked, is_this, close_begun, close_ended};
 ghost use Rattle.scope_rows.specs.Wants.{CanOpen, AreLinked, CanBeginClose, CanEndClose};
 
+use crate::numbered::Numbered;
 use crate::records::ScopeRow;
 use crate::rows::Rows;
 use scope_rules::types::records::Opening;
@@ -29,7 +31,7 @@ impl Rows {
         let actor = opening.actor;
         let scope = self.last_scope() + 1;
         let below = self.innermost(actor);
-        self.scopes.push_reserved(ScopeRow {
+        self.scopes.push(ScopeRow {
             opening,
             parent,
             below,
@@ -54,8 +56,7 @@ impl Rows {
         ensures rows { self.new ≡ joined self.old scope place }
         ensures agrees { (L : Limits) (h : History) (actor : ℕ) → Legal L h → Accepts L h (Join actor scope) → AreRowsOf h self.old → place ≡ length h.events → AreRowsOf (followed h (Join actor scope)) self.new }
     {
-        let at = self.scope_place(scope);
-        self.scopes[at].joined = Some(place);
+        self.scopes.get_mut(scope).joined = Some(place);
     }
 
     /// The actor begins the close of its scope: that is closing, and so is each scope that the actor
@@ -65,11 +66,10 @@ impl Rows {
         ensures rows { self.new ≡ close_begun self.old actor scope }
         ensures agrees { (L : Limits) (h : History) → Legal L h → Accepts L h (BeginClose actor scope) → AreRowsOf h self.old → AreRowsOf (followed h (BeginClose actor scope)) self.new }
     {
-        let at = self.scope_place(scope);
         let from = self.innermost(actor);
-        mark_closing(&mut self.scopes, self.scopes_before, from, scope);
+        mark_closing(&mut self.scopes, from, scope);
         let out_of_order = !is_this(from, scope);
-        self.scopes[at].violated |= out_of_order;
+        self.scopes.get_mut(scope).violated |= out_of_order;
     }
 
     /// The actor ends the close of its innermost scope. Its innermost is then the one below it.
@@ -78,22 +78,22 @@ impl Rows {
         ensures rows { self.new ≡ close_ended self.old actor scope }
         ensures agrees { (L : Limits) (h : History) → Legal L h → Accepts L h (EndClose actor scope) → AreRowsOf h self.old → AreRowsOf (followed h (EndClose actor scope)) self.new }
     {
-        let at = self.scope_place(scope);
-        let below = self.scopes[at].below;
-        self.scopes[at].closed = true;
+        let row = self.scopes.get_mut(scope);
+        let below = row.below;
+        row.closed = true;
         self.set_innermost(actor, below);
     }
 }
 
 /// Marks the scopes from this one down to `scope`, each opened below the one before it.
-fn mark_closing(rows: &mut [ScopeRow], before: u32, from: Option<ScopeId>, scope: ScopeId)
-    requires linked { AreLinked before rows.old }
-    requires from { IfSome from (IsNumbered before rows.old) }
-    ensures { rows.new ≡ marked before scope from rows.old }
+fn mark_closing(rows: &mut Numbered<ScopeRow>, from: Option<ScopeId>, scope: ScopeId)
+    requires linked { AreLinked rows.old.before rows.old.items }
+    requires from { IfSome from (HasEntry rows.old) }
+    ensures { rows.new ≡ record rows.old { items = marked rows.old.before scope from rows.old.items } }
 {
     let mut next = from;
     while let Some(here) = next {
-        let row = &mut rows[(here - before - 1) as usize];
+        let row = rows.get_mut(here);
         row.closing = true;
         next = if here == scope { None } else { row.below };
     }

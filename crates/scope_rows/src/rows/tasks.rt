@@ -25,10 +25,9 @@ impl Rows {
         ensures rows { self.new ≡ forked self.old scope place cancelled }
         ensures agrees { (L : Limits) (h : History) (actor : ℕ) (label : Label) → Legal L h → Accepts L h (Fork actor scope label) → AreRowsOf h self.old → place ≡ length h.events → cancelled ≡ is_cancelled h scope → AreRowsOf (followed h (Fork actor scope label)) self.new }
     {
-        let of = self.scope_place(scope);
-        let row = &mut self.scopes[of];
+        let row = self.scopes.get_mut(scope);
         row.counts = with_fork(row.counts, cancelled);
-        self.tasks.push_reserved(new_row(scope, place, cancelled));
+        self.tasks.push(new_row(scope, place, cancelled));
     }
 
     /// The task, which waits, gets no thread.
@@ -54,10 +53,9 @@ impl Rows {
         requires { CanBeTaken self.old task }
         ensures { self.new ≡ taken self.old task stage }
     {
-        let at = self.task_place(task);
-        let of = self.scope_place(self.tasks[at].scope);
-        self.tasks[at].stage = stage;
-        let row = &mut self.scopes[of];
+        let taken = self.tasks.get_mut(task);
+        taken.stage = stage;
+        let row = self.scopes.get_mut(taken.scope);
         row.counts = with_taken(row.counts, stage);
     }
 
@@ -67,12 +65,10 @@ impl Rows {
         ensures rows { self.new ≡ finished self.old task end cancelled }
         ensures agrees { (L : Limits) (h : History) → Legal L h → Accepts L h (Finish task end) → AreRowsOf h self.old → cancelled ≡ is_cancelled h (scope_of self.old task) → AreRowsOf (followed h (Finish task end)) self.new }
     {
-        let at = self.task_place(task);
-        let of = self.scope_place(self.tasks[at].scope);
-        let ended = &mut self.tasks[at];
+        let ended = self.tasks.get_mut(task);
         ended.stage = Stage::Finished;
         ended.state = state_at_end(end, cancelled);
-        let row = &mut self.scopes[of];
+        let row = self.scopes.get_mut(ended.scope);
         row.counts = with_finish(row.counts);
     }
 }

@@ -37,7 +37,7 @@ pub struct OwnCancel {
 
 /// Why a scope is cancelled, with the place of the event that did it.
 #[derive(Clone, Copy)]
-pub struct Cut {
+pub struct FirstCancel {
     pub place: usize,
     pub cause: Cause,
 }

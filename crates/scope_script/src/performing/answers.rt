@@ -3,7 +3,7 @@
 ghost use Rattle.std.specs.Prelude.{◌≡◌, MatchResult};
 ghost use Rattle.scope_script.specs.Replying.{done_reply, replied, reply_of, told_base};
 
-use scope_checks::Told;
+use scope_checks::EventReply;
 use scope_rules::{Base, Event, Refusal};
 use script_words::Reply;
 
@@ -20,15 +20,15 @@ pub(crate) fn told<T, F: FnOnce(T) -> Reply + Drop>(answer: Result<T, Refusal>, 
 
 /// The reply to the event that was told so by its realm, whichever it is. What a join gave is read from the
 /// realm, which tells nothing of it.
-pub fn reply_of(event: &Event, told: Told) -> Reply
+pub fn reply_of(event: &Event, told: EventReply) -> Reply
     ensures { result ≡ reply_of event.now told }
 {
     match told {
-        Told::Scope(scope) => Reply::Scope(scope),
-        Told::Task(task) => Reply::Task(task),
-        Told::Already => Reply::Already,
-        Told::Closed(verdict) => Reply::Closed(verdict),
-        Told::Recorded | Told::Done => done_reply(event),
+        EventReply::Scope(scope) => Reply::Scope(scope),
+        EventReply::Task(task) => Reply::Task(task),
+        EventReply::Already => Reply::Already,
+        EventReply::Closed(verdict) => Reply::Closed(verdict),
+        EventReply::Recorded | EventReply::Done => done_reply(event),
     }
 }
 

@@ -6,7 +6,7 @@ ghost use Rattle.scope_script.specs.Replying.{Performs, PerformsOrStops, StopsAm
 use crate::performing::answers::{reply_of, retired, told};
 use scope_book::BookState;
 use scope_rules::{Actor, AnyEnd, Event, Refusal, ScopeId};
-use script_words::{Command, Question, Reply};
+use script_words::{Command, Query, Reply};
 use std::alloc::AllocError;
 
 /// What the book answers to the command; want of memory is `Refused(Memory)` here.
@@ -18,7 +18,7 @@ pub(crate) fn answer(book: &mut BookState<AnyEnd>, command: &Command) -> Reply
     match command {
         Command::Do(event) => try_event(book, event),
         Command::Retire { actor } => retired(book.retire(*actor)),
-        Command::Ask(question) => ask(book, question),
+        Command::Ask(query) => ask(book, query),
     }
 }
 
@@ -37,21 +37,21 @@ fn try_event(book: &mut BookState<AnyEnd>, event: &Event) -> Reply
     }
 }
 
-/// What the book answers to the question.
+/// What the book answers to the query.
 #[inline(always)]
 #[tactic(auto, unfolding(crate::specs::Replying::answer_to))]
-fn ask(book: &BookState<AnyEnd>, question: &Question) -> Reply
-    ensures { result ≡ answer_to (history_of book.now) question.now }
+fn ask(book: &BookState<AnyEnd>, query: &Query) -> Reply
+    ensures { result ≡ answer_to (history_of book.now) query.now }
 {
-    match *question {
-        Question::State { task } => told(book.state(task), Reply::State),
-        Question::Stage { task } => told(book.stage(task), Reply::Stage),
-        Question::Result { actor, task } => told(book.result(actor, task), Reply::Value),
-        Question::Fault { actor, task } => told(book.fault(actor, task), Reply::Fault),
-        Question::Cause { scope } => told(book.cause(scope), Reply::Cause),
-        Question::Until { scope } => told(book.effective_deadline(scope), Reply::Until),
-        Question::Counts { scope } => told(book.counts(scope), Reply::Counts),
-        Question::Get { actor, key } => told(book.binding(actor, &key), Reply::Value),
+    match *query {
+        Query::State { task } => told(book.state(task), Reply::State),
+        Query::Stage { task } => told(book.stage(task), Reply::Stage),
+        Query::Result { actor, task } => told(book.result(actor, task), Reply::Value),
+        Query::Fault { actor, task } => told(book.fault(actor, task), Reply::Fault),
+        Query::Cause { scope } => told(book.cause(scope), Reply::Cause),
+        Query::Until { scope } => told(book.effective_deadline(scope), Reply::Until),
+        Query::Counts { scope } => told(book.counts(scope), Reply::Counts),
+        Query::Get { actor, key } => told(book.binding(actor, &key), Reply::Value),
     }
 }
 

@@ -1,9 +1,9 @@
--- Each turn leaves the cut at what is reached by way of the inner scopes so far.
+-- Each turn leaves the first cancel at what is reached by way of the inner scopes so far.
 use Rattle.std.proofs.Common.{◌≡◌, ℕ, ◌-◌, ◌<◌, Bool, true, false, Option, None, is_none, is_some, not, List, length, slice_get, get_or, arith, ap, sym, ◌∙◌, subst}
 use Rattle.std.proofs.Math.ListN.{length-set}
 use Rattle.cancel_tree.specs.declared.rows.Links.{Links}
-use Rattle.cancel_tree.specs.declared.rows.Told.{Told}
-use Rattle.scope_rules.specs.declared.types.records.Cut.{Cut}
+use Rattle.cancel_tree.specs.declared.rows.ScopeNode.{ScopeNode}
+use Rattle.scope_rules.specs.declared.types.records.FirstCancel.{FirstCancel}
 use Rattle.cancel_tree.specs.Rows.{outer_of, own_of, IsAdded}
 use Rattle.cancel_tree.specs.Reach.{last_inner}
 use Rattle.cancel_tree.proofs.SpreadLaws.{IsSpreadUpTo, IsListedSoFar, first_link, next_link, next_falls, fewer, spread_start, spread_past, spread_inner}
@@ -18,11 +18,11 @@ no_links = record { level = 0; first_inner = None; next_inner = None }
 pub loop-next-init : goal.loop-next-init
 loop-next-init t c =
     let r = c.requires in
-    let told = c.args.told.now in
+    let nodes = c.args.nodes.now in
     let following : Option ℕ = (get_or c.args.links.now (c.args.scope - 1) no_links).first_inner in (
-      subst (IsSpreadUpTo (outer_of told) (own_of told) c.args.scope following c.args.cut c.args.cuts.now) (sym c.put.ensures.put)
-          (spread_start (outer_of told) r.inward (own_of told) c.args.scope c.args.cut c.args.cuts.now following
-          (first_link (outer_of told) c.args.links.now no_links c.args.scope r.linked r.added.0 (omega (arith, r.added.1, r.rows)) ∙ ap (last_inner (outer_of told) c.args.scope) (r.rows ∙ sym r.columns))
+      subst (IsSpreadUpTo (outer_of nodes) (own_of nodes) c.args.scope following c.args.first_cancel c.args.cancels.now) (sym c.put.ensures.put)
+          (spread_start (outer_of nodes) r.inward (own_of nodes) c.args.scope c.args.first_cancel c.args.cancels.now following
+          (first_link (outer_of nodes) c.args.links.now no_links c.args.scope r.linked r.added.0 (omega (arith, r.added.1, r.rows)) ∙ ap (last_inner (outer_of nodes) c.args.scope) (r.rows ∙ sym r.columns))
           r.added.0 (omega (arith, r.added.1, r.columns))),
       record { whole = c.put.ensures.whole; grown = c.put.ensures.grown },
     )
@@ -30,61 +30,61 @@ loop-next-init t c =
 pub spread-requires : goal.spread-requires
 spread-requires t c =
     let r = c.requires in
-    let told = c.args.told.now in
+    let nodes = c.args.nodes.now in
     let done = c.loop-next.invariant.0 in
     let so_far = c.loop-next.invariant.1 in
     let within = done.within c.in-Some.inner c.in-Some.is in
     let inward = r.inward c.in-Some.inner c.args.scope (done.inner c.in-Some.inner c.in-Some.is) in
-    let measure : length told - c.args.scope ≡ t = c.decreases in
-    let columns : length c.loop-next.cuts ≡ length c.args.cuts.now = c.loop-next.auto.cuts ∙ ap length c.put.ensures.put ∙ length-set _ _ _ in (
-      subst (λ m. length told - c.in-Some.inner < m) measure (fewer (length told) c.args.scope c.in-Some.inner inward.1 (omega (arith, within.1, r.columns))),
+    let measure : length nodes - c.args.scope ≡ t = c.decreases in
+    let columns : length c.loop-next.cancels ≡ length c.args.cancels.now = c.loop-next.auto.cancels ∙ ap length c.put.ensures.put ∙ length-set _ _ _ in (
+      subst (λ m. length nodes - c.in-Some.inner < m) measure (fewer (length nodes) c.args.scope c.in-Some.inner inward.1 (omega (arith, within.1, r.columns))),
       ((within.0, omega (arith, within.1, r.columns)), (r.rows, (columns ∙ r.columns, (r.inward, (r.linked, (so_far.whole, omega (arith, columns, r.room, so_far.grown.room))))))),
     )
 
 pub loop-next-smaller : goal.loop-next-smaller
 loop-next-smaller t c =
     let r = c.requires in
-    let told = c.args.told.now in
+    let nodes = c.args.nodes.now in
     let inner = c.in-Some.inner in
     let within = c.loop-next.invariant.0.within inner c.in-Some.is in
-    next_falls (outer_of told) c.args.scope inner _ c.loop-next.next
-    (next_link (outer_of told) c.args.links.now no_links inner c.args.scope r.linked within.0 (omega (arith, within.1, r.columns, r.rows)) (c.loop-next.invariant.0.inner inner c.in-Some.is))
+    next_falls (outer_of nodes) c.args.scope inner _ c.loop-next.next
+    (next_link (outer_of nodes) c.args.links.now no_links inner c.args.scope r.linked within.0 (omega (arith, within.1, r.columns, r.rows)) (c.loop-next.invariant.0.inner inner c.in-Some.is))
     c.in-Some.is within.0
 
-none_test : (told : List Told) (c : ℕ) (d : Told) (b : Bool) → IsAdded told c → is_some (get_or told (c - 1) d).own ≡ not b → is_none (own_of told c) ≡ b
-none_test told c d b h e = ap is_none (field_at (λ t. t.own) told c d h) ∙ by (get_or told (c - 1) d).own b e
+none_test : (nodes : List ScopeNode) (c : ℕ) (d : ScopeNode) (b : Bool) → IsAdded nodes c → is_some (get_or nodes (c - 1) d).own ≡ not b → is_none (own_of nodes c) ≡ b
+none_test nodes c d b h e = ap is_none (field_at (λ t. t.own) nodes c d h) ∙ by (get_or nodes (c - 1) d).own b e
   where
-    by : (o : Option Cut) (b : Bool) → is_some o ≡ not b → is_none o ≡ b
+    by : (o : Option FirstCancel) (b : Bool) → is_some o ≡ not b → is_none o ≡ b
     by o true e = ap not e
     by o false e = ap not e
 
-abbrev no_told : Told
+abbrev no_told : ScopeNode
 no_told = record { parent = None; shield = false; opened = 0; own = None; deadline = None }
 
 pub loop-next-preserved : goal.loop-next-preserved
 loop-next-preserved t c =
     let r = c.requires in
-    let told = c.args.told.now in
+    let nodes = c.args.nodes.now in
     let done = c.loop-next.invariant.0 in
     let so_far = c.loop-next.invariant.1 in
     let inner = c.in-Some.inner in
     let within = done.within inner c.in-Some.is in
-    let next = next_link (outer_of told) c.args.links.now no_links inner c.args.scope r.linked within.0 (omega (arith, within.1, r.columns, r.rows)) (done.inner inner c.in-Some.is) in
-    let added : IsAdded told inner = (within.0, omega (arith, within.1, r.columns)) in
-    let here = subst (λ o. IsSpreadUpTo (outer_of told) (own_of told) c.args.scope o c.args.cut c.args.cuts.now c.loop-next.cuts) c.in-Some.is done in
+    let next = next_link (outer_of nodes) c.args.links.now no_links inner c.args.scope r.linked within.0 (omega (arith, within.1, r.columns, r.rows)) (done.inner inner c.in-Some.is) in
+    let added : IsAdded nodes inner = (within.0, omega (arith, within.1, r.columns)) in
+    let here = subst (λ o. IsSpreadUpTo (outer_of nodes) (own_of nodes) c.args.scope o c.args.first_cancel c.args.cancels.now c.loop-next.cancels) c.in-Some.is done in
     let following : Option ℕ = (get_or c.args.links.now (inner - 1) no_links).next_inner in
-    let columns : length c.loop-next.cuts ≡ length c.args.cuts.now = c.loop-next.auto.cuts ∙ ap length c.put.ensures.put ∙ length-set _ _ _ in
+    let columns : length c.loop-next.cancels ≡ length c.args.cancels.now = c.loop-next.auto.cancels ∙ ap length c.put.ensures.put ∙ length-set _ _ _ in
     elim c.if-is_none.branch [
       | then-is_none w ↦ (
-        spread_inner (outer_of told) r.inward (own_of told) c.args.scope inner c.args.cut c.args.cuts.now following next c.loop-next.cuts c.if-is_none.cuts
-            columns (none_test told inner no_told true added (c.is_none.ensures ∙ ap not w.if-is_none.true)) here
-            (λ i lt. ap (λ cs. slice_get cs i) w.cuts-is ∙ w.spread.ensures.spread i lt),
-        subst (λ cs. IsListedSoFar cs c.args.listed.now c.if-is_none.listed) (sym w.cuts-is) (subst (IsListedSoFar w.spread.new.cuts c.args.listed.now) (sym w.listed-is)
+        spread_inner (outer_of nodes) r.inward (own_of nodes) c.args.scope inner c.args.first_cancel c.args.cancels.now following next c.loop-next.cancels c.if-is_none.cancels
+            columns (none_test nodes inner no_told true added (c.is_none.ensures ∙ ap not w.if-is_none.true)) here
+            (λ i lt. ap (λ cs. slice_get cs i) w.cancels-is ∙ w.spread.ensures.spread i lt),
+        subst (λ cs. IsListedSoFar cs c.args.listed.now c.if-is_none.listed) (sym w.cancels-is) (subst (IsListedSoFar w.spread.new.cancels c.args.listed.now) (sym w.listed-is)
             (record { whole = w.spread.ensures.whole; grown = grown_twice c.args.listed.now c.loop-next.listed w.spread.new.listed so_far.grown w.spread.ensures.grown })),
       )
       | else-is_none w ↦ (
-        subst (λ cs. IsSpreadUpTo (outer_of told) (own_of told) c.args.scope following c.args.cut c.args.cuts.now cs) (sym w.cuts-is)
-            (spread_past (outer_of told) r.inward (own_of told) c.args.scope inner c.args.cut c.args.cuts.now following next c.loop-next.cuts (none_test told inner no_told false added (c.is_none.ensures ∙ ap not w.if-is_none.false)) here),
-        subst (λ cs. IsListedSoFar cs c.args.listed.now c.if-is_none.listed) (sym w.cuts-is) (subst (IsListedSoFar c.loop-next.cuts c.args.listed.now) (sym w.listed-is) so_far),
+        subst (λ cs. IsSpreadUpTo (outer_of nodes) (own_of nodes) c.args.scope following c.args.first_cancel c.args.cancels.now cs) (sym w.cancels-is)
+            (spread_past (outer_of nodes) r.inward (own_of nodes) c.args.scope inner c.args.first_cancel c.args.cancels.now following next c.loop-next.cancels (none_test nodes inner no_told false added (c.is_none.ensures ∙ ap not w.if-is_none.false)) here),
+        subst (λ cs. IsListedSoFar cs c.args.listed.now c.if-is_none.listed) (sym w.cancels-is) (subst (IsListedSoFar c.loop-next.cancels c.args.listed.now) (sym w.listed-is) so_far),
       )
     ]

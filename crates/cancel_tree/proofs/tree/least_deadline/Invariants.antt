@@ -6,7 +6,7 @@ use Rattle.cancel_tree.proofs.LeastLaws.{IsLeastSoFar}
 use Rattle.cancel_tree.proofs.tree.least_deadline.Given as goal
 
 abbrev pub invariant-loop-next : goal.invariant-loop-next
-invariant-loop-next l = IsLeastSoFar (outer_of l.told) (deadline_of l.told) (length l.told) l.fn.scope l.least l.next
+invariant-loop-next l = IsLeastSoFar (outer_of l.nodes) (deadline_of l.nodes) (length l.nodes) l.fn.scope l.least l.next
 
 abbrev pub decreases-loop-next : goal.decreases-loop-next
 decreases-loop-next l = place l.next

@@ -1,7 +1,7 @@
 use Rattle.std.proofs.Common.{ap, ◌∙◌}
 use Rattle.realm_core.specs.Cores.{CoreValue}
 use Rattle.share_ledger.specs.Values.{OwnerValue}
-use Rattle.realm_core.proofs.EndSteps.{way_begins, way_goes_on, way_ends, told_of}
+use Rattle.realm_core.proofs.EndSteps.{way_begins, way_goes_on, way_ends, event_reply_of}
 use Rattle.realm_core.proofs.ending.end_all.Goals as goal
 
 pub loop-last-init : goal.loop-last-init
@@ -14,7 +14,7 @@ loop-last-preserved g c =
     let it = c.end_innermost-last-in-loop-last.ensures in
     let so_far = c.loop-last.invariant in
     let seen = c.end_innermost-last-in-loop-last.new.token.seen in
-    let end = told_of _ _ _ _ _ _ _ _ _ (ap (λ (t : OwnerValue). t.limits) so_far.0) (ap (λ (t : OwnerValue). t.actor) so_far.0) (ap (λ (c : CoreValue). c.steps) so_far.1) it.end in (
+    let end = event_reply_of _ _ _ _ _ _ _ _ _ (ap (λ (t : OwnerValue). t.limits) so_far.0) (ap (λ (t : OwnerValue). t.actor) so_far.0) (ap (λ (c : CoreValue). c.steps) so_far.1) it.end in (
       it.seen.0 ∙ ap (λ (t : OwnerValue). record t { seen = seen }) so_far.0,
       it.seen.1 ∙ ap (λ (c : CoreValue). record c { steps = seen }) so_far.1,
       way_goes_on _ _ _ _ _ _ _ _ so_far.2 end,

@@ -7,16 +7,16 @@ use Rattle.scope_rules.proofs.PassedRows.{end_close_passed}
 use Rattle.scope_checks.proofs.Remade.{row_passes}
 use Rattle.scope_checks.proofs.table.try_event.Goals as goal
 
-pub overflow_add-told : goal.overflow_add-told
-overflow_add-told g c =
+pub overflow_add-reply : goal.overflow_add-reply
+overflow_add-reply g c =
     let L = c.args.limits.now in
     let h = g.R.Readings.history c.args.readings.now in
     let of = c.in-Open in
     let ok : check_of L h (Open of.actor of.policy of.options) ≡ Ok tt = row_passes g.F.FromFailed.made L h _ (sym (c.open_row.ensures of.policy of.options) ∙ c.in_ok-open_row-in-Open.was) in
     omega (arith, (open_number L h of.actor of.policy of.options ok).1, c.scopes.ensures)
 
-pub fork_told-requires : goal.fork_told-requires
-fork_told-requires g c =
+pub fork_answer-requires : goal.fork_answer-requires
+fork_answer-requires g c =
     let L = c.args.limits.now in
     let h = g.R.Readings.history c.args.readings.now in
     let of = c.in-Fork in

@@ -1,8 +1,8 @@
-use Rattle.scope_rules.specs.Cancels.{own_cut, cut}
+use Rattle.scope_rules.specs.Cancels.{own_cancel, first_cancel}
 use Rattle.scope_rules.specs.Scopes.{outer, chain}
-use Rattle.scope_rules.proofs.EarliestLaws.{cut_earliest}
+use Rattle.scope_rules.proofs.EarliestLaws.{cancel_earliest}
 use Rattle.scope_rules.proofs.laws.cause_is_earliest.Goals as goal
 
 pub returns : goal.returns
-unfolding chain cut
-returns c = λ h s. cut_earliest (outer h) (own_cut h) s
+unfolding chain first_cancel
+returns c = λ h s. cancel_earliest (outer h) (own_cancel h) s

@@ -12,13 +12,13 @@ use Rattle.std.proofs.Crossing as heap
 use Rattle.std_alloc.proofs.SendSync.{quiet, lies}
 use Rattle.std_heap.proofs.Global.TheSendSync as handle
 use Rattle.balkreyn_c.specs.Owning.{Realm, place_owns}
-use Rattle.kept_realm.specs.contracts.realm.KeptRealm as Kept
-use Rattle.kept_realm.proofs.realm.KeptRealm.TheSendSync.{the_send as kept}
+use Rattle.realm_state.specs.contracts.realm.RealmState as State
+use Rattle.realm_state.proofs.realm.RealmState.TheSendSync.{the_send as kept}
 use Rattle.balkreyn_c.specs.contracts.place.Place.{the_row, the_type}
 
 keyless : (alloc : Global) (at : Ptr) (held : Option Realm) → Keyless (place_owns alloc at held)
 keyless alloc at None = tt
-keyless alloc at (Some realm) = (lies Kept.the_row kept at realm, heap.frees.frees alloc (raw (lone Kept.the_row.mir)) at)
+keyless alloc at (Some realm) = (lies State.the_row kept at realm, heap.frees.frees alloc (raw (lone State.the_row.mir)) at)
 
 pub send : IsSend the_row
 send =

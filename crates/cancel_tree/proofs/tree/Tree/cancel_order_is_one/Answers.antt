@@ -1,7 +1,7 @@
 use Rattle.std.specs.Prelude.{is_some}
-use Rattle.cancel_tree.specs.Rows.{cut_of, cancelled_at}
+use Rattle.cancel_tree.specs.Rows.{cancel_of, cancelled_at}
 use Rattle.cancel_tree.proofs.OrderLaws.{order_unique}
 use Rattle.cancel_tree.proofs.tree.Tree.cancel_order_is_one.Goals as goal
 
 pub returns : goal.returns
-returns c = order_unique (λ s. is_some (cut_of c.args.self.now s)) (cancelled_at c.args.self.now)
+returns c = order_unique (λ s. is_some (cancel_of c.args.self.now s)) (cancelled_at c.args.self.now)

@@ -7,5 +7,5 @@ use Rattle.cancel_tree.proofs.tree.Tree.chain_goes_outwards.Goals as goal
 
 pub returns : goal.returns
 returns c =
-    let inward = subst (λ ts. IsInward (outer_of ts)) c.self.view_is (outer_inward c.self.inside.told.items c.self.invariant.columns.inward) in
+    let inward = subst (λ ts. IsInward (outer_of ts)) c.self.view_is (outer_inward c.self.inside.nodes.items c.self.invariant.columns.inward) in
     chain_law (outer_of c.args.self.now) inward c.args.scope

@@ -7,4 +7,4 @@ use Rattle.cancel_tree.proofs.tree.Tree.effective_deadline.Goals as goal
 
 pub least_deadline-requires-clause-inward : goal.least_deadline-requires-clause-inward
 least_deadline-requires-clause-inward c =
-    subst (λ ts. IsInward (outer_of ts)) (sym c.deref.ensures.value) (outer_inward c.self.inside.told.items c.self.invariant.columns.inward)
+    subst (λ ts. IsInward (outer_of ts)) (sym c.deref.ensures.value) (outer_inward c.self.inside.nodes.items c.self.invariant.columns.inward)

@@ -19,4 +19,4 @@ returns-in-Some-clause-shows g c =
 pub returns-in-Some-clause-of : goal.returns-in-Some-clause-of
 returns-in-Some-clause-of g c =
     of_last c.args.self.now.around c.args.self.now.opened.items c.pop.new.self.items c.in-Some.open c.wait_by-shown.new.self (shown_in c.wait_by-shown.result) c.in-Some.ensures.items c.wait_by-shown.ensures.cell
-    (shown_seat c.in-Some.open.marker c.wait_by-shown.new.self (shown_in c.wait_by-shown.result) c.wait_by-shown.ensures.mark)
+    (shown_seat c.in-Some.open.reader c.wait_by-shown.new.self (shown_in c.wait_by-shown.result) c.wait_by-shown.ensures.mark)

@@ -12,4 +12,4 @@ returns-in-Some-clause-rest g c =
 
 pub returns-in-Some-clause-of : goal.returns-in-Some-clause-of
 returns-in-Some-clause-of g c =
-    of_last c.args.self.now.around c.args.self.now.opened.items c.pop.new.self.items c.in-Some.open c.look-mark.new.self c.look-mark.result c.in-Some.ensures.items c.look-mark.ensures.cell (shown_seat c.in-Some.open.marker c.look-mark.new.self c.look-mark.result c.look-mark.ensures.mark)
+    of_last c.args.self.now.around c.args.self.now.opened.items c.pop.new.self.items c.in-Some.open c.look-mark.new.self c.look-mark.result c.in-Some.ensures.items c.look-mark.ensures.cell (shown_seat c.in-Some.open.reader c.look-mark.new.self c.look-mark.result c.look-mark.ensures.mark)

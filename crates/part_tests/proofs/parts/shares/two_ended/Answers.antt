@@ -5,8 +5,8 @@ use Rattle.scope_rules.specs.declared.types.events.Event.TheVariants.{Fork, Star
 use Rattle.scope_rules.specs.History.{tasks, opening}
 use Rattle.scope_rules.specs.Scopes.{outer}
 use Rattle.scope_rules.specs.Search.{earliest}
-use Rattle.scope_rules.specs.Chains.{chain_by, cut_by}
-use Rattle.scope_rules.specs.Cancels.{is_cancelled, cut, own, own_at}
+use Rattle.scope_rules.specs.Chains.{chain_by, first_cancel_by}
+use Rattle.scope_rules.specs.Cancels.{is_cancelled, first_cancel, own, own_at}
 use Rattle.share_ledger.specs.declared.steps.RealmStep.{RealmStep}
 use Rattle.share_ledger.specs.declared.steps.RealmStep.TheVariants.{Happened}
 use Rattle.share_ledger.specs.Steps.{history_of}
@@ -26,7 +26,7 @@ unfolding history_of
 one_fork a s label xs ys none is = rw (is, none) refl
 
 still_live : (a s : ℕ) (label : Label) (xs ys : List RealmStep) → xs ≡ [] → ys ≡ xs ++ Happened (Fork a s label) ∷ [] → is_cancelled (history_of ys) 1 ≡ false
-unfolding history_of is_cancelled cut cut_by chain_by own earliest own_at opening outer
+unfolding history_of is_cancelled first_cancel first_cancel_by chain_by own earliest own_at opening outer
 still_live a s label xs ys none is =
     subst (λ (zs : List RealmStep). is_cancelled (history_of zs) 1 ≡ false) (sym is)
     (subst (λ (zs : List RealmStep). is_cancelled (history_of (zs ++ Happened (Fork a s label) ∷ [])) 1 ≡ false) (sym none) refl)

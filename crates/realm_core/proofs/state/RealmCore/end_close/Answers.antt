@@ -4,7 +4,7 @@ use Rattle.scope_rules.specs.declared.types.events.Event.TheVariants.{EndClose}
 use Rattle.share_ledger.specs.declared.steps.RealmStep.{RealmStep}
 use Rattle.share_ledger.specs.Steps.{history_of}
 use Rattle.share_ledger.proofs.Histories.{legal_history}
-use Rattle.scope_checks.specs.declared.told.Told.{Told}
+use Rattle.scope_checks.specs.declared.event_replies.EventReply.{EventReply}
 use Rattle.realm_core.specs.Calls.{DidPerform}
 use Rattle.realm_core.specs.Cores.{CoreValue}
 use Rattle.realm_core.specs.Endings.{CanEnd}
@@ -29,5 +29,5 @@ returns-clause-answer g c =
     let new = c.perform.new.share in
     let Q : ℕ → Type 0 = λ a. DidPerform old new (EndClose a c.args.scope) (Ok c.in_ok-verdict.field-0) in
     let did = subst Q c.actor-actor.ensures c.in_ok-verdict.ensures.answer.1 in
-    let P : Told → Type 0 = λ t. DidPerform old new (EndClose old.actor c.args.scope) (Ok t) in
+    let P : EventReply → Type 0 = λ t. DidPerform old new (EndClose old.actor c.args.scope) (Ok t) in
     (c.in_ok-verdict.ensures.answer.0, closed_told old new old.actor c.args.scope c.in-Closed.verdict (subst P c.in-Closed.is did))

@@ -3,7 +3,7 @@ use Rattle.std.proofs.Common.{◌≡◌, refl, ap, Ok}
 use Rattle.scope_rules.specs.declared.types.answers.ForkReply.TheVariants.{Thread, Never}
 use Rattle.scope_rules.specs.declared.types.events.Event.TheVariants.{Fork}
 use Rattle.share_ledger.specs.declared.steps.RealmStep.TheVariants.{Happened}
-use Rattle.scope_checks.specs.declared.told.Told.TheVariants.{Task}
+use Rattle.scope_checks.specs.declared.event_replies.EventReply.TheVariants.{Task}
 use Rattle.share_ledger.specs.Values.{TicketValue}
 use Rattle.realm_core.proofs.Performed.{tied_performed, performed_now, fork_told}
 use Rattle.realm_core.proofs.state.RealmCore.fork.Goals as goal

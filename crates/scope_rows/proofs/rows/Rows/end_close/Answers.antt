@@ -12,8 +12,8 @@ use Rattle.scope_rows.proofs.rows.Rows.end_close.Goals as goal
 pub returns-clause-rows : goal.returns-clause-rows
 returns-clause-rows c =
     c.set_innermost.ensures
-    ∙ (ap (λ t. with_innermost t c.args.actor c.index.result.now.below) (scope_written closed_row _ c.args.self.now c.args.scope c.scope_place-at.result c.index_mut.result.now c.self.view_is c.scope_place-at.ensures.place c.scope_place-at.ensures.within c.index_mut.ensures.value)
-    ∙ ap (with_innermost (with_scope c.args.self.now c.args.scope closed_row) c.args.actor) (below_read _ c.args.self.now c.args.scope c.scope_place-at.result c.index.result.now c.self.view_is c.requires.scope c.scope_place-at.ensures.place c.scope_place-at.ensures.within c.index.ensures))
+    ∙ (ap (λ t. with_innermost t c.args.actor c.get_mut-row.result.now.below) (scope_written closed_row _ c.args.self.now c.args.scope c.get_mut-row.result.now c.self.view_is c.get_mut-row.ensures.value)
+    ∙ ap (with_innermost (with_scope c.args.self.now c.args.scope closed_row) c.args.actor) (below_read _ c.args.self.now c.args.scope c.get_mut-row.result.now c.self.view_is c.requires.scope c.get_mut-row.ensures.value))
 
 pub returns-clause-agrees : goal.returns-clause-agrees
 returns-clause-agrees c = λ L h legal ok are.

@@ -11,8 +11,7 @@ use Rattle.scope_rows.proofs.rows.Rows.finish.Goals as goal
 
 pub returns-clause-rows : goal.returns-clause-rows
 returns-clause-rows c =
-    move_written (ended_row c.state_at_end-ended.result) count_finish _ c.args.self.now c.args.task c.task_place-at.result c.scope_place-of.result c.index.result.now c.index_mut-ended.result.now c.index_mut-row.result.now c.with_finish-row.result c.self.view_is c.requires.task
-    c.task_place-at.ensures.place c.task_place-at.ensures.within c.index.ensures c.index_mut-ended.ensures.value c.scope_place-of.ensures.place c.scope_place-of.ensures.within c.index_mut-row.ensures.value c.with_finish-row.ensures
+    move_written (ended_row c.state_at_end-ended.result) count_finish _ c.args.self.now c.args.task c.get_mut-ended.result.now c.get_mut-row.result.now c.with_finish-row.result c.self.view_is c.requires.task c.get_mut-ended.ensures.value c.get_mut-row.ensures.value c.with_finish-row.ensures
     ∙ ap (λ x. moved c.args.self.now c.args.task (ended_row x) count_finish) c.state_at_end-ended.ensures
 
 pub returns-clause-agrees : goal.returns-clause-agrees

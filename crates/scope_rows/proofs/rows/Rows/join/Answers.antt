@@ -11,7 +11,7 @@ use Rattle.scope_rows.proofs.rows.Rows.join.Goals as goal
 
 pub returns-clause-rows : goal.returns-clause-rows
 returns-clause-rows c =
-    scope_written (joined_row c.args.place) _ c.args.self.now c.args.scope c.scope_place-at.result c.index_mut.result.now c.self.view_is c.scope_place-at.ensures.place c.scope_place-at.ensures.within c.index_mut.ensures.value
+    scope_written (joined_row c.args.place) _ c.args.self.now c.args.scope c.get_mut.result.now c.self.view_is c.get_mut.ensures.value
 
 pub returns-clause-agrees : goal.returns-clause-agrees
 returns-clause-agrees c = λ L h actor legal ok are now.

@@ -1,5 +1,5 @@
 -- The row of the new scope is the last, and the scope is its actor's innermost.
-use Rattle.std.proofs.Common.{sym, subst, ◌∙◌, arith}
+use Rattle.std.proofs.Common.{sym, subst}
 use Rattle.scope_rules.specs.declared.types.events.Event.TheVariants.{Open}
 use Rattle.scope_rules.specs.History.{followed}
 use Rattle.scope_rows.specs.Table.{RowTable}
@@ -10,8 +10,8 @@ use Rattle.scope_rows.proofs.rows.Rows.open.Goals as goal
 
 pub returns-clause-rows : goal.returns-clause-rows
 returns-clause-rows c =
-    c.set_innermost.ensures
-    ∙ open_written _ c.args.self.now c.args.opening c.args.parent c.innermost-below.result c.args.height c.push_reserved.new.self.items _ c.last_scope-scope.result c.self.view_is c.push_reserved.ensures.items (omega (arith, c.push_reserved.ensures.len, c.push_reserved.ensures.capacity)) c.innermost-below.ensures.row c.last_scope-scope.ensures.number
+    rw (c.set_innermost.ensures, c.push.ensures)
+    (open_written _ c.args.self.now c.args.opening c.args.parent c.innermost-below.result c.args.height c.last_scope-scope.result c.self.view_is c.innermost-below.ensures.row c.last_scope-scope.ensures.number)
 
 pub returns-clause-agrees : goal.returns-clause-agrees
 returns-clause-agrees c = λ L h legal ok are now parent height.

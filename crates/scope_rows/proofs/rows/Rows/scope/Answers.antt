@@ -1,11 +1,11 @@
 -- What is read is the row of the scope's number.
 use Rattle.std.proofs.Common.{ap, ◌∙◌}
 use Rattle.scope_rows.proofs.Reading.{scope_answer}
-use Rattle.scope_rows.specs.Table.{RowTable, row_of, scope_row}
+use Rattle.scope_rows.specs.Table.{RowTable, scope_row}
 use Rattle.scope_rows.proofs.rows.Rows.scope.Goals as goal
 
 pub returns-clause-row : goal.returns-clause-row
-returns-clause-row c = c.row_of.ensures ∙ ap (λ rows. row_of c.self.inside.scopes_before rows c.args.scope) c.deref.ensures.value ∙ ap (λ (t : RowTable). scope_row t c.args.scope) c.self.view_is
+returns-clause-row c = c.find.ensures ∙ ap (λ (t : RowTable). scope_row t c.args.scope) c.self.view_is
 
 pub returns-clause-agrees : goal.returns-clause-agrees
-returns-clause-agrees c = λ h are. scope_answer h c.args.self.now c.args.scope c.row_of.result (returns-clause-row c) are
+returns-clause-agrees c = λ h are. scope_answer h c.args.self.now c.args.scope c.find.result (returns-clause-row c) are

@@ -5,4 +5,4 @@ use Rattle.scope_rows.proofs.rows.Rows.set_innermost.Goals as goal
 
 pub returns-else-actor-eq-MAIN : goal.returns-else-actor-eq-MAIN
 returns-else-actor-eq-MAIN c =
-    inner_written _ c.args.self.now c.args.actor _ c.index_mut.result.now c.args.innermost c.unwrap_or.result c.self.view_is (ne_eqb c.args.actor 0 c.if-actor-eq-MAIN.false) c.requires c.place_of-at.ensures c.index_mut.ensures.value c.unwrap_or.ensures
+    inner_written _ c.args.self.now c.args.actor c.get_mut.result.now c.args.innermost c.unwrap_or.result c.self.view_is (ne_eqb c.args.actor 0 c.if-actor-eq-MAIN.false) c.get_mut.ensures.value c.unwrap_or.ensures

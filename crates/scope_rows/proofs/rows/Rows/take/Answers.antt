@@ -5,5 +5,4 @@ use Rattle.scope_rows.proofs.rows.Rows.take.Goals as goal
 
 pub returns : goal.returns
 returns c =
-    move_written (stage_row c.args.stage) (count_taken c.args.stage) _ c.args.self.now c.args.task c.task_place-at.result c.scope_place-of.result c.index.result.now c.index_mut.result.now c.index_mut-row.result.now c.with_taken-row.result c.self.view_is c.requires.task
-    c.task_place-at.ensures.place c.task_place-at.ensures.within c.index.ensures c.index_mut.ensures.value c.scope_place-of.ensures.place c.scope_place-of.ensures.within c.index_mut-row.ensures.value c.with_taken-row.ensures
+    move_written (stage_row c.args.stage) (count_taken c.args.stage) _ c.args.self.now c.args.task c.get_mut-taken.result.now c.get_mut-row.result.now c.with_taken-row.result c.self.view_is c.requires.task c.get_mut-taken.ensures.value c.get_mut-row.ensures.value c.with_taken-row.ensures

@@ -1,11 +1,11 @@
 -- What is read is the row of the task's number.
 use Rattle.std.proofs.Common.{ap, ◌∙◌}
 use Rattle.scope_rows.proofs.Reading.{task_answer}
-use Rattle.scope_rows.specs.Table.{RowTable, row_of, task_row}
+use Rattle.scope_rows.specs.Table.{RowTable, task_row}
 use Rattle.scope_rows.proofs.rows.Rows.task.Goals as goal
 
 pub returns-clause-row : goal.returns-clause-row
-returns-clause-row c = c.row_of.ensures ∙ ap (λ rows. row_of c.self.inside.tasks_before rows c.args.task) c.deref.ensures.value ∙ ap (λ (t : RowTable). task_row t c.args.task) c.self.view_is
+returns-clause-row c = c.find.ensures ∙ ap (λ (t : RowTable). task_row t c.args.task) c.self.view_is
 
 pub returns-clause-agrees : goal.returns-clause-agrees
-returns-clause-agrees c = λ h are. task_answer h c.args.self.now c.args.task c.row_of.result (returns-clause-row c) are
+returns-clause-agrees c = λ h are. task_answer h c.args.self.now c.args.task c.find.result (returns-clause-row c) are

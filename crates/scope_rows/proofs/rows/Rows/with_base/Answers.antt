@@ -4,4 +4,4 @@ use Rattle.scope_rows.proofs.Empty.{rows_empty}
 use Rattle.scope_rows.proofs.rows.Rows.with_base.Goals as goal
 
 pub returns-clause-agrees : goal.returns-clause-agrees
-returns-clause-agrees c = λ base scopes tasks. rows_empty base _ c.new.ensures.items c.new-2.ensures.items refl scopes tasks
+returns-clause-agrees c = λ base scopes tasks. rw (c.new.ensures, c.new-2.ensures) (rows_empty base _ refl refl refl scopes tasks)

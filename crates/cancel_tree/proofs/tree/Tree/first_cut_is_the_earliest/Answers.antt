@@ -1,6 +1,0 @@
-use Rattle.cancel_tree.specs.Rows.{outer_of, own_of}
-use Rattle.scope_rules.proofs.EarliestLaws.{cut_earliest}
-use Rattle.cancel_tree.proofs.tree.Tree.first_cut_is_the_earliest.Goals as goal
-
-pub returns : goal.returns
-returns c = cut_earliest (outer_of c.args.self.now) (own_of c.args.self.now) c.args.scope

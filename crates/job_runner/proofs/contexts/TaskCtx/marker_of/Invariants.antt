@@ -1,7 +1,0 @@
--- No scope before the index has the number.
-use Rattle.std.proofs.Common.{take}
-use Rattle.job_runner.specs.Lists.{IsUnlisted}
-use Rattle.job_runner.proofs.contexts.TaskCtx.marker_of.Given as goal
-
-abbrev pub invariant-loop-open : goal.invariant-loop-open
-invariant-loop-open g l = IsUnlisted l.scope (take l.open-index l.fn.self.opened.items)

@@ -1,8 +1,0 @@
-pub mod There
-pub mod Ready
-pub mod Told
-pub mod Said
-pub mod Growing
-pub mod NeverOpened
-pub mod Closed
-pub mod StepPlaces

@@ -1,7 +1,0 @@
--- The scope's entries, under what it was opened with, are its log.
-use Rattle.std.proofs.Common.{Some, ap, sym, ◌∙◌}
-use Rattle.kept_realm.proofs.Said.{log_is}
-use Rattle.kept_realm.proofs.realm.KeptRealm.opened_log.Goals as goal
-
-pub returns-clause-log : goal.returns-clause-log
-returns-clause-log c = log_is c.args.self.now.history c.args.scope c.args.opened c.in_ok-entries.entries.items c.requires.opened c.in_ok-entries.ensures.entries ∙ ap Some (sym c.new.ensures)

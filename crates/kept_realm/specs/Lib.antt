@@ -1,5 +1,0 @@
-pub mod Lending
-pub mod Telling
-pub mod Fits
-pub mod Readings
-pub mod Steps

@@ -1,7 +1,0 @@
-use Rattle.std.proofs.Common.{ap}
-use Rattle.realm_core.specs.Cores.{CoreValue}
-use Rattle.realm_lock.proofs.Behind.{marks_begin}
-use Rattle.realm_lock.proofs.marked.MarkedCore.new.Goals as goal
-
-pub invariant_of-marked : goal.invariant_of-marked
-invariant_of-marked g c = marks_begin c.new-core.result.0 c.new-setters.result (ap (λ (k : CoreValue). k.steps) c.new-core.ensures.core) c.new-setters.ensures.0 c.new-setters.ensures.1

@@ -1,0 +1,10 @@
+-- What a realm is once a list that it lent is handed back.
+use Rattle.std.specs.Prelude.{◌≡◌, ⊤}
+use Rattle.std.specs.Borrow.{follows_so, Fml, MutBor}
+use mathlib.Core.Option.{none}
+use Rattle.scope_rules.specs.Replies.{Realm}
+use Rattle.realm_state.specs.contracts.realm.RealmState.{the_row}
+
+-- it is what it was before
+abbrev pub KeepsRealm : MutBor Realm → Fml
+KeepsRealm realm = follows_so the_row the_row realm.ghost_name none (λ _ _. ⊤) (λ last. last ≡ realm.now)

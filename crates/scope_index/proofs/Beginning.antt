@@ -1,0 +1,24 @@
+-- What is kept before the first event.
+use Rattle.std.proofs.Common.{◌≡◌, ℕ, zero, suc, Some, [], refl, sym}
+use Rattle.scope_rules.specs.Origin.{Origin}
+use Rattle.scope_rules.specs.History.{moment}
+use Rattle.scope_rules.specs.Search.{last_of}
+use Rattle.cancel_tree.specs.declared.rows.ScopeNode.{ScopeNode}
+use Rattle.cancel_tree.specs.Rows as rows
+use Rattle.scope_index.specs.CancelsOf.{AreCancelsOf}
+
+no_row : (n : ℕ) (t : ScopeNode) → rows.row [] n ≡ Some t → ⊥
+no_row zero t is = absurd cc
+no_row (suc n) t is = absurd cc
+
+-- no rows, and the base's numbers and moment
+pub begun : (before now : ℕ) (b : Origin) → b.scopes ≡ before → b.moment ≡ now → AreCancelsOf (record { base = b; events = [] }) (record { before = before; moment = now; nodes = []; accounts = [] })
+unfolding moment last_of
+begun before now b scopes at = record {
+  numbered = sym scopes;
+  moment = sym at;
+  count = refl;
+  counted = refl;
+  rows = λ n row is. absurd (no_row n row is);
+  accounts = λ i a is. absurd cc;
+}

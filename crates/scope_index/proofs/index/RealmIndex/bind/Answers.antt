@@ -1,0 +1,22 @@
+use Rattle.std.proofs.Common.{refl, sym, subst}
+use Rattle.scope_rules.specs.declared.types.events.Event.TheVariants.{Bind}
+use Rattle.scope_rows.proofs.Keeping.{rows_bound}
+use Rattle.scope_index.specs.IndexTables.{IndexTable}
+use Rattle.scope_index.specs.Events.{IsReadyFor, HasApplied}
+use Rattle.scope_index.proofs.Following.{envs_follow}
+use Rattle.scope_index.proofs.Wanted.{bind_env}
+use Rattle.scope_index.proofs.index.RealmIndex.bind.Goals as goal
+
+pub bind-requires : goal.bind-requires
+bind-requires c =
+    let old : IndexTable = record { rows = c.self.inside.rows; cancels = c.self.inside.cancels; envs = c.self.inside.envs; forks = c.self.inside.forks; deadlines = c.self.inside.deadlines } in
+    bind_env old c.args.actor (record { key = c.args.key; value = c.args.value }) (subst (λ t. IsReadyFor t (Bind c.args.actor (record { key = c.args.key; value = c.args.value }))) (sym c.self.view_is) c.requires)
+
+pub returns-clause-followed : goal.returns-clause-followed
+returns-clause-followed c =
+    let old : IndexTable = record { rows = c.self.inside.rows; cancels = c.self.inside.cancels; envs = c.self.inside.envs; forks = c.self.inside.forks; deadlines = c.self.inside.deadlines } in
+    let new : IndexTable = record { rows = c.self.inside.rows; cancels = c.self.inside.cancels; envs = c.bind.new.self; forks = c.self.inside.forks; deadlines = c.self.inside.deadlines } in
+    subst (λ t. HasApplied t (Bind c.args.actor (record { key = c.args.key; value = c.args.value })) new) c.self.view_is
+    (envs_follow old new (Bind c.args.actor (record { key = c.args.key; value = c.args.value })) refl refl refl (λ s. refl) refl refl refl refl
+    (λ L h legal rows. rows_bound L h old.rows c.args.actor (record { key = c.args.key; value = c.args.value }) legal rows)
+    c.in_ok-bind.ensures.agrees)

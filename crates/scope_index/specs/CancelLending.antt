@@ -1,0 +1,10 @@
+-- What the table of cancels is once a list that it lent is handed back.
+use Rattle.std.specs.Prelude.{◌≡◌, ⊤}
+use Rattle.std.specs.Borrow.{follows_so, Fml, MutBor}
+use mathlib.Core.Option.{none}
+use Rattle.scope_index.specs.CancelTables.{CancelTable}
+use Rattle.scope_index.specs.contracts.cancels.CancelIndex.{the_row}
+
+-- it is what it was before
+abbrev pub KeepsTable : MutBor CancelTable → Fml
+KeepsTable cancels = follows_so the_row the_row cancels.ghost_name none (λ _ _. ⊤) (λ last. last ≡ cancels.now)

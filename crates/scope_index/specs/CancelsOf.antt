@@ -1,0 +1,60 @@
+-- When what is kept of cancels is a history's.
+use Rattle.std.specs.Prelude.{◌≡◌, ℕ, ◌+◌, false, Option, Some, option_map, List, length, slice_get}
+use Rattle.scope_rules.specs.declared.types.records.Opening.{Opening}
+use Rattle.scope_rules.specs.Chains.{shifted}
+use Rattle.scope_rules.specs.History.{History, followed, opening, opened_count, moment}
+use Rattle.scope_rules.specs.declared.types.capacity.Limits.{Limits}
+use Rattle.scope_rules.specs.declared.types.events.Event.TheVariants.{Open, Move}
+use Rattle.scope_rules.specs.declared.types.events.Options.{Options}
+use Rattle.scope_rules.specs.declared.types.joiners.Policy.{Policy}
+use Rattle.scope_rules.specs.Scopes.{joined, surrounding}
+use Rattle.scope_rules.specs.Legal.{Legal}
+use Rattle.scope_rules.specs.Scopes as scopes
+use Rattle.scope_rules.specs.Completions.{completions}
+use Rattle.scope_rules.specs.Cancels.{own_cancel, counting_deadline, is_cancelled, cancelled_at}
+use Rattle.cancel_tree.specs.declared.rows.ScopeNode.{ScopeNode}
+use Rattle.cancel_tree.specs.Rows as rows
+use Rattle.cancel_tree.specs.Order.{IsInOrder}
+use Rattle.join_rules.specs.JoinerStanding.{JoinerStanding, StandsFor}
+use Rattle.scope_index.specs.CancelTables.{CancelTable}
+
+-- the row is that of scope s, if the rows are numbered after b: the scope around it, the one whose
+-- cancels reach it, the place of its opening, its own cancel, and its deadline while that counts
+pub record IsNodeOf (h : History) (b s : ℕ) (t : ScopeNode) : Type 0 where
+  pub opened : Opening
+  pub is : opening h s ≡ Some opened
+  pub place : opened.place ≡ t.opened
+  pub parent : scopes.parent h s ≡ option_map (λ p. b + p) t.parent
+  pub outer : scopes.outer h s ≡ option_map (λ p. b + p) (rows.outer t)
+  pub own : own_cancel h s ≡ option_map (shifted b) t.own
+  pub deadline : counting_deadline h s ≡ t.deadline
+
+-- the account is that of scope s: of its joiner, and of its completions
+pub record IsAccountOf (h : History) (s : ℕ) (a : JoinerStanding) : Type 0 where
+  pub opened : Opening
+  pub is : opening h s ≡ Some opened
+  pub policy : a.policy ≡ opened.policy
+  pub stands : StandsFor a (completions h s)
+
+-- the moment, the rows and the accounts are the history's
+pub record AreCancelsOf (h : History) (t : CancelTable) : Type 0 where
+  pub numbered : t.before ≡ h.base.scopes
+  pub moment : t.moment ≡ moment h
+  pub count : length t.nodes ≡ opened_count h
+  pub counted : length t.accounts ≡ opened_count h
+  pub rows : (n : ℕ) (row : ScopeNode) → rows.row t.nodes n ≡ Some row → IsNodeOf h t.before (t.before + n) row
+  pub accounts : (i : ℕ) (a : JoinerStanding) → slice_get t.accounts i ≡ Some a → IsAccountOf h (t.before + 1 + i) a
+
+-- the new table is that of each history whose table the old one was, with the move of an unjoined scope's
+-- deadline at this place
+abbrev pub IsMoved : CancelTable → CancelTable → ℕ → Option ℕ → ℕ → Type 0
+IsMoved old new s deadline place = (L : Limits) (h : History) → Legal L h → AreCancelsOf h old → place ≡ length h.events → joined h s ≡ false → AreCancelsOf (followed h (Move s deadline)) new
+
+-- the same with the opening of a scope
+abbrev pub IsOpened : CancelTable → CancelTable → Option ℕ → Policy → Options → ℕ → Type 0
+IsOpened old new parent policy options place =
+    (L : Limits) (h : History) (actor : ℕ) → Legal L h → AreCancelsOf h old → place ≡ length h.events → parent ≡ surrounding h actor → AreCancelsOf (followed h (Open actor policy options)) new
+
+-- the list is that of the history's cancelled scopes in order of their cancellation
+abbrev pub IsCancelOrderOf : History → List ℕ → Type 0
+IsCancelOrderOf h list = IsInOrder (is_cancelled h) (cancelled_at h) list

@@ -1,0 +1,10 @@
+-- What is kept once a list that it lent is handed back.
+use Rattle.std.specs.Prelude.{◌≡◌, ⊤}
+use Rattle.std.specs.Borrow.{follows_so, Fml, MutBor}
+use mathlib.Core.Option.{none}
+use Rattle.scope_index.specs.IndexTables.{IndexTable}
+use Rattle.scope_index.specs.contracts.index.RealmIndex.{the_row}
+
+-- it is what it was before
+abbrev pub KeepsAll : MutBor IndexTable → Fml
+KeepsAll kept = follows_so the_row the_row kept.ghost_name none (λ _ _. ⊤) (λ last. last ≡ kept.now)

@@ -1,0 +1,14 @@
+pub mod IndexTables
+pub mod Events
+pub mod Completing
+pub mod Closing
+pub mod Lending
+pub mod CancelTables
+pub mod CancelsOf
+pub mod Coming
+pub mod Lent
+pub mod CancelLending
+pub mod Answers
+pub mod Bare
+pub mod ForkTable
+pub mod ForksOf

@@ -1,8 +1,0 @@
-use Rattle.std.proofs.Common.{◌≡◌, ◌+◌, ◌-◌, ◌≤◌, length, take, vec_len, vec_capacity}
-use Rattle.scope_rules.specs.Answers.{values_by}
-use Rattle.scope_kept.specs.Answers.{state_in}
-use Rattle.scope_kept.proofs.answers.KeptTasksTaskReadings.values.Given as goal
-
--- the values of the tasks so far, and room for the others'
-abbrev pub invariant-loop-task : goal.invariant-loop-task
-invariant-loop-task l = (l.values.items ≡ values_by (state_in l.self.rows.now) (take l.task-index l.self.tasks.now)) × (vec_len l.values + (length l.self.tasks.now - l.task-index) ≤ vec_capacity l.values)

@@ -1,7 +1,0 @@
-use Rattle.std.proofs.Common.{sym, subst}
-use Rattle.scope_kept.specs.KeptTables.{IsKeptOf}
-use Rattle.scope_kept.proofs.NeverOpened.{uncancelled}
-use Rattle.scope_kept.proofs.kept.Kept.is_cancelled.Goals as goal
-
-pub returns-in-None : goal.returns-in-None
-returns-in-None c = λ L h legal kept. sym (uncancelled h c.args.scope (c.in-None.ensures.agrees h (subst (IsKeptOf h) (sym c.self.view_is) kept).rows))
