@@ -36,8 +36,8 @@ pub use guards::ScopeGuard;
 pub use handles::{JobWithRuntime, WithRuntime};
 pub use inspect::Inspect;
 pub use job_runner::{
-    Answers, Clock, ForkRefusal, Job, JobWork, NamedJob, SetClock, SystemClock, TaskCtx,
-    fail_after, move_on_after, pulse,
+    Answers, Clock, ForkRefusal, ForkedJobs, Job, JobWork, NamedJob, SetClock, SystemClock,
+    TaskCtx, fail_after, move_on_after, pulse,
 };
 pub use jobs::{JobError, Typed, TypedJob, Yields};
 pub use join_rules::{CompletionTest, Joiner, UntilTest};

@@ -5,3 +5,4 @@ pub mod Endings
 pub mod Reports
 pub mod Readiness
 pub mod Lists
+pub mod Batches

@@ -3,7 +3,7 @@ ghost use Rattle.realm_core.specs.Calls.{SeesMore};
 ghost use Rattle.realm_core.specs.Tasks.{IsNewTicket};
 ghost use Rattle.job_runner.specs.Lists.{IsUnlisted};
 ghost use Rattle.job_runner.specs.Marks.{IsMarkOf};
-ghost use Rattle.job_runner.specs.Forks.{ForksJob, KeepsThread, SpawnsJob, job_of, refusal_of, why_alone, why_of};
+ghost use Rattle.job_runner.specs.Forks.{ForksJob, IsReadyFor, KeepsThread, SpawnsJob, job_of, refusal_of, why_alone, why_of};
 ghost use Rattle.thread_pool.specs.Teams.{HasRoom, HasThreadMore, IsSameTeam};
 
 use crate::contexts::TaskCtx;
@@ -115,6 +115,27 @@ impl<C: Catalog, S: Spawner<N>, N: RealmName> TaskCtx<C, S, N> {
         ensures answer { SpawnsJob self.old.token self.new.token ticket (why_alone result) }
         ensures handed_back { IfErr result (λ e. job_of e ≡ work.job) }
         ensures kept { IfOk result (λ _. HasThreadMore ticket self.old.team self.new.team) }
+    {
+        self.start_ready(rt, ticket, work)
+    }
+
+    /// The same, whatever the token has seen after the fork of the ticket's task.
+    pub(crate) fn start_ready<J: Answers + Drop, R: Wait>(
+        &mut self,
+        rt: &R,
+        ticket: Ticket,
+        work: JobWork<C, N, J>,
+    ) -> Result<ForkReply, ForkRefusal<C, J>>
+    where
+        S: Spawns<N, JobWork<C, N, J>>,
+        requires room { HasRoom self.old.team }
+        requires ready { IsReadyFor N.table work.job.label ticket }
+        requires marked { IsMarkOf ticket.scope self.old.opened.items work.around }
+        ensures rest { (self.new ≡ record self.old { token = self.new.token; spawner = self.new.spawner; team = self.new.team }) × SeesMore self.old.token self.new.token }
+        ensures answer { SpawnsJob self.old.token self.new.token ticket (why_alone result) }
+        ensures handed_back { IfErr result (λ e. job_of e ≡ work.job) }
+        ensures kept { IfOk result (λ _. HasThreadMore ticket self.old.team self.new.team) }
+        ensures unkept { IfErr result (λ _. self.new.team ≡ self.old.team) }
     {
         let (task, scope) = (ticket.task(), ticket.scope());
         match self.spawner.spawn(rt, ticket, work) {

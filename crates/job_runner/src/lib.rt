@@ -3,6 +3,7 @@
 //! spawner's.
 #![tactic(auto)]
 
+mod batches;
 mod checkpoints;
 mod clocks;
 mod closing;
@@ -21,6 +22,7 @@ mod running;
 mod timed;
 mod works;
 
+pub use batches::ForkedJobs;
 pub use clocks::pulse;
 pub use contexts::TaskCtx;
 pub use forking::ForkRefusal;

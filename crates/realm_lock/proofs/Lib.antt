@@ -8,3 +8,4 @@ pub mod CancelsGrow
 pub mod MarksStay
 pub mod Marking
 pub mod Behind
+pub mod Batching

@@ -7,3 +7,4 @@ pub mod MarkLaws
 pub mod Looks
 pub mod Sleeps
 pub mod Turns
+pub mod Batches

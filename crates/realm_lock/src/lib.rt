@@ -2,6 +2,7 @@
 //! it did is told by what the caller's token or ticket has seen then.
 #![tactic(auto)]
 
+mod batches;
 mod closing;
 mod commands;
 mod in_time;

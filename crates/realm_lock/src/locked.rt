@@ -1,4 +1,4 @@
-ghost use Rattle.std.specs.Prelude.{◌≡◌, ◌⊎◌, false, true, None, Some, Ok, Err, IfErr, IfOk, IsOk, MatchResult, [], OnSome, length, ◌<◌, is_ok};
+ghost use Rattle.std.specs.Prelude.{◌≡◌, ◌⊎◌, false, true, None, Some, Ok, Err, IfErr, IfOk, IsOk, MatchResult, [], OnSome, length, ◌<◌, ◌≤◌, is_ok, vec_capacity};
 ghost use Rattle.std.specs.List.{All};
 ghost use Rattle.std.specs.Option.{MatchOption};
 ghost use Rattle.scope_rules.specs.declared.types.events.Options.{Options};
@@ -21,6 +21,7 @@ ghost use Rattle.realm_core.specs.Telling.{Shown, Stepped};
 ghost use Rattle.realm_core.specs.Views.{Joins, JoinsBare};
 ghost use Rattle.realm_core.specs.Waiting.{FoundUnsettled, IsOpenOf};
 ghost use Rattle.realm_core.specs.Closes.{IsBegun, Begins, MayEnd, MayReport};
+ghost use Rattle.realm_lock.specs.Batches.{ForksAll, ForksSome};
 ghost use Rattle.realm_lock.specs.Cells.{GivesCell};
 ghost use Rattle.realm_lock.specs.Openings.{scope_alone, refusal_of};
 ghost use Rattle.realm_lock.specs.Sleeps.{IsHeldUp};
@@ -126,7 +127,6 @@ impl<C: Catalog, N: RealmName> LockedRealm<C, N> {
     }
 
     /// Forks a task.
-    #[tactic(auto, using(crate::proofs::Behind::behind_stepped))]
     pub(crate) fn fork(
         &mut self,
         token: &mut OwnerShare,
@@ -134,6 +134,50 @@ impl<C: Catalog, N: RealmName> LockedRealm<C, N> {
         label: Label,
     ) -> Result<Forked, Refusal>
         requires named { token.old.table ≡ N.table }
+        ensures answer { DoesOrMemory token.old token.new (RealmStep.Happened (Event.Fork token.old.actor scope label)) (λ h. fork_reply h scope) (ticket_aside result) }
+        ensures ticket { GivesTicket token.new scope label result }
+        ensures fitting { Fitting C.fitting (history_seen token.new) }
+    {
+        self.fork_next(token, scope, label)
+    }
+
+    /// Forks a task of each label, in their order, up to the first that is refused, and adds what each
+    /// gives, for which there is room.
+    pub(crate) fn fork_all(
+        &mut self,
+        token: &mut OwnerShare,
+        scope: ScopeId,
+        labels: &[Label],
+        forked: &mut Vec<Forked>,
+    ) -> Result<(), Refusal>
+        requires named { token.old.table ≡ N.table }
+        requires empty { forked.old.items ≡ [] }
+        requires room { length labels.now ≤ vec_capacity forked.old }
+        ensures seen { SeesMore token.old token.new × Fitting C.fitting (history_seen token.new) }
+        ensures all { IfOk result (λ _. ForksAll token.old token.new scope labels.now forked.new.items) }
+        ensures some { IfErr result (λ refusal. ForksSome token.old token.new scope labels.now forked.new.items refusal) }
+    {
+        self.look(token);
+        let _fitting = self.core.limits();
+        for label in labels {
+            match self.fork_next(token, scope, *label) {
+                Ok(next) => forked.push_reserved(next),
+                Err(refusal) => return Err(refusal),
+            }
+        }
+        Ok(())
+    }
+
+    /// Forks a task. What lies under the lock then is what the token has seen.
+    #[tactic(auto, using(crate::proofs::Behind::behind_stepped))]
+    fn fork_next(
+        &mut self,
+        token: &mut OwnerShare,
+        scope: ScopeId,
+        label: Label,
+    ) -> Result<Forked, Refusal>
+        requires named { token.old.table ≡ N.table }
+        ensures steps { Stepped self.old self.new token.new (RealmStep.Happened (Event.Fork token.old.actor scope label)) (is_ok result) }
         ensures answer { DoesOrMemory token.old token.new (RealmStep.Happened (Event.Fork token.old.actor scope label)) (λ h. fork_reply h scope) (ticket_aside result) }
         ensures ticket { GivesTicket token.new scope label result }
         ensures fitting { Fitting C.fitting (history_seen token.new) }

@@ -1,5 +1,6 @@
 //! Jobs of several kinds, and the spawners that run them.
 
+mod batched;
 mod deeds;
 mod duties;
 mod helped;

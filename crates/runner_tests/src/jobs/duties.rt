@@ -28,6 +28,8 @@ pub struct Board {
     called: AtomicU64,
     pub label: Label,
     pub key: Name,
+    /// Where the lists of a test come from.
+    pub alloc: Global,
 }
 
 /// A share of the board.
@@ -45,6 +47,7 @@ impl Board {
             called: AtomicU64::new(0),
             label,
             key: Name::new(b"user")?,
+            alloc,
         };
         Arc::new(alloc, board).ok()
     }

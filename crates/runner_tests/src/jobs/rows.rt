@@ -1,5 +1,6 @@
 //! Rows of what main does with jobs in its context: which there are, and two that look for one another, a
 //! tree, and a thread that is refused.
+use super::batched::{Batch, is_forked_in_one_go};
 use super::duties::{Duty, Shared, TestJob, fork, named, number_of};
 use super::logs::starts_and_ends;
 use super::outcomes::{
@@ -29,6 +30,8 @@ pub enum Row {
     SecondRefused,
     /// Of three threads the nth is refused.
     NthRefused(u64),
+    /// A batch of jobs is forked in one go.
+    Batch(Batch),
     /// The first task ends after the second.
     Reversed,
     /// The second task fails, and cancels the first.
@@ -59,6 +62,7 @@ impl Row {
         match self {
             Row::LittleRoom => Limits::new(1, 2, 10),
             Row::Rounds => Limits::new(1, 1, 7),
+            Row::Batch(batch) => Limits::new(1, batch.forked.max(1), 10_000),
             _ => Some(Limits::GREATEST),
         }
     }
@@ -68,6 +72,7 @@ impl Row {
         match self {
             Row::SecondRefused => 2,
             Row::NthRefused(nth) => nth,
+            Row::Batch(batch) => u64::from(batch.rejected),
             _ => 0,
         }
     }
@@ -84,6 +89,7 @@ pub fn play<
         Row::Tree => a_tree_grows(rt, ctx, board),
         Row::SecondRefused => second_thread_is_refused(rt, ctx, board),
         Row::NthRefused(nth) => nth_is_refused(rt, ctx, board, nth),
+        Row::Batch(batch) => is_forked_in_one_go(rt, ctx, board, batch),
         Row::Reversed => two_end_in_reverse(rt, ctx, board),
         Row::Fails => one_fails(rt, ctx, board),
         Row::Cancelled { duty, number } => main_cancels(rt, ctx, board, duty, number),

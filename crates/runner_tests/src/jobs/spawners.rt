@@ -1,6 +1,7 @@
 //! The rows over a pool and over one thread.
 ghost use Rattle.std.specs.Prelude.{◌≡◌};
 
+use super::batched::{Batch, EMPTY};
 use super::duties::{Board, Duty, TestJob};
 use super::rows::{Row, play};
 use super::soak::told;
@@ -108,13 +109,36 @@ fn two_jobs_see_each_other(rt: HostRuntime) -> Result<(), Fail> {
 }
 
 /// What is played over a pool.
-const ROWS: [Row; 19] = [
+const ROWS: [Row; 24] = [
     Row::Tree,
     Row::SecondRefused,
     Row::NthRefused(1),
     Row::NthRefused(2),
     Row::NthRefused(3),
     Row::NthRefused(4),
+    Row::Batch(EMPTY),
+    Row::Batch(Batch {
+        jobs: 100,
+        forked: 100,
+        ..EMPTY
+    }),
+    Row::Batch(Batch {
+        jobs: 5,
+        forked: 3,
+        ..EMPTY
+    }),
+    Row::Batch(Batch {
+        jobs: 4,
+        forked: 4,
+        rejected: 2,
+        ..EMPTY
+    }),
+    Row::Batch(Batch {
+        jobs: 4,
+        forked: 4,
+        is_cancelled: true,
+        ..EMPTY
+    }),
     Row::Reversed,
     Row::Fails,
     Row::Cancelled {

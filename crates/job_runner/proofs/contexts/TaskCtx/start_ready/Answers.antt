@@ -3,7 +3,7 @@ use Rattle.scope_rules.specs.declared.types.events.Event.TheVariants.{Reject}
 use Rattle.share_ledger.specs.declared.steps.RealmStep.TheVariants.{Happened}
 use Rattle.share_ledger.specs.Values.{OwnerValue, TicketValue}
 use Rattle.realm_core.specs.Calls.{Added}
-use Rattle.job_runner.proofs.contexts.TaskCtx.start_thread.Goals as goal
+use Rattle.job_runner.proofs.contexts.TaskCtx.start_ready.Goals as goal
 
 pub returns-in-Err-clause-answer : goal.returns-in-Err-clause-answer
 returns-in-Err-clause-answer g c =

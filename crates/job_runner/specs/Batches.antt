@@ -1,0 +1,67 @@
+-- What a batch of forks of jobs does, and answers.
+use Rattle.std.specs.Prelude.{◌≡◌, ℕ, List, [], ◌∷◌, ◌++◌, map, Option, None, Some, Result, Ok, Err, IfErr}
+use Rattle.scope_rules.specs.declared.types.answers.ForkReply.{ForkReply}
+use Rattle.scope_rules.specs.declared.types.answers.ForkReply.TheVariants as reply
+use Rattle.scope_rules.specs.declared.types.refusals.Refusal.{Refusal}
+use Rattle.scope_rules.specs.Ends.{LabelValue}
+use Rattle.atomic_table.specs.Seated.{TableId}
+use Rattle.share_ledger.specs.Named.{NamedValue}
+use Rattle.share_ledger.specs.Values.{OwnerValue, TicketValue}
+use Rattle.realm_core.specs.declared.forking.Forked.{Forked}
+use Rattle.realm_core.specs.declared.forking.Forked.TheVariants.{Thread, Never}
+use Rattle.realm_core.specs.Calls.{SeesMore}
+use Rattle.realm_lock.specs.Batches.{ForksAll, ForksUpTo}
+use Rattle.thread_pool.specs.Teams.{TeamValue, HasThreadMore, IsSameTeam}
+use Rattle.job_runner.specs.declared.forking.ForkRefusal.{ForkRefusal}
+use Rattle.job_runner.specs.Forks.{IsReadyFor, SpawnsJob, job_of, why_alone}
+
+-- the label of each job
+abbrev pub labels_of : {J : Type 0} → List (NamedValue J) → List LabelValue
+labels_of jobs = map (λ job. job.label) jobs
+
+-- what the forks of the labels did with the token, and gave: of all of them, or up to the first that was refused
+abbrev pub ForksLabels : OwnerValue → OwnerValue → ℕ → List LabelValue → List Forked → Option Refusal → Type 0
+ForksLabels old new s labels forked None = ForksAll old new s labels forked
+ForksLabels old new s labels forked (Some refusal) = ForksUpTo old new s labels forked refusal
+
+-- a ticket that a fork in scope s gave may be given to the work of the job
+abbrev pub IsReadyOne : {J : Type 0} → TableId → ℕ → NamedValue J → Forked → Type 0
+IsReadyOne name s job (Thread ticket) = IsReadyFor name job.label ticket × (ticket.scope ≡ s)
+IsReadyOne name s job (Never task) = Unit {0}
+
+-- each of the tickets to that of its own job, in their order; there may be further jobs
+abbrev pub AreReady : {J : Type 0} → TableId → ℕ → List (NamedValue J) → List Forked → Type 0
+AreReady name s jobs [] = Unit {0}
+AreReady name s [] (f ∷ fs) = ⊥
+AreReady name s (job ∷ jobs) (f ∷ fs) = IsReadyOne name s job f × AreReady name s jobs fs
+
+-- a thread that was started for the ticket is one more; without one the team stays as it was
+abbrev pub KeepsStarted : {C J : Type 0} → TicketValue → TeamValue → TeamValue → Result ForkReply (ForkRefusal C J) → Type 0
+KeepsStarted ticket was is (Ok answer) = HasThreadMore ticket was is
+KeepsStarted ticket was is (Err refused) = IsSameTeam was is
+
+-- what became of one job whose task was forked: a thread runs it, and is kept; or its task is rejected, as the last
+-- step that the token has seen, and the job is handed back; or its task never gets a thread
+abbrev pub StartsOne : {C J : Type 0} → OwnerValue → OwnerValue → TeamValue → TeamValue → NamedValue J → Forked → Result ForkReply (ForkRefusal C J) → Type 0
+StartsOne old new was is job (Thread ticket) answer = SeesMore old new × SpawnsJob old new ticket (why_alone answer) × IfErr answer (λ e. job_of e ≡ job) × KeepsStarted ticket was is answer
+StartsOne old new was is job (Never task) answer = (new ≡ old) × (answer ≡ Ok (reply.Never task)) × IsSameTeam was is
+
+-- what became of each of them, one after the other in their order
+abbrev pub StartsEach : {C J : Type 0} → OwnerValue → OwnerValue → TeamValue → TeamValue → List (NamedValue J) → List Forked → List (Result ForkReply (ForkRefusal C J)) → Type 0
+StartsEach old new was is [] [] [] = (new ≡ old) × IsSameTeam was is
+StartsEach old new was is (job ∷ jobs) (f ∷ fs) (answer ∷ answers) = (mid : OwnerValue) × (team : TeamValue) × StartsOne old mid was team job f answer × StartsEach mid new team is jobs fs answers
+StartsEach old new was is _ _ _ = ⊥
+
+-- so it became of the first of the jobs, as many as were forked; the others are left, in their order
+pub record StartsFirst {C J : Type 0} (old new : OwnerValue) (was is : TeamValue) (jobs left : List (NamedValue J)) (forked : List Forked) (answers : List (Result ForkReply (ForkRefusal C J))) : Type 0 where
+  pub first : List (NamedValue J)
+  pub are : jobs ≡ first ++ left
+  pub each : StartsEach old new was is first forked answers
+
+-- what a batch of forks of jobs did: first all the forks, up to the first that was refused; then each job whose task
+-- was forked got its thread, or not
+pub record ForksJobs {C J : Type 0} (old new : OwnerValue) (was is : TeamValue) (s : ℕ) (jobs left : List (NamedValue J)) (answers : List (Result ForkReply (ForkRefusal C J))) (refusal : Option Refusal) : Type 0 where
+  pub mid : OwnerValue
+  pub forked : List Forked
+  pub forks : ForksLabels old mid s (labels_of jobs) forked refusal
+  pub starts : StartsFirst mid new was is jobs left forked answers
