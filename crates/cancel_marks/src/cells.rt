@@ -12,8 +12,9 @@ use std::marker::Model;
 use std::sync::{Arc, Condvar, MutexGuard, Wait};
 use std::time::Duration;
 
-/// How often a call spins before it sleeps: for some ten microseconds, about as long as falling asleep and waking take.
-const SPINS: u32 = 6_000;
+/// How often a call spins before it sleeps: for some ten microseconds, if a spin takes 17 nanoseconds. That is about as
+/// long as falling asleep and waking take.
+const SPINS: u32 = 600;
 
 /// The longest sleep of a call that no time ends, in seconds: some thirty years. Its caller then looks anew.
 const ENDLESS: u64 = 1_000_000_000;

@@ -21,7 +21,22 @@ use std::alloc::Global;
 use std::sync::Wait;
 use thread_pool::{Spawner, Spawns};
 
-/// What became of a batch of jobs.
+/// What became of a batch of jobs. A test of `runner_tests` forks one so:
+///
+/// ```rust
+/// fn forked_together<N: RealmName, S: Spawns<N, JobWork<AnyEnd, N, TestJob>>, R: Wait>(
+///     rt: &R,
+///     ctx: &mut TaskCtx<AnyEnd, S, N>,
+///     scope: ScopeId,
+///     jobs: Vec<NamedJob<AnyEnd, TestJob>>,
+/// ) -> Result<usize, Refusal> {
+///     let batch = ctx.fork_jobs(rt, scope, jobs);
+///     match batch.refusal {
+///         Some(refusal) => Err(refusal),
+///         None => Ok(batch.forked.len()),
+///     }
+/// }
+/// ```
 #[derive(Drop)]
 pub struct ForkedJobs<C: Catalog, J: Answers> {
     /// What became of each job that was forked, in their order: it has a thread, or none since the scope

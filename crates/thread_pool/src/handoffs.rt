@@ -3,9 +3,10 @@ use std::sync::atomic::{AtomicBool, Ordering};
 use std::sync::{Mutex, Wait};
 use std::thread::Parker;
 
-/// How often a thread spins before it sleeps: for some ten microseconds, about as long as falling asleep and waking
-/// take. An item that comes meanwhile costs neither side a system call.
-const SPINS: u32 = 6_000;
+/// How often a thread spins before it sleeps: for some ten microseconds, if a spin takes 17 nanoseconds. That is about
+/// as long as falling asleep and waking take. An item that comes meanwhile costs neither side a system call. With ten
+/// times as many spins, threads that wait take the processors from those that work.
+const SPINS: u32 = 600;
 
 /// Where one thread waits for what another puts there.
 #[derive(Drop)]

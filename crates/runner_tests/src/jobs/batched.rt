@@ -5,7 +5,7 @@ use super::logs::starts_and_ends;
 use job_runner::{ForkRefusal, ForkedJobs, JobWork, NamedJob, TaskCtx};
 use join_rules::Joiner;
 use realm_lock::RealmName;
-use scope_rules::{AnyEnd, ForkReply, Options, Refusal, TaskId};
+use scope_rules::{AnyEnd, ForkReply, Options, Refusal, ScopeId, TaskId};
 use std::process::Abort;
 use std::sync::Wait;
 use std::test::Fail;
@@ -134,5 +134,37 @@ pub fn is_forked_in_one_go<
     let report = ctx.close_scope(rt, scope)?;
     assert!(rt; starts_and_ends(&report.log) == (batch.runs(), batch.runs()));
     assert_eq!(rt; board.calls(), batch.runs());
+    Ok(())
+}
+
+/// Forks the jobs as one batch: how many were forked.
+fn forked_together<N: RealmName, S: Spawns<N, JobWork<AnyEnd, N, TestJob>>, R: Wait>(
+    rt: &R,
+    ctx: &mut TaskCtx<AnyEnd, S, N>,
+    scope: ScopeId,
+    jobs: Vec<NamedJob<AnyEnd, TestJob>>,
+) -> Result<usize, Refusal> {
+    let batch = ctx.fork_jobs(rt, scope, jobs);
+    match batch.refusal {
+        Some(refusal) => Err(refusal),
+        None => Ok(batch.forked.len()),
+    }
+}
+
+/// Forks three jobs together, and joins and closes their scope.
+pub fn three_are_forked_together<
+    N: RealmName,
+    S: Spawns<N, JobWork<AnyEnd, N, TestJob>>,
+    R: Wait + Abort,
+>(rt: &R, ctx: &mut TaskCtx<AnyEnd, S, N>, board: &Shared) -> Result<(), Fail> {
+    let Ok(scope) = ctx.open(rt, Joiner::All, Options::PLAIN) else {
+        return Err("no scope")?;
+    };
+    let jobs = jobs_of(board, 3).ok_or("memory")?;
+    let forked = forked_together(rt, ctx, scope, jobs);
+    ctx.join(rt, scope)?;
+    ctx.close_scope_bare(rt, scope)?;
+    assert!(rt; forked == Ok(3));
+    assert_eq!(rt; board.calls(), 3);
     Ok(())
 }

@@ -109,13 +109,14 @@ fn two_jobs_see_each_other(rt: HostRuntime) -> Result<(), Fail> {
 }
 
 /// What is played over a pool.
-const ROWS: [Row; 24] = [
+const ROWS: [Row; 25] = [
     Row::Tree,
     Row::SecondRefused,
     Row::NthRefused(1),
     Row::NthRefused(2),
     Row::NthRefused(3),
     Row::NthRefused(4),
+    Row::Together,
     Row::Batch(EMPTY),
     Row::Batch(Batch {
         jobs: 100,
