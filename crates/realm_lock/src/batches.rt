@@ -16,7 +16,7 @@ impl<C: Catalog, N: RealmName> Realm<C, N> {
     /// one hold of the lock, so that no step of another stands between two of them. It gives what each
     /// fork gives, in that order: the ticket of a task of the label, unless the scope is cancelled. It
     /// stops at the first fork that is refused, and then gives what the forks before it gave, with the
-    /// refusal. All its memory is reserved before the first fork.
+    /// refusal. The list of what they give has its memory before the first fork.
     ///
     /// # Errors
     ///
