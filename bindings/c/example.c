@@ -203,6 +203,46 @@ static void goes_by_lines(balkreyn_book *book)
 #undef LINE
 }
 
+/* Who is cancelled, by which scope; a batch; an end with its news. */
+static void hears(balkreyn_book *book)
+{
+    int64_t answers[3] = {7, 7, 7};
+    balkreyn_news news = {.scope = 7};
+
+    CHECK(balkreyn_around(book, MAIN) == 0 && balkreyn_is_cancelled(book, MAIN) == 0);
+    CHECK(balkreyn_around(book, 1) == BALKREYN_RETIRED && balkreyn_is_cancelled(book, 99) == BALKREYN_NO_TASK);
+    CHECK(balkreyn_open(book, MAIN, BALKREYN_AWAIT_OK, 0, 0, 0) == 6);
+    CHECK(balkreyn_open(book, MAIN, BALKREYN_AWAIT, 0, BALKREYN_DEADLINE, 99) == 7);
+    CHECK(balkreyn_around(book, MAIN) == 7);
+    CHECK(balkreyn_fork_many(book, MAIN, 6, TEXT("Fetch"), answers, 3) == BALKREYN_BAD_ARGUMENT && answers[0] == 7);
+    CHECK(balkreyn_fork_many(book, MAIN, 6, TEXT("fetch"), answers, 0) == 0);
+    CHECK(balkreyn_fork_many(book, MAIN, 6, TEXT("fetch"), answers, 2) == 2);
+    CHECK(answers[0] == 8 && answers[1] == 9 && answers[2] == 7);
+    CHECK(balkreyn_fork_many(book, MAIN, 9, TEXT("fetch"), answers, 2) == 0 && answers[0] == BALKREYN_NO_SCOPE && answers[1] == 9);
+    CHECK(balkreyn_around(book, 8) == 6 && balkreyn_start(book, 8) == BALKREYN_DONE && balkreyn_start(book, 9) == BALKREYN_DONE);
+    CHECK(balkreyn_open(book, 8, BALKREYN_AWAIT, 0, BALKREYN_SHIELD, 0) == 8 && balkreyn_around(book, 8) == 8);
+
+    CHECK(balkreyn_fail_told(book, 9, TEXT("IO"), &news) == BALKREYN_BAD_ARGUMENT && news.scope == 7);
+    CHECK(balkreyn_finish_told(book, 8, 1, &news) == BALKREYN_STRUCTURE && news.scope == 7);
+    CHECK(balkreyn_fail_told(book, 9, TEXT("io"), &news) == BALKREYN_DONE);
+    CHECK(news.scope == 6 && !news.quiet && news.cancelled == 2 && news.comes && news.deadline == 99);
+    CHECK(balkreyn_nth_cancelled(book, 0) == 6 && balkreyn_nth_cancelled(book, 1) == 7);
+    CHECK(BALKREYN_KIND(balkreyn_is_cancelled(book, MAIN)) == BALKREYN_BY_JOINER && BALKREYN_NUMBER(balkreyn_is_cancelled(book, 9)) == 6);
+    /* The shield holds for who opened it, and once it is closed no more. */
+    CHECK(balkreyn_is_cancelled(book, 8) == 0);
+    CHECK(balkreyn_begin_close(book, 8, 8) == BALKREYN_DONE && balkreyn_end_close(book, 8, 8) == BALKREYN_DONE);
+    CHECK(balkreyn_around(book, 8) == 6 && BALKREYN_KIND(balkreyn_is_cancelled(book, 8)) == BALKREYN_BY_JOINER);
+    CHECK(balkreyn_finish_told(book, 8, 1, &news) == BALKREYN_DONE && news.quiet && news.cancelled == 3);
+
+    /* While a call works on the book, another does nothing. */
+    uint64_t word = book->word;
+    book->word = 2;
+    CHECK(balkreyn_scopes(book) == BALKREYN_BUSY && balkreyn_cancel(book, 6) == BALKREYN_BUSY);
+    CHECK(balkreyn_book_open(book, 1, 1, 1) == BALKREYN_BUSY && balkreyn_book_close(book) == BALKREYN_BUSY && book->word == 2);
+    book->word = word;
+    CHECK(balkreyn_scopes(book) == 8);
+}
+
 /* After the close each call answers that there is no realm, and touches nothing. */
 static void closes(balkreyn_book *book)
 {
@@ -214,6 +254,9 @@ static void closes(balkreyn_book *book)
     CHECK(balkreyn_fork(book, MAIN, 1, TEXT("?")) == BALKREYN_NO_REALM);
     CHECK(balkreyn_join(book, MAIN, 1) == BALKREYN_NO_REALM);
     CHECK(balkreyn_moment(book, &moment) == BALKREYN_NO_REALM && moment == 7);
+    int64_t answer = 7;
+    CHECK(balkreyn_fork_many(book, MAIN, 1, TEXT("fetch"), &answer, 1) == BALKREYN_NO_REALM && answer == 7);
+    CHECK(balkreyn_around(book, MAIN) == BALKREYN_NO_REALM && balkreyn_is_cancelled(book, MAIN) == BALKREYN_NO_REALM);
     uint8_t text[] = "as it is";
     CHECK(balkreyn_line(book, TEXT("tick 1"), text, sizeof text) == BALKREYN_NO_REALM);
     CHECK(balkreyn_dump(book, text, sizeof text) == BALKREYN_NO_REALM);
@@ -230,6 +273,7 @@ int main(void)
     time_passes(&book);
     shows(&book);
     goes_by_lines(&book);
+    hears(&book);
     closes(&book);
     /* A closed book can be opened again. */
     CHECK(balkreyn_book_open(&book, 1, 1, 16) == BALKREYN_DONE);

@@ -124,8 +124,18 @@ class TrioJournal(trio.abc.Instrument):
         actor = self._actors.get(task)
         if actor is None or task is self._main:
             return
+        if task.parent_nursery is not None and task.parent_nursery is not actor.nursery:
+            # It called `started()` in its last step, so it ends as the second of its two tasks.
+            self._look(task)
+            actor = self._actors.get(task)
+            if actor is None:
+                return
         word, end = actor.end
-        parent = self._scopes[actor.nursery.cancel_scope]
+        parent = self._scopes.get(actor.nursery.cancel_scope)
+        if parent is None:
+            self._say(f"# task {actor.number} ends in a scope that was left before it, which no line says", None)
+            del self._actors[task]
+            return
         parent.has_failure = word == "fail" and parent.cause is None
         self._look(task)
         if parent.cause == (parent.number, "joiner"):
@@ -189,7 +199,9 @@ class TrioJournal(trio.abc.Instrument):
             chain.append(status)
             status = status._parent
         while actor.open and actor.open[-1].status not in chain:
-            if actor.open[-1].is_new():  # A cancel came before the end; others may have come after it.
+            last = actor.open[-1]
+            # A cancel, or another shield, came before the end; others may have come after it.
+            if last.is_new() or last.scope.shield != last.shield:
                 self._hear_changes()
             self._close(actor)
         for status in reversed(chain[: len(chain) - len(actor.open)]):
@@ -246,6 +258,7 @@ class TrioJournal(trio.abc.Instrument):
         if moved is None:
             return _Actor(0, task._cancel_status, None)
         moved.has_started = True
+        moved.end = actor.end
         self._say(f"start {moved.number}", "started")
         return moved
 

@@ -18,8 +18,10 @@
  *     Don't copy it, and don't overwrite it while it holds a realm: overwritten memory leaks, and a copy that is
  *     used once the other was closed is used after its memory was freed. It may be moved to another address.
  *   - One call at a time works on a book, queries too. Several threads take a lock of the host's around each
- *     call. Two books share nothing.
- *   - No pointer is NULL, also where the length behind it is 0. What they point to doesn't overlap.
+ *     call. A call that comes while another works on the book answers BALKREYN_BUSY and does nothing: that shows
+ *     a lock which is missing, and stands in for none. Two books share nothing.
+ *   - No pointer is NULL, also where the length behind it is 0 (compilers warn of one). What they point to doesn't
+ *     overlap.
  *   - malloc, realloc and free come from one allocator; no call comes from a signal handler, nor in the forked
  *     child of a process with threads.
  *
@@ -38,19 +40,30 @@
 extern "C" {
 #endif
 
+/* A compiler that knows these warns where an answer is not looked at, and where a pointer is null. */
+#ifndef BALKREYN_CALL
+#if defined(__GNUC__) || defined(__clang__)
+#define BALKREYN_CALL __attribute__((nonnull, warn_unused_result))
+#else
+#define BALKREYN_CALL
+#endif
+#endif
+
 /* The number of this interface. balkreyn_abi() answers that of the library: call nothing else where they differ. */
-#define BALKREYN_ABI 1u
+#define BALKREYN_ABI 2u
+/* The release, of which the packages for pkg-config, CMake, Rust and Python are too. */
+#define BALKREYN_VERSION "0.2.0"
 
 /* A book: it holds one realm, or none. Its fields are the library's. */
 typedef struct balkreyn_book {
-    bool full;
+    uint64_t word;
     struct {
         uint8_t *at;
     } place;
 } balkreyn_book;
 
 /* A book that holds no realm: balkreyn_book book = BALKREYN_BOOK; */
-#define BALKREYN_BOOK {false, {0}}
+#define BALKREYN_BOOK {0, {0}}
 
 /* How many tasks of a scope are at each stage. */
 typedef struct balkreyn_counts {
@@ -65,6 +78,15 @@ typedef struct balkreyn_task {
     uint32_t task;
     uint32_t state;
 } balkreyn_task;
+
+/* What there is to hear of once a task ended: balkreyn_finish_told, balkreyn_fail_told. */
+typedef struct balkreyn_news {
+    uint32_t scope;    /* the scope in which it was forked */
+    bool quiet;        /* no task of that scope waits or runs */
+    bool comes;        /* a deadline comes next: balkreyn_next_deadline */
+    size_t cancelled;  /* how many scopes were cancelled since the last retirement: balkreyn_nth_cancelled has them */
+    uint64_t deadline; /* the one that comes next, or 0 */
+} balkreyn_news;
 
 /*
  * Answers below 0. After each of them, but BALKREYN_UNTOLD, the book and what the call would have written are as
@@ -98,6 +120,7 @@ typedef struct balkreyn_task {
 #define BALKREYN_BAD_ARGUMENT (-23)  /* a text is no NAME, or a number is none of those that are listed */
 #define BALKREYN_UNTOLD (-24)        /* balkreyn_line: the line was performed, and there was no memory for its reply;
                                         of a join, balkreyn_outcome and balkreyn_outcome_line tell it */
+#define BALKREYN_BUSY (-25)          /* another call works on the book just now: a lock of the host's is missing */
 
 /* Answers of commands that are 0 or above, where it is no number of a scope or task. */
 #define BALKREYN_DONE 0       /* it is recorded; of balkreyn_end_close: it was closed, and nothing was amiss */
@@ -179,7 +202,7 @@ uint32_t balkreyn_abi(void);
  * takes, and how much load (an open costs 4, a fork 3, a recorded cancel, move, tick, bind or unbind 1), each
  * from 1 to its greatest value. BALKREYN_HAS_REALM, BALKREYN_BAD_ARGUMENT (a limit), BALKREYN_MEMORY.
  */
-int64_t balkreyn_book_open(balkreyn_book *book, uint32_t scopes, uint32_t tasks, uint32_t load);
+BALKREYN_CALL int64_t balkreyn_book_open(balkreyn_book *book, uint32_t scopes, uint32_t tasks, uint32_t load);
 
 /* Closes the book: frees its realm, so that it holds none. BALKREYN_DONE, or BALKREYN_NO_REALM. */
 int64_t balkreyn_book_close(balkreyn_book *book);
@@ -188,55 +211,66 @@ int64_t balkreyn_book_close(balkreyn_book *book);
  * ---- commands
  *
  * Each answers BALKREYN_DONE where nothing else is said, a refusal, BALKREYN_NO_REALM, or else
- * BALKREYN_BAD_ARGUMENT where a text is no NAME.
+ * BALKREYN_BAD_ARGUMENT where a text is no NAME. (Any call on a book may answer BALKREYN_BUSY.)
  */
 
 /* The actor opens a scope: the scope's number. BALKREYN_BAD_ARGUMENT: joiner, bound or flags. */
-int64_t balkreyn_open(balkreyn_book *book, uint32_t actor, uint32_t joiner, int64_t bound, uint32_t flags, uint64_t deadline);
+BALKREYN_CALL int64_t balkreyn_open(balkreyn_book *book, uint32_t actor, uint32_t joiner, int64_t bound, uint32_t flags, uint64_t deadline);
 
 /* The actor forks a task in its scope: the task's number, and of kind BALKREYN_NO_THREAD where it gets none. */
-int64_t balkreyn_fork(balkreyn_book *book, uint32_t actor, uint32_t scope, const uint8_t *name, size_t name_length);
+BALKREYN_CALL int64_t balkreyn_fork(balkreyn_book *book, uint32_t actor, uint32_t scope, const uint8_t *name, size_t name_length);
+
+/*
+ * The actor forks tasks of one name in its scope, one for each answer: as many balkreyn_fork in one call. It answers how
+ * many were forked. The answer of each is written in order, and behind them that of the first that was refused, where
+ * one was: then no more is tried, and the answers behind are as they were.
+ */
+BALKREYN_CALL int64_t balkreyn_fork_many(balkreyn_book *book, uint32_t actor, uint32_t scope, const uint8_t *name, size_t name_length, int64_t *answers, size_t count);
 
 /* No thread was had for the task, which waits for one. */
-int64_t balkreyn_reject(balkreyn_book *book, uint32_t task);
+BALKREYN_CALL int64_t balkreyn_reject(balkreyn_book *book, uint32_t task);
 
 /* The task's thread began. */
-int64_t balkreyn_start(balkreyn_book *book, uint32_t task);
+BALKREYN_CALL int64_t balkreyn_start(balkreyn_book *book, uint32_t task);
 
 /* The task ended with a number, with a text (a NAME), or with a fault (a NAME). */
-int64_t balkreyn_finish(balkreyn_book *book, uint32_t task, int64_t value);
-int64_t balkreyn_finish_text(balkreyn_book *book, uint32_t task, const uint8_t *value, size_t value_length);
-int64_t balkreyn_fail(balkreyn_book *book, uint32_t task, const uint8_t *fault, size_t fault_length);
+BALKREYN_CALL int64_t balkreyn_finish(balkreyn_book *book, uint32_t task, int64_t value);
+BALKREYN_CALL int64_t balkreyn_finish_text(balkreyn_book *book, uint32_t task, const uint8_t *value, size_t value_length);
+BALKREYN_CALL int64_t balkreyn_fail(balkreyn_book *book, uint32_t task, const uint8_t *fault, size_t fault_length);
+
+/* The same with a number, or with a fault; if it is recorded, the news that a host asks for behind each end are written. */
+BALKREYN_CALL int64_t balkreyn_finish_told(balkreyn_book *book, uint32_t task, int64_t value, balkreyn_news *news);
+BALKREYN_CALL int64_t balkreyn_fail_told(balkreyn_book *book, uint32_t task, const uint8_t *fault, size_t fault_length, balkreyn_news *news);
 
 /* Cancels the scope, and what lies in it: BALKREYN_DONE or BALKREYN_ALREADY. */
-int64_t balkreyn_cancel(balkreyn_book *book, uint32_t scope);
+BALKREYN_CALL int64_t balkreyn_cancel(balkreyn_book *book, uint32_t scope);
 
 /* Sets the scope's deadline anew, or takes it away. */
-int64_t balkreyn_move(balkreyn_book *book, uint32_t scope, uint64_t deadline);
-int64_t balkreyn_move_never(balkreyn_book *book, uint32_t scope);
+BALKREYN_CALL int64_t balkreyn_move(balkreyn_book *book, uint32_t scope, uint64_t deadline);
+BALKREYN_CALL int64_t balkreyn_move_never(balkreyn_book *book, uint32_t scope);
 
 /* Sets the moment. Deadlines that are not after it pass. */
-int64_t balkreyn_tick(balkreyn_book *book, uint64_t now);
+BALKREYN_CALL int64_t balkreyn_tick(balkreyn_book *book, uint64_t now);
 
 /* The actor binds a key (a NAME) to a number or a text (a NAME), and takes away the last binding of its own. */
-int64_t balkreyn_bind(balkreyn_book *book, uint32_t actor, const uint8_t *key, size_t key_length, int64_t value);
-int64_t balkreyn_bind_text(balkreyn_book *book, uint32_t actor, const uint8_t *key, size_t key_length, const uint8_t *value, size_t value_length);
-int64_t balkreyn_unbind(balkreyn_book *book, uint32_t actor);
+BALKREYN_CALL int64_t balkreyn_bind(balkreyn_book *book, uint32_t actor, const uint8_t *key, size_t key_length, int64_t value);
+BALKREYN_CALL int64_t balkreyn_bind_text(balkreyn_book *book, uint32_t actor, const uint8_t *key, size_t key_length, const uint8_t *value, size_t value_length);
+BALKREYN_CALL int64_t balkreyn_unbind(balkreyn_book *book, uint32_t actor);
 
 /*
  * The owner joins its scope: the outcome, as its kind and the scope or task that it names (or 0). It takes no
  * memory, so BALKREYN_MEMORY is never its answer. The list of an outcome is asked afterwards.
  */
-int64_t balkreyn_join(balkreyn_book *book, uint32_t actor, uint32_t scope);
+BALKREYN_CALL int64_t balkreyn_join(balkreyn_book *book, uint32_t actor, uint32_t scope);
 
 /* The owner begins to close the scope, and all that it opened later: BALKREYN_DONE or BALKREYN_ALREADY. */
-int64_t balkreyn_begin_close(balkreyn_book *book, uint32_t actor, uint32_t scope);
+BALKREYN_CALL int64_t balkreyn_begin_close(balkreyn_book *book, uint32_t actor, uint32_t scope);
 
 /* The scope is closed: BALKREYN_DONE, BALKREYN_UNJOINED or BALKREYN_VIOLATED. */
-int64_t balkreyn_end_close(balkreyn_book *book, uint32_t actor, uint32_t scope);
+BALKREYN_CALL int64_t balkreyn_end_close(balkreyn_book *book, uint32_t actor, uint32_t scope);
 
 /* Lets the past go, where main has no scope that is not closed: the load begins anew, and numbers go on. */
-int64_t balkreyn_retire(balkreyn_book *book, uint32_t actor);
+BALKREYN_CALL int64_t balkreyn_retire(balkreyn_book *book, uint32_t actor);
 
 /*
  * ---- queries
@@ -246,56 +280,65 @@ int64_t balkreyn_retire(balkreyn_book *book, uint32_t actor);
  */
 
 /* What can be read of the task: BALKREYN_UNAVAILABLE, BALKREYN_SUCCESS or BALKREYN_FAILED. */
-int64_t balkreyn_state(balkreyn_book *book, uint32_t task);
+BALKREYN_CALL int64_t balkreyn_state(balkreyn_book *book, uint32_t task);
 
 /* How far the task has come: BALKREYN_NEVER, _WAITING, _RUNNING or _FINISHED. */
-int64_t balkreyn_stage(balkreyn_book *book, uint32_t task);
+BALKREYN_CALL int64_t balkreyn_stage(balkreyn_book *book, uint32_t task);
 
 /*
  * The value of the task, read by the owner of its scope after the join: 0, and the number is written; or the
  * length of a text, which is written where there is room (24 bytes are always enough).
  */
-int64_t balkreyn_result(balkreyn_book *book, uint32_t actor, uint32_t task, int64_t *number, uint8_t *text, size_t room);
+BALKREYN_CALL int64_t balkreyn_result(balkreyn_book *book, uint32_t actor, uint32_t task, int64_t *number, uint8_t *text, size_t room);
 
 /* The fault of the task, read by the same: the length of its text, which is written where there is room. */
-int64_t balkreyn_fault(balkreyn_book *book, uint32_t actor, uint32_t task, uint8_t *text, size_t room);
+BALKREYN_CALL int64_t balkreyn_fault(balkreyn_book *book, uint32_t actor, uint32_t task, uint8_t *text, size_t room);
 
 /* Why the scope is cancelled: 0 where it is not, or the kind and the scope that the cancel came from. */
-int64_t balkreyn_cause(balkreyn_book *book, uint32_t scope);
+BALKREYN_CALL int64_t balkreyn_cause(balkreyn_book *book, uint32_t scope);
+
+/*
+ * The scope by which the actor is cancelled: its innermost one that is not closed, or else the one in which it was
+ * forked; 0 of main where it has none open. BALKREYN_NO_TASK, BALKREYN_RETIRED.
+ */
+BALKREYN_CALL int64_t balkreyn_around(balkreyn_book *book, uint32_t actor);
+
+/* Whether the actor is cancelled: as balkreyn_cause of that scope. A host needs no stack of scopes of its own. */
+BALKREYN_CALL int64_t balkreyn_is_cancelled(balkreyn_book *book, uint32_t actor);
 
 /* The earliest deadline in effect for the scope: BALKREYN_NO_DEADLINE, BALKREYN_AT (written) or BALKREYN_PAST. */
-int64_t balkreyn_until(balkreyn_book *book, uint32_t scope, uint64_t *moment);
+BALKREYN_CALL int64_t balkreyn_until(balkreyn_book *book, uint32_t scope, uint64_t *moment);
 
 /* How many tasks of the scope are at each stage: 0, and the counts are written. */
-int64_t balkreyn_counts_of(balkreyn_book *book, uint32_t scope, balkreyn_counts *counts);
+BALKREYN_CALL int64_t balkreyn_counts_of(balkreyn_book *book, uint32_t scope, balkreyn_counts *counts);
 
 /* What the actor sees the key (a NAME) bound to: as balkreyn_result. */
-int64_t balkreyn_binding(balkreyn_book *book, uint32_t actor, const uint8_t *key, size_t key_length, int64_t *number, uint8_t *text, size_t room);
+BALKREYN_CALL int64_t balkreyn_binding(balkreyn_book *book, uint32_t actor, const uint8_t *key, size_t key_length, int64_t *number, uint8_t *text, size_t room);
 
 /* The moment: 0, and it is written. */
-int64_t balkreyn_moment(balkreyn_book *book, uint64_t *moment);
+BALKREYN_CALL int64_t balkreyn_moment(balkreyn_book *book, uint64_t *moment);
 
 /* The deadline that comes next, the earliest after the moment of those that count: 1, and it is written; or 0. */
-int64_t balkreyn_next_deadline(balkreyn_book *book, uint64_t *moment);
+BALKREYN_CALL int64_t balkreyn_next_deadline(balkreyn_book *book, uint64_t *moment);
 
 /* The n-th scope to be cancelled since the last retirement, from 0; or 0 where no more than n were. */
-int64_t balkreyn_nth_cancelled(balkreyn_book *book, size_t n);
+BALKREYN_CALL int64_t balkreyn_nth_cancelled(balkreyn_book *book, size_t n);
 
 /* The task that was forked in the scope after so many others; or 0 where there is none. */
-int64_t balkreyn_task_at(balkreyn_book *book, uint32_t scope, size_t index);
+BALKREYN_CALL int64_t balkreyn_task_at(balkreyn_book *book, uint32_t scope, size_t index);
 
 /* How many scopes, and how many tasks, were numbered so far: the number of the last one. */
-int64_t balkreyn_scopes(balkreyn_book *book);
-int64_t balkreyn_tasks(balkreyn_book *book);
+BALKREYN_CALL int64_t balkreyn_scopes(balkreyn_book *book);
+BALKREYN_CALL int64_t balkreyn_tasks(balkreyn_book *book);
 
 /* What the join of the scope answered: as balkreyn_join. */
-int64_t balkreyn_outcome(balkreyn_book *book, uint32_t scope);
+BALKREYN_CALL int64_t balkreyn_outcome(balkreyn_book *book, uint32_t scope);
 
 /*
  * The list of that outcome, task by task in fork order: how many tasks it has (0 where the outcome has no list).
  * They are written where there is room for them all. BALKREYN_MEMORY.
  */
-int64_t balkreyn_outcome_tasks(balkreyn_book *book, uint32_t scope, balkreyn_task *tasks, size_t room);
+BALKREYN_CALL int64_t balkreyn_outcome_tasks(balkreyn_book *book, uint32_t scope, balkreyn_task *tasks, size_t room);
 
 /*
  * ---- text
@@ -305,13 +348,13 @@ int64_t balkreyn_outcome_tasks(balkreyn_book *book, uint32_t scope, balkreyn_tas
  */
 
 /* The line that balkreyn_line replies to the join of the scope, with its line feed: `outcome ..`. */
-int64_t balkreyn_outcome_line(balkreyn_book *book, uint32_t scope, uint8_t *text, size_t room);
+BALKREYN_CALL int64_t balkreyn_outcome_line(balkreyn_book *book, uint32_t scope, uint8_t *text, size_t room);
 
 /* The tree of the scopes that are not closed, as JSON without blanks. */
-int64_t balkreyn_dump(balkreyn_book *book, uint8_t *text, size_t room);
+BALKREYN_CALL int64_t balkreyn_dump(balkreyn_book *book, uint8_t *text, size_t room);
 
 /* What happened since the last retirement, as a script: lines that balkreyn_line takes, each with its line feed. */
-int64_t balkreyn_journal(balkreyn_book *book, uint8_t *text, size_t room);
+BALKREYN_CALL int64_t balkreyn_journal(balkreyn_book *book, uint8_t *text, size_t room);
 
 /*
  * Performs a line of a script, which comes without its line feed, and answers the length of the line of its reply,
@@ -320,7 +363,7 @@ int64_t balkreyn_journal(balkreyn_book *book, uint8_t *text, size_t room);
  * a reply (`refused N word`), and so is it that the line is no command. BALKREYN_MEMORY: nothing was performed.
  * BALKREYN_UNTOLD: it was performed, and there was no memory for its reply.
  */
-int64_t balkreyn_line(balkreyn_book *book, const uint8_t *line, size_t line_length, uint8_t *reply, size_t room);
+BALKREYN_CALL int64_t balkreyn_line(balkreyn_book *book, const uint8_t *line, size_t line_length, uint8_t *reply, size_t room);
 
 #ifdef __cplusplus
 }

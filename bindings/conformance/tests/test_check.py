@@ -42,6 +42,32 @@ class Check(unittest.TestCase):
         self.assertEqual(self.status(JOURNAL, ANSWERS + "started\n")[0], 3)
         self.assertEqual(self.status(JOURNAL, ANSWERS[:-1])[0], 3)
 
+    def test_a_dropped_job_was_looked_at(self):
+        head = [("open 0 await", "scope 1"), ("fork 0 1 a", "task 1 thread"), ("start 1", "started")]
+        cancel, looked = ("cancel 1", "cancelled"), ("cause 1", "cancelled 1 call")
+        dropped = ("fail 1 dropped", "finished")
+        shield, left = ("open 1 await shield", "scope 2"), [("close 1 2", "closing"), ("closed 1 2", "closed")]
+
+        def status(*lines):
+            return self.status(*("".join(line + "\n" for line in part) for part in zip(*head, *lines)))
+
+        self.assertEqual(status(cancel, looked, dropped), (0, ""))
+        self.assertEqual(status(cancel, looked, shield, *left, looked, dropped), (0, ""))
+        inner = ("open 1 await", "scope 2")
+        self.assertEqual(status(inner, cancel, ("cause 2", "cancelled 1 call"), *left, dropped), (0, ""))
+        for lines in (
+            (cancel, dropped),
+            (cancel, looked, shield, *left, dropped),
+            (cancel, shield, looked, *left, dropped),
+            (cancel, shield, ("cause 2", "live"), *left, dropped),
+            (inner, cancel, ("cause 2", "cancelled 1 call"), *left, ("join 1 2", "refused 3 closed"), dropped),
+        ):
+            found, said = status(*lines)
+            self.assertEqual(found, 3, lines)
+            self.assertIn("fail 1 dropped", said)
+        # A shield that the host ignores is one that the rules don't.
+        self.assertEqual(status(cancel, shield, ("cause 2", "cancelled 1 call"), *left, dropped)[0], 3)
+
     def test_nothing_to_ask(self):
         self.assertEqual(self.status(JOURNAL, SCOPECTL="/nonexistent")[0], 1)
         self.assertEqual(self.status()[0], 2)

@@ -1,367 +1,495 @@
-"""Scopes on threads over the proved library: BALKREYN_LIBRARY names libbalkreyn.so."""
+"""Scopes on asyncio and on Trio: each test runs on both, if they are at hand."""
 
-import contextlib
-import os
-import random
-import subprocess
-import tempfile
-import threading
+import asyncio
+import contextvars
+import math
 import time
 import unittest
-import unittest.mock
-from pathlib import Path
 
-from balkreyn import ALL, ANY, AWAIT, AWAIT_OK, Cancelled, NotJoined, Realm, Refused, until_failed, until_ok, until_sum
+import balkreyn
+from balkreyn import (
+    ALL, ANY, AWAIT, AWAIT_OK, NotJoined, NothingCame, Refused, TooSlowError, bounded_map, checkpoint, is_cancelled, race,
+    remaining, retry, scope, shielded, sleep, supervise, until_failed, until_ok, until_sum,
+)  # fmt: skip
 
-LONG = 20
+from .judging import LONG, on_each_engine, trio
+
+tenant = contextvars.ContextVar("tenant", default="none")
 
 
-class Scopes(unittest.TestCase):
-    def setUp(self):
-        self.realm = Realm()
+async def nap(seconds, value=None):
+    await sleep(seconds)
+    return value
 
-    def refuses(self, word, call, *arguments):
-        with self.assertRaises(Refused) as caught:
-            call(*arguments)
-        self.assertEqual(caught.exception.word, word)
 
-    def nap(self, seconds, value=None):
-        self.realm.sleep(seconds)
-        return value
+async def gives(value=None):
+    return value
 
-    def test_results_come_in_fork_order(self):
-        with self.realm.scope(ALL) as s:
-            tasks = [s.fork("square", self.nap, 0.01 * (5 - index), index * index) for index in range(5)]
-            self.assertEqual(s.join().kind, "all")
-            self.assertEqual([task.result() for task in tasks], [0, 1, 4, 9, 16])
 
-    def test_a_long_list_of_an_outcome_is_read_whole(self):
-        with self.realm.scope(until_ok(60)) as s:
-            tasks = [s.fork_measured("job", lambda value: value, int, 2**62) for _ in range(60)]
-            self.assertEqual(s.join().kind, "list")
-            self.assertEqual({task.result() for task in tasks}, {2**62})
+async def fails(error=LookupError):
+    raise error
 
-    def test_the_first_failure_cancels_the_rest(self):
+
+def runs(test):
+    """The test, an async function, on the engine of its class."""
+
+    def run(self):
         began = time.monotonic()
-        with self.realm.scope() as s:
-            slow = s.fork("slow", self.nap, LONG)
-            failing = s.fork("failing", lambda: 1 / 0)
-            outcome = s.join()
-            self.assertEqual((outcome.kind, outcome.task), ("failed", failing.id))
-            self.assertRaises(ZeroDivisionError, failing.result)
-            self.refuses("unavailable", slow.result)
-            self.assertEqual(s.cause(), ("joiner", s.id))
-        self.assertLess(time.monotonic() - began, LONG)
-        self.assertIn("fail 2 zerodivisionerror\n", self.realm.journal())
-
-    def test_a_late_result_counts_for_nothing(self):
-        def late():
-            while not self.realm.is_cancelled():
-                time.sleep(0.001)
-            return "late"
-
-        with self.realm.scope(ANY) as s:
-            tasks = [s.fork("late", late), s.fork("first", lambda: "first")]
-            self.assertEqual(s.join().task, tasks[1].id)
-            time.sleep(0.03)
-            self.assertEqual(tasks[1].result(), "first")
-            self.refuses("unavailable", tasks[0].result)
-
-    def test_a_deadline_passes_while_the_owner_waits(self):
-        began = time.monotonic()
-        with self.realm.scope(ALL, within=0.04) as s:
-            s.fork("slow", self.nap, LONG)
-            self.assertEqual(s.join().kind, "timeout")
-            self.assertGreaterEqual(time.monotonic() - began, 0.04)
-        with self.realm.scope(ALL, within=1.5, move_on=True) as s:
-            quick = s.fork("quick", int, 7)
-            s.fork("slow", self.nap, LONG)
-            self.assertEqual(s.join().kind, "partial")
-            self.assertEqual(quick.result(), 7)
-        with self.realm.scope(ALL, within=0.02):
-            self.assertRaises(Cancelled, self.realm.sleep, LONG)
+        self.run_async(lambda: test(self))
         self.assertLess(time.monotonic() - began, LONG)
 
-    def test_a_moved_deadline_counts_for_who_sleeps_already(self):
-        with self.realm.scope(AWAIT) as s:
-            s.fork("slow", self.nap, LONG)
-            time.sleep(0.02)
-            s.move_deadline(0.02)
-            self.assertEqual(s.join().kind, "timeout")
-            self.refuses("already-joined", s.move_deadline, None)
+    run.__name__ = test.__name__
+    return run
 
-    def test_a_deadline_that_is_set_later_passes_for_sleepers_alone(self):
-        ended = threading.Event()
 
-        def sleeper():
-            try:
-                self.realm.sleep(LONG)
-            finally:
-                ended.set()
+@on_each_engine
+class Joins:
+    @runs
+    async def test_values_come_in_fork_order(self):
+        async with scope(ALL) as s:
+            for index in range(5):
+                s.fork(nap, 0.01 * (5 - index), index * index)
+            self.assertEqual(await s.join(), [0, 1, 4, 9, 16])
 
-        with self.realm.scope(AWAIT) as s:
-            s.fork("sleeper", sleeper)
-            time.sleep(0.02)
-            s.move_deadline(0.02)
-            self.assertTrue(ended.wait(LONG / 2))  # The owner neither waits in the realm nor asks.
-            self.assertEqual(s.join().kind, "timeout")
+    @runs
+    async def test_the_first_success_is_the_value(self):
+        async with scope(ANY) as s:
+            slow = s.fork(nap, LONG)
+            s.fork(fails)
+            s.fork(gives, "first")
+            self.assertEqual(await s.join(), "first")
+            self.assertEqual(slow.state, "unavailable")
+            with self.assertRaisesRegex(Refused, "unavailable"):
+                slow.result()
 
-    def test_a_result_after_an_unseen_deadline_counts_for_nothing(self):
-        with self.realm.scope(ALL, within=0.01, move_on=True) as s:
-            deaf = s.fork("deaf", time.sleep, 0.03)
-            time.sleep(0.06)  # Nobody waits in the realm while the deadline passes.
-            self.assertEqual(s.join().kind, "partial")
-            self.refuses("unavailable", deaf.result)
+    @runs
+    async def test_a_failure_is_raised_and_cancels_the_rest(self):
+        async with scope() as s:
+            slow, failing = s.fork(nap, LONG), s.fork(fails)
+            with self.assertRaises(LookupError):
+                await s.join()
+            self.assertRaises(LookupError, failing.result)
+            self.assertEqual((failing.state, slow.state, s.cause()), ("failed", "unavailable", "joiner"))
 
-    def test_a_deadline_is_never_early(self):
-        for _ in range(20):
-            began = time.monotonic()
-            with self.realm.scope(ALL, within=0.002):
-                self.assertRaises(Cancelled, self.realm.sleep, LONG)
-            self.assertGreaterEqual(time.monotonic() - began, 0.002)
+    @runs
+    async def test_joiners_answer_by_their_rules(self):
+        async with scope(ANY) as s:
+            with self.assertRaises(NothingCame):
+                await s.join()
+        async with scope(AWAIT) as s:
+            s.fork(fails)
+            self.assertIsNone(await s.join())
+        async with scope(until_failed(2)) as s:
+            tasks = [s.fork(fails), s.fork(fails), s.fork(nap, LONG)]
+            self.assertEqual(await s.join(), tasks)
+        async with scope(until_ok(60)) as s:
+            for index in range(60):
+                s.fork(gives, index)
+            self.assertEqual(sorted(task.result() for task in await s.join()), list(range(60)))
+        async with scope(until_sum(10)) as s:
+            for bid in (4, 6):
+                s.fork_measured(int, gives, bid)
+            s.fork(nap, LONG)
+            self.assertEqual((await s.outcome()).kind, "list")
+        async with scope(AWAIT_OK) as s:
+            s.fork_measured(lambda value: 2**63, gives)
+            with self.assertRaises(OverflowError):
+                await s.join()
 
-    def test_a_task_whose_scope_is_cancelled_before_it_begins_never_runs(self):
-        ran = []
-        with self.realm.scope(AWAIT) as s:
-            with unittest.mock.patch.object(threading.Thread, "start", autospec=True) as start:
-                s.fork("late", ran.append, True)
-                thread = start.call_args.args[0]
-            s.cancel()
-            thread.run()
-            s._threads.clear()  # It ran here, and has no thread to wait for.
-            s.join()
-        self.assertEqual(ran, [])
-        self.assertIn("reject 1\n", self.realm.journal())
+    @runs
+    async def test_what_is_no_async_function_fails(self):
+        async with scope() as s:
+            s.fork(int)
+            with self.assertRaises(TypeError):
+                await s.join()
 
-    def test_a_shield_keeps_cancels_out(self):
-        inside, cancelled, ended = threading.Event(), threading.Event(), threading.Event()
+    @runs
+    async def test_a_forgotten_join_is_told_and_a_bodys_error_goes_on(self):
+        with self.assertRaises(NotJoined):
+            async with scope() as s:
+                s.fork(gives)
+        with self.assertRaises(ZeroDivisionError):
+            async with scope() as s:
+                s.fork(nap, LONG)
+                _ = 1 / 0
 
-        def shielded():
-            with self.realm.scope(shield=True):
-                inside.set()
-                cancelled.wait()
-                self.realm.sleep(0.005)
-                ended.set()
-            self.realm.checkpoint()
 
-        with self.realm.scope() as s:
-            s.fork("shielded", shielded)
-            inside.wait()
-            self.assertTrue(s.cancel())
-            cancelled.set()
-            self.assertFalse(s.cancel())
-            self.assertEqual(s.join().scope, s.id)
-        self.assertTrue(ended.is_set())
+@on_each_engine
+class Cancels:
+    @runs
+    async def test_a_cancel_ends_at_the_block_of_its_scope(self):
+        async def soon(scope):
+            await sleep(0.01)
+            scope.cancel()
 
-    def test_a_cancel_reaches_the_scopes_inside(self):
+        async with scope(AWAIT) as s:
+            s.fork(soon, s)
+            await sleep(LONG)
+        self.assertEqual(s.cause(), "call")
+        behind = []
+        async with scope() as outer:
+            async with scope():
+                outer.cancel()
+                await sleep(LONG)
+            behind.append("the inner block absorbed it")
+        self.assertEqual(behind, [])
+        with self.assertRaises(LookupError):  # the failure that cut the body off
+            async with scope() as s:
+                s.fork(fails)
+                await sleep(LONG)
+        async with scope(ANY) as s:  # a success that cut it off
+            s.fork(gives)
+            await sleep(LONG)
+        await sleep(0)
+
+    @runs
+    async def test_a_cancel_reaches_every_wait_until_the_job_leaves(self):
         seen = []
 
-        def outer_task():
-            with self.realm.scope(AWAIT) as inner:
-                inner.fork("inner", lambda: self.nap(LONG * outer.cancel()))
-                seen.append(inner.join())
-                with self.realm.scope(AWAIT) as late:
-                    self.assertTrue(self.realm.is_cancelled())
-                    never = late.fork("never", seen.append, "it ran")
-                    seen.append(late.join())
-                    self.refuses("unavailable", never.result)
-
-        with self.realm.scope(AWAIT) as outer:
-            outer.fork("outer", outer_task)
-            seen.append(outer.join())
-        self.assertEqual([(outcome.kind, outcome.scope) for outcome in seen], [("cancelled", outer.id)] * 3)
-
-    def test_joiners_answer_by_their_rules(self):
-        with self.realm.scope(ANY) as s:
-            self.assertEqual(s.join().kind, "empty")
-        with self.realm.scope(AWAIT) as s:
-            s.fork("failing", int, "no number")
-            self.assertEqual(s.join().kind, "done")
-        with self.realm.scope(until_failed(2)) as s:
-            for _ in range(2):
-                s.fork("failing", int, "no number")
-            s.fork("slow", self.nap, LONG)
-            self.assertEqual(s.join().kind, "list")
-        with self.realm.scope(until_sum(10)) as s:
-            for bid in (4, 6):
-                s.fork_measured("bid", lambda value: value, int, bid)
-            s.fork("slow", self.nap, LONG)
-            self.assertEqual(s.join().kind, "list")
-        with self.realm.scope(AWAIT_OK) as s:
-            broken = s.fork_measured("broken", lambda value: 2**63, int)
-            self.assertEqual(s.join().kind, "failed")
-            self.assertRaises(OverflowError, broken.result)
-
-    def test_a_forgotten_join_is_told_and_an_error_goes_on(self):
-        with self.assertRaises(NotJoined):
-            with self.realm.scope() as s:
-                s.fork("job", int)
-        with self.assertRaises(ZeroDivisionError):
-            with self.realm.scope() as s:
-                s.fork("slow", self.nap, LONG)
-                _ = 1 / 0
-        self.assertTrue(self.realm.journal().endswith("closed 0 1\n"))
-
-    def test_only_the_owner_acts_in_its_scope(self):
-        with self.realm.scope(AWAIT) as s:
-            stranger = s.fork("stranger", lambda: s.fork("job", int))
-            self.refuses("not-joined", stranger.result)
-            self.assertEqual(s.join().kind, "done")
-            self.refuses("not-owner", stranger.result)  # What the task raised: it did not open the scope.
-            self.refuses("already-joined", s.join)
-        refused = []
-
-        def acts():
-            with self.assertRaises(RuntimeError):
-                self.realm.scope().__enter__()
-            refused.append(True)
-
-        plain = threading.Thread(target=acts)
-        plain.start()
-        plain.join()
-        self.assertEqual(refused, [True])
-
-    def test_a_scope_that_a_task_left_open_is_closed(self):
-        def forgetful():
-            self.realm.scope().__enter__()
-            self.realm.scope().__enter__().fork("job", self.nap, LONG)
-
-        with self.realm.scope(AWAIT) as s:
-            task = s.fork("forgetful", forgetful)
-            self.assertEqual(s.join().kind, "done")
-            self.assertRaises(RuntimeError, task.result)
-            self.assertRaises(RuntimeError, s.__enter__)
-
-    def test_bindings_are_inherited_and_taken_away(self):
-        realm = self.realm
-        with realm.bind("tenant", "acme"), realm.bind("depth", -1):
-            with realm.scope() as s:
-                seen = s.fork("job", lambda: (realm.get("tenant"), realm.get("depth"), realm.get("other", "none")))
-                s.join()
-                self.assertEqual(seen.result(), ("acme", -1, "none"))
-        self.assertIsNone(realm.get("tenant"))
-        for wrong in ("No", "", "a b", "a\n", "x" * 25, "é"):
-            self.assertRaises(ValueError, realm.bind, wrong, 1)
-            self.assertRaises(ValueError, realm.bind, "key", wrong)
-
-    def test_limits_are_those_of_a_request(self):
-        self.assertRaises(Refused, Realm, 0)
-        small = Realm(scopes=1, tasks=1, load=30)
-        for _ in range(100):
-            with small.bind("key", 1), small.scope() as s:
-                s.fork("job", int)
-                self.refuses("too-many", s.fork, "job", int)
-                self.assertEqual(s.join().kind, "done")
-        with small.scope() as s:
-            for _ in range(100):
+        async def stubborn():
+            for _ in range(3):
                 try:
-                    with small.bind("kept", 1):
-                        pass
-                except Refused as refused:
-                    self.assertEqual(refused.word, "too-many")
-        with small.scope():
-            self.assertIsNone(small.get("kept"))
+                    await sleep(LONG)
+                except BaseException as error:
+                    seen.append(type(error).__name__)
+            await sleep(LONG)
 
+        async with scope(AWAIT) as s:
+            task = s.fork(stubborn)
+            await sleep(0.01)
+            s.cancel()
+            await s.outcome()
+        self.assertEqual((len(seen), task.state), (3, "unavailable"))
 
-class Notes(unittest.TestCase):
-    def test_notes_are_a_script_with_its_answers(self):
-        realm = Realm(notes=True)
-        for _ in range(2):
-            with realm.bind("tenant", "acme"), realm.scope(until_ok(2), shield=True) as s:
-                seven = s.fork_measured("seven", lambda value: value, int, 7)
-                self.assertEqual(s.join().kind, "list")
-                self.assertRaises(Refused, s.join)
-                self.assertEqual((seven.result(), realm.get("tenant"), realm.get("other")), (7, "acme", None))
-                self.assertEqual((s.cancel(), realm.is_cancelled()), (True, True))
-        journal, answers = (text.splitlines() for text in realm.notes())
-        lines = [f"{line}: {told}" for line, told in zip(journal, answers)]
-        expected = [
-            "bind 0 tenant acme: bound",
-            "retire 0: retired 1 1",
-            "open 0 until:ok:2 shield: scope 2",
-            "fork 0 2 seven: task 2 thread",
-            "start 2: started",
-            "ok 2 7: finished",
-            "join 0 2: outcome list 2=ok:7",
-            "result 0 2: value 7",
-            "get 0 tenant: value acme",
-            "cancel 2: cancelled",
-            "cause 2: cancelled 2 call",
-            "close 0 2: closing",
-            "closed 0 2: closed",
-            "unbind 0: unbound",
-        ]
-        self.assertEqual(lines[len(lines) // 2 :], expected)
-        self.assertRaises(RuntimeError, Realm().notes)
+    @runs
+    async def test_a_shield_keeps_cancels_out(self):
+        ended = []
 
+        async def job():
+            async with shielded():
+                await sleep(0.02)
+                ended.append(is_cancelled())
+            ended.append(is_cancelled())
+            await checkpoint()
+            ended.append("behind")
 
-class Storm(unittest.TestCase):
-    """Random trees on threads. The realm notes what it answered, and the proved program says what the rules answer."""
+        async with scope(AWAIT) as s:
+            s.fork(job)
+            await sleep(0.005)
+            self.assertTrue(s.cancel())
+            self.assertFalse(s.cancel())
+            self.assertEqual((await s.outcome()).kind, "cancelled")
+        self.assertEqual(ended, [False, True])
+        self.assertFalse(s.cancel())  # behind the end
 
-    def tree(self, realm, seed, depth=0):
-        chance = random.Random(seed)
-        joiner = chance.choice([ALL, ANY, AWAIT, AWAIT_OK, until_ok(2), until_failed(1), until_sum(5)])
-        within = chance.choice([None, None, 0.002, 0.01])
-        with realm.scope(joiner, within, move_on=chance.random() < 0.3, shield=chance.random() < 0.2) as s:
-            tasks = []
-            for _ in range(chance.randrange(4)):
-                job = (self.job, realm, chance.random(), depth, s)
-                tasks.append(s.fork_measured("job", lambda value: value, *job))
-            if chance.random() < 0.1:
+    @runs
+    async def test_a_scope_may_be_cancelled_before_its_block(self):
+        s, ran = scope(), []
+        self.assertTrue(s.cancel())
+        async with s:
+            s.fork(gives)
+            await checkpoint()
+            ran.append("behind")
+        self.assertEqual(ran, [])
+
+    @runs
+    async def test_an_error_of_the_body_under_a_cancel_goes_on(self):
+        with self.assertRaises(KeyError):
+            async with scope() as s:
                 s.cancel()
-            elif chance.random() < 0.1:
-                s.move_deadline(chance.choice([None, 0.002]))
-            s.join()
-            s.cause()
-            for task in tasks:
-                with contextlib.suppress(Refused, LookupError, Cancelled, OverflowError):
-                    task.result()
+                raise KeyError
 
-    def job(self, realm, seed, depth, outer):
-        chance = random.Random(seed)
-        realm.sleep(chance.random() * 0.003)
-        if depth < 3 and chance.random() < 0.6:
-            with realm.bind("depth", depth):
-                self.tree(realm, chance.random(), depth + 1)
-        if chance.random() < 0.1:
-            outer.cancel()
-        if chance.random() < 0.2:
-            raise LookupError
-        self.assertIsNone(realm.get("none"))
-        return chance.randrange(5)
 
-    def storm(self, realm, seed):
-        for request in range(2):
-            with realm.scope(AWAIT) as s:
-                for branch in range(4):
-                    s.fork("branch", self.tree, realm, seed * 10 + request * 5 + branch)
-                self.assertEqual(s.join().kind, "done")
+@on_each_engine
+class Times:
+    @runs
+    async def test_a_deadline_ends_its_block(self):
+        began = time.monotonic()
+        with self.assertRaises(TooSlowError):
+            async with scope(ALL, within=0.04) as s:
+                s.fork(nap, LONG)
+                await s.join()
+        self.assertGreaterEqual(time.monotonic() - began, 0.039)
+        async with scope(within=0.02, move_on=True):
+            await sleep(LONG)
+        with self.assertRaises(TooSlowError):
+            async with scope(within=0.02):
+                await sleep(LONG)
+        async with scope(ALL, within=0.5, move_on=True) as s:
+            s.fork(gives, 7)
+            s.fork(nap, LONG)
+            self.assertEqual(await s.join(), [7])
 
-    def judged(self, *texts):
-        """Asks the proved program whether the rules answer so; where there is none at hand, the test is skipped."""
-        top = Path(__file__).resolve().parents[3]
-        check = top / "bindings" / "conformance" / "check"
-        if not check.is_file() or not Path(os.environ.get("SCOPECTL", top / "carried" / "scopectl")).is_file():
-            self.skipTest("no scopectl at hand")
-        with tempfile.TemporaryDirectory() as folder:
-            files = [Path(folder, name) for name in ("journal", "answers")][: len(texts)]
-            for file, text in zip(files, texts):
-                file.write_text(text)
-            said = subprocess.run([check, *files], stdout=subprocess.PIPE, stderr=subprocess.STDOUT, text=True)
-        self.assertEqual(said.returncode, 0, said.stdout)
+    @runs
+    async def test_a_moved_deadline_counts_for_who_waits_already(self):
+        async with scope(AWAIT) as s:
+            s.fork(nap, LONG)
+            await sleep(0.01)
+            s.move_deadline(0.02)
+            self.assertEqual((await s.outcome()).kind, "timeout")
+        async with scope(AWAIT, within=0.01) as s:
+            s.move_deadline(None)
+            s.fork(nap, 0.03)
+            self.assertEqual((await s.outcome()).kind, "done")
 
-    def test_each_answer_in_a_storm_is_that_of_the_rules(self):
-        for seed in range(12):
-            realm = Realm(notes=True)
-            self.storm(realm, seed)
-            self.judged(*realm.notes())
+    @runs
+    async def test_times_at_the_edge(self):
+        ran = []
 
-    def test_a_storm_without_notes_keeps_the_rules(self):
-        for seed in range(6):
-            realm = Realm()
-            self.storm(realm, seed)
-            self.judged(realm.journal())
+        async def job():
+            ran.append(1)
 
+        async with scope(AWAIT, within=0, move_on=True) as s:
+            for _ in range(50):
+                s.fork(job)
+            await s.outcome()
+        self.assertEqual(ran, [])
+        for wrong in (-1, math.nan, -math.inf):
+            self.assertRaises(ValueError, scope, within=wrong)
+            with self.assertRaises(ValueError):
+                await sleep(wrong)
+        async with scope(within=math.inf):
+            await sleep(0)
+        async with scope(within=0.01, move_on=True):
+            await sleep(math.inf)
+
+    @runs
+    async def test_how_much_time_is_left(self):
+        self.assertIsNone(remaining())
+        async with scope(within=60):
+            async with scope():
+                self.assertTrue(59 < remaining() <= 60.01)
+                async with scope(within=1) as s:
+                    self.assertTrue(0 < remaining() <= 1.01)
+                    s.cancel()
+                    self.assertEqual(remaining(), 0)
+
+
+@on_each_engine
+class Blocks:
+    @runs
+    async def test_only_those_inside_act_in_a_scope(self):
+        async def forks(s):
+            s.fork(gives)
+
+        async with scope(AWAIT) as s:
+            stranger = s.fork(forks, s)
+            await s.outcome()
+            with self.assertRaisesRegex(Refused, "not-owner"):
+                stranger.result()
+        with self.assertRaises(RuntimeError):
+            await s.__aenter__()
+
+    @runs
+    async def test_a_scope_that_a_task_left_open_is_closed(self):
+        async def forgetful():
+            await scope().__aenter__()
+
+        if self.engine == "trio":
+            return  # Trio itself refuses a nursery that is left open
+        async with scope(AWAIT) as s:
+            task = s.fork(forgetful)
+            await s.outcome()
+            self.assertRaises(RuntimeError, task.result)
+
+    @runs
+    async def test_tasks_inherit_variables(self):
+        async def reads():
+            return tenant.get()
+
+        with balkreyn.bind(tenant, ("any", "object")):
+            async with scope(ALL) as s:
+                s.fork(reads)
+                self.assertEqual(await s.join(), [("any", "object")])
+        self.assertEqual(tenant.get(), "none")
+
+    @runs
+    async def test_many_wait_at_once(self):
+        async with scope(AWAIT, within=0.2, move_on=True) as s:
+            for _ in range(3000):
+                s.fork(sleep, LONG)
+            self.assertEqual((await s.outcome()).kind, "partial")
+
+
+@on_each_engine
+class Helpers:
+    @runs
+    async def test_a_race_gives_the_first_value(self):
+        self.assertEqual(await race(lambda: nap(LONG), lambda: nap(0.001, "quick"), fails), "quick")
+        with self.assertRaises(LookupError):
+            await race(fails, fails)
+        with self.assertRaises(TooSlowError):
+            await race(lambda: nap(LONG), within=0.01)
+
+    @runs
+    async def test_a_map_keeps_its_order_and_its_width(self):
+        now, most = [0], [0]
+
+        async def job(item):
+            now[0] += 1
+            most[0] = max(most[0], now[0])
+            await sleep(0.001)
+            now[0] -= 1
+            return item * item
+
+        self.assertEqual(await bounded_map(job, range(40), 4), [item * item for item in range(40)])
+        self.assertEqual(most, [4])
+        with self.assertRaises(LookupError):
+            await bounded_map(lambda item: fails() if item == 3 else nap(0.002), range(1000), 2)
+
+    @runs
+    async def test_a_retry_ends_with_the_last_error(self):
+        tries = []
+
+        async def job():
+            tries.append(1)
+            if len(tries) < 3:
+                raise LookupError
+            return "third"
+
+        self.assertEqual(await retry(job, 3, pause=0.001), "third")
+        with self.assertRaises(LookupError):
+            await retry(fails, 2, pause=0.001)
+
+    @runs
+    async def test_a_supervisor_lasts(self):
+        rounds = []
+
+        async def round():
+            rounds.append(1)
+
+        await supervise(round, every=0, rounds=4200)
+        self.assertEqual(len(rounds), 4200)
+        async with scope(within=0.3, move_on=True):
+            await supervise(round, every=0.01)
+        self.assertTrue(4201 < len(rounds) < 4235)
+
+
+class AsyncioItself(unittest.TestCase):
+    """Beside asyncio's own blocks."""
+
+    def test_cancels_from_outside_pass_through(self):
+        async def main():
+            ended = []
+
+            async def slow():
+                try:
+                    await sleep(LONG)
+                finally:
+                    ended.append(1)
+
+            async def block():
+                async with scope() as s:
+                    s.fork(slow)
+                    await s.join()
+
+            task = asyncio.create_task(block())
+            await asyncio.sleep(0.01)
+            task.cancel()
+            with self.assertRaises(asyncio.CancelledError):
+                await task
+            self.assertEqual(ended, [1])
+            with self.assertRaises(asyncio.TimeoutError):
+                await asyncio.wait_for(block(), 0.01)
+            self.assertEqual(ended, [1, 1])
+
+        asyncio.run(main())
+
+    @unittest.skipUnless(hasattr(asyncio, "timeout"), "no asyncio.timeout")
+    def test_scopes_and_timeouts_nest_in_each_other(self):
+        async def main():
+            with self.assertRaises(TimeoutError):
+                async with asyncio.timeout(0.01):
+                    async with scope():
+                        await asyncio.sleep(LONG)
+            async with scope(within=0.01, move_on=True):
+                async with asyncio.timeout(LONG):
+                    await asyncio.sleep(LONG)
+            self.assertEqual(asyncio.current_task().cancelling(), 0)
+            async with scope(within=0.01, move_on=True):
+                async with asyncio.TaskGroup() as group:
+                    group.create_task(asyncio.sleep(LONG))
+            self.assertEqual(asyncio.current_task().cancelling(), 0)
+            await asyncio.sleep(0)
+
+        asyncio.run(main())
+
+    def test_a_cancel_comes_again_at_asyncios_own_waits(self):
+        seen = []
+
+        async def stubborn():
+            for _ in range(3):
+                try:
+                    await asyncio.sleep(LONG)
+                except asyncio.CancelledError:
+                    seen.append(1)
+
+        async def main():
+            async with scope(AWAIT) as s:
+                s.fork(stubborn)
+                await asyncio.sleep(0.01)
+                s.cancel()
+                await s.outcome()
+
+        asyncio.run(asyncio.wait_for(main(), LONG / 4))
+        self.assertEqual(seen, [1, 1, 1])
+
+    def test_a_loop_that_ends_takes_its_jobs_along(self):
+        ended = []
+
+        async def slow():
+            try:
+                await sleep(LONG)
+            finally:
+                ended.append(1)
+
+        async def main():
+            s = scope()
+            await s.__aenter__()
+            s.fork(slow)
+            await asyncio.sleep(0.01)
+
+        asyncio.run(main())
+        self.assertEqual(ended, [1])
+
+
+@unittest.skipIf(trio is None, "no trio")
+class TrioItself(unittest.TestCase):
+    """Beside Trio's own blocks, by its own clock."""
+
+    def test_cancels_from_outside_pass_through(self):
+        async def main():
+            notes = balkreyn.Notes()
+            with trio.move_on_after(5) as outside:
+                async with scope(notes=notes) as s:
+                    s.fork(trio.sleep_forever)
+                    await s.join()
+            self.assertTrue(outside.cancelled_caught)
+            self.assertIn("cancel 1\n", notes.journal())
+            async with scope(within=5, move_on=True):
+                async with trio.open_nursery() as nursery:
+                    nursery.start_soon(trio.sleep_forever)
+            with trio.CancelScope(shield=True):
+                await trio.sleep(1)
+
+        trio.run(main, clock=trio.testing.MockClock(autojump_threshold=0))
+
+    def test_time_is_trios(self):
+        async def main():
+            began = trio.current_time()
+            async with scope(ALL, within=3600) as s:
+                s.fork(nap, 1800, 1)
+                self.assertEqual(await s.join(), [1])
+            with self.assertRaises(TooSlowError):
+                async with scope(within=3600):
+                    await sleep(math.inf)
+            self.assertAlmostEqual(trio.current_time() - began, 5400, delta=0.01)
+
+        trio.run(main, clock=trio.testing.MockClock(autojump_threshold=0))
+
+
+if trio is not None:
+    import trio.testing
 
 if __name__ == "__main__":
     unittest.main()

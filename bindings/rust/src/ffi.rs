@@ -1,104 +1,45 @@
-//! The C library, and a book that owns one realm of it. All `unsafe` of the crate stands here.
+//! A book of the C library, which owns one realm. All `unsafe` of the crate stands here, but for one line of `threads.rs`.
 //!
 //! What the header asks of its caller, and how it is kept: a book starts as zeroed memory and only the library
-//! writes to it (`Raw` is private and no copy of it is made); one call at a time works on it (each method takes
+//! writes to it (it is private and no copy of it is made); one call at a time works on it (each method takes
 //! `&mut self`); pointers are those of references, slices and vectors, so none is null and none overlaps another.
 
 #![allow(unsafe_code)]
 
-use crate::refusal::Refusal;
-use std::ptr;
+use crate::refusal::{Code, Refusal};
+use balkreyn_sys::{
+    ABI, Counts, News, balkreyn_abi, balkreyn_begin_close, balkreyn_bind, balkreyn_bind_text, balkreyn_binding,
+    balkreyn_book_close, balkreyn_book_open, balkreyn_cancel, balkreyn_cause, balkreyn_counts_of, balkreyn_dump,
+    balkreyn_end_close, balkreyn_fail_told, balkreyn_finish_told, balkreyn_fork, balkreyn_join, balkreyn_journal,
+    balkreyn_move, balkreyn_move_never, balkreyn_next_deadline, balkreyn_nth_cancelled, balkreyn_open,
+    balkreyn_outcome, balkreyn_outcome_line, balkreyn_reject, balkreyn_result, balkreyn_retire, balkreyn_stage,
+    balkreyn_start, balkreyn_state, balkreyn_tick, balkreyn_unbind, balkreyn_until,
+};
 
-/// The number of the interface that this crate speaks.
-const INTERFACE: u32 = 1;
 /// The kind of a fork's answer that says that the task gets no thread.
 const NO_THREAD: u32 = 1;
 /// The most bytes of a name.
 const NAME_ROOM: usize = 24;
 
-#[repr(C)]
-struct Place {
-    at: *mut u8,
-}
-
-#[repr(C)]
-struct Raw {
-    full: bool,
-    place: Place,
-}
-
-#[repr(C)]
-#[derive(Default)]
-struct RawCounts {
-    never: u32,
-    waiting: u32,
-    running: u32,
-    finished: u32,
-}
-
-extern "C" {
-    fn balkreyn_abi() -> u32;
-    fn balkreyn_book_open(book: *mut Raw, scopes: u32, tasks: u32, load: u32) -> i64;
-    fn balkreyn_book_close(book: *mut Raw) -> i64;
-    fn balkreyn_open(book: *mut Raw, actor: u32, joiner: u32, bound: i64, flags: u32, deadline: u64) -> i64;
-    fn balkreyn_fork(book: *mut Raw, actor: u32, scope: u32, name: *const u8, length: usize) -> i64;
-    fn balkreyn_reject(book: *mut Raw, task: u32) -> i64;
-    fn balkreyn_start(book: *mut Raw, task: u32) -> i64;
-    fn balkreyn_finish(book: *mut Raw, task: u32, value: i64) -> i64;
-    fn balkreyn_fail(book: *mut Raw, task: u32, fault: *const u8, length: usize) -> i64;
-    fn balkreyn_cancel(book: *mut Raw, scope: u32) -> i64;
-    fn balkreyn_move(book: *mut Raw, scope: u32, deadline: u64) -> i64;
-    fn balkreyn_move_never(book: *mut Raw, scope: u32) -> i64;
-    fn balkreyn_tick(book: *mut Raw, now: u64) -> i64;
-    fn balkreyn_bind(book: *mut Raw, actor: u32, key: *const u8, length: usize, value: i64) -> i64;
-    fn balkreyn_bind_text(
-        book: *mut Raw,
-        actor: u32,
-        key: *const u8,
-        key_length: usize,
-        value: *const u8,
-        value_length: usize,
-    ) -> i64;
-    fn balkreyn_unbind(book: *mut Raw, actor: u32) -> i64;
-    fn balkreyn_join(book: *mut Raw, actor: u32, scope: u32) -> i64;
-    fn balkreyn_begin_close(book: *mut Raw, actor: u32, scope: u32) -> i64;
-    fn balkreyn_end_close(book: *mut Raw, actor: u32, scope: u32) -> i64;
-    fn balkreyn_retire(book: *mut Raw, actor: u32) -> i64;
-    fn balkreyn_result(book: *mut Raw, actor: u32, task: u32, number: *mut i64, text: *mut u8, room: usize) -> i64;
-    fn balkreyn_cause(book: *mut Raw, scope: u32) -> i64;
-    fn balkreyn_until(book: *mut Raw, scope: u32, moment: *mut u64) -> i64;
-    fn balkreyn_counts_of(book: *mut Raw, scope: u32, counts: *mut RawCounts) -> i64;
-    fn balkreyn_binding(
-        book: *mut Raw,
-        actor: u32,
-        key: *const u8,
-        key_length: usize,
-        number: *mut i64,
-        text: *mut u8,
-        room: usize,
-    ) -> i64;
-    fn balkreyn_outcome_line(book: *mut Raw, scope: u32, text: *mut u8, room: usize) -> i64;
-    fn balkreyn_next_deadline(book: *mut Raw, moment: *mut u64) -> i64;
-    fn balkreyn_nth_cancelled(book: *mut Raw, index: usize) -> i64;
-    fn balkreyn_dump(book: *mut Raw, text: *mut u8, room: usize) -> i64;
-    fn balkreyn_journal(book: *mut Raw, text: *mut u8, room: usize) -> i64;
-}
-
 /// An answer with two numbers: its kind, and the scope or task that it names.
-pub(crate) struct Pair {
-    pub(crate) kind: u32,
-    pub(crate) number: u32,
+pub struct Pair {
+    /// The kind.
+    pub kind: u32,
+    /// The scope or task, or 0.
+    pub number: u32,
 }
 
 /// What an actor sees bound to a key.
-pub(crate) enum Bound {
+pub enum Bound {
+    /// A number.
     Number(i64),
+    /// A text.
     Text(String),
 }
 
 /// A C book that holds one realm from `open` to its drop.
-pub(crate) struct Book {
-    raw: Raw,
+pub struct Book {
+    raw: balkreyn_sys::Book,
 }
 
 // SAFETY: a book is memory that the library owns, bound to no thread: the header lets it move to another address and
@@ -113,12 +54,8 @@ impl Drop for Book {
 }
 
 /// The answer, or the refusal that it says.
-fn told(answer: i64) -> Result<i64, Refusal> {
-    if answer < 0 {
-        Err(Refusal::of_answer(answer))
-    } else {
-        Ok(answer)
-    }
+fn told(answer: i64) -> Result<i64, Code> {
+    if answer < 0 { Err(Code(answer)) } else { Ok(answer) }
 }
 
 /// The number of an answer that is a number of 32 bits: its upper half is 0, or a kind.
@@ -135,7 +72,7 @@ fn pair_of(answer: i64) -> Pair {
 macro_rules! command {
     ($(#[$text:meta])* $name:ident, $export:ident, $($argument:ident: $kind:ty),+) => {
         $(#[$text])*
-        pub(crate) fn $name(&mut self, $($argument: $kind),+) -> Result<i64, Refusal> {
+        pub fn $name(&mut self, $($argument: $kind),+) -> Result<i64, Code> {
             // SAFETY: `raw` is a book of the library, lent to this one call; the rest are numbers.
             told(unsafe { $export(&mut self.raw, $($argument),+) })
         }
@@ -144,15 +81,18 @@ macro_rules! command {
 
 impl Book {
     /// A book with a fresh realm of these limits.
-    pub(crate) fn open(scopes: u32, tasks: u32, load: u32) -> Result<Book, Refusal> {
+    pub fn open(scopes: u32, tasks: u32, load: u32) -> Result<Book, Refusal> {
         // SAFETY: it takes nothing and touches no memory.
-        if unsafe { balkreyn_abi() } != INTERFACE {
+        if unsafe { balkreyn_abi() } != ABI {
             return Err(Refusal::OtherInterface);
         }
-        let mut book = Book { raw: Raw { full: false, place: Place { at: ptr::null_mut() } } };
+        let mut book = Book { raw: balkreyn_sys::Book::empty() };
         // SAFETY: `raw` is zeroed but for padding, which the library never reads: an empty book.
-        told(unsafe { balkreyn_book_open(&mut book.raw, scopes, tasks, load) })?;
-        Ok(book)
+        match told(unsafe { balkreyn_book_open(&mut book.raw, scopes, tasks, load) }) {
+            Ok(_) => Ok(book),
+            Err(Code::BAD_ARGUMENT) => Err(Refusal::BadLimit),
+            Err(code) => Err(Refusal::from(code)),
+        }
     }
 
     command!(
@@ -164,9 +104,6 @@ impl Book {
     command!(
         /// The task's thread began.
         start, balkreyn_start, task: u32);
-    command!(
-        /// The task ended with a number.
-        finish, balkreyn_finish, task: u32, value: i64);
     command!(
         /// Cancels the scope.
         cancel, balkreyn_cancel, scope: u32);
@@ -189,63 +126,80 @@ impl Book {
         /// The scope is closed: 0, 2 (never joined) or 3 (violated).
         end_close, balkreyn_end_close, actor: u32, scope: u32);
     command!(
+        /// What can be read of the task: 0 (nothing), 1 (success) or 2 (failed).
+        state, balkreyn_state, task: u32);
+    command!(
+        /// How far the task has come: 0 (never), 1 (waiting), 2 (running) or 3 (finished).
+        stage, balkreyn_stage, task: u32);
+    command!(
         /// Lets the past go.
         retire, balkreyn_retire, actor: u32);
 
     /// Forks a task: its number, and whether it gets a thread.
-    pub(crate) fn fork(&mut self, actor: u32, scope: u32, name: &str) -> Result<(u32, bool), Refusal> {
+    pub fn fork(&mut self, actor: u32, scope: u32, name: &str) -> Result<(u32, bool), Code> {
         // SAFETY: as `command`; the name is a slice with its length.
         let answer = told(unsafe { balkreyn_fork(&mut self.raw, actor, scope, name.as_ptr(), name.len()) })?;
         let pair = pair_of(answer);
         Ok((pair.number, pair.kind != NO_THREAD))
     }
 
-    /// The task ended with a fault.
-    pub(crate) fn fail(&mut self, task: u32, fault: &str) -> Result<i64, Refusal> {
-        // SAFETY: as `fork`.
-        told(unsafe { balkreyn_fail(&mut self.raw, task, fault.as_ptr(), fault.len()) })
+    /// The task ended with a number, or with a fault: what there is to hear of then.
+    pub fn end(&mut self, task: u32, end: Result<i64, &str>) -> Result<News, Code> {
+        let mut news = News::default();
+        // SAFETY: as `fork`; `news` is the call's alone.
+        let answer = match end {
+            Ok(value) => unsafe { balkreyn_finish_told(&mut self.raw, task, value, &mut news) },
+            Err(fault) => unsafe { balkreyn_fail_told(&mut self.raw, task, fault.as_ptr(), fault.len(), &mut news) },
+        };
+        told(answer).map(|_| news)
     }
 
     /// Binds the key to a number.
-    pub(crate) fn bind(&mut self, actor: u32, key: &str, value: i64) -> Result<i64, Refusal> {
+    pub fn bind(&mut self, actor: u32, key: &str, value: i64) -> Result<i64, Code> {
         // SAFETY: as `fork`.
         told(unsafe { balkreyn_bind(&mut self.raw, actor, key.as_ptr(), key.len(), value) })
     }
 
     /// Binds the key to a text.
-    pub(crate) fn bind_text(&mut self, actor: u32, key: &str, value: &str) -> Result<i64, Refusal> {
+    pub fn bind_text(&mut self, actor: u32, key: &str, value: &str) -> Result<i64, Code> {
         let (at, length) = (value.as_ptr(), value.len());
         // SAFETY: as `fork`; shared slices that are only read may overlap.
         told(unsafe { balkreyn_bind_text(&mut self.raw, actor, key.as_ptr(), key.len(), at, length) })
     }
 
     /// Joins the scope: the outcome as a pair.
-    pub(crate) fn join(&mut self, actor: u32, scope: u32) -> Result<Pair, Refusal> {
+    pub fn join(&mut self, actor: u32, scope: u32) -> Result<Pair, Code> {
         // SAFETY: as `command`.
         told(unsafe { balkreyn_join(&mut self.raw, actor, scope) }).map(pair_of)
     }
 
+    /// What the join of the scope answered.
+    pub fn outcome(&mut self, scope: u32) -> Result<Pair, Code> {
+        // SAFETY: as `command`.
+        told(unsafe { balkreyn_outcome(&mut self.raw, scope) }).map(pair_of)
+    }
+
     /// Whether the task succeeded (`true`) or failed, told to the owner of its scope after the join.
-    pub(crate) fn succeeded(&mut self, actor: u32, task: u32) -> Result<bool, Refusal> {
+    pub fn succeeded(&mut self, actor: u32, task: u32) -> Result<bool, Code> {
         let (mut number, mut text) = (0, [0; NAME_ROOM]);
         // SAFETY: as `command`; both places are the call's alone, and `text` has the room that is told.
         let answer = unsafe { balkreyn_result(&mut self.raw, actor, task, &mut number, text.as_mut_ptr(), NAME_ROOM) };
         match told(answer) {
             Ok(_) => Ok(true),
-            Err(Refusal::NotSuccess) => Ok(false),
-            Err(refusal) => Err(refusal),
+            Err(Code::NOT_SUCCESS) => Ok(false),
+            Err(code) => Err(code),
         }
     }
 
     /// Why the scope is cancelled: `None` where it is not, or the kind and the scope that the cancel came from.
-    pub(crate) fn cause(&mut self, scope: u32) -> Result<Option<Pair>, Refusal> {
+    pub fn cause(&mut self, scope: u32) -> Result<Option<Pair>, Code> {
         // SAFETY: as `command`.
         let answer = told(unsafe { balkreyn_cause(&mut self.raw, scope) })?;
         Ok(if answer == 0 { None } else { Some(pair_of(answer)) })
     }
 
     /// The earliest deadline in effect for the scope: `None` where there is none, or where it is cancelled.
-    pub(crate) fn until(&mut self, scope: u32) -> Option<u64> {
+    pub fn until(&mut self, scope: u32) -> Option<u64> {
         let mut moment = 0;
         // SAFETY: as `command`; `moment` is the call's alone.
         let answer = unsafe { balkreyn_until(&mut self.raw, scope, &mut moment) };
@@ -253,15 +207,15 @@ impl Book {
     }
 
     /// Whether no task of the scope waits or runs.
-    pub(crate) fn is_quiet(&mut self, scope: u32) -> bool {
-        let mut counts = RawCounts::default();
+    pub fn is_quiet(&mut self, scope: u32) -> bool {
+        let mut counts = Counts::default();
         // SAFETY: as `command`; `counts` is the call's alone.
         let answer = unsafe { balkreyn_counts_of(&mut self.raw, scope, &mut counts) };
         answer == 0 && counts.waiting == 0 && counts.running == 0
     }
 
     /// What the actor sees the key bound to.
-    pub(crate) fn binding(&mut self, actor: u32, key: &str) -> Result<Bound, Refusal> {
+    pub fn binding(&mut self, actor: u32, key: &str) -> Result<Bound, Code> {
         let (mut number, mut text) = (0, [0; NAME_ROOM]);
         let (at, length, out) = (key.as_ptr(), key.len(), text.as_mut_ptr());
         // SAFETY: as `succeeded`; the key is a slice with its length.
@@ -273,7 +227,7 @@ impl Book {
     }
 
     /// The deadline that comes next in the whole realm.
-    pub(crate) fn next_deadline(&mut self) -> Option<u64> {
+    pub fn next_deadline(&mut self) -> Option<u64> {
         let mut moment = 0;
         // SAFETY: as `command`; `moment` is the call's alone.
         let answer = unsafe { balkreyn_next_deadline(&mut self.raw, &mut moment) };
@@ -281,33 +235,33 @@ impl Book {
     }
 
     /// The scope that was cancelled after `index` others since the last retirement.
-    pub(crate) fn nth_cancelled(&mut self, index: usize) -> Option<u32> {
+    pub fn nth_cancelled(&mut self, index: usize) -> Option<u32> {
         // SAFETY: as `command`.
         let answer = unsafe { balkreyn_nth_cancelled(&mut self.raw, index) };
         (answer > 0).then_some(number_of(answer))
     }
 
     /// The tree of the scopes that are not closed, as JSON.
-    pub(crate) fn dump(&mut self) -> Result<String, Refusal> {
+    pub fn dump(&mut self) -> Result<String, Code> {
         // SAFETY: as `command`; the text has the room that is told.
         self.text(|book, text, room| unsafe { balkreyn_dump(book, text, room) })
     }
 
     /// The reply of a script to the join of the scope, without its line feed.
-    pub(crate) fn outcome_line(&mut self, scope: u32) -> Result<String, Refusal> {
+    pub fn outcome_line(&mut self, scope: u32) -> Result<String, Code> {
         // SAFETY: as `dump`.
         let line = self.text(|book, text, room| unsafe { balkreyn_outcome_line(book, scope, text, room) })?;
         Ok(line.trim_end().to_owned())
     }
 
     /// What happened since the last retirement, as a script.
-    pub(crate) fn journal(&mut self) -> Result<String, Refusal> {
+    pub fn journal(&mut self) -> Result<String, Code> {
         // SAFETY: as `dump`.
         self.text(|book, text, room| unsafe { balkreyn_journal(book, text, room) })
     }
 
     /// A text of any length: asked for its length first, then for itself.
-    fn text(&mut self, ask: impl Fn(*mut Raw, *mut u8, usize) -> i64) -> Result<String, Refusal> {
+    fn text(&mut self, ask: impl Fn(*mut balkreyn_sys::Book, *mut u8, usize) -> i64) -> Result<String, Code> {
         let mut text = Vec::new();
         loop {
             // The vector has the room that is told, at an address that is never null.

@@ -5,24 +5,24 @@
 //! and of Trio's cancel scopes.
 //!
 //! ```
-//! use balkreyn::{Context, Joiner, Options, Outcome, Realm, Refusal};
+//! use balkreyn::{Context, Joiner, Options, Realm, Refusal};
 //! use std::time::Duration;
 //!
 //! let shops = [("slow", 20_000), ("quick", 5)];
-//! let mut realm = Realm::new()?;
-//! let first = realm.run(|cx| {
+//! let first = Realm::new()?.run(|cx| {
 //!     cx.try_scope(Options::new(Joiner::Any).within(Duration::from_secs(10)), |s| {
-//!         let mut offers = Vec::new();
-//!         for (name, pause) in &shops {
-//!             offers.push(s.fork("shop", |cx: &Context| cx.sleep(Duration::from_millis(*pause)).map(|()| *name))?);
-//!         }
-//!         Ok::<_, Refusal>(match s.join()? {
-//!             Outcome::Any(winner) => s.result_of(winner, offers).ok(),
-//!             _ => None,
-//!         })
+//!         let ask = |(name, pause): &(_, u64)| {
+//!             let (name, pause) = (*name, Duration::from_millis(*pause));
+//!             move |cx: &Context| {
+//!                 cx.sleep(pause)?;
+//!                 Ok::<_, Refusal>(name)
+//!             }
+//!         };
+//!         let offers = s.fork_all("shop", shops.iter().map(ask))?;
+//!         s.winner(offers)
 //!     })
-//! })?;
-//! assert_eq!(first, Some("quick"));
+//! });
+//! assert_eq!(first, Ok("quick"));
 //! # Ok::<(), Refusal>(())
 //! ```
 //!
@@ -40,36 +40,77 @@
 //! The library believes who acts. So [`Context`] and [`Scope`] never leave their thread, a job gets a context of its
 //! own, and one thread at a time is main, which the types see to.
 //!
+//! # Errors
+//!
+//! The errors of bodies and of jobs are yours, from a [`Refusal`] and from [`Cancelled`]: two `From`, or
+//! `Box<dyn Error + Send + Sync>`, which has both. A cancel ends at its own block ([`Context::try_scope`]).
+//!
 //! # Threads
 //!
-//! A job takes an idle thread of its scope, or else a new one, up to [`Options::threads`]. A cancel stops no code that
-//! never asks: a block waits until each of its jobs has ended.
+//! A job takes an idle thread of its scope, or else one of a [`Pool`], up to [`Options::threads`]. A cancel stops no
+//! code that never asks and has no hook ([`Context::on_cancel`]): a block waits until each of its jobs has ended.
 //!
 //! # Time
 //!
-//! Deadlines pass while somebody waits ([`Scope::join`], [`Context::sleep`]) or asks ([`Context::is_cancelled`]), and
-//! before each other call. There is no timer thread.
+//! Deadlines pass while somebody waits ([`Scope::join`], [`Context::sleep`]), asks ([`Context::is_cancelled`]) or looks
+//! ([`Look::dump`]), and before each other call. There is no timer thread.
 
 #![deny(unsafe_code)]
 #![warn(missing_docs)]
 
+mod canceller;
+mod channel;
 mod context;
 mod ffi;
+mod gate;
+mod helpers;
+mod hooks;
+mod labels;
+mod limiter;
+mod local;
 mod notes;
+mod observer;
 mod options;
 mod outcome;
+mod pool;
 mod realm;
 mod refusal;
 mod scope;
+mod server;
 mod shared;
 mod task;
 mod threads;
+mod times;
+mod value;
+mod waiting;
 
-pub use context::{Cancelled, Context, Value};
+/// What a host for another kind of job is built from, such as `balkreyn-tokio`. It may change with any version.
+#[doc(hidden)]
+pub mod host {
+    pub use crate::canceller::Cancels;
+    pub use crate::ffi::{Book, Bound, Pair};
+    pub use crate::hooks::Call;
+    pub use crate::labels::Labels;
+    pub use crate::refusal::Code;
+    pub use crate::task::swallow;
+    pub use crate::waiting::locked;
+}
+
+pub use canceller::Canceller;
+pub use channel::{Receiver, Sender, channel};
+pub use context::Context;
+pub use helpers::Backoff;
+pub use hooks::Hook;
+pub use limiter::Limiter;
+pub use local::Local;
 pub use notes::Notes;
+pub use observer::{Ending, Happening, Observer};
 pub use options::{Joiner, Options};
-pub use outcome::{Cause, Outcome, ScopeError, ScopeId, TaskId};
+pub use outcome::{Cancelled, Cause, Outcome, ScopeError, ScopeId, TaskId};
+pub use pool::{Pool, ThreadBody};
 pub use realm::{Limits, Look, Realm};
 pub use refusal::Refusal;
-pub use scope::{Canceller, Scope};
-pub use task::{Panic, Task, TaskError};
+pub use scope::Scope;
+pub use server::{Server, Stop};
+pub use task::{Panic, Task, TaskError, TaskState};
+pub use value::Value;

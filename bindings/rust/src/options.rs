@@ -1,9 +1,22 @@
 //! How a scope is joined, and by when.
 
+use crate::canceller::Canceller;
 use std::num::NonZeroUsize;
-use std::time::Duration;
+use std::time::{Duration, Instant};
 
 /// When a scope's joiner cancels it, and what its join answers (JEP 505, `Joiner`).
+///
+/// ```
+/// # use balkreyn::{Joiner, Outcome, Realm, Refusal};
+/// let outcome = Realm::new()?.run(|cx| {
+///     cx.try_scope(Joiner::UntilOk(2), |s| {
+///         let _tasks = s.fork_all("job", (0..2).map(|n| move |_: &_| Ok::<_, Refusal>(n)))?;
+///         s.join()
+///     })
+/// })?;
+/// assert_eq!(outcome, Outcome::List);
+/// # Ok::<(), Refusal>(())
+/// ```
 #[non_exhaustive]
 #[derive(Clone, Copy, Debug, Default, PartialEq, Eq)]
 pub enum Joiner {
@@ -28,22 +41,28 @@ pub enum Joiner {
     UntilSum(i64),
 }
 
-/// How a scope is opened: its joiner, its deadline, whether it moves on, whether it is shielded.
+/// How a scope is opened: its joiner, its deadline, whether it moves on, whether it is shielded, its name.
 ///
 /// ```
 /// use balkreyn::{Joiner, Options};
-/// use std::time::Duration;
+/// use std::time::{Duration, Instant};
 ///
 /// let options = Options::new(Joiner::Any).within(Duration::from_millis(300)).move_on();
 /// # let _ = options;
 /// ```
-#[derive(Clone, Copy, Debug, Default, PartialEq, Eq)]
+#[derive(Clone, Debug, Default)]
+#[must_use]
 pub struct Options {
     pub(crate) joiner: Joiner,
-    pub(crate) within: Option<Duration>,
+    #[doc(hidden)]
+    pub within: Option<Duration>,
     pub(crate) moves_on: bool,
     pub(crate) shielded: bool,
     pub(crate) threads: Option<NonZeroUsize>,
+    #[doc(hidden)]
+    pub canceller: Option<Canceller>,
+    #[doc(hidden)]
+    pub name: Option<String>,
 }
 
 impl Options {
@@ -52,11 +71,16 @@ impl Options {
         Options { joiner, ..Options::default() }
     }
 
-    /// The scope is cancelled where it isn't joined so long after its opening. Deadlines are kept in whole
-    /// milliseconds, rounded up.
+    /// The scope is cancelled if it isn't joined so long after its opening. Deadlines are kept in whole milliseconds,
+    /// rounded up; zero is now, so that no job begins.
     pub fn within(mut self, duration: Duration) -> Options {
         self.within = Some(duration);
         self
+    }
+
+    /// The scope is cancelled if it isn't joined by then ([`Options::within`]).
+    pub fn until(self, instant: Instant) -> Options {
+        self.within(instant.saturating_duration_since(Instant::now()))
     }
 
     /// Where the deadline passes, the join answers [`Outcome::Partial`](crate::Outcome::Partial) instead of
@@ -73,19 +97,34 @@ impl Options {
     }
 
     /// At most so many threads run the scope's jobs; the others wait for one, in fork order. So a job must not wait
-    /// for one that was forked after it. Without this, a job that finds no idle thread gets a new one.
+    /// for one that was forked after it. If no thread is to be had, a job waits for one that the scope has, and is
+    /// refused only if it has none. Without this, a job that finds no idle thread gets another one, or is refused.
     pub fn threads(mut self, limit: NonZeroUsize) -> Options {
         self.threads = Some(limit);
         self
     }
 
+    /// The canceller cancels the scope too, at once if it cancelled already.
+    pub fn cancelled_by(mut self, canceller: &Canceller) -> Options {
+        self.canceller = Some(canceller.clone());
+        self
+    }
+
+    /// The scope has a name, which may be any text: dumps show it as its label, and journals as a remark.
+    pub fn named(mut self, name: impl Into<String>) -> Options {
+        self.name = Some(name.into());
+        self
+    }
+
     /// How many threads the scope may have.
-    pub(crate) fn thread_limit(&self) -> usize {
+    #[doc(hidden)]
+    pub fn thread_limit(&self) -> usize {
         self.threads.map_or(usize::MAX, NonZeroUsize::get)
     }
 
     /// The joiner's number and bound, as the book takes them.
-    pub(crate) fn joiner_numbers(&self) -> (u32, i64) {
+    #[doc(hidden)]
+    pub fn joiner_numbers(&self) -> (u32, i64) {
         match self.joiner {
             Joiner::AwaitOk => (0, 0),
             Joiner::All => (1, 0),
@@ -98,7 +137,8 @@ impl Options {
     }
 
     /// The words of an `open` of a script, with the deadline as the book was told it.
-    pub(crate) fn words(&self, deadline: Option<u64>) -> String {
+    #[doc(hidden)]
+    pub fn words(&self, deadline: Option<u64>) -> String {
         let joiner = match self.joiner {
             Joiner::AwaitOk => "await-ok".into(),
             Joiner::All => "all".into(),
@@ -115,7 +155,8 @@ impl Options {
     }
 
     /// The flags, as the book takes them.
-    pub(crate) fn flags(&self) -> u32 {
+    #[doc(hidden)]
+    pub fn flags(&self) -> u32 {
         u32::from(self.within.is_some()) | u32::from(self.moves_on) << 1 | u32::from(self.shielded) << 2
     }
 }

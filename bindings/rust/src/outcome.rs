@@ -1,4 +1,4 @@
-//! What joins and scopes answer.
+//! What joins, scopes and cancels answer.
 
 use crate::ffi::Pair;
 use crate::refusal::Refusal;
@@ -6,29 +6,80 @@ use std::error::Error;
 use std::fmt;
 
 /// The number of a task in its realm, as dumps show it. A journal counts anew from 1.
+///
+/// ```
+/// # use balkreyn::{Joiner, Realm, Refusal};
+/// Realm::new()?.run(|cx| {
+///     cx.try_scope(Joiner::All, |s| {
+///         let task = s.fork("one", |_| Ok::<_, Refusal>(1))?;
+///         assert_eq!((task.id().number(), task.id().to_string()), (1, "task 1".to_owned()));
+///         s.join().map(drop)
+///     })
+/// })?;
+/// # Ok::<(), Refusal>(())
+/// ```
 #[derive(Clone, Copy, Debug, PartialEq, Eq, Hash, PartialOrd, Ord)]
 pub struct TaskId(pub(crate) u32);
 
 impl TaskId {
     /// The number.
+    #[must_use]
     pub fn number(self) -> u32 {
         self.0
+    }
+
+    #[doc(hidden)]
+    pub fn of_number(number: u32) -> TaskId {
+        TaskId(number)
+    }
+}
+
+impl fmt::Display for TaskId {
+    fn fmt(&self, out: &mut fmt::Formatter<'_>) -> fmt::Result {
+        write!(out, "task {}", self.0)
     }
 }
 
 /// The number of a scope in its realm, as dumps show it. A journal counts anew from 1.
+///
+/// ```
+/// # use balkreyn::{Joiner, Realm, Refusal};
+/// let id = Realm::new()?.run(|cx| cx.scope(Joiner::All, |s| s.id()))?;
+/// assert_eq!((id.number(), id.to_string()), (1, "scope 1".to_owned()));
+/// # Ok::<(), Refusal>(())
+/// ```
 #[derive(Clone, Copy, Debug, PartialEq, Eq, Hash, PartialOrd, Ord)]
 pub struct ScopeId(pub(crate) u32);
 
 impl ScopeId {
     /// The number.
+    #[must_use]
     pub fn number(self) -> u32 {
         self.0
+    }
+
+    #[doc(hidden)]
+    pub fn of_number(number: u32) -> ScopeId {
+        ScopeId(number)
+    }
+}
+
+impl fmt::Display for ScopeId {
+    fn fmt(&self, out: &mut fmt::Formatter<'_>) -> fmt::Result {
+        write!(out, "scope {}", self.0)
     }
 }
 
 /// What a join answers (JEP 505, `join`).
+///
+/// ```
+/// # use balkreyn::{Joiner, Outcome, Realm, Refusal};
+/// let outcome = Realm::new()?.run(|cx| cx.scope(Joiner::Any, |s| s.join()))??;
+/// assert_eq!(outcome, Outcome::Empty);
+/// # Ok::<(), Refusal>(())
+/// ```
 #[non_exhaustive]
+#[must_use]
 #[derive(Clone, Copy, Debug, PartialEq, Eq)]
 pub enum Outcome {
     /// All jobs succeeded ([`Joiner::All`](crate::Joiner::All)).
@@ -52,7 +103,8 @@ pub enum Outcome {
 }
 
 impl Outcome {
-    pub(crate) fn of_pair(pair: &Pair) -> Result<Outcome, Refusal> {
+    #[doc(hidden)]
+    pub fn of_pair(pair: &Pair) -> Result<Outcome, Refusal> {
         Ok(match pair.kind {
             1 => Outcome::All,
             2 => Outcome::Any(TaskId(pair.number)),
@@ -63,7 +115,7 @@ impl Outcome {
             7 => Outcome::Timeout,
             8 => Outcome::Partial,
             9 => Outcome::Cancelled(ScopeId(pair.number)),
-            kind => return Err(Refusal::Unknown(i64::from(kind))),
+            kind => return Err(Refusal::Unexpected(i64::from(kind))),
         })
     }
 
@@ -84,8 +136,20 @@ impl Outcome {
 }
 
 /// Why a scope is cancelled.
+///
+/// ```
+/// # use balkreyn::{Cause, Joiner, Realm, Refusal};
+/// Realm::new()?.run(|cx| {
+///     cx.scope(Joiner::All, |s| {
+///         assert_eq!(s.cause(), None);
+///         assert!(s.cancel());
+///         assert_eq!(s.cause(), Some(Cause::Call(s.id())));
+///     })
+/// })?;
+/// # Ok::<(), Refusal>(())
+/// ```
 #[non_exhaustive]
-#[derive(Clone, Copy, Debug, PartialEq, Eq)]
+#[derive(Clone, Copy, Debug, PartialEq, Eq, Hash)]
 pub enum Cause {
     /// A cancel call on that scope.
     Call(ScopeId),
@@ -98,30 +162,108 @@ pub enum Cause {
 }
 
 impl Cause {
-    pub(crate) fn of_pair(pair: &Pair) -> Result<Cause, Refusal> {
-        let scope = ScopeId(pair.number);
-        Ok(match pair.kind {
+    #[doc(hidden)]
+    pub fn of_pair(pair: &Pair) -> Option<Cause> {
+        Cause::unpacked(u64::from(pair.kind) << 32 | u64::from(pair.number))
+    }
+
+    /// The cause of such a number; `None` of 0.
+    #[doc(hidden)]
+    pub fn unpacked(packed: u64) -> Option<Cause> {
+        let scope = ScopeId(packed as u32);
+        Some(match packed >> 32 {
             1 => Cause::Call(scope),
             2 => Cause::Close(scope),
             3 => Cause::Joiner(scope),
             4 => Cause::Deadline(scope),
-            kind => return Err(Refusal::Unknown(i64::from(kind))),
+            _ => return None,
         })
     }
 
-    /// The line of a script's reply.
-    pub(crate) fn line(&self) -> String {
-        let (scope, kind) = match self {
-            Cause::Call(scope) => (scope, "call"),
-            Cause::Close(scope) => (scope, "close"),
-            Cause::Joiner(scope) => (scope, "joiner"),
-            Cause::Deadline(scope) => (scope, "deadline"),
+    /// The pair as one number, which is not 0.
+    #[doc(hidden)]
+    pub fn packed(self) -> u64 {
+        let (kind, scope) = match self {
+            Cause::Call(scope) => (1, scope),
+            Cause::Close(scope) => (2, scope),
+            Cause::Joiner(scope) => (3, scope),
+            Cause::Deadline(scope) => (4, scope),
         };
-        format!("cancelled {} {kind}", scope.0)
+        kind << 32 | u64::from(scope.0)
+    }
+
+    /// The scope that the cancel came from.
+    #[must_use]
+    pub fn scope(self) -> ScopeId {
+        match self {
+            Cause::Call(scope) | Cause::Close(scope) | Cause::Joiner(scope) | Cause::Deadline(scope) => scope,
+        }
+    }
+
+    /// The line of a script's reply.
+    pub(crate) fn line(self) -> String {
+        let kind = match self {
+            Cause::Call(_) => "call",
+            Cause::Close(_) => "close",
+            Cause::Joiner(_) => "joiner",
+            Cause::Deadline(_) => "deadline",
+        };
+        format!("cancelled {} {kind}", self.scope().0)
     }
 }
 
+impl fmt::Display for Cause {
+    fn fmt(&self, out: &mut fmt::Formatter<'_>) -> fmt::Result {
+        match self {
+            Cause::Call(scope) => write!(out, "a call on {scope}"),
+            Cause::Close(scope) => write!(out, "the close of {scope}"),
+            Cause::Joiner(scope) => write!(out, "the joiner of {scope}"),
+            Cause::Deadline(scope) => write!(out, "the deadline of {scope}"),
+        }
+    }
+}
+
+/// The scope around the caller is cancelled, by this cause.
+///
+/// A cancel ends at its own block: [`Context::try_scope`](crate::Context::try_scope) says what the block gives then.
+///
+/// ```
+/// # use balkreyn::{Cancelled, Cause, Joiner, Realm, Refusal};
+/// Realm::new()?.run(|cx| {
+///     cx.scope(Joiner::All, |s| {
+///         s.cancel();
+///         assert_eq!(cx.checkpoint(), Err(Cancelled { cause: Cause::Call(s.id()) }));
+///     })
+/// })?;
+/// # Ok::<(), Refusal>(())
+/// ```
+#[derive(Clone, Copy, Debug, PartialEq, Eq, Hash)]
+pub struct Cancelled {
+    /// What cancelled it.
+    pub cause: Cause,
+}
+
+impl fmt::Display for Cancelled {
+    fn fmt(&self, out: &mut fmt::Formatter<'_>) -> fmt::Result {
+        write!(out, "cancelled by {}", self.cause)
+    }
+}
+
+impl Error for Cancelled {}
+
 /// Why a scope gives no plain value.
+///
+/// ```
+/// # use balkreyn::{Joiner, Realm, Refusal, ScopeError};
+/// let forgotten = Realm::new()?.run(|cx| {
+///     cx.scope(Joiner::All, |s| {
+///         s.fork("job", |_| Ok::<_, Refusal>(())).map(drop)?;
+///         Ok::<_, Refusal>("kept")
+///     })
+/// });
+/// assert!(matches!(forgotten, Err(ScopeError::NotJoined(Ok("kept")))));
+/// # Ok::<(), Refusal>(())
+/// ```
 pub enum ScopeError<R> {
     /// The scope was not opened, and the body never ran.
     Refused(Refusal),
@@ -131,6 +273,7 @@ pub enum ScopeError<R> {
 
 impl<R> ScopeError<R> {
     /// The refusal, without what the body returned.
+    #[must_use]
     pub fn refusal(&self) -> Refusal {
         match self {
             ScopeError::Refused(refusal) => *refusal,
@@ -151,7 +294,14 @@ impl<R> fmt::Display for ScopeError<R> {
     }
 }
 
-impl<R> Error for ScopeError<R> {}
+impl<R> Error for ScopeError<R> {
+    fn source(&self) -> Option<&(dyn Error + 'static)> {
+        match self {
+            ScopeError::Refused(refusal) => refusal.source(),
+            ScopeError::NotJoined(_) => None,
+        }
+    }
+}
 
 impl<R> From<ScopeError<R>> for Refusal {
     fn from(error: ScopeError<R>) -> Refusal {

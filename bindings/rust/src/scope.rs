@@ -1,26 +1,45 @@
 //! A scope: jobs are forked in it, joined, cancelled, and their results read.
 
+use crate::canceller::{Canceller, Cancels};
 use crate::context::Context;
-use crate::outcome::{Cause, Outcome, ScopeId, TaskId};
-use crate::refusal::Refusal;
-use crate::shared::{Around, Event, Shared};
-use crate::task::{run_job, Slot, Task, TaskError};
+use crate::outcome::{Cancelled, Cause, Outcome, ScopeId, TaskId};
+use crate::refusal::{Code, Refusal};
+use crate::shared::{End, Shared};
+use crate::task::{Place, Task, TaskError, TaskState, reject_job, run_job, swallow};
 use crate::threads::Threads;
+use crate::waiting::Bell;
+use std::borrow::Borrow;
 use std::cell::OnceCell;
 use std::fmt;
 use std::marker::PhantomData;
-use std::sync::atomic::Ordering;
 use std::sync::Arc;
-use std::thread;
+use std::sync::atomic::Ordering;
 use std::time::Duration;
 
-/// A scope whose body runs. It never leaves the thread of its owner, so no job can fork in it or join it:
+/// A scope whose body runs.
+///
+/// ```
+/// use balkreyn::{Joiner, Outcome, Realm, Refusal};
+///
+/// let words = ["one".to_owned(), "three".to_owned()];
+/// let lengths = Realm::new()?.run(|cx| {
+///     cx.try_scope(Joiner::All, |s| {
+///         let tasks = s.fork_all("length", words.iter().map(|word| |_: &_| Ok::<_, Refusal>(word.len())))?;
+///         assert_eq!(s.join()?, Outcome::All);
+///         tasks.into_iter().map(|task| s.value(task)).collect::<Result<Vec<_>, _>>()
+///     })
+/// });
+/// assert_eq!(lengths, Ok(vec![3, 5]));
+/// # Ok::<(), Refusal>(())
+/// ```
+///
+/// It never leaves the thread of its owner, so no job can fork in it or join it:
 ///
 /// ```compile_fail,E0277
 /// # use balkreyn::{Context, Joiner, Realm, Refusal};
 /// # let mut realm = Realm::new().unwrap();
 /// realm.run(|cx| cx.scope(Joiner::All, |s| {
-///     s.fork("job", |_cx: &Context| s.join()).map(|_| ())
+///     s.fork("job", |_| s.join()).map(|_| ())
 /// }));
 /// ```
 ///
@@ -30,60 +49,97 @@ use std::time::Duration;
 /// # use balkreyn::{Context, Joiner, Realm, Refusal};
 /// # let mut realm = Realm::new().unwrap();
 /// realm.run(|cx| cx.scope(Joiner::All, |outer| {
-///     let task = outer.fork("job", |_cx: &Context| Ok::<_, Refusal>(1)).unwrap();
+///     let task = outer.fork("job", |_| Ok::<_, Refusal>(1)).unwrap();
 ///     cx.scope(Joiner::All, |inner| inner.result(task))
 /// }));
 /// ```
 pub struct Scope<'scope, 'env: 'scope> {
     shared: Arc<Shared>,
     actor: u32,
-    around: Around,
-    threads: &'scope thread::Scope<'scope, 'env>,
+    bell: Arc<Bell>,
     thread_limit: usize,
-    /// The threads that jobs use again, once a job came.
-    crew: OnceCell<Arc<Threads<'scope>>>,
+    /// The threads that it has, once a job came.
+    threads: OnceCell<Arc<Threads<'scope>>>,
     on_its_thread: PhantomData<*const ()>,
+    lives: PhantomData<(&'scope mut &'scope (), &'env mut &'env ())>,
 }
 
 impl Drop for Scope<'_, '_> {
-    /// On every way out of the body, the close begins: what still runs is cancelled.
+    /// On every way out of the body, a scope that has threads begins to close, which cancels what still runs, and its
+    /// threads leave.
     fn drop(&mut self) {
-        self.shared.begin_close(self.actor, self.around.scope);
-        if let Some(crew) = self.crew.get() {
-            crew.close();
+        if let Some(threads) = self.threads.get() {
+            let leaving = Leaving(threads);
+            self.shared.begin_close(self.actor, self.bell.scope);
+            drop(leaving);
+        }
+    }
+}
+
+/// Waits for the threads of a scope in its drop: so nothing that goes wrong in between leaves them behind.
+struct Leaving<'a, 'scope>(&'a Threads<'scope>);
+
+impl Drop for Leaving<'_, '_> {
+    fn drop(&mut self) {
+        self.0.close();
+        if let Some(panic) = self.0.wait_all() {
+            if !std::thread::panicking() {
+                std::panic::resume_unwind(panic);
+            }
         }
     }
 }
 
 impl<'scope, 'env> Scope<'scope, 'env> {
-    pub(crate) fn new(
-        shared: Arc<Shared>,
-        actor: u32,
-        around: Around,
-        threads: &'scope thread::Scope<'scope, 'env>,
-        thread_limit: usize,
-    ) -> Scope<'scope, 'env> {
-        Scope { shared, actor, around, threads, thread_limit, crew: OnceCell::new(), on_its_thread: PhantomData }
+    pub(crate) fn new(shared: Arc<Shared>, actor: u32, bell: Arc<Bell>, limit: usize) -> Scope<'scope, 'env> {
+        let threads = OnceCell::new();
+        Scope { shared, actor, bell, thread_limit: limit, threads, on_its_thread: PhantomData, lives: PhantomData }
+    }
+
+    /// Whether a job of it came to a thread.
+    pub(crate) fn has_threads(&self) -> bool {
+        self.threads.get().is_some()
     }
 
     /// The scope's number.
+    #[must_use]
     pub fn id(&self) -> ScopeId {
-        ScopeId(self.around.scope)
+        ScopeId(self.bell.scope)
     }
 
-    /// Forks a job, which runs on a thread of the scope: one that is idle, or else a new one (up to
+    /// Forks a job, which runs on a thread: one that is idle in the scope, or else another one of the pool (up to
     /// [`Options::threads`](crate::Options::threads)). A job whose scope is cancelled before it begins never runs.
     ///
+    /// The name is any text. The rules, and journals, have a name that is like it, where it is none of theirs; dumps
+    /// and journals show the name itself beside that.
+    ///
     /// # Errors
-    /// [`Refusal::BadArgument`] where the name is none; [`Refusal::AlreadyJoined`]; [`Refusal::Structure`] where the
-    /// bindings are not those of the scope's opening; [`Refusal::TooMany`]; [`Refusal::Memory`].
+    /// [`Refusal::Rejected`] if no thread is to be had; [`Refusal::AlreadyJoined`]; [`Refusal::Structure`] inside a
+    /// binding that is younger than the scope; [`Refusal::TooMany`]; [`Refusal::Memory`]. The job never runs then.
     pub fn fork<T, E, F>(&self, name: &str, job: F) -> Result<Task<'scope, T, E>, Refusal>
     where
         F: FnOnce(&Context) -> Result<T, E> + Send + 'scope,
         T: Send + 'scope,
-        E: Send + 'scope,
+        E: Send + 'static,
     {
         self.fork_measured(name, |_| 0, job)
+    }
+
+    /// Forks each job, under one name.
+    ///
+    /// # Errors
+    /// As [`Scope::fork`], of the first that is refused. Those before it run on, as those of any block that is left.
+    pub fn fork_all<T, E, F>(
+        &self,
+        name: &str,
+        jobs: impl IntoIterator<Item = F>,
+    ) -> Result<Vec<Task<'scope, T, E>>, Refusal>
+    where
+        F: FnOnce(&Context) -> Result<T, E> + Send + 'scope,
+        T: Send + 'scope,
+        E: Send + 'static,
+    {
+        jobs.into_iter().map(|job| self.fork(name, job)).collect()
     }
 
     /// As [`Scope::fork`], with a measure of the value, which [`Joiner::UntilSum`](crate::Joiner::UntilSum) adds up.
@@ -96,27 +152,35 @@ impl<'scope, 'env> Scope<'scope, 'env> {
         F: FnOnce(&Context) -> Result<T, E> + Send + 'scope,
         M: FnOnce(&T) -> i64 + Send + 'scope,
         T: Send + 'scope,
-        E: Send + 'scope,
+        E: Send + 'static,
     {
-        let (id, has_thread) = {
-            let mut inner = self.shared.lock();
-            let (id, has_thread) = inner.book.fork(self.actor, self.around.scope, name)?;
-            inner.note(|notes, _| notes.fork(self.actor, self.around.scope, name, id, has_thread));
-            (id, has_thread)
+        let (id, has_thread) = match self.shared.fork(self.actor, self.bell.scope, name) {
+            Ok(forked) => forked,
+            Err(refusal) => {
+                swallow(|| drop((measure, job)));
+                return Err(self.shared.refused(refusal));
+            }
         };
-        let slot = Slot::default();
-        if has_thread {
-            let (shared, around, left) = (Arc::clone(&self.shared), self.around.clone(), Arc::clone(&slot));
-            let run = move |may_run: bool| {
-                if may_run && !around.bell.cancelled.load(Ordering::Acquire) {
-                    run_job(&shared, id, around, &left, measure, job)
+        let place = Place::new(id, &self.bell);
+        if !has_thread {
+            swallow(|| drop((measure, job)));
+        } else {
+            let (shared, bell, left) = (Arc::clone(&self.shared), Arc::clone(&self.bell), Arc::clone(&place));
+            let run = move || {
+                if bell.is_cut() {
+                    reject_job(&shared, &bell, id, (measure, job, left))
                 } else {
-                    shared.record_end(&around, id, &Event::Reject)
+                    run_job(&shared, &bell, left, measure, job)
                 }
             };
-            self.crew.get_or_init(|| Threads::new(self.thread_limit)).run(self.threads, Box::new(run));
+            let threads = self.threads.get_or_init(|| Threads::new(self.shared.pool.clone(), self.thread_limit));
+            if let Err(job) = threads.run(Box::new(run)) {
+                swallow(|| drop(job));
+                drop(self.shared.record_end(&self.bell, id, &End::Reject));
+                return Err(self.shared.refused(Refusal::Rejected));
+            }
         }
-        Ok(Task::new(TaskId(id), slot))
+        Ok(Task::new(id, place))
     }
 
     /// Waits until the joiner has its answer, the scope is cancelled, or a deadline passes.
@@ -124,17 +188,26 @@ impl<'scope, 'env> Scope<'scope, 'env> {
     /// # Errors
     /// [`Refusal::AlreadyJoined`].
     pub fn join(&self) -> Result<Outcome, Refusal> {
-        let scope = self.around.scope;
-        // Nothing is forked after a join, so a thread that finds no more jobs may end while the owner waits.
-        if let Some(crew) = self.crew.get() {
-            crew.close();
+        self.bell.was_handed.store(false, Ordering::Relaxed);
+        let scope = self.bell.scope;
+        // Nothing is forked after a join, so a thread that finds no more jobs may leave while the owner waits.
+        if let Some(threads) = self.threads.get() {
+            threads.close();
         }
+        let mut has_spun = false;
         let mut inner = self.shared.lock();
         loop {
             match inner.book.join(self.actor, scope) {
-                Err(Refusal::NotReady) => inner = self.shared.wait(inner, &self.around.bell.owner, Some(scope), None),
+                Err(Code::NOT_READY) => {
+                    inner = self.shared.wait(inner, &self.bell.owner, Some(scope), None, Some(&mut has_spun));
+                }
                 told => {
                     let outcome = Outcome::of_pair(&told?)?;
+                    match self.has_threads() {
+                        true => inner.times.event(self.shared.now()),
+                        // It waited for nothing, so that its time is not worth a look at the clock.
+                        false => inner.times.next(),
+                    }
                     inner.note(|notes, book| notes.join(self.actor, scope, outcome, book));
                     self.shared.settle(&mut inner);
                     return Ok(outcome);
@@ -143,31 +216,101 @@ impl<'scope, 'env> Scope<'scope, 'env> {
         }
     }
 
-    /// What the task gave, if the book says that it counts.
+    /// As [`Scope::join`], for a body that goes on only if all is well: results can be read then. In a scope that moves on
+    /// that is so behind its deadline, too.
+    ///
+    /// ```
+    /// use balkreyn::{Joiner, Realm, Refusal};
+    ///
+    /// let sum = Realm::new()?.run(|cx| {
+    ///     cx.try_scope(Joiner::All, |s| {
+    ///         let (one, name) = (s.fork("one", |_| Ok::<_, Refusal>(1))?, s.fork("name", |_| Ok::<_, Refusal>("two"))?);
+    ///         s.join_ok()?;
+    ///         Ok::<_, Refusal>(s.value(one)? + s.value(name)?.len())
+    ///     })
+    /// })?;
+    /// assert_eq!(sum, 4);
+    /// # Ok::<(), Refusal>(())
+    /// ```
     ///
     /// # Errors
-    /// [`TaskError`].
-    pub fn result<T, E>(&self, task: Task<'scope, T, E>) -> Result<T, TaskError<E>> {
-        let (actor, id) = (self.actor, task.id().0);
+    /// [`Refusal::JobFailed`], for which a block gives the job's own error, if it has the type of the block's;
+    /// [`Refusal::TimedOut`]; [`Refusal::Cancelled`]; [`Refusal::NoTask`] where a success was wanted, and no job ended;
+    /// [`Refusal::AlreadyJoined`].
+    pub fn join_ok(&self) -> Result<(), Refusal> {
+        match self.join()? {
+            Outcome::All | Outcome::Any(_) | Outcome::Done | Outcome::List | Outcome::Partial => Ok(()),
+            other => Err(self.error_of(other)),
+        }
+    }
+
+    /// The outcome by which a body that was handed a cancel of this very scope ends; `None` where it was not.
+    pub(crate) fn cut_outcome(&self) -> Option<Outcome> {
+        if !self.bell.was_handed.load(Ordering::Relaxed) {
+            return None;
+        }
+        self.join().ok().or_else(|| {
+            let pair = self.shared.quietly().book.outcome(self.bell.scope).ok()?;
+            Outcome::of_pair(&pair).ok()
+        })
+    }
+
+    /// The cancel of this scope, as it is handed to its owner.
+    fn cancelled(&self) -> Option<Cancelled> {
+        self.bell.cause().map(|cause| self.bell.handed(self.actor, cause))
+    }
+
+    /// What the task gave, if the book says that it counts. A task that is lent, not moved, can be asked again: before
+    /// the join that changes nothing.
+    ///
+    /// # Errors
+    /// [`TaskError`]; with [`Refusal::NotJoined`] before the join, and [`Refusal::Taken`] the second time.
+    pub fn result<T, E>(&self, task: impl Borrow<Task<'scope, T, E>>) -> Result<T, TaskError<E>> {
+        let (actor, task) = (self.actor, task.borrow());
+        let id = task.id().0;
         let mut inner = self.shared.quietly();
         let told = inner.book.succeeded(actor, id);
         let (result, end) = match told {
             Ok(succeeded) => task.take(succeeded),
-            Err(refusal) => (Err(TaskError::Refused(refusal)), None),
+            Err(code) => (Err(self.no_result(code)), None),
         };
         inner.note(|notes, _| match (&result, end) {
-            (_, Some(Event::Finish(value))) => {
+            (_, Some(End::Finish(value))) => {
                 notes.line(format_args!("result {actor} {id}"), format_args!("value {value}"))
             }
-            (_, Some(Event::Fail(fault))) => {
+            (_, Some(End::Fail(fault))) => {
                 notes.line(format_args!("fault {actor} {id}"), format_args!("fault {fault}"))
             }
-            (Err(TaskError::Refused(Refusal::NoResult)), _) => {
-                notes.line(format_args!("state {id}"), "state unavailable")
-            }
+            (Err(TaskError::Cancelled(_)), _) => notes.line(format_args!("state {id}"), "state unavailable"),
             _ => {}
         });
         result
+    }
+
+    fn no_result<E>(&self, code: Code) -> TaskError<E> {
+        match (code, self.bell.cause()) {
+            (Code::NO_RESULT, Some(cause)) => TaskError::Cancelled(Cancelled { cause }),
+            (code, _) => TaskError::Refused(Refusal::from(code)),
+        }
+    }
+
+    /// The error by the job's own type. A cancel is handed to the body by it.
+    fn own<E: From<Refusal> + From<Cancelled>>(&self, error: TaskError<E>) -> E {
+        if let TaskError::Cancelled(Cancelled { cause }) = error {
+            self.bell.handed(self.actor, cause);
+        }
+        error.into_own()
+    }
+
+    /// The task's value, or its own error. A job that panicked goes on panicking here.
+    ///
+    /// # Errors
+    /// The job's own; or else what became of it: [`TaskError::into_own`].
+    pub fn value<T, E>(&self, task: impl Borrow<Task<'scope, T, E>>) -> Result<T, E>
+    where
+        E: From<Refusal> + From<Cancelled>,
+    {
+        self.result(task).map_err(|error| self.own(error))
     }
 
     /// The result of each task, in the order given.
@@ -190,65 +333,147 @@ impl<'scope, 'env> Scope<'scope, 'env> {
         }
     }
 
-    /// Cancels the scope and what lies in it, up to shields: whether it was not cancelled before.
+    /// Joins, and gives the value of the task that the outcome names: the first to succeed, or else the first to fail.
     ///
     /// # Errors
-    /// [`Refusal::TooMany`].
-    pub fn cancel(&self) -> Result<bool, Refusal> {
-        self.shared.cancel(self.around.scope)
+    /// The error of that task; [`Refusal::TimedOut`]; [`Cancelled`]; [`Refusal::NoTask`] where the outcome names none
+    /// of these.
+    pub fn winner<T, E>(&self, tasks: Vec<Task<'scope, T, E>>) -> Result<T, E>
+    where
+        E: From<Refusal> + From<Cancelled>,
+    {
+        match self.join()? {
+            Outcome::Any(task) | Outcome::Failed(task) => self.result_of(task, tasks).map_err(|error| self.own(error)),
+            other => Err(self.error_of(other)),
+        }
     }
 
-    /// A handle that cancels the scope from any thread, as long as it isn't closing.
+    /// Joins, and gives the value of each task, in the order given.
+    ///
+    /// # Errors
+    /// The error of the first task that failed; [`Refusal::TimedOut`]; [`Cancelled`].
+    pub fn values<T, E>(&self, tasks: Vec<Task<'scope, T, E>>) -> Result<Vec<T>, E>
+    where
+        E: From<Refusal> + From<Cancelled>,
+    {
+        match self.join()? {
+            Outcome::All | Outcome::Any(_) | Outcome::Done | Outcome::List => {
+                tasks.into_iter().map(|task| self.value(task)).collect()
+            }
+            Outcome::Failed(task) => match tasks.into_iter().find(|one| one.id() == task).map(|one| self.value(one)) {
+                Some(Err(error)) => Err(error),
+                _ => Err(self.error_of(Outcome::Failed(task))),
+            },
+            other => Err(self.error_of(other)),
+        }
+    }
+
+    /// The error of an outcome by which a block gives no value.
+    fn error_of<E: From<Refusal> + From<Cancelled>>(&self, outcome: Outcome) -> E {
+        match (outcome, self.cancelled()) {
+            (Outcome::Timeout | Outcome::Partial, _) => E::from(Refusal::TimedOut(self.id())),
+            (Outcome::Cancelled(_), Some(cancelled)) => E::from(cancelled),
+            (Outcome::Failed(task), _) => {
+                // The block gives the job's own error instead, if it can.
+                self.bell.was_handed.store(true, Ordering::Relaxed);
+                E::from(Refusal::JobFailed(task))
+            }
+            _ => E::from(Refusal::NoTask),
+        }
+    }
+
+    /// What the task can be seen to be now. Its result stays where it is.
+    #[must_use]
+    pub fn state<T, E>(&self, task: &Task<'scope, T, E>) -> TaskState {
+        let id = task.id().0;
+        let mut inner = self.shared.lock();
+        let told = inner.book.state(id);
+        let (state, words) = match told {
+            Ok(1) => (TaskState::Succeeded, "success"),
+            Ok(2) => (TaskState::Failed, "failed"),
+            _ => match inner.book.stage(id) {
+                Ok(1) => (TaskState::Waiting, "unavailable"),
+                Ok(2) => (TaskState::Running, "unavailable"),
+                _ => (TaskState::Unavailable, "unavailable"),
+            },
+        };
+        if told.is_ok() {
+            inner.note(|notes, _| notes.line(format_args!("state {id}"), format_args!("state {words}")));
+        }
+        state
+    }
+
+    /// Waits until one of the tasks has ended, takes it from the list, and gives its result: in the order of their
+    /// ends, before the join too. `None` once none is left. In a cancelled scope those that don't count are given at
+    /// once, as [`TaskError::Cancelled`].
+    pub fn next_done<T, E>(&self, left: &mut Vec<Task<'scope, T, E>>) -> Option<(TaskId, Result<T, TaskError<E>>)> {
+        if left.is_empty() {
+            return None;
+        }
+        self.bell.wants_each.store(true, Ordering::Relaxed);
+        let mut has_spun = false;
+        let mut inner = self.shared.lock();
+        let (at, told) = loop {
+            let mut ended: Vec<_> = left.iter().enumerate().map(|(at, task)| (task.place.ended(), at)).collect();
+            ended.retain(|(end, _)| *end > 0);
+            ended.sort_unstable();
+            let counts = ended.into_iter().find_map(|(_, at)| match inner.book.state(left[at].id().0) {
+                Ok(0) | Err(_) => None,
+                Ok(state) => Some((at, state == 1)),
+            });
+            match counts {
+                Some((at, succeeded)) => break (at, Some(succeeded)),
+                None if self.bell.is_cut() => break (0, None),
+                None => {
+                    inner = self.shared.wait(inner, &self.bell.owner, Some(self.bell.scope), None, Some(&mut has_spun))
+                }
+            }
+        };
+        self.bell.wants_each.store(false, Ordering::Relaxed);
+        let task = left.remove(at);
+        let id = task.id();
+        let result = match told {
+            Some(succeeded) => task.take(succeeded).0,
+            None => Err(self.no_result(Code::NO_RESULT)),
+        };
+        inner.note(|notes, _| {
+            let state = told.map_or("unavailable", |succeeded| if succeeded { "success" } else { "failed" });
+            notes.line(format_args!("state {}", id.0), format_args!("state {state}"));
+        });
+        Some((id, result))
+    }
+
+    /// Cancels the scope and what lies in it, up to shields: whether it was not cancelled before.
+    pub fn cancel(&self) -> bool {
+        self.shared.cancel(self.bell.scope)
+    }
+
+    /// A handle that cancels the scope from any thread. Behind its end it cancels nothing.
     pub fn canceller(&self) -> Canceller {
-        Canceller { shared: Arc::clone(&self.shared), scope: self.around.scope }
+        Canceller::of_scope(&self.shared, self.bell.scope)
     }
 
     /// Why the scope is cancelled; `None` where it is not.
-    ///
-    /// # Errors
-    /// None that an open scope gives.
-    pub fn cause(&self) -> Result<Option<Cause>, Refusal> {
+    #[must_use]
+    pub fn cause(&self) -> Option<Cause> {
         let mut inner = self.shared.lock();
-        let pair = inner.book.cause(self.around.scope)?;
-        let cause = pair.as_ref().map(Cause::of_pair).transpose()?;
-        inner.note(|notes, _| notes.cause(self.around.scope, cause));
-        Ok(cause)
+        let cause = self.bell.cause();
+        inner.note(|notes, _| notes.cause(self.bell.scope, cause));
+        cause
     }
 
     /// Sets the deadline so long after now, or takes it away.
     ///
     /// # Errors
-    /// [`Refusal::AlreadyJoined`]; [`Refusal::TooMany`].
+    /// [`Refusal::AlreadyJoined`]; [`Refusal::TooMany`] once moves and bindings have used up the load. What the scope
+    /// has paid for stays: its cancel and its deadline are accepted then, too.
     pub fn move_deadline(&self, within: Option<Duration>) -> Result<(), Refusal> {
-        self.shared.move_deadline(self.around.scope, within)
+        self.shared.move_deadline(self.bell.scope, within)
     }
 }
 
 impl fmt::Debug for Scope<'_, '_> {
     fn fmt(&self, out: &mut fmt::Formatter<'_>) -> fmt::Result {
         out.debug_struct("Scope").field("id", &self.id()).finish_non_exhaustive()
-    }
-}
-
-/// Cancels one scope, from any thread: who cancels is nobody's own act by the rules.
-#[derive(Clone)]
-pub struct Canceller {
-    shared: Arc<Shared>,
-    scope: u32,
-}
-
-impl Canceller {
-    /// Cancels the scope: whether it was not cancelled before.
-    ///
-    /// # Errors
-    /// [`Refusal::Closed`] once the scope is closing, [`Refusal::Retired`] later; [`Refusal::TooMany`].
-    pub fn cancel(&self) -> Result<bool, Refusal> {
-        self.shared.cancel(self.scope)
-    }
-}
-
-impl fmt::Debug for Canceller {
-    fn fmt(&self, out: &mut fmt::Formatter<'_>) -> fmt::Result {
-        out.debug_struct("Canceller").field("scope", &self.scope).finish_non_exhaustive()
     }
 }

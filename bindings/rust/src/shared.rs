@@ -1,76 +1,41 @@
 //! What the threads of a realm share: the book behind its lock, the clock, and the bells.
 
+use crate::canceller::Cancels;
 use crate::ffi::Book;
+use crate::hooks::Link;
+use crate::labels::Labels;
 use crate::notes::Notes;
+use crate::observer::{Happening, Observer};
 use crate::options::Options;
-use crate::refusal::Refusal;
-use std::alloc::{handle_alloc_error, Layout};
-use std::collections::HashMap;
-use std::sync::atomic::{AtomicBool, AtomicU64, AtomicUsize, Ordering};
-use std::sync::{Arc, Condvar, Mutex, MutexGuard, PoisonError};
+use crate::outcome::{Cause, ScopeId, TaskId};
+use crate::pool::Pool;
+use crate::realm::Limits;
+use crate::refusal::{Code, Refusal};
+use crate::task::swallow;
+use crate::times::Times;
+use crate::waiting::{Bell, Waiting, Wake, locked};
+use std::alloc::{Layout, handle_alloc_error};
+use std::any::Any;
+use std::collections::BTreeMap;
+use std::mem;
+use std::ops::{Deref, DerefMut};
+use std::sync::atomic::{AtomicBool, AtomicU64, Ordering};
+use std::sync::{Arc, Mutex, MutexGuard};
 use std::time::{Duration, Instant};
 
 /// The actor that is no task.
 pub(crate) const MAIN: u32 = 0;
 /// The moment of a deadline that never comes.
 const NEVER: u64 = u64::MAX;
+/// What an open pays: 4 for itself, and at once 1 for its cancel and 1 for the passing of its deadline.
+const OPEN_COSTS: u32 = 6;
+const FORK_COSTS: u32 = 3;
+/// A move pays for itself and for the passing of the deadline that it sets; a bind for itself and for its end.
+const MOVE_COSTS: u32 = 2;
+pub(crate) const BIND_COSTS: u32 = 2;
 
-/// What rings where something happens to a scope. The book decides; a bell only says it without a lock.
-#[derive(Default)]
-pub(crate) struct Bell {
-    /// Whether the book said that the scope is cancelled.
-    pub(crate) cancelled: AtomicBool,
-    /// The owner waits here for its join.
-    pub(crate) owner: Waiting,
-    /// Those who sleep in the scope wait here for its cancel.
-    pub(crate) sleepers: Waiting,
-}
-
-/// Threads wait here with the realm's lock. A ring for which nobody waits makes no system call.
-#[derive(Default)]
-pub(crate) struct Waiting {
-    wakes: Condvar,
-    /// How many wait: written and read under the lock.
-    count: AtomicUsize,
-}
-
-impl Waiting {
-    /// Waits, at most so long.
-    fn wait<'lock>(&self, inner: MutexGuard<'lock, Inner>, limit: Option<Duration>) -> MutexGuard<'lock, Inner> {
-        self.count.fetch_add(1, Ordering::Relaxed);
-        let inner = match limit {
-            None => self.wakes.wait(inner).unwrap_or_else(PoisonError::into_inner),
-            Some(limit) => self.wakes.wait_timeout(inner, limit).unwrap_or_else(PoisonError::into_inner).0,
-        };
-        self.count.fetch_sub(1, Ordering::Relaxed);
-        inner
-    }
-
-    /// Whether somebody waits. The lock is held.
-    fn is_waited(&self) -> bool {
-        self.count.load(Ordering::Relaxed) > 0
-    }
-
-    /// Wakes all. The lock is held.
-    fn ring(&self) {
-        if self.is_waited() {
-            self.wakes.notify_all();
-        }
-    }
-}
-
-/// Wakes the owner of a scope when it is dropped: all tasks of the scope have ended, and the owner waits for that.
-pub(crate) struct Wake(Arc<Bell>);
-
-impl Drop for Wake {
-    fn drop(&mut self) {
-        self.0.owner.wakes.notify_one();
-    }
-}
-
-/// How a task begins or ends.
-pub(crate) enum Event {
-    Start,
+/// How a task ends.
+pub(crate) enum End {
     /// No thread runs it.
     Reject,
     /// It gives a value, by its measure.
@@ -78,22 +43,37 @@ pub(crate) enum Event {
     Fail(&'static str),
 }
 
-/// A scope that is open, as its owner and its jobs know it.
-#[derive(Clone)]
-pub(crate) struct Around {
-    pub(crate) scope: u32,
-    pub(crate) bell: Arc<Bell>,
+/// Who opened a realm inside a scope of another one.
+pub(crate) struct Outside {
+    pub(crate) shared: Arc<Shared>,
+    pub(crate) actor: u32,
+    pub(crate) bell: Option<Arc<Bell>>,
+}
+
+/// What is to be done once the lock is free.
+enum Due {
+    Link(Link, bool),
+    Tell(Happening),
 }
 
 /// What the lock guards.
 pub(crate) struct Inner {
     pub(crate) book: Book,
-    /// The bells of the scopes that are not closed.
-    bells: HashMap<u32, Arc<Bell>>,
+    /// The bells of the scopes that are not closed, by their numbers.
+    bells: Vec<Arc<Bell>>,
+    /// The bell of the scope that was closed last.
+    spare: Option<Arc<Bell>>,
     /// How many of the book's cancelled scopes were told to their bells.
     told: usize,
+    /// What was paid of the load, since the history was last discarded.
+    paid: u32,
     /// What was asked and answered, if the realm notes it.
     pub(crate) notes: Option<Box<Notes>>,
+    pub(crate) times: Times,
+    pub(crate) labels: Labels,
+    /// What each local binding of this realm holds, by the number to which its key is bound.
+    pub(crate) locals: BTreeMap<i64, Arc<dyn Any + Send + Sync>>,
+    due: Vec<Due>,
 }
 
 impl Inner {
@@ -102,6 +82,90 @@ impl Inner {
     pub(crate) fn note(&mut self, write: impl FnOnce(&mut Notes, &mut Book)) {
         if let Some(notes) = &mut self.notes {
             write(notes, &mut self.book);
+        }
+    }
+
+    /// Main, with no scope open and so many bindings, discards the history: the limits count from here, and so do the
+    /// cancelled scopes.
+    pub(crate) fn retire(&mut self, bindings: u32) {
+        if self.book.retire(MAIN).is_ok() {
+            self.told = 0;
+            self.paid = BIND_COSTS * bindings;
+            self.times.forget();
+            self.labels.forget();
+            self.note(|notes, _| notes.retire());
+        }
+    }
+
+    /// The realms that are open inside scopes of this one.
+    pub(crate) fn inside(&self) -> Vec<Arc<Shared>> {
+        self.bells.iter().flat_map(|bell| bell.links.inside()).collect()
+    }
+
+    /// The bell, in the memory of the last one if nobody holds that any more.
+    fn new_bell(&mut self, bell: Bell) -> Arc<Bell> {
+        if let Some(mut spare) = self.spare.take() {
+            if let Some(old) = Arc::get_mut(&mut spare) {
+                *old = bell;
+                return spare;
+            }
+        }
+        Arc::new(bell)
+    }
+
+    fn place_of(&self, scope: u32) -> Result<usize, usize> {
+        self.bells.binary_search_by_key(&scope, |bell| bell.scope)
+    }
+
+    fn bell_of(&self, scope: u32) -> Option<Arc<Bell>> {
+        self.place_of(scope).ok().map(|at| Arc::clone(&self.bells[at]))
+    }
+
+    /// Gives back what was paid for a call that was refused.
+    pub(crate) fn refund(&mut self, costs: u32) {
+        self.paid -= costs;
+    }
+
+    /// Pays a part of the load, so that what was paid for at once is never refused later.
+    pub(crate) fn pay(&mut self, limits: Limits, costs: u32) -> Result<(), Refusal> {
+        let paid = self.paid + costs;
+        if paid > limits.load {
+            return Err(Refusal::TooMany);
+        }
+        self.paid = paid;
+        Ok(())
+    }
+}
+
+/// The realm's lock, held. Once it is free, what became due meanwhile is done.
+pub(crate) struct Held<'lock> {
+    shared: &'lock Shared,
+    /// `None` only while this waits.
+    guard: Option<MutexGuard<'lock, Inner>>,
+}
+
+impl Deref for Held<'_> {
+    type Target = Inner;
+
+    fn deref(&self) -> &Inner {
+        self.guard.as_ref().expect("the lock is held, but for waits")
+    }
+}
+
+impl DerefMut for Held<'_> {
+    fn deref_mut(&mut self) -> &mut Inner {
+        self.guard.as_mut().expect("the lock is held, but for waits")
+    }
+}
+
+impl Drop for Held<'_> {
+    fn drop(&mut self) {
+        if let Some(mut guard) = self.guard.take() {
+            if !guard.due.is_empty() {
+                let due = mem::take(&mut guard.due);
+                drop(guard);
+                self.shared.perform(due);
+            }
         }
     }
 }
@@ -114,18 +178,39 @@ pub(crate) struct Shared {
     /// Whether the realm notes.
     notes: AtomicBool,
     began: Instant,
+    pub(crate) limits: Limits,
+    pub(crate) pool: Pool,
+    pub(crate) observer: Option<Arc<dyn Observer>>,
+    pub(crate) outside: Option<Outside>,
 }
 
 impl Shared {
-    pub(crate) fn new(book: Book) -> Shared {
-        let inner = Inner { book, bells: HashMap::new(), told: 0, notes: None };
-        let (next, notes) = (AtomicU64::new(NEVER), AtomicBool::new(false));
-        Shared { inner: Mutex::new(inner), next, notes, began: Instant::now() }
+    pub(crate) fn new(
+        book: Book,
+        limits: Limits,
+        pool: Pool,
+        observer: Option<Arc<dyn Observer>>,
+        outside: Option<Outside>,
+    ) -> Shared {
+        let inner = Inner {
+            book,
+            bells: Vec::new(),
+            spare: None,
+            told: 0,
+            paid: 0,
+            notes: None,
+            times: Times::default(),
+            labels: Labels::default(),
+            locals: BTreeMap::new(),
+            due: Vec::new(),
+        };
+        let (inner, next, notes) = (Mutex::new(inner), AtomicU64::new(NEVER), AtomicBool::new(false));
+        Shared { inner, next, notes, began: Instant::now(), limits, pool, observer, outside }
     }
 
     /// Notes what is asked and answered from now on.
     pub(crate) fn begin_notes(&self) {
-        self.quietly().notes.get_or_insert_with(Box::default);
+        self.quietly().notes.get_or_insert_with(|| Box::new(Notes::since(self.began)));
         self.notes.store(true, Ordering::Relaxed);
     }
 
@@ -134,33 +219,47 @@ impl Shared {
         self.notes.load(Ordering::Relaxed)
     }
 
-    /// The book, for a query that passes no deadline. A job's panic never comes while the lock is held, so a
-    /// poisoned lock guards a whole book.
-    pub(crate) fn quietly(&self) -> MutexGuard<'_, Inner> {
-        self.inner.lock().unwrap_or_else(PoisonError::into_inner)
+    /// The book, for a query that passes no deadline.
+    pub(crate) fn quietly(&self) -> Held<'_> {
+        Held { shared: self, guard: Some(locked(&self.inner)) }
     }
 
     /// The book, once the deadlines that are due have passed.
-    pub(crate) fn lock(&self) -> MutexGuard<'_, Inner> {
+    pub(crate) fn lock(&self) -> Held<'_> {
+        self.pass_outside();
         let mut inner = self.quietly();
         self.pass_deadlines(&mut inner);
         inner
     }
 
+    /// Has a deadline that is due outside of this realm pass, as it may cancel what is inside. The lock is free.
+    fn pass_outside(&self) {
+        if let Some(outside) = &self.outside {
+            if outside.shared.is_due() {
+                drop(outside.shared.lock());
+            }
+        }
+    }
+
     /// Whether a deadline is due that the book was not told of. It takes no lock.
     pub(crate) fn is_due(&self) -> bool {
         let next = self.next.load(Ordering::Relaxed);
-        next != NEVER && self.now() >= next
+        (next != NEVER && self.now() >= next) || self.outside.as_ref().is_some_and(|outside| outside.shared.is_due())
     }
 
     /// Tells the book the moment where a deadline is due.
-    pub(crate) fn pass_deadlines(&self, inner: &mut Inner) {
-        if self.is_due() {
-            // A refusal (the load's limit) leaves the deadline standing: the next call tries again.
-            let now = self.now();
-            if inner.book.tick(now).is_ok() {
-                inner.note(|notes, _| notes.line(format_args!("tick {now}"), format_args!("moment {now}")));
-            }
+    fn pass_deadlines(&self, inner: &mut Inner) {
+        let next = self.next.load(Ordering::Relaxed);
+        if next == NEVER {
+            return;
+        }
+        let now = self.now();
+        if now >= next {
+            // Each deadline was paid for when it was set, so no limit refuses its passing.
+            let answer = surely(inner.book.tick(now));
+            debug_assert!(answer.is_ok(), "the clock goes forwards: {answer:?}");
+            inner.times.event(now);
+            inner.note(|notes, _| notes.line(format_args!("tick {now}"), format_args!("moment {now}")));
             self.settle(inner);
         }
     }
@@ -169,11 +268,15 @@ impl Shared {
     pub(crate) fn settle(&self, inner: &mut Inner) {
         while let Some(scope) = inner.book.nth_cancelled(inner.told) {
             inner.told += 1;
-            if let Some(bell) = inner.bells.get(&scope) {
-                bell.cancelled.store(true, Ordering::Release);
-                bell.owner.ring();
-                bell.sleepers.ring();
+            let Some(bell) = inner.bell_of(scope) else { continue };
+            let pair = inner.book.cause(scope).ok().flatten();
+            let cause = pair.as_ref().and_then(Cause::of_pair).unwrap_or(Cause::Call(ScopeId(scope)));
+            bell.cut(cause);
+            let due = bell.ring(true);
+            if !due.is_empty() {
+                inner.due.extend(due.into_iter().map(|link| Due::Link(link, true)));
             }
+            self.tell(inner, || Happening::Cancelled { scope: ScopeId(scope), cause });
         }
         if self.next.load(Ordering::Relaxed) != NEVER {
             self.note_next(inner);
@@ -184,76 +287,168 @@ impl Shared {
         self.next.store(inner.book.next_deadline().unwrap_or(NEVER), Ordering::Relaxed);
     }
 
-    /// Waits for a ring, for a deadline that counts for the scope, or for the given end.
+    /// Tells the observer, once the lock is free.
+    pub(crate) fn tell(&self, inner: &mut Inner, what: impl FnOnce() -> Happening) {
+        if self.observer.is_some() {
+            inner.due.push(Due::Tell(what()));
+        }
+    }
+
+    /// Does what became due. The lock is free.
+    fn perform(&self, due: Vec<Due>) {
+        for one in due {
+            match one {
+                Due::Link(Link::Call(call), _) => call.make(),
+                Due::Link(Link::Inside(shared, scope), true) => drop(shared.cancel(scope)),
+                Due::Link(Link::Inside(shared, _), false) => shared.ring_all(),
+                Due::Link(Link::Parked(thread), _) => thread.unpark(),
+                Due::Tell(happening) => {
+                    if let Some(observer) = &self.observer {
+                        swallow(|| observer.hears(&happening));
+                    }
+                }
+            }
+        }
+    }
+
+    /// Wakes all who wait in the realm, so that they look again.
+    pub(crate) fn ring_all(&self) {
+        let mut inner = self.quietly();
+        let links: Vec<_> = inner.bells.iter().flat_map(|bell| bell.ring(false)).collect();
+        inner.due.extend(links.into_iter().map(|link| Due::Link(link, false)));
+    }
+
+    /// The moment of the earliest deadline in effect for the scope, those outside of the realm included.
+    pub(crate) fn deadline(&self, inner: &mut Inner, scope: Option<u32>) -> Option<Instant> {
+        let own = scope.and_then(|scope| inner.book.until(scope)).and_then(|moment| self.instant_of(moment));
+        let outer = self.outside.as_ref().and_then(|outside| {
+            let scope = outside.bell.as_ref().map(|bell| bell.scope);
+            outside.shared.deadline(&mut outside.shared.quietly(), scope)
+        });
+        own.into_iter().chain(outer).min()
+    }
+
+    /// Waits for a ring, for a deadline that counts for the scope, or for the given end; or for no reason.
     pub(crate) fn wait<'lock>(
-        &self,
-        mut inner: MutexGuard<'lock, Inner>,
+        &'lock self,
+        mut inner: Held<'lock>,
         waiting: &Waiting,
         scope: Option<u32>,
         end: Option<Instant>,
-    ) -> MutexGuard<'lock, Inner> {
-        let deadline = scope.and_then(|scope| inner.book.until(scope)).and_then(|moment| self.instant_of(moment));
-        // A deadline that is due and still stands was refused by the load's limit: it is tried again soon.
-        let deadline = deadline.map(|deadline| deadline.max(Instant::now() + Duration::from_millis(1)));
-        let limit = match (deadline, end) {
-            (Some(deadline), Some(end)) => Some(deadline.min(end)),
-            (deadline, end) => deadline.or(end),
-        };
-        let mut inner = waiting.wait(inner, limit.map(|limit| limit.saturating_duration_since(Instant::now())));
-        self.pass_deadlines(&mut inner);
-        inner
+        has_spun: Option<&mut bool>,
+    ) -> Held<'lock> {
+        if inner.due.is_empty() {
+            let deadline = self.deadline(&mut inner, scope);
+            let limit = deadline.into_iter().chain(end).min();
+            let limit = limit.map(|limit| limit.saturating_duration_since(Instant::now()));
+            inner.guard = inner.guard.take().map(|guard| waiting.wait(&self.inner, guard, limit, has_spun));
+            if !self.is_due() {
+                return inner;
+            }
+        }
+        // What became due is done with a free lock, so the caller looks again.
+        drop(inner);
+        self.lock()
     }
 
     /// The moment of the realm's clock: whole milliseconds that have passed.
-    fn now(&self) -> u64 {
-        u64::try_from(self.began.elapsed().as_millis()).unwrap_or(NEVER)
+    pub(crate) fn now(&self) -> u64 {
+        let passed = self.began.elapsed();
+        passed.as_secs() * 1000 + u64::from(passed.subsec_millis())
     }
 
-    /// The moment after so long, rounded up.
+    /// The moment after so long, rounded up; but nothing is now.
     fn after(&self, duration: Duration) -> u64 {
         let whole = self.began.elapsed().saturating_add(duration);
-        let rounded = whole.saturating_add(Duration::from_nanos(999_999));
-        u64::try_from(rounded.as_millis()).unwrap_or(NEVER)
+        let up = if duration.is_zero() { Duration::ZERO } else { Duration::from_nanos(999_999) };
+        u64::try_from(whole.saturating_add(up).as_millis()).unwrap_or(NEVER)
     }
 
     fn instant_of(&self, moment: u64) -> Option<Instant> {
         self.began.checked_add(Duration::from_millis(moment))
     }
 
-    /// The actor opens a scope, and gets its bell.
-    pub(crate) fn open(&self, actor: u32, options: &Options) -> Result<Around, Refusal> {
-        let mut inner = self.lock();
-        let (joiner, bound) = options.joiner_numbers();
-        let deadline = options.within.map(|duration| self.after(duration));
-        let answer = inner.book.open_scope(actor, joiner, bound, options.flags(), deadline.unwrap_or(0))?;
-        let around = Around { scope: answer as u32, bell: Arc::default() };
-        inner.note(|notes, _| notes.open(actor, options.words(deadline), around.scope));
-        inner.bells.insert(around.scope, Arc::clone(&around.bell));
-        if deadline.is_some() {
-            self.note_next(&mut inner);
+    /// Tells the observer of a refusal.
+    pub(crate) fn refused(&self, refusal: Refusal) -> Refusal {
+        if self.observer.is_some() {
+            self.tell(&mut self.quietly(), || Happening::Refused { refusal });
         }
-        self.settle(&mut inner);
-        self.pass_deadlines(&mut inner);
-        Ok(around)
+        refusal
     }
 
-    /// Main, with no scope open, lets the past go: the limits count from here, and so do the cancelled scopes.
-    pub(crate) fn retire(&self) {
-        let mut inner = self.lock();
-        if inner.book.retire(MAIN).is_ok() {
-            inner.told = 0;
-            inner.note(|notes, _| notes.retire());
+    /// The actor opens a scope inside that other one, and gets its bell. Main, with no scope open, discards the history
+    /// before, if it says how many bindings it has.
+    pub(crate) fn open(
+        &self,
+        actor: u32,
+        outer: Option<Arc<Bell>>,
+        options: &Options,
+        bindings: Option<u32>,
+    ) -> Result<Arc<Bell>, Refusal> {
+        let mut held = self.lock();
+        // Once, not at each use.
+        let inner = &mut *held;
+        if let Some(bindings) = bindings {
+            inner.retire(bindings);
         }
+        inner.pay(self.limits, OPEN_COSTS)?;
+        let (joiner, bound) = options.joiner_numbers();
+        let deadline = options.within.map(|duration| self.after(duration));
+        let opened = inner.book.open_scope(actor, joiner, bound, options.flags(), deadline.unwrap_or(0));
+        let answer = opened.inspect_err(|_| inner.refund(OPEN_COSTS))?;
+        let scope = answer as u32;
+        let bell = inner.new_bell(Bell::new(scope, actor, outer));
+        inner.times.event(self.now());
+        inner.note(|notes, _| notes.open(actor, options.words(deadline), scope));
+        inner.labels.scopes = scope;
+        if let Some(name) = &options.name {
+            inner.labels.scope(scope, name);
+        }
+        inner.bells.push(Arc::clone(&bell));
+        self.tell(inner, || Happening::Opened { scope: ScopeId(scope), name: options.name.clone() });
+        if deadline.is_some() {
+            self.note_next(inner);
+        }
+        self.settle(inner);
+        self.pass_deadlines(inner);
+        Ok(bell)
+    }
+
+    /// The actor forks a task: its number, and whether it gets a thread.
+    pub(crate) fn fork(&self, actor: u32, scope: u32, name: &str) -> Result<(u32, bool), Refusal> {
+        let mut held = self.lock();
+        // Once, not at each use.
+        let inner = &mut *held;
+        inner.pay(self.limits, FORK_COSTS)?;
+        let word = Labels::word(name);
+        let forked = inner.book.fork(actor, scope, &word);
+        let (task, has_thread) = forked.inspect_err(|_| inner.refund(FORK_COSTS))?;
+        inner.times.event(self.now());
+        inner.note(|notes, _| notes.fork(actor, scope, &word, task, has_thread));
+        inner.labels.tasks = task;
+        if *word != *name {
+            inner.labels.task(task, name);
+        }
+        self.tell(inner, || Happening::Forked {
+            scope: ScopeId(scope),
+            task: TaskId(task),
+            name: name.to_owned(),
+            may_run: has_thread,
+        });
+        Ok((task, has_thread))
     }
 
     /// Sets the scope's deadline so long after now, or takes it away. Who waits learns it.
     pub(crate) fn move_deadline(&self, scope: u32, within: Option<Duration>) -> Result<(), Refusal> {
         let mut inner = self.lock();
+        inner.pay(self.limits, MOVE_COSTS)?;
         let moment = within.map(|duration| self.after(duration));
-        match moment {
-            Some(moment) => inner.book.move_deadline(scope, moment)?,
-            None => inner.book.move_never(scope)?,
+        let moved = match moment {
+            Some(moment) => inner.book.move_deadline(scope, moment),
+            None => inner.book.move_never(scope),
         };
+        moved.inspect_err(|_| inner.refund(MOVE_COSTS))?;
+        inner.times.event(self.now());
         inner.note(|notes, _| match moment {
             Some(moment) => notes.line(format_args!("move {scope} {moment}"), "moved"),
             None => notes.line(format_args!("move {scope} never"), "moved"),
@@ -261,88 +456,131 @@ impl Shared {
         self.note_next(&mut inner);
         self.settle(&mut inner);
         self.pass_deadlines(&mut inner);
-        for bell in inner.bells.values() {
-            bell.owner.ring();
-            bell.sleepers.ring();
-        }
+        drop(inner);
+        self.ring_all();
         Ok(())
-    }
-
-    /// Cancels the scope: whether it was not cancelled before.
-    pub(crate) fn cancel(&self, scope: u32) -> Result<bool, Refusal> {
-        let mut inner = self.lock();
-        let is_first = inner.book.cancel(scope)? == 0;
-        let answer = if is_first { "cancelled" } else { "already" };
-        inner.note(|notes, _| notes.line(format_args!("cancel {scope}"), answer));
-        self.settle(&mut inner);
-        Ok(is_first)
     }
 
     /// Begins to close the scope, which cancels what still runs in it.
     pub(crate) fn begin_close(&self, actor: u32, scope: u32) {
-        let mut inner = self.lock();
+        self.begin_to_close(&mut self.lock(), actor, scope);
+    }
+
+    fn begin_to_close(&self, inner: &mut Inner, actor: u32, scope: u32) {
         let answer = surely(inner.book.begin_close(actor, scope));
         debug_assert!(answer.is_ok(), "the owner closes its innermost scope: {answer:?}");
         if let Ok(done) = answer {
             let words = if done == 0 { "closing" } else { "already" };
+            if done == 0 {
+                inner.times.event(self.now());
+            }
             inner.note(|notes, _| notes.line(format_args!("close {actor} {scope}"), words));
         }
-        self.settle(&mut inner);
+        self.settle(inner);
     }
 
-    /// Ends the close, once no thread of the scope is left: what was amiss.
-    pub(crate) fn end_close(&self, actor: u32, scope: u32) -> Result<(), Refusal> {
-        let mut inner = self.lock();
+    /// Ends the close, once no thread of the scope is left: what was amiss. Of a scope that never had one it also begins
+    /// it.
+    pub(crate) fn end_close(&self, actor: u32, scope: u32, has_begun: bool) -> Result<(), Refusal> {
+        let mut held = self.lock();
+        // Once, not at each use.
+        let inner = &mut *held;
+        if !has_begun {
+            self.begin_to_close(inner, actor, scope);
+        }
         let answer = surely(inner.book.end_close(actor, scope));
-        inner.bells.remove(&scope);
+        if let Ok(at) = inner.place_of(scope) {
+            inner.spare = Some(inner.bells.remove(at));
+        }
         let (verdict, words) = match answer {
             Ok(2) => (Err(Refusal::NotJoined), "closed not-joined"),
             Ok(3) => (Err(Refusal::Structure), "closed violated"),
             Ok(_) => (Ok(()), "closed"),
-            Err(refusal) => (Err(refusal), ""),
+            Err(code) => (Err(Refusal::from(code)), ""),
         };
         if answer.is_ok() {
+            // The time is that of the begin of the close, or of the last end of a job.
+            inner.times.next();
             inner.note(|notes, _| notes.line(format_args!("closed {actor} {scope}"), words));
         }
-        self.settle(&mut inner);
+        self.tell(inner, || Happening::Closed { scope: ScopeId(scope) });
+        self.settle(inner);
         verdict
     }
 
-    /// Tells the book how a task began or ended.
-    pub(crate) fn record(&self, task: u32, event: &Event) -> MutexGuard<'_, Inner> {
-        let mut inner = self.lock();
-        let answer = surely(match event {
-            Event::Start => inner.book.start(task),
-            Event::Reject => inner.book.reject(task),
-            Event::Finish(value) => inner.book.finish(task, *value),
-            Event::Fail(fault) => inner.book.fail(task, fault),
-        });
-        debug_assert!(answer.is_ok(), "each task begins and ends once: {answer:?}");
+    /// Tells the book that a task began.
+    pub(crate) fn record_start(&self, task: u32) {
+        let mut held = self.lock();
+        // Once, not at each use.
+        let inner = &mut *held;
+        let answer = surely(inner.book.start(task));
+        debug_assert!(answer.is_ok(), "each task begins once: {answer:?}");
         if answer.is_ok() {
-            inner.note(|notes, _| match event {
-                Event::Start => notes.line(format_args!("start {task}"), "started"),
-                Event::Reject => notes.line(format_args!("reject {task}"), "rejected"),
-                Event::Finish(value) => notes.line(format_args!("ok {task} {value}"), "finished"),
-                Event::Fail(fault) => notes.line(format_args!("fail {task} {fault}"), "finished"),
-            });
+            inner.times.event(self.now());
+            inner.note(|notes, _| notes.line(format_args!("start {task}"), "started"));
         }
-        inner
+        self.tell(inner, || Happening::Started { task: TaskId(task) });
     }
 
     /// Tells the book how a task ended. If the owner waits, and for nothing more, the caller wakes it.
     #[must_use]
-    pub(crate) fn record_end(&self, around: &Around, task: u32, event: &Event) -> Option<Wake> {
-        let mut inner = self.record(task, event);
+    pub(crate) fn record_end(&self, bell: &Arc<Bell>, task: u32, end: &End) -> Option<Wake> {
+        let mut held = self.lock();
+        // Once, not at each use.
+        let inner = &mut *held;
+        let was_cut = bell.is_cut();
+        let answer = surely(match end {
+            End::Reject => inner.book.reject(task).map(|_| None),
+            End::Finish(value) => inner.book.end(task, Ok(*value)).map(Some),
+            End::Fail(fault) => inner.book.end(task, Err(fault)).map(Some),
+        });
+        debug_assert!(answer.is_ok(), "each task ends once: {answer:?}");
+        if answer.is_ok() {
+            inner.times.event(self.now());
+            inner.note(|notes, _| match end {
+                End::Reject => notes.line(format_args!("reject {task}"), "rejected"),
+                End::Finish(value) => notes.line(format_args!("ok {task} {value}"), "finished"),
+                End::Fail(fault) => notes.line(format_args!("fail {task} {fault}"), "finished"),
+            });
+        }
+        self.tell(inner, || Happening::Ended { task: TaskId(task), end: end.into() });
+        if !was_cut && matches!(end, End::Fail(_)) {
+            // Before the bell says that the scope is cancelled: who sees that may let the failed task go.
+            let pair = inner.book.cause(bell.scope).ok().flatten();
+            if pair.as_ref().and_then(Cause::of_pair) == Some(Cause::Joiner(ScopeId(bell.scope))) {
+                bell.fired_by(task);
+            }
+        }
+        let news = answer.ok().flatten();
+        // (an end moves no deadline)
+        if news.is_none_or(|news| news.cancelled != inner.told) {
+            self.settle(inner);
+        }
+        let is_quiet = |book: &mut Book| news.map_or_else(|| book.is_quiet(bell.scope), |news| news.quiet);
+        let wakes = bell.owner.is_waited() && (bell.wants_each.load(Ordering::Relaxed) || is_quiet(&mut inner.book));
+        wakes.then(|| Wake::new(bell))
+    }
+}
+
+impl Cancels for Shared {
+    /// The open paid for it.
+    fn cancel(&self, scope: u32) -> bool {
+        let mut inner = self.lock();
+        let Ok(answer) = surely(inner.book.cancel(scope)) else { return false };
+        let (is_first, words) = if answer == 0 { (true, "cancelled") } else { (false, "already") };
+        if is_first {
+            inner.times.event(self.now());
+        }
+        inner.note(|notes, _| notes.line(format_args!("cancel {scope}"), words));
         self.settle(&mut inner);
-        let wakes = around.bell.owner.is_waited() && inner.book.is_quiet(around.scope);
-        wakes.then(|| Wake(Arc::clone(&around.bell)))
+        is_first
     }
 }
 
 /// The answer to a call that can't be left out: where memory is refused for it, the program ends, as Rust's own
 /// allocations end it.
-pub(crate) fn surely(answer: Result<i64, Refusal>) -> Result<i64, Refusal> {
-    if answer == Err(Refusal::Memory) {
+pub(crate) fn surely<T>(answer: Result<T, Code>) -> Result<T, Code> {
+    if matches!(answer, Err(Code::MEMORY)) {
         handle_alloc_error(Layout::new::<Inner>());
     }
     answer

@@ -1,13 +1,15 @@
-//! Random trees of scopes on many threads. Each realm notes what it was asked and what it answered, and the proved
-//! program says whether the rules answer the same.
+//! Random trees of scopes on many threads, some of which are refused; with panics, drops that panic, and hooks. Each
+//! realm notes what it was asked and what it answered, and the proved program says whether the rules answer the same.
 
-use balkreyn::{Canceller, Context, Joiner, Options, Realm, Refusal};
-use std::io::Write;
+use balkreyn::{Canceller, Context, Joiner, Options, Pool, Realm, Refusal};
+use std::io::{self, Write};
 use std::num::NonZeroUsize;
+use std::panic::resume_unwind;
 use std::path::{Path, PathBuf};
 use std::process::{Command, Stdio};
+use std::sync::atomic::{AtomicUsize, Ordering};
 use std::time::Duration;
-use std::{env, fs};
+use std::{env, fs, thread};
 
 /// How many events the noted realms have at least.
 const EVENTS: usize = 100_000;
@@ -58,9 +60,53 @@ fn options(chance: &mut Chance) -> Options {
     options
 }
 
+/// How often each came in the storm.
+static REFUSED: AtomicUsize = AtomicUsize::new(0);
+static PANICKED: AtomicUsize = AtomicUsize::new(0);
+static HOOKED: AtomicUsize = AtomicUsize::new(0);
+
+fn count(counter: &AtomicUsize) {
+    counter.fetch_add(1, Ordering::Relaxed);
+}
+
+/// A value whose drop panics, if its number says so.
+struct Fragile(i64);
+
+impl Drop for Fragile {
+    fn drop(&mut self) {
+        if self.0 % 16 == 15 && !thread::panicking() {
+            count(&PANICKED);
+            resume_unwind(Box::new("dropped"));
+        }
+    }
+}
+
+/// A pool that refuses one thread of eight, and whose threads don't rest for long.
+fn pool(seed: u64) -> Pool {
+    let number = AtomicUsize::new(seed as usize);
+    let spawned = Pool::spawned_by(move |name, body| {
+        if number.fetch_add(1, Ordering::Relaxed) % 8 == 7 {
+            count(&REFUSED);
+            return Err(io::ErrorKind::WouldBlock.into());
+        }
+        thread::Builder::new().name(name).spawn(body).map(drop)
+    });
+    spawned.rests(Duration::from_millis(1))
+}
+
 /// One job: it sleeps, asks, binds, cancels, fails, panics or opens scopes of its own.
-fn job(cx: &Context, seed: u64, depth: u32, outer: &Canceller) -> Result<i64, String> {
+fn job(cx: &Context, seed: u64, depth: u32, outer: &Canceller) -> Result<Fragile, String> {
     let mut chance = Chance(seed);
+    let hooked = outer.clone();
+    let cancels = chance.below(8) == 0;
+    let _hook = (chance.below(3) == 0).then(|| {
+        cx.on_cancel(move || {
+            count(&HOOKED);
+            if cancels {
+                hooked.cancel();
+            }
+        })
+    });
     for _ in 0..chance.below(3) {
         match chance.below(8) {
             0 => drop(cx.sleep(Duration::from_micros(chance.below(3000)))),
@@ -70,14 +116,26 @@ fn job(cx: &Context, seed: u64, depth: u32, outer: &Canceller) -> Result<i64, St
                 cx.bind("seed", (seed >> 1) as i64, |cx| tree(cx, seed, depth + 1)).map_err(|r| r.to_string())?;
             }
             3 => assert!(cx.get("root").is_some()),
-            4 if chance.below(4) == 0 => drop(outer.cancel()),
+            4 if chance.below(4) == 0 => {
+                outer.cancel();
+            }
+            5 => {
+                let (seed, within) = (chance.next(), Duration::from_micros(chance.below(2000)));
+                let body = |cx: &Context| {
+                    tree(cx, seed, depth + 1);
+                    cx.sleep(Duration::from_millis(3))?;
+                    Ok::<_, Refusal>(())
+                };
+                let _ =
+                    if seed % 2 == 0 { cx.move_on_after(within, body) } else { cx.fail_after(within, body).map(Some) };
+            }
             _ => tree(cx, chance.next(), depth + 1),
         }
     }
     match chance.below(12) {
         0 | 1 => Err("on purpose".into()),
-        2 => std::panic::resume_unwind(Box::new("on purpose")),
-        _ => Ok(chance.below(5) as i64),
+        2 => resume_unwind(Box::new("on purpose")),
+        _ => Ok(Fragile(chance.below(32) as i64)),
     }
 }
 
@@ -91,17 +149,36 @@ fn tree(cx: &Context, seed: u64, depth: u32) {
         let mut tasks = Vec::new();
         for _ in 0..chance.below(4) {
             let (seed, canceller) = (chance.next(), s.canceller());
-            let task = s.fork_measured("job", |value| *value, move |cx: &Context| job(cx, seed, depth, &canceller));
-            tasks.push(task.expect("the limits are not met"));
+            let held = Fragile(chance.below(32) as i64);
+            let task = s.fork_measured(
+                "aJob",
+                |value: &Fragile| value.0 % 5,
+                move |cx| {
+                    let _held = &held;
+                    job(cx, seed, depth, &canceller)
+                },
+            );
+            match task {
+                // Where nobody holds a task, its thread drops what it gave.
+                Ok(task) if chance.below(4) > 0 => tasks.push(task),
+                Ok(_) => {}
+                Err(refusal) => assert_eq!(refusal, Refusal::Rejected),
+            }
         }
         match chance.below(12) {
-            0 => drop(s.cancel()),
+            0 => {
+                s.cancel();
+            }
             1 => drop(s.move_deadline(Some(Duration::from_millis(chance.below(4))))),
             2 => drop(s.move_deadline(None)),
             3 => return,
             4 => tree(cx, chance.next(), depth + 1),
+            5 => (0..2).for_each(|_| drop(s.next_done(&mut tasks))),
             _ => {}
         }
+        tasks.iter().for_each(|task| {
+            let _ = s.state(task);
+        });
         // Whatever the realm answers here: the rules say whether it may.
         let _ = s.join();
         drop(s.results(tasks));
@@ -122,7 +199,8 @@ fn storm(mut realm: Realm, seed: u64, requests: u64) -> Realm {
                 let served = cx.scope(Joiner::Await, |s| {
                     for index in 0..6 {
                         let seed = (seed * requests + request) * 10 + index;
-                        s.fork("root", move |cx: &Context| trees(cx, seed)).unwrap();
+                        let forked = s.fork("root", move |cx| trees(cx, seed));
+                        assert!(matches!(forked, Ok(_) | Err(Refusal::Rejected)));
                     }
                     s.join().map(drop)
                 });
@@ -184,7 +262,8 @@ fn each_answer_in_a_storm_is_that_of_the_rules() {
     let judge = Judge::find("storm");
     let (mut seed, mut events, mut queries) = (0, 0, 0);
     while events < EVENTS {
-        let notes = storm(Realm::new().unwrap().noted(), seed, REQUESTS).look().notes().unwrap();
+        let realm = Realm::new().unwrap().on(&pool(seed)).noted();
+        let notes = storm(realm, seed, REQUESTS).look().notes().unwrap();
         let asked = notes.journal.lines().filter(|line| is_query(line)).count();
         events += notes.journal.lines().count() - asked;
         queries += asked;
@@ -194,7 +273,12 @@ fn each_answer_in_a_storm_is_that_of_the_rules() {
         }
     }
     let judged = if judge.is_some() { "answered as by the rules" } else { "not judged" };
-    say(&format!("a storm of {seed} realms, {events} events and {queries} queries: {judged}"));
+    let [refused, panicked, hooked] = [&REFUSED, &PANICKED, &HOOKED].map(|counter| counter.load(Ordering::Relaxed));
+    say(&format!(
+        "a storm of {seed} realms, {events} events and {queries} queries, with {refused} refused threads, {panicked} \
+         panics of drops and {hooked} hooks: {judged}"
+    ));
+    assert!(refused > 10 && panicked > 100 && hooked > 100);
     if let Some(judge) = judge {
         judge.ends();
     }
@@ -204,7 +288,8 @@ fn each_answer_in_a_storm_is_that_of_the_rules() {
 fn a_storm_without_notes_keeps_the_rules() {
     let judge = Judge::find("plain");
     for seed in 0..24 {
-        let journal = storm(Realm::new().unwrap(), seed, 1).look().journal().unwrap();
+        let realm = Realm::new().unwrap().on(&pool(seed));
+        let journal = storm(realm, seed, 1).look().journal().unwrap();
         if let Some(judge) = &judge {
             judge.hears(&journal, None);
         }

@@ -12,6 +12,7 @@ mod progress;
 mod stops;
 mod tasks;
 mod told;
+mod turns;
 mod valued;
 mod waits;
 mod watches;

@@ -1,6 +1,6 @@
 -- From what a command of a kept realm answers to its reply.
-use Rattle.std.proofs.Common.{◌≡◌, ℕ, ℤ, pos, List, [], length, ◌&&◌, Bool, true, false, Option, Some, Result, Ok, Err, refl, ap, sym, ◌∙◌, subst, ◌⊎◌, inl, inr}
-use Rattle.std.specs.Prelude.{not, is_ok, if◌then◌else◌}
+use Rattle.std.proofs.Common.{◌≡◌, ℕ, ℤ, pos, List, [], length, ◌&&◌, Bool, true, Option, Some, Result, Ok, Err, refl, ap, sym, ◌∙◌, subst, ◌⊎◌, inl, inr}
+use Rattle.std.specs.Prelude.{is_ok, if◌then◌else◌}
 use Rattle.scope_rules.specs.declared.types.events.Event.{Event}
 use Rattle.scope_rules.specs.declared.types.events.Event.TheVariants as event
 use Rattle.scope_rules.specs.declared.types.outcomes.Outcome.{Outcome}
@@ -8,15 +8,12 @@ use Rattle.scope_rules.specs.declared.types.refusals.Refusal.{Refusal}
 use Rattle.scope_rules.specs.declared.types.refusals.Refusal.TheVariants as why
 use Rattle.scope_rules.specs.declared.types.refusals.Refusal.TheVariants.{Memory, BadWord as Bad}
 use Rattle.scope_rules.specs.Checks.{Checked}
-use Rattle.scope_rules.specs.History.{History, followed}
+use Rattle.scope_rules.specs.History.{followed}
 use Rattle.scope_rules.specs.Origin.{Origin}
 use Rattle.scope_rules.specs.Outcomes.{outcome}
 use Rattle.scope_rules.specs.Replies.{Realm, Answers, AnswersOrMemory, AnswersValue, with_event, after, outcome_check}
-use Rattle.scope_rules.specs.Table.{check_of, is_already}
-use Rattle.scope_checks.specs.declared.event_replies.EventReply.{EventReply}
-use Rattle.scope_checks.specs.declared.event_replies.EventReply.TheVariants as told
+use Rattle.scope_rules.specs.Table.{check_of}
 use Rattle.scope_checks.specs.Entering.{Retires, Tells}
-use Rattle.scope_checks.specs.EventReplies.{event_reply_of as told_here, noted, after_telling}
 use Rattle.scope_index.specs.declared.bare.BareOutcome.{BareOutcome}
 use Rattle.script_words.specs.declared.commands.Command.{Command}
 use Rattle.script_words.specs.declared.commands.Command.TheVariants.{Do, Retire, Ask}
@@ -25,7 +22,7 @@ use Rattle.script_words.specs.declared.commands.Query.{Query}
 use Rattle.script_words.specs.Lines.{line_said}
 use Rattle.script_words.specs.declared.reply.Reply.{Reply}
 use Rattle.script_words.specs.declared.reply.Reply.TheVariants as reply
-use Rattle.scope_script.specs.Replying.{refused_or, passed_reply, is_join, answer_to, reply_to, realm_after, Performs, PerformsOrStops}
+use Rattle.scope_script.specs.Replying.{refused_or, passed_reply, answer_to, reply_to, realm_after, Performs, PerformsOrStops}
 use Rattle.scope_script.proofs.Answered.{joined, retires}
 use Rattle.scope_script.specs.Sessions.{line_reply, realm_after_line}
 use Rattle.balkreyn_c.specs.Asking.{text_in}

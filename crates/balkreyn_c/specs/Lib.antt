@@ -1,9 +1,13 @@
 pub mod Owning
 pub mod Numbers
+pub mod Resting
 pub mod Acting
+pub mod Batches
 pub mod Asking
+pub mod Around
 pub mod Opening
 pub mod Named
+pub mod Endings
 pub mod Joining
 pub mod Books
 pub mod Wanting

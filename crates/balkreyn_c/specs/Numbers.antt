@@ -24,7 +24,7 @@ use Rattle.scope_checks.specs.declared.event_replies.EventReply.TheVariants as t
 use Rattle.scope_index.specs.declared.bare.BareOutcome.{BareOutcome}
 use Rattle.scope_index.specs.declared.bare.BareOutcome.TheVariants as bare
 
--- ---- if there was nothing to refuse: -21 to -24
+-- ---- if there was nothing to refuse: -21 to -25
 
 abbrev pub no_realm : ℤ
 no_realm = negsuc 20
@@ -37,6 +37,9 @@ bad_argument = negsuc 22
 
 abbrev pub untold : ℤ
 untold = negsuc 23
+
+abbrev pub busy : ℤ
+busy = negsuc 24
 
 -- ---- refusals: -1 to -20
 

@@ -4,7 +4,7 @@ ghost use Rattle.std.specs.Prelude.{◌≡◌, Some, None};
 ghost use Rattle.balkreyn_c.specs.Acting.{Acts};
 
 use crate::book::{Book, put, taken};
-use crate::numbers::{BAD_ARGUMENT, NO_REALM, told};
+use crate::numbers::{BAD_ARGUMENT, told};
 use scope_rules::Event;
 use std::alloc::Global;
 
@@ -13,14 +13,15 @@ use std::alloc::Global;
 pub fn act(alloc: Global, book: &mut Book, event: Option<Event>) -> i64
     ensures { Acts book.old.place.held event result book.new.place.held }
 {
-    let Some(mut realm) = taken(alloc, book) else {
-        return NO_REALM;
+    let mut realm = match taken(alloc, &mut book.word, &mut book.place) {
+        Ok(realm) => realm,
+        Err(number) => return number,
     };
     let Some(event) = event else {
-        put(book, realm);
+        put(&mut book.word, &mut book.place, realm);
         return BAD_ARGUMENT;
     };
     let answer = told(realm.perform(&event, false, None));
-    put(book, realm);
+    put(&mut book.word, &mut book.place, realm);
     answer
 }

@@ -1,51 +1,67 @@
-//! A book: it holds a realm, or none.
-ghost use Rattle.std.specs.Prelude.{◌≡◌, None, Some, is_some, MatchOption};
+//! A book: it holds a realm, or none. While a call works on it, the realm is the call's, and the book's word says so: a
+//! second call that comes at once finds it, and answers that the book is busy. Of one call after another none does.
+ghost use Rattle.std.specs.Prelude.{◌≡◌, None, Some, is_some, MatchResult};
+ghost use Rattle.balkreyn_c.specs.Resting.{resting, nothing};
+ghost use Rattle.balkreyn_c.specs.Numbers.{no_realm};
 
+use crate::numbers::{BUSY, NO_REALM};
 use crate::place::Place;
+use crate::word::{rest, swapped};
 use realm_state::RealmState;
 use std::alloc::Global;
 use std::mem;
 
+/// The word of a book that holds no realm.
+pub const EMPTY: u64 = 0;
+
+/// The word of a book that holds a realm.
+pub const FULL: u64 = 1;
+
+/// The word of a book while a call works on it.
+pub const WORKING: u64 = 2;
+
 /// A book, which C keeps. Zeroed memory is a book that holds no realm.
 #[repr(C)]
 pub struct Book {
-    full: bool,
+    pub word: u64,
     pub place: Place,
-    ghost fits: { full ≡ is_some place.held },
+    ghost fits: { word ≡ resting (is_some place.held) },
 }
 
-/// A book that holds none.
-fn empty(alloc: Global) -> Book
-    ensures { result.place.held ≡ None }
+/// The realm, taken out of the book, which is being worked on from here on; or what a call answers that has none.
+pub fn taken(
+    alloc: Global,
+    word: &mut u64,
+    place: &mut Place,
+) -> Result<Box<RealmState, Global>, i64>
+    requires { word.old ≡ resting (is_some place.old.held) }
+    ensures realm { MatchResult result (λ realm. place.old.held ≡ Some realm.value) (λ number. (number ≡ no_realm) × (place.old.held ≡ None) × (word.new ≡ 0)) }
+    ensures left { place.new.held ≡ None }
 {
-    Book {
-        full: false,
-        place: Place::empty(alloc),
+    let found = swapped(word, WORKING);
+    if found == FULL {
+        Ok(mem::replace(place, Place::empty(alloc)).into_box())
+    } else {
+        if found == EMPTY {
+            rest(word, EMPTY);
+        }
+        Err(nothing(found))
     }
 }
 
-/// The realm, taken out of the book.
-pub fn taken(alloc: Global, book: &mut Book) -> Option<Box<RealmState, Global>>
-    ensures realm { MatchOption result (book.old.place.held ≡ None) (λ realm. book.old.place.held ≡ Some realm.value) }
-    ensures left { book.new.place.held ≡ None }
+/// What a call answers that found the word so, and no realm for it.
+pub fn nothing(found: u64) -> i64
+    ensures { result ≡ nothing found }
 {
-    let Book { full, place } = mem::replace(book, empty(alloc));
-    if full { Some(place.into_box()) } else { None }
+    if found == EMPTY { NO_REALM } else { BUSY }
 }
 
-/// Puts the realm into the book, which holds none.
-pub fn put(book: &mut Book, realm: Box<RealmState, Global>)
-    requires { book.old.place.held ≡ None }
-    ensures { book.new.place.held ≡ Some realm.value }
+/// Puts the realm into the book, which holds none. The call is over.
+pub fn put(word: &mut u64, place: &mut Place, realm: Box<RealmState, Global>)
+    requires { place.old.held ≡ None }
+    ensures holds { place.new.held ≡ Some realm.value }
+    ensures word { word.new ≡ 1 }
 {
-    let Book {
-        full: _full,
-        place: _place,
-    } = mem::replace(
-        book,
-        Book {
-            full: true,
-            place: Place::of_box(realm),
-        },
-    );
+    let _nothing = mem::replace(place, Place::of_box(realm));
+    rest(word, FULL);
 }

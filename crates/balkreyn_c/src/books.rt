@@ -1,10 +1,11 @@
 //! A realm is opened in a book, and closed.
 
-ghost use Rattle.std.specs.Prelude.{◌≡◌, None};
-ghost use Rattle.balkreyn_c.specs.Books.{OpensBook, closing_number};
+ghost use Rattle.std.specs.Prelude.{◌≡◌, ◌⊎◌, pos, None, Some, MatchResult};
+ghost use Rattle.balkreyn_c.specs.Books.{IsFresh, IsRefused, OpensBook, WantsMemory, closing_number};
 
-use crate::book::{Book, put, taken};
-use crate::numbers::{BAD_ARGUMENT, DONE, HAS_REALM, NO_REALM, refused};
+use crate::book::{Book, EMPTY, FULL, WORKING, put, taken};
+use crate::numbers::{BAD_ARGUMENT, BUSY, DONE, HAS_REALM, refused};
+use crate::word::{rest, swapped};
 use realm_state::RealmState;
 use scope_rules::{Limits, Refusal};
 use std::alloc::Global;
@@ -12,9 +13,9 @@ use std::alloc::Global;
 /// The number of the interface, which a change of the header's prototypes or numbers raises.
 #[unsafe(no_mangle)]
 pub extern "C" fn balkreyn_abi() -> u32
-    ensures { result ≡ 1 }
+    ensures { result ≡ 2 }
 {
-    1
+    2
 }
 
 /// Opens a fresh realm of these limits in the book, which holds none.
@@ -28,19 +29,36 @@ pub extern "C" fn balkreyn_book_open(
 ) -> i64
     ensures { OpensBook book.old.place.held scopes tasks load result book.new.place.held }
 {
-    if let Some(realm) = taken(alloc, book) {
-        put(book, realm);
+    let found = swapped(&mut book.word, WORKING);
+    if found == FULL {
+        rest(&mut book.word, FULL);
         return HAS_REALM;
     }
-    let Some(limits) = Limits::new(scopes, tasks, load) else {
-        return BAD_ARGUMENT;
-    };
-    match Box::new(alloc, RealmState::new(alloc, limits)) {
+    if found != EMPTY {
+        return BUSY;
+    }
+    match fresh(alloc, scopes, tasks, load) {
         Ok(realm) => {
-            put(book, realm);
+            put(&mut book.word, &mut book.place, realm);
             DONE
         }
-        Err(_) => refused(Refusal::Memory),
+        Err(number) => {
+            rest(&mut book.word, EMPTY);
+            number
+        }
+    }
+}
+
+/// A fresh realm of these limits, or what the call answers.
+fn fresh(alloc: Global, scopes: u32, tasks: u32, load: u32) -> Result<Box<RealmState, Global>, i64>
+    ensures { MatchResult result (λ realm. IsFresh scopes tasks load (pos 0) (Some realm.value)) (λ number. IsRefused scopes tasks load number None ⊎ WantsMemory scopes tasks load number None) }
+{
+    let Some(limits) = Limits::new(scopes, tasks, load) else {
+        return Err(BAD_ARGUMENT);
+    };
+    match Box::new(alloc, RealmState::new(alloc, limits)) {
+        Ok(realm) => Ok(realm),
+        Err(_) => Err(refused(Refusal::Memory)),
     }
 }
 
@@ -50,8 +68,11 @@ pub extern "C" fn balkreyn_book_close(alloc: Global, book: &mut Book) -> i64
     ensures answer { result ≡ closing_number book.old.place.held }
     ensures none { book.new.place.held ≡ None }
 {
-    match taken(alloc, book) {
-        Some(_realm) => DONE,
-        None => NO_REALM,
+    match taken(alloc, &mut book.word, &mut book.place) {
+        Ok(_realm) => {
+            rest(&mut book.word, EMPTY);
+            DONE
+        }
+        Err(number) => number,
     }
 }

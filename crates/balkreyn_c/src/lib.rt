@@ -5,9 +5,12 @@
 #![tactic(auto)]
 
 mod acting;
+mod around;
+mod batches;
 mod book;
 mod books;
 mod commands;
+mod endings;
 mod line;
 mod lists;
 mod numbers;
@@ -17,3 +20,4 @@ mod place;
 mod queries;
 mod shows;
 mod text;
+mod word;

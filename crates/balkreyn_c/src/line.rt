@@ -8,7 +8,7 @@ ghost use Rattle.balkreyn_c.specs.Doors.{DidPerform, DoesLine, Lines, not_done};
 ghost use Rattle.balkreyn_c.specs.Texts.{WritesReply, reply_line};
 
 use crate::book::{Book, put, taken};
-use crate::numbers::{NO_REALM, UNTOLD, refused};
+use crate::numbers::{UNTOLD, refused};
 use crate::outcomes::join_in;
 use crate::text::{write_line, write_text};
 use realm_state::RealmState;
@@ -39,11 +39,12 @@ pub extern "C" fn balkreyn_line(
 ) -> i64
     ensures { Lines book.old.place.held line.now result book.new.place.held reply.old reply.new }
 {
-    let Some(mut realm) = taken(alloc, book) else {
-        return NO_REALM;
+    let mut realm = match taken(alloc, &mut book.word, &mut book.place) {
+        Ok(realm) => realm,
+        Err(number) => return number,
     };
     let answer = do_line(alloc, &mut realm, line, reply);
-    put(book, realm);
+    put(&mut book.word, &mut book.place, realm);
     answer
 }
 

@@ -6,7 +6,7 @@ ghost use Rattle.balkreyn_c.specs.Joining.{ListsOutcome, list_in, list_number, o
 ghost use Rattle.balkreyn_c.specs.Numbers.{number_of};
 
 use crate::book::{Book, put, taken};
-use crate::numbers::{NO_REALM, refused, state_code};
+use crate::numbers::{refused, state_code};
 use scope_checks::queries;
 use scope_rules::{Outcome, Refusal, TaskState, TaskValue};
 use std::alloc::Global;
@@ -30,11 +30,12 @@ pub extern "C" fn balkreyn_outcome_tasks(
     ensures list { ListsOutcome book.old.place.held scope result tasks.old tasks.new }
     ensures kept { book.new.place.held ≡ book.old.place.held }
 {
-    let Some(realm) = taken(alloc, book) else {
-        return NO_REALM;
+    let realm = match taken(alloc, &mut book.word, &mut book.place) {
+        Ok(realm) => realm,
+        Err(number) => return number,
     };
     let answer = write_list(queries::outcome(&*realm, alloc, scope), tasks);
-    put(book, realm);
+    put(&mut book.word, &mut book.place, realm);
     answer
 }
 

@@ -19,6 +19,9 @@ pub const BAD_ARGUMENT: i64 = -23;
 /// The line was performed, and there was no memory for its reply.
 pub const UNTOLD: i64 = -24;
 
+/// Another call works on the book.
+pub const BUSY: i64 = -25;
+
 /// The call was done, and there is no more to say.
 pub const DONE: i64 = 0;
 

@@ -8,7 +8,7 @@ ghost use Rattle.scope_rules.specs.Table.{check_of};
 ghost use Rattle.balkreyn_c.specs.Joining.{AnswersBare, Joins, TellsOutcome, LetsGo};
 
 use crate::book::{Book, put, taken};
-use crate::numbers::{NO_REALM, outcome as outcome_number, retired};
+use crate::numbers::{outcome as outcome_number, retired};
 use realm_state::RealmState;
 use scope_checks::Readings;
 use scope_checks::checks::{refuse_if, scope_check};
@@ -50,11 +50,12 @@ fn outcome_check(realm: &RealmState, scope: ScopeId) -> Result<(), Refusal>
 pub extern "C" fn balkreyn_join(alloc: Global, book: &mut Book, actor: u32, scope: u32) -> i64
     ensures { Joins book.old.place.held actor scope result book.new.place.held }
 {
-    let Some(mut realm) = taken(alloc, book) else {
-        return NO_REALM;
+    let mut realm = match taken(alloc, &mut book.word, &mut book.place) {
+        Ok(realm) => realm,
+        Err(number) => return number,
     };
     let answer = outcome_number(join_in(&mut realm, actor, scope));
-    put(book, realm);
+    put(&mut book.word, &mut book.place, realm);
     answer
 }
 
@@ -64,11 +65,12 @@ pub extern "C" fn balkreyn_outcome(alloc: Global, book: &mut Book, scope: u32) -
     ensures answer { TellsOutcome book.old.place.held scope result }
     ensures kept { book.new.place.held ≡ book.old.place.held }
 {
-    let Some(realm) = taken(alloc, book) else {
-        return NO_REALM;
+    let realm = match taken(alloc, &mut book.word, &mut book.place) {
+        Ok(realm) => realm,
+        Err(number) => return number,
     };
     let answer = outcome_number(outcome_in(&realm, scope));
-    put(book, realm);
+    put(&mut book.word, &mut book.place, realm);
     answer
 }
 
@@ -77,10 +79,11 @@ pub extern "C" fn balkreyn_outcome(alloc: Global, book: &mut Book, scope: u32) -
 pub extern "C" fn balkreyn_retire(alloc: Global, book: &mut Book, actor: u32) -> i64
     ensures { LetsGo book.old.place.held actor result book.new.place.held }
 {
-    let Some(mut realm) = taken(alloc, book) else {
-        return NO_REALM;
+    let mut realm = match taken(alloc, &mut book.word, &mut book.place) {
+        Ok(realm) => realm,
+        Err(number) => return number,
     };
     let answer = retired(realm.retire(actor));
-    put(book, realm);
+    put(&mut book.word, &mut book.place, realm);
     answer
 }

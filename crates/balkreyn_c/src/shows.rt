@@ -6,7 +6,7 @@ ghost use Rattle.tree_dump.specs.Tree.{dump_text};
 ghost use Rattle.balkreyn_c.specs.Texts.{Shows, WritesOrNot};
 
 use crate::book::{Book, put, taken};
-use crate::numbers::{NO_REALM, refused};
+use crate::numbers::refused;
 use crate::text::write_text;
 use realm_state::RealmState;
 use scope_rules::Refusal;
@@ -20,11 +20,12 @@ pub extern "C" fn balkreyn_dump(alloc: Global, book: &mut Book, text: &mut [u8])
     ensures text { Shows book.old.place.held dump_text result text.old text.new }
     ensures kept { book.new.place.held ≡ book.old.place.held }
 {
-    let Some(realm) = taken(alloc, book) else {
-        return NO_REALM;
+    let realm = match taken(alloc, &mut book.word, &mut book.place) {
+        Ok(realm) => realm,
+        Err(number) => return number,
     };
     let answer = write_dump(alloc, &realm, text);
-    put(book, realm);
+    put(&mut book.word, &mut book.place, realm);
     answer
 }
 
@@ -34,11 +35,12 @@ pub extern "C" fn balkreyn_journal(alloc: Global, book: &mut Book, text: &mut [u
     ensures text { Shows book.old.place.held script_text result text.old text.new }
     ensures kept { book.new.place.held ≡ book.old.place.held }
 {
-    let Some(realm) = taken(alloc, book) else {
-        return NO_REALM;
+    let realm = match taken(alloc, &mut book.word, &mut book.place) {
+        Ok(realm) => realm,
+        Err(number) => return number,
     };
     let answer = write_journal(alloc, &realm, text);
-    put(book, realm);
+    put(&mut book.word, &mut book.place, realm);
     answer
 }
 

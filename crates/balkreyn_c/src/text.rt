@@ -5,7 +5,7 @@ ghost use Rattle.balkreyn_c.specs.Asking.{text_in};
 ghost use Rattle.balkreyn_c.specs.Texts.{OutcomeLine, TellsLine, Writes, reply_line};
 
 use crate::book::{Book, put, taken};
-use crate::numbers::{NO_REALM, refused};
+use crate::numbers::refused;
 use arrayvec::ArrayString;
 use realm_state::RealmState;
 use scope_checks::queries;
@@ -59,11 +59,12 @@ pub extern "C" fn balkreyn_outcome_line(
     ensures line { OutcomeLine book.old.place.held scope result text.old text.new }
     ensures kept { book.new.place.held ≡ book.old.place.held }
 {
-    let Some(realm) = taken(alloc, book) else {
-        return NO_REALM;
+    let realm = match taken(alloc, &mut book.word, &mut book.place) {
+        Ok(realm) => realm,
+        Err(number) => return number,
     };
     let answer = write_outcome(alloc, &realm, scope, text);
-    put(book, realm);
+    put(&mut book.word, &mut book.place, realm);
     answer
 }
 

@@ -1,12 +1,11 @@
-//! Calls that no script makes: the example of docs/BOOK.md, and an open that hands its joiner back.
+//! Calls that no script makes: the example of docs/GUIDE.md, and an open that hands its joiner back.
 
-use crate::closures::joiner_of;
+use crate::closures::asked_once::{Asked, RULE};
 use join_rules::Joiner;
 use scope_book::BookState;
 use scope_rules::types::values::MAIN;
 use scope_rules::{
-    AnyEnd, Base, Expiry, Label, Limits, Name, Options, Outcome, Policy, Refusal, Rule, Value,
-    Verdict,
+    AnyEnd, Base, Expiry, Label, Limits, Name, Options, Outcome, Policy, Refusal, Value, Verdict,
 };
 use std::alloc::Global;
 use std::process::Abort;
@@ -14,7 +13,7 @@ use std::test::Fail;
 
 type Book = BookState<AnyEnd>;
 
-/// The example of docs/BOOK.md.
+/// The example of docs/GUIDE.md.
 fn one_task(
     book: &mut BookState<AnyEnd>,
     options: Options,
@@ -72,17 +71,15 @@ fn no_scope_has_a_number_past_the_greatest(rt: HostRuntime) -> Result<(), Fail> 
     Ok(())
 }
 
-const UNTIL_TWO: Policy = Policy::Until(Rule::SuccessesAtLeast(2));
-
 /// An open by a task that does not run hands the joiner back, with the closure that it was made with.
 fn check_handed_back(rt: &impl Abort, alloc: Global, book: &mut Book) -> Result<(), Fail> {
-    let joiner = joiner_of(alloc, UNTIL_TWO, true)?;
+    let joiner = Asked::new(alloc)?.joiner(alloc)?;
     let Err((refusal, joiner)) = book.open(4, joiner, OPTIONS) else {
         return Err(Fail::from("no task 4 runs"));
     };
     assert_eq!(rt; refusal, Refusal::NoTask);
     let found = (joiner.policy(), joiner.asks_closure());
-    assert!(rt; found == (UNTIL_TWO, true));
+    assert!(rt; found == (Policy::Until(RULE), true));
     Ok(())
 }
 

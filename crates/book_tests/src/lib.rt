@@ -1,12 +1,8 @@
-//! Tests of the book, of what no contract says: a call that is refused memory changes nothing; a caller's closure
-//! is asked once for each completion; and the example of docs/BOOK.md.
+//! Tests of the book, of what no contract and no script says: a caller's closure is asked once for each completion; an
+//! open hands its joiner back; and the example of docs/GUIDE.md.
 #![tactic(auto)]
 
-#[cfg(test)]
-mod answers;
 #[cfg(test)]
 mod calls;
 #[cfg(test)]
 mod closures;
-#[cfg(test)]
-mod memory;

@@ -94,42 +94,50 @@ impl MarkCell {
         })
     }
 
-    /// Sleeps until it is woken here, or for no reason. The lock of the guard is given up meanwhile and
-    /// taken again, so a call under that lock that wakes is not missed. What lies under the lock may be
-    /// other then, and the sleeper looks anew. That it returns is not promised. No clause says more of a sleep or
-    /// a wake: a lock's contents are known by their invariant alone, and who sleeps is seen by no contract.
-    pub fn sleep<'a, R: Wait, T>(&self, rt: &R, held: MutexGuard<'a, T>) -> MutexGuard<'a, T> {
-        self.park(rt, held, Duration::from_secs(ENDLESS))
-    }
-
-    /// The same, for so long at most.
+    /// Sleeps until it is woken here, or for no reason, and for so long at most, if a time is given. The lock of the
+    /// guard is given up meanwhile and taken again, so a call under that lock that wakes is not missed. What lies under
+    /// the lock may be other then, and the sleeper looks anew. That it returns is not promised. No clause says more of a
+    /// sleep or a wake: a lock's contents are known by their invariant alone, and who sleeps is seen by no contract.
     pub fn park<'a, R: Wait, T>(
         &self,
         rt: &R,
         held: MutexGuard<'a, T>,
-        most: Duration,
+        most: Option<Duration>,
     ) -> MutexGuard<'a, T> {
         let seen = self.shared.woken.notifications();
-        let lock = MutexGuard::unlock(held);
-        if !self.is_woken_soon(seen) {
-            self.shared.woken.sleep(rt, seen, most);
-        }
-        lock.lock(rt)
-    }
-
-    /// Spins, and says whether there was a wake here since there were so many.
-    fn is_woken_soon(&self, seen: u64) -> bool {
-        for _ in 0..SPINS {
-            if self.shared.woken.notifications() != seen {
-                return true;
-            }
-            spin_loop();
-        }
-        false
+        sleep_behind(&self.shared.woken, rt, held, seen, most)
     }
 
     /// Wakes all who sleep here.
     pub fn wake(&self) {
         self.shared.woken.notify_all();
     }
+}
+
+/// Gives up the lock of the guard, sleeps until there were more wakes than `seen`, for so long at most, and takes the
+/// lock again.
+pub(crate) fn sleep_behind<'a, R: Wait, T>(
+    woken: &Condvar,
+    rt: &R,
+    held: MutexGuard<'a, T>,
+    seen: u64,
+    most: Option<Duration>,
+) -> MutexGuard<'a, T> {
+    let lock = MutexGuard::unlock(held);
+    if !is_woken_soon(woken, seen) {
+        let most = most.unwrap_or(Duration::from_secs(ENDLESS));
+        woken.sleep(rt, seen, most);
+    }
+    lock.lock(rt)
+}
+
+/// Spins, and says whether there was a wake since there were so many.
+fn is_woken_soon(woken: &Condvar, seen: u64) -> bool {
+    for _ in 0..SPINS {
+        if woken.notifications() != seen {
+            return true;
+        }
+        spin_loop();
+    }
+    false
 }

@@ -3,12 +3,14 @@
 //! of its cell's scope, and two marks of one cell are equal.
 #![tactic(auto)]
 
+mod bells;
 mod cancellation;
 mod cells;
 pub mod laws;
 mod marks;
 mod setters;
 
+pub use bells::Bell;
 pub use cancellation::Cancellation;
 pub use cells::MarkCell;
 pub use marks::{Mark, Seat};

@@ -2,11 +2,13 @@ ghost use Rattle.std.specs.Prelude.{◌≡◌, IfOk, IsTrue, None, Some};
 ghost use Rattle.std.specs.Option.{option_or};
 ghost use Rattle.once_cell.specs.Once.{Agrees};
 
+use crate::bells::Bell;
 use crate::cancellation::Cancellation;
 use crate::cells::{MarkCell, Shared};
 use crate::marks::Seat;
 use once_cell::race::OnceBox;
 use scope_rules::{Cause, CauseKind, ScopeId};
+use slab::Slab;
 use std::alloc::{AllocError, Global};
 use std::marker::Model;
 use std::sync::{Arc, Condvar};
@@ -17,6 +19,7 @@ pub struct CellReservation {
     one: Arc<Shared, Global>,
     other: Arc<Shared, Global>,
     blank: Box<Cancellation>,
+    alloc: Global,
 }
 
 impl Model for CellReservation {
@@ -41,7 +44,12 @@ impl CellReservation {
         };
         let one = Arc::new(alloc, shared)?;
         let other = Arc::try_clone(&one)?;
-        Ok(CellReservation { one, other, blank })
+        Ok(CellReservation {
+            one,
+            other,
+            blank,
+            alloc,
+        })
     }
 
     // What the box holds until the cell is set with it. Nobody sees it.
@@ -59,7 +67,12 @@ impl CellReservation {
         ensures setter { (result.0.cell.scope ≡ scope) × (result.0.used ≡ None) × (result.0.known ≡ None) }
         ensures cell { result.1 ≡ result.0.cell }
     {
-        let CellReservation { one, other, blank } = self;
+        let CellReservation {
+            one,
+            other,
+            blank,
+            alloc,
+        } = self;
         let cell = MarkCell { scope, shared: one };
         let seat = cell.seat();
         let setter = MarkSetter {
@@ -67,6 +80,7 @@ impl CellReservation {
             seat,
             blank: Some(blank),
             used: None,
+            bells: Slab::new(alloc),
         };
         let cell = MarkCell {
             scope,
@@ -86,6 +100,8 @@ pub struct MarkSetter {
     // The box that the cell is set with; `None` once that was done.
     blank: Option<Box<Cancellation>>,
     used: Option<Cancellation>,
+    // Whose sleepers are woken when the cell is set.
+    bells: Slab<Bell>,
 }
 
 impl Model for MarkSetter {
@@ -113,8 +129,22 @@ impl MarkSetter {
         self.cell.wake();
     }
 
-    /// Sets the cell to say that its scope became cancelled, wakes all who sleep at it, and answers
-    /// whether it was empty, as it is at the first call. A later call changes nothing: what the cell
+    /// Notes a bell whose sleeper is woken when the cell is set, and gives its place. None if memory is refused.
+    pub fn note_bell(&mut self, bell: Bell) -> Option<usize>
+        ensures { self.new ≡ self.old }
+    {
+        self.bells.insert(bell).ok()
+    }
+
+    /// Whoever sleeps at the bell at this place is no longer woken when the cell is set.
+    pub fn forget_bell(&mut self, place: usize)
+        ensures { self.new ≡ self.old }
+    {
+        let _bell = self.bells.try_remove(place);
+    }
+
+    /// Sets the cell to say that its scope became cancelled, wakes all who sleep at it or at a bell that is noted here,
+    /// and answers whether it was empty, as it is at the first call. A later call changes nothing: what the cell
     /// holds, it holds for good. It takes no memory.
     pub fn set(&mut self, cause: Cause, number: usize) -> bool
         ensures used { self.new ≡ record self.old { used = option_or self.old.used (Some (record { cause = cause; number = number })); known = self.new.known } }
@@ -128,6 +158,9 @@ impl MarkSetter {
                 self.used = Some(told);
                 let first = self.cell.shared.once.set_as(blank, &mut self.seat.note);
                 self.cell.wake();
+                for (_, bell) in &self.bells {
+                    bell.wake();
+                }
                 first.is_ok()
             }
             None => false,

@@ -1,11 +1,17 @@
 -- What texts say, text by text, if each says a delay.
-use Rattle.std.proofs.Common.{◌≡◌, ◌∙◌, ◌++◌, ◌+◌, ◌<◌, ◌≤◌, ℕ, refl, sym, ap, List, [], ◌∷◌, drop, get_or, length, Option, Some, None, add-one, append-nil, append_assoc}
+use Rattle.std.proofs.Common.{◌≡◌, ◌∙◌, ◌++◌, ◌+◌, ◌<◌, ◌≤◌, ℕ, refl, sym, ap, List, [], ◌∷◌, drop, get_or, length, map, Option, Some, None, add-one, append-nil, append_assoc}
 use Rattle.std.specs.Prelude.{option_and_then, option_map}
 use Rattle.std.proofs.Math.Seq.{drop-cons}
 use Rattle.std.proofs.lemmas.List.{drop_all}
 use Rattle.command_line.specs.Delays.{each_said}
 use Rattle.command_line.specs.Settings.{NameAndMillis, delay_said}
-use Rattle.command_line.proofs.Hinting.{Word, texts}
+use Rattle.std.specs.Borrow.{Bor}
+
+abbrev Word : Type 0
+Word = Bor (List ℕ)
+
+abbrev texts : List Word → List (List ℕ)
+texts words = map (λ (word : Word). word.now) words
 
 -- what was found, and what the words behind the place say
 abbrev pub behind : List NameAndMillis → List Word → ℕ → Option (List NameAndMillis)

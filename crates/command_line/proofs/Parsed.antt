@@ -1,65 +1,89 @@
--- What a parse that went well says.
-use Rattle.std.proofs.Common.{◌≡◌, ◌∙◌, Bool, ap, ap₂, sym, true, List, [], Some, is_some}
-use Rattle.std.specs.Prelude.{option_map, unwrap_or}
-use Rattle.clap.proofs.WalkLemmas.{both}
+-- What a parse of the words comes to.
+use Rattle.std.proofs.Common.{◌≡◌, ◌∙◌, ◌⊎◌, inl, inr, ap, cond, subst, sym, refl, true, false, length, List, [], ◌∷◌, Option, None, Some}
+use Rattle.std.proofs.Math.Dec.{eqb-suc-zero}
+use Rattle.std.specs.Prelude.{option_map}
 use Rattle.clap.specs.Faults.{fault_of, is_simple_and_free}
-use Rattle.clap.specs.Simple.{App, is_simple, subcommand_of, subcommand_rows_of}
-use Rattle.clap.specs.Matches.{first_value, found_of, subcommand_name_of}
-use Rattle.clap.specs.Walk.{Row, Text, rows_of}
-use Rattle.clap.specs.declared.parser.matches.ArgMatches.{ArgMatches}
+use Rattle.clap.specs.Kinds.{IsAmong, Kinds}
+use Rattle.clap.specs.Simple.{App, subcommand_of}
+use Rattle.clap.specs.Walk.{Row, Text, is_empty}
+use Rattle.clap.specs.declared.error.kind.ErrorKind.{ErrorKind}
+use Rattle.clap.specs.declared.error.kind.ErrorKind.TheVariants as kind
 use Rattle.command_line.specs.Application.{scopectl}
-use Rattle.command_line.specs.CommandLine.{command_said, command_word, job_named, said_by}
-use Rattle.command_line.specs.Parsing.{TellsFlags}
-use Rattle.command_line.specs.Settings.{name_of}
-use Rattle.command_line.specs.declared.settings.Flag.{Flag}
-use Rattle.command_line.proofs.Answering.{name_in_rows}
+use Rattle.command_line.specs.CommandLine.{entered_says, line_said}
+use Rattle.command_line.specs.Faults.{Answers, AnswersAlone, TellsEntered, TellsKind}
+use Rattle.command_line.specs.declared.faults.LineFault.{LineFault}
+use Rattle.command_line.specs.declared.faults.LineFault.TheVariants.{Help, Version, Usage, Memory}
 use Rattle.command_line.proofs.Built.{is_simple_app}
-use Rattle.command_line.proofs.TopLevel.{IsRead, flags_are, has_given, named_is, read, texts_said}
-use Rattle.command_line.proofs.Flagged.{rows_filled}
 
--- the words meet no fault, and the parse found the job and the options that they say
-pub record Parsed (words : List Text) (matches : ArgMatches) : Type 0 where
-  pub clear : fault_of scopectl words ≡ []
-  pub got : IsRead words
-  pub found : subcommand_rows_of matches ≡ Some (command_word got.job, rows_filled got.job got.given)
+if_clear : {X : Type 0} (kinds : Kinds) (x : Option X) → kinds ≡ [] → cond (is_empty kinds) x None ≡ x
+if_clear kinds x none = subst (λ (ks : Kinds). cond (is_empty ks) x None ≡ x) (sym none) refl
 
-pub simple : (app : App) → app ≡ scopectl → is_simple_and_free app ≡ true
-simple app is = ap is_simple_and_free is ∙ is_simple_app
+some_kind : (k : ErrorKind) (kinds : Kinds) → IsAmong k kinds → is_empty kinds ≡ false
+some_kind k [] among = absurd among
+some_kind k (other ∷ kinds) among = eqb-suc-zero (length kinds)
 
--- the words that were given to the parse are these
-pub parsed : (given words : List Text) → given ≡ words → (app : App) (matches : ArgMatches) → app ≡ scopectl → (is_simple_and_free app ≡ true → fault_of app given ≡ [])
-    → (is_simple app ≡ true → subcommand_rows_of matches ≡ subcommand_of app given) → Parsed words matches
-parsed given words same app matches is clear found =
-    let no_fault : fault_of scopectl words ≡ [] = sym (ap₂ fault_of is same) ∙ clear (simple app is) in
-    record {
-      clear = no_fault;
-      got = read words no_fault;
-      found = found (both _ _ (simple app is)).0 ∙ (ap₂ subcommand_of is same ∙ (read words no_fault).rows);
-    }
+the_only : (k asked : ErrorKind) → IsAmong k (asked ∷ []) → k ≡ asked
+the_only k asked (inl is) = is
+the_only k asked (inr none) = absurd none
 
-module _ (words : List Text) (matches : ArgMatches) (p : Parsed words matches) where
-  name_is : subcommand_name_of matches ≡ Some (command_word p.got.job)
-  name_is = name_in_rows matches ∙ ap (option_map (λ (r : Text × List Row). r.0)) p.found
+memory_is : (fault : LineFault) (k : ErrorKind) → TellsKind k fault → k ≡ kind.OutOfMemory → fault ≡ Memory
+memory_is Help k told is = absurd (cc)
+memory_is Version k told is = absurd (cc)
+memory_is (Usage text) k told is = absurd (told.2 is)
+memory_is Memory k told is = refl
 
-  -- a subcommand was met
-  pub is_met : is_some (subcommand_name_of matches) ≡ true
-  is_met = ap is_some name_is
+module _ (words : List Text) (app : App) (is : app ≡ scopectl) where
+  pub simple : is_simple_and_free app ≡ true
+  simple = ap is_simple_and_free is ∙ is_simple_app
 
-  -- its name is that of a job
-  pub job_is : (word : Text) → Some word ≡ subcommand_name_of matches → job_named word ≡ Some p.got.job
-  job_is word named = ap job_named (ap (λ o. unwrap_or o word) (named ∙ name_is)) ∙ named_is p.got.job
+  -- ---- the parse went well
 
-  module _ (options : ArgMatches) (rows : Some (rows_of (found_of options)) ≡ option_map (λ (r : Text × List Row). r.1) (subcommand_rows_of matches)) where
-    pub filled : rows_of (found_of options) ≡ rows_filled p.got.job p.got.given
-    filled = ap (λ o. unwrap_or o []) (rows ∙ ap (option_map (λ (r : Text × List Row). r.1)) p.found)
+  module _ (none : fault_of app words ≡ []) where
+    clear : fault_of scopectl words ≡ []
+    clear = sym (ap (λ (a : App). fault_of a words) is) ∙ none
 
-    -- which of its options without a text were given
-    abbrev pub has_said : Flag → Bool
-    has_said = has_given words (found_of options) p.got filled
+    not_alone : (asked : ErrorKind) → AnswersAlone asked words → ⊥
+    not_alone asked alone = let bad : [] ≡ asked ∷ [] = sym clear ∙ alone in absurd (cc)
 
-    pub flags_said : TellsFlags p.got.job (found_of options) has_said
-    flags_said = flags_are words (found_of options) p.got filled
+    module _ (rows : Option (Text × List Row)) (are : rows ≡ subcommand_of app words) where
+      same : subcommand_of scopectl words ≡ rows
+      same = sym (are ∙ ap (λ (a : App). subcommand_of a words) is)
 
-    -- what its options say
-    pub said_is : (texts : List Text) → said_by texts p.got.job (λ setting. first_value (found_of options) (name_of setting)) has_said ≡ command_said texts words
-    said_is = texts_said words (found_of options) p.got filled
+      -- the words say what the command says that was entered
+      pub says_entered : line_said words ≡ entered_says rows
+      unfolding line_said
+      says_entered = if_clear (fault_of scopectl words) (entered_says (subcommand_of scopectl words)) clear ∙ ap entered_says same
+
+    pub answers_entered : (rows : Option (Text × List Row)) → rows ≡ subcommand_of app words → (fault : LineFault) → TellsEntered rows fault → Answers words fault
+    answers_entered None are Help told = absurd told
+    answers_entered None are Version told = absurd told
+    answers_entered (Some entered) are Help told = inr (clear, ap (option_map (λ (e : Text × List Row). e.0)) (same (Some entered) are) ∙ ap (λ (word : Text). Some word) told)
+    answers_entered (Some entered) are Version told = inr (clear, ap (option_map (λ (e : Text × List Row). e.0)) (same (Some entered) are) ∙ ap (λ (word : Text). Some word) told)
+    answers_entered rows are (Usage text) told = (not_alone kind.DisplayHelp, not_alone kind.DisplayVersion)
+    answers_entered rows are Memory told = tt
+
+  -- ---- it failed
+
+  module _ (fault : LineFault) (k : ErrorKind) (told : TellsKind k fault) where
+    among : IsAmong k (fault_of app words) → IsAmong k (fault_of scopectl words)
+    among = subst (λ (a : App). IsAmong k (fault_of a words)) is
+
+    refused : IsAmong k (fault_of app words) → line_said words ≡ None
+    unfolding line_said
+    refused h = ap (λ b. cond b (entered_says (subcommand_of scopectl words)) None) (some_kind k (fault_of scopectl words) (among h))
+
+    pub refused_of : (k ≡ kind.OutOfMemory) ⊎ IsAmong k (fault_of app words) → (fault ≡ Memory) ⊎ (line_said words ≡ None)
+    refused_of (inl memory) = inl (memory_is fault k told memory)
+    refused_of (inr h) = inr (refused h)
+
+  pub answers_of : (fault : LineFault) (k : ErrorKind) → TellsKind k fault → (k ≡ kind.OutOfMemory) ⊎ IsAmong k (fault_of app words) → Answers words fault
+  answers_of Help k told (inl memory) = absurd (cc)
+  answers_of Help k told (inr h) = inl (subst (λ (asked : ErrorKind). IsAmong asked (fault_of scopectl words)) told (among Help k told h))
+  answers_of Version k told (inl memory) = absurd (cc)
+  answers_of Version k told (inr h) = inl (subst (λ (asked : ErrorKind). IsAmong asked (fault_of scopectl words)) told (among Version k told h))
+  answers_of (Usage text) k told (inl memory) = absurd (told.2 memory)
+  answers_of (Usage text) k told (inr h) = (
+    λ (help : AnswersAlone kind.DisplayHelp words). told.0 (the_only k kind.DisplayHelp (subst (λ (ks : Kinds). IsAmong k ks) help (among (Usage text) k told h))),
+    λ (version : AnswersAlone kind.DisplayVersion words). told.1 (the_only k kind.DisplayVersion (subst (λ (ks : Kinds). IsAmong k ks) version (among (Usage text) k told h))),
+  )
+  answers_of Memory k told h = tt

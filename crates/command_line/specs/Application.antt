@@ -1,36 +1,59 @@
 -- The application, as a parse reads it.
-use Rattle.std.specs.Prelude.{ℕ, List, Some, true, codes, fold, map}
+use Rattle.std.specs.Prelude.{List, ℕ, Some, true, codes, fold, map}
 use Rattle.clap.specs.Simple.{App, new_app, new_rule, on_top, with_rule, with_subcommand}
 use Rattle.clap.specs.Walk.{Rule}
-use Rattle.clap.specs.declared.builder.action.ArgAction.TheVariants.{SetTrue}
-use Rattle.command_line.specs.CommandLine.{command_word, flag_names, option_names}
+use Rattle.clap.specs.declared.builder.action.ArgAction.TheVariants.{Append, SetTrue}
+use Rattle.command_line.specs.Jobs.{all_jobs, command_word, flags_of, settings_of}
+use Rattle.command_line.specs.Settings.{flag_name, name_of}
 use Rattle.command_line.specs.declared.lines.Job.{Job}
-use Rattle.command_line.specs.declared.lines.Job.TheVariants.{Replay, Dump, Tree, Timeline, TraceEvents, Quote, Generate}
+use Rattle.command_line.specs.declared.settings.Flag.{Flag}
+use Rattle.command_line.specs.declared.settings.Setting.{Setting}
+use Rattle.command_line.specs.declared.settings.Setting.TheVariants.{After, File, Notes, Answers}
 
--- the option `--NAME VALUE`
+-- a text that stands alone
+abbrev pub file_rule : List ℕ → Rule
+file_rule name = record (new_rule name) { value_names = 1 }
+
+-- the option `--NAME VALUE`, which stands once at most
 abbrev pub option_rule : List ℕ → Rule
 option_rule name = record (new_rule name) { long = Some name; value_names = 1 }
 
+-- `--after` may stand more than once, a file stands alone, and a check wants its journal
+abbrev pub setting_rule : Setting → Rule
+setting_rule After = record (option_rule (name_of After)) { action = Some Append }
+setting_rule File = file_rule (name_of File)
+setting_rule Notes = record (file_rule (name_of Notes)) { required = true }
+setting_rule Answers = file_rule (name_of Answers)
+setting_rule setting = option_rule (name_of setting)
+
 -- the option `--NAME`, which has no text
-abbrev pub flag_rule : List ℕ → Rule
-flag_rule name = record (new_rule name) { long = Some name; action = Some SetTrue }
+abbrev pub flag_rule : Flag → Rule
+flag_rule flag = record (new_rule (flag_name flag)) { long = Some (flag_name flag); action = Some SetTrue }
 
--- the command with options of these names
-unfoldable pub with_options : App → List (List ℕ) → App
-with_options bare names = fold with_rule bare (map option_rule names)
-
--- the command with options of these names that have no text
-unfoldable pub with_flags : App → List (List ℕ) → App
-with_flags bare names = fold with_rule bare (map flag_rule names)
+-- the command with these arguments
+unfoldable pub with_rules : App → List Rule → App
+with_rules bare rules = fold with_rule bare rules
 
 -- the command of a job, with its options
 abbrev pub command_of : Job → App
 command_of job =
-    with_flags (with_options (new_app (command_word job)) (option_names job)) (flag_names job)
+    with_rules (with_rules (new_app (command_word job)) (map setting_rule (settings_of job))) (map flag_rule (flags_of job))
 
-unfoldable pub scopectl : App
-scopectl = with_subcommand (with_subcommand (with_subcommand (with_subcommand (with_subcommand (with_subcommand (with_subcommand (on_top (λ top. record top {
+-- the application with the commands of these jobs
+unfoldable pub with_jobs : App → List Job → App
+with_jobs bare jobs = fold (λ (app : App) (job : Job). with_subcommand app (command_of job).top) bare jobs
+
+-- the word `help`, with the word of a command behind it
+abbrev pub help_command : App
+help_command = with_rule (new_app (codes "help")) (file_rule (codes "COMMAND"))
+
+-- the program without its jobs: the words `help` and `version` are commands of its own
+abbrev pub program : App
+program = with_subcommand (with_subcommand (on_top (λ top. record top {
   has_version = true;
   subcommand_required = true;
   disable_help_subcommand = true;
-}) (new_app (codes "scopectl"))) (command_of Replay).top) (command_of Dump).top) (command_of Tree).top) (command_of Timeline).top) (command_of TraceEvents).top) (command_of Quote).top) (command_of Generate).top
+}) (new_app (codes "scopectl"))) help_command.top) (new_app (codes "version")).top
+
+unfoldable pub scopectl : App
+scopectl = with_jobs program all_jobs

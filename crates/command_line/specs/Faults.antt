@@ -1,12 +1,20 @@
 -- Which fault a command line gets.
-use Rattle.std.specs.Prelude.{◌≡◌, ◌≢◌, ⊤, ℕ, List, [], ◌∷◌, codes, string_bytes}
+use Rattle.std.specs.Prelude.{◌≡◌, ◌≢◌, ◌⊎◌, ⊤, ℕ, List, [], ◌∷◌, Option, None, Some, codes, option_map, string_bytes}
 use Rattle.clap.specs.Faults.{fault_of}
+use Rattle.clap.specs.Kinds.{IsAmong}
+use Rattle.clap.specs.Simple.{subcommand_of}
+use Rattle.clap.specs.Walk.{Row, Text}
 use Rattle.clap.specs.declared.error.kind.ErrorKind.{ErrorKind}
 use Rattle.clap.specs.declared.error.kind.ErrorKind.TheVariants as kind
 use Rattle.command_line.specs.Application.{scopectl}
-use Rattle.command_line.specs.Delays.{read_as}
 use Rattle.command_line.specs.declared.faults.LineFault.{LineFault}
 use Rattle.command_line.specs.declared.faults.LineFault.TheVariants.{Help, Version, Usage, Memory}
+
+-- the words are not understood, or memory was refused
+abbrev pub IsUsageOrMemory : LineFault → Type 0
+IsUsageOrMemory (Usage text) = ⊤
+IsUsageOrMemory Memory = ⊤
+IsUsageOrMemory _ = ⊥
 
 -- the fault by which an error of a kind is told
 abbrev pub TellsKind : ErrorKind → LineFault → Type 0
@@ -16,17 +24,40 @@ TellsKind k (Usage text) =
     (k ≢ kind.DisplayHelp) × (k ≢ kind.DisplayVersion) × (k ≢ kind.OutOfMemory)
 TellsKind k Memory = ⊤
 
--- the parse of the words, as they are read, answers help, and can answer nothing else
+-- the fault by which a command is told that is no job
+abbrev pub TellsWord : (word : List ℕ) → LineFault → Type 0
+TellsWord word Help = word ≡ codes "help"
+TellsWord word Version = word ≡ codes "version"
+TellsWord word _ = ⊤
+
+-- the fault by which the command is told that a parse entered
+abbrev pub TellsEntered : Option (Text × List Row) → LineFault → Type 0
+TellsEntered None fault = IsUsageOrMemory fault
+TellsEntered (Some entered) fault = TellsWord entered.0 fault
+
+-- the parse of the words may answer this
+abbrev pub MayAnswer : ErrorKind → List (List ℕ) → Type 0
+MayAnswer asked words = IsAmong asked (fault_of scopectl words)
+
+-- the parse can answer nothing but this
+abbrev pub AnswersAlone : ErrorKind → List (List ℕ) → Type 0
+AnswersAlone asked words = fault_of scopectl words ≡ asked ∷ []
+
+-- the parse of the words meets no fault, and their command is this
+abbrev pub Enters : (command : List ℕ) → List (List ℕ) → Type 0
+Enters command words = (fault_of scopectl words ≡ []) × (option_map (λ entered. entered.0) (subcommand_of scopectl words) ≡ Some command)
+
+-- the words ask for help, by `--help` or by the command `help`
 abbrev pub AsksHelp : List (List ℕ) → Type 0
-AsksHelp words = fault_of scopectl (read_as words) ≡ kind.DisplayHelp ∷ []
+AsksHelp words = MayAnswer kind.DisplayHelp words ⊎ Enters (codes "help") words
 
--- the parse of the words, as they are read, answers the version, and can answer nothing else
+-- the words ask for the version, by `--version` or by the command `version`
 abbrev pub AsksVersion : List (List ℕ) → Type 0
-AsksVersion words = fault_of scopectl (read_as words) ≡ kind.DisplayVersion ∷ []
+AsksVersion words = MayAnswer kind.DisplayVersion words ⊎ Enters (codes "version") words
 
--- the words ask for neither
+-- the words ask for neither by an option
 abbrev pub IsNoRequest : List (List ℕ) → Type 0
-IsNoRequest words = (AsksHelp words → ⊥) × (AsksVersion words → ⊥)
+IsNoRequest words = (AnswersAlone kind.DisplayHelp words → ⊥) × (AnswersAlone kind.DisplayVersion words → ⊥)
 
 -- help comes if the words ask for it, and so does the version
 abbrev pub Answers : List (List ℕ) → LineFault → Type 0
@@ -34,12 +65,6 @@ Answers words Help = AsksHelp words
 Answers words Version = AsksVersion words
 Answers words (Usage text) = IsNoRequest words
 Answers words Memory = ⊤
-
--- the words are not understood, or memory was refused
-abbrev pub IsUsageOrMemory : LineFault → Type 0
-IsUsageOrMemory (Usage text) = ⊤
-IsUsageOrMemory Memory = ⊤
-IsUsageOrMemory _ = ⊥
 
 -- what a fault is shown as
 abbrev pub fault_text : LineFault → List ℕ

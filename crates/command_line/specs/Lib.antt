@@ -3,11 +3,6 @@ pub mod Colors
 pub mod CommandLine
 pub mod Delays
 pub mod Faults
-pub mod Files
-pub mod HelpWord
-pub mod Hints
-pub mod Parsing
+pub mod Jobs
 pub mod Settings
-pub mod Taken
 pub mod Texts
-pub mod Words

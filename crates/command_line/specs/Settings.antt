@@ -1,23 +1,23 @@
 -- The options of a job, and what they say.
-use Rattle.std.specs.Prelude.{◌≡◌, ℕ, Bool, List, [], ◌∷◌, Option, Some, None, ◌&&◌, ◌==◌, not, true, false, nat_le, codes, if◌then◌else◌}
+use Rattle.std.specs.Prelude.{ℕ, Bool, List, [], ◌∷◌, Option, Some, None, ◌&&◌, ◌==◌, not, false, nat_le, codes, if◌then◌else◌, unwrap_or}
 use Rattle.std.specs.Prelude.{option_map, option_and_then}
 use Rattle.std.specs.List.{after_first, before_first, list_all}
 use Rattle.std.specs.Option.{option_map_or}
 use Rattle.std.specs.Str.Parse.{digits_value}
-use Rattle.clap.specs.Words.{one_text}
-use Rattle.clap.specs.declared.parser.matches.Found.{Found}
+use Rattle.std.specs.Str.{bytes_eq}
+use Rattle.clap.specs.Walk.{Row, all_of, first_of}
 use Rattle.scope_rules.specs.NameText.{is_name}
 use Rattle.scope_rules.specs.Names.{text_of}
 use Rattle.scope_rules.specs.declared.types.capacity.Limits.{Limits}
 use Rattle.scope_rules.specs.declared.types.capacity.TheConstants.{SCOPE_LIMIT, TASK_LIMIT, LEVEL_LIMIT, LOAD_LIMIT}
 use Rattle.command_line.specs.declared.settings.Delay.{Delay}
 use Rattle.command_line.specs.declared.settings.Flag.{Flag}
-use Rattle.command_line.specs.declared.settings.Flag.TheVariants.{Strict, Explain, Trace, Quiet, Lenient, Awaited}
+use Rattle.command_line.specs.declared.settings.Flag.TheVariants.{Strict, Explain, Trace, Quiet, Lenient, Awaited, Json}
 use Rattle.command_line.specs.declared.settings.Setting.{Setting}
-use Rattle.command_line.specs.declared.settings.Setting.TheVariants.{Scopes, Tasks, Load, Deadline, After, TreeAfter, Seed, Lines, Width, Rows, From, To, Scope, Depth, Format}
+use Rattle.command_line.specs.declared.settings.Setting.TheVariants.{Scopes, Tasks, Load, Deadline, After, TreeAfter, Seed, Lines, Width, Rows, From, To, Scope, Depth, Format, Expect, Journal, Color, File, Notes, Answers}
 use Rattle.command_line.specs.declared.settings.TheConstants.{DAY_MILLIS, SEED_LIMIT, LINES_LIMIT, FORMAT_LIMIT, ROWS_LIMIT, SCOPE_NUMBER_LIMIT, WIDTH_LIMIT}
 
--- an option's name, without its hyphens
+-- an option's name, without its hyphens; a file that stands alone has one too, by which a parse knows it
 abbrev pub name_of : Setting → List ℕ
 name_of Scopes = codes "scopes"
 name_of Tasks = codes "tasks"
@@ -34,6 +34,12 @@ name_of To = codes "to"
 name_of Scope = codes "scope"
 name_of Depth = codes "depth"
 name_of Format = codes "format"
+name_of Expect = codes "expect"
+name_of Journal = codes "journal"
+name_of Color = codes "color"
+name_of File = codes "FILE"
+name_of Notes = codes "JOURNAL"
+name_of Answers = codes "ANSWERS"
 
 -- the name of an option that has no text, without its hyphens
 abbrev pub flag_name : Flag → List ℕ
@@ -43,17 +49,21 @@ flag_name Trace = codes "trace"
 flag_name Quiet = codes "quiet"
 flag_name Lenient = codes "lenient"
 flag_name Awaited = codes "awaited"
+flag_name Json = codes "json"
 
--- the text by which `clap` says whether such an option was given
-abbrev pub bool_text : Bool → List ℕ
-bool_text true = codes "true"
-bool_text false = codes "false"
+-- the text that a parse has for an option
+abbrev pub given_in : List Row → Setting → Option (List ℕ)
+given_in rows setting = first_of (name_of setting) rows
 
--- what was found says that the option was given, or that it wasn't
-abbrev pub HasFlag : Found → Flag → Bool → Type 0
-HasFlag found flag set = one_text found (flag_name flag) ≡ Some (bool_text set)
+-- all texts that a parse has for an option
+abbrev pub texts_in : List Row → Setting → List (List ℕ)
+texts_in rows setting = unwrap_or (all_of (name_of setting) rows) []
 
--- the greatest number that an option can say
+-- whether an option without a text was given: a parse has the text `true` for it then
+abbrev pub has_in : List Row → Flag → Bool
+has_in rows flag = option_map_or (λ text. bytes_eq text (codes "true")) (first_of (flag_name flag) rows) false
+
+-- the greatest number that an option can say; one that says none has 0
 abbrev pub greatest_of : Setting → ℕ
 greatest_of Scopes = SCOPE_LIMIT
 greatest_of Tasks = TASK_LIMIT
@@ -70,6 +80,7 @@ greatest_of To = LOAD_LIMIT
 greatest_of Scope = SCOPE_NUMBER_LIMIT
 greatest_of Depth = LEVEL_LIMIT
 greatest_of Format = FORMAT_LIMIT
+greatest_of _ = 0
 
 abbrev pub is_digit : ℕ → Bool
 is_digit byte = nat_le 48 byte && nat_le byte 57
@@ -101,13 +112,13 @@ pub record Numbers : Type 0 where
 abbrev pub numbers_of : Limits → Numbers
 numbers_of limits = record { scopes = limits.scopes; tasks = limits.tasks; load = limits.load }
 
--- the numbers of limits whose options were given with these texts
-abbrev pub numbers_by : (Setting → Option (List ℕ)) → Option Numbers
-numbers_by given = option_and_then (λ scopes. option_and_then (λ tasks. option_map (λ load. record {
+-- the numbers of limits by what a parse has of their options
+abbrev pub numbers_by : List Row → Option Numbers
+numbers_by rows = option_and_then (λ scopes. option_and_then (λ tasks. option_map (λ load. record {
   scopes = scopes;
   tasks = tasks;
   load = load;
-}) (setting_number Load (given Load))) (setting_number Tasks (given Tasks))) (setting_number Scopes (given Scopes))
+}) (setting_number Load (given_in rows Load))) (setting_number Tasks (given_in rows Tasks))) (setting_number Scopes (given_in rows Scopes))
 
 -- ---- options that may be left out
 
@@ -117,8 +128,8 @@ if_given said None = Some None
 if_given said (Some text) = option_map (λ x. Some x) (said text)
 
 -- the number whose option was given with a text, or was not given
-abbrev pub number_by : Setting → Option (List ℕ) → Option (Option ℕ)
-number_by setting = if_given (plain_number (greatest_of setting))
+abbrev pub number_by : Setting → List Row → Option (Option ℕ)
+number_by setting rows = if_given (plain_number (greatest_of setting)) (given_in rows setting)
 
 -- the text of a name, and a number of milliseconds
 pub record NameAndMillis : Type 0 where

@@ -1,31 +1,40 @@
 -- The texts that the words ask for: help and the version.
-use Rattle.std.specs.Prelude.{◌≡◌, ◌⊎◌, ◌++◌, ℕ, List, [], ◌∷◌, codes, slice_get, if◌then◌else◌}
+use Rattle.std.specs.Prelude.{◌≡◌, ◌⊎◌, ◌++◌, ℕ, Bool, false, List, [], ◌∷◌, codes, slice_get, if◌then◌else◌}
+use Rattle.std.specs.Prelude.{option_and_then}
 use Rattle.std.specs.Option.{option_map_or}
 use Rattle.std.specs.Str.{bytes_eq}
-use Rattle.command_line.specs.declared.help.TheConstants.{HELP, REPLAY_HELP, DUMP_HELP, TREE_HELP, TIMELINE_HELP, TRACE_HELP, QUOTE_HELP, GENERATE_HELP}
+use Rattle.command_line.specs.declared.help.TheConstants.{HELP, REPLAY_HELP, CHECK_HELP, DUMP_HELP, TREE_HELP, TIMELINE_HELP, TRACE_HELP, PAGE_HELP, QUOTE_HELP, GENERATE_HELP}
 use Rattle.command_line.specs.Faults.{AsksHelp, AsksVersion}
-use Rattle.command_line.specs.HelpWord.{turned}
+use Rattle.command_line.specs.Jobs.{job_named}
+use Rattle.command_line.specs.declared.lines.Job.{Job}
+use Rattle.command_line.specs.declared.lines.Job.TheVariants.{Replay, Check, Dump, Tree, Timeline, TraceEvents, Page, Quote, Generate}
 
--- the help at a first word after the program's name: that of a job at its word
-abbrev pub help_at : List ℕ → List ℕ
-help_at command = if bytes_eq command (codes "replay") then REPLAY_HELP.now
-    else (if bytes_eq command (codes "dump") then DUMP_HELP.now
-    else (if bytes_eq command (codes "tree") then TREE_HELP.now
-    else (if bytes_eq command (codes "timeline") then TIMELINE_HELP.now
-    else (if bytes_eq command (codes "trace") then TRACE_HELP.now
-    else (if bytes_eq command (codes "quote") then QUOTE_HELP.now
-    else (if bytes_eq command (codes "generate") then GENERATE_HELP.now else HELP.now))))))
+-- the help of a job
+abbrev pub help_of_job : Job → List ℕ
+help_of_job Replay = REPLAY_HELP.now
+help_of_job Check = CHECK_HELP.now
+help_of_job Dump = DUMP_HELP.now
+help_of_job Tree = TREE_HELP.now
+help_of_job Timeline = TIMELINE_HELP.now
+help_of_job TraceEvents = TRACE_HELP.now
+help_of_job Page = PAGE_HELP.now
+help_of_job Quote = QUOTE_HELP.now
+help_of_job Generate = GENERATE_HELP.now
 
--- the help of the command whose word stands at the place; of the program, if no word does
+-- the help of the job whose word stands at the place; of the program, if none does
 abbrev pub help_in : List (List ℕ) → (place : ℕ) → List ℕ
-help_in words place = option_map_or help_at (slice_get words place) HELP.now
+help_in words place = option_map_or help_of_job (option_and_then job_named (slice_get words place)) HELP.now
 
--- the help that the words ask for
+-- the second word is `help`
+abbrev pub has_help_word : List (List ℕ) → Bool
+has_help_word words = option_map_or (λ word. bytes_eq word (codes "help")) (slice_get words 1) false
+
+-- the help that the words ask for: that of the job whose word stands behind the program's name, or behind `help`
 abbrev pub help_of : List (List ℕ) → List ℕ
-help_of words = help_in (turned words) 1
+help_of words = if has_help_word words then help_in words 2 else help_in words 1
 
 abbrev pub version_line : List ℕ
-version_line = codes "scopectl 0.1.0" ++ 10 ∷ []
+version_line = codes "scopectl 0.2.0" ++ 10 ∷ []
 
 -- the words ask for this text
 abbrev pub AsksFor : List (List ℕ) → List ℕ → Type 0

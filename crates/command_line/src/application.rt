@@ -3,11 +3,11 @@
 ghost use Rattle.std.specs.Prelude.{◌≡◌, IfOk, false, map};
 ghost use Rattle.clap.specs.Words.{app_of, rule_of, with_subcommand};
 ghost use Rattle.clap.specs.declared.builder.command.Command.TheViews.{out-Command as fields_of};
-ghost use Rattle.command_line.specs.Application.{command_of, flag_rule, option_rule, scopectl, with_flags, with_options};
-ghost use Rattle.command_line.specs.Settings.{flag_name, name_of};
+ghost use Rattle.command_line.specs.Application.{command_of, flag_rule, help_command, program, scopectl, setting_rule, with_jobs, with_rules};
+ghost use Rattle.command_line.specs.Jobs.{all_jobs};
 
 use crate::help;
-use crate::lines::Job;
+use crate::lines::{JOBS, Job, TOPIC};
 use crate::settings::{Flag, Setting};
 use clap::{Arg, ArgAction, Command};
 use std::alloc::{AllocError, Global};
@@ -19,25 +19,51 @@ use std::alloc::{AllocError, Global};
 pub fn application<'a>(alloc: Global) -> Result<Command<'a>, AllocError>
     ensures { IfOk result (λ command. app_of command ≡ scopectl) }
 {
-    let program = Command::new(alloc, "scopectl")
+    let bare = program(alloc)?;
+    with_jobs(alloc, bare, JOBS)
+}
+
+// The program without its jobs.
+fn program<'a>(alloc: Global) -> Result<Command<'a>, AllocError>
+    ensures { IfOk result (λ command. app_of command ≡ program) }
+{
+    let top = Command::new(alloc, "scopectl")
         .version(help::VERSION)
         .subcommand_required(true)
         .disable_help_subcommand(true);
-    let with_replay = with_job(alloc, program, Job::Replay)?;
-    let with_dump = with_job(alloc, with_replay, Job::Dump)?;
-    let with_tree = with_job(alloc, with_dump, Job::Tree)?;
-    let with_timeline = with_job(alloc, with_tree, Job::Timeline)?;
-    let with_trace = with_job(alloc, with_timeline, Job::TraceEvents)?;
-    let with_quote = with_job(alloc, with_trace, Job::Quote)?;
-    with_job(alloc, with_quote, Job::Generate)
+    let with_help = top.subcommand(help_command(alloc)?)?;
+    with_help.subcommand(Command::new(alloc, "version"))
+}
+
+// The word `help`, with the word of a command behind it.
+fn help_command<'a>(alloc: Global) -> Result<Command<'a>, AllocError>
+    ensures app { IfOk result (λ command. app_of command ≡ help_command) }
+    ensures local { IfOk result (λ command. (fields_of command).has_globals ≡ false) }
+{
+    let topic = Arg::new(alloc, TOPIC).value_name(TOPIC);
+    Command::new(alloc, "help").arg(topic)
+}
+
+// The program with the commands of these jobs.
+#[tactic(auto, unfolding(crate::specs::Application::with_jobs))]
+fn with_jobs<'a>(alloc: Global, bare: Command<'a>, jobs: &[Job]) -> Result<Command<'a>, AllocError>
+    ensures { IfOk result (λ command. app_of command ≡ with_jobs (app_of bare.entry) jobs.now) }
+{
+    match jobs {
+        [] => Ok(bare),
+        [job, others @ ..] => {
+            let with_one = with_job(alloc, bare, *job)?;
+            with_jobs(alloc, with_one, others)
+        }
+    }
 }
 
 // The program with the command of one job more.
-fn with_job<'a>(alloc: Global, program: Command<'a>, job: Job) -> Result<Command<'a>, AllocError>
-    ensures { IfOk result (λ command. app_of command ≡ with_subcommand (app_of program.entry) (command_of job).top) }
+fn with_job<'a>(alloc: Global, bare: Command<'a>, job: Job) -> Result<Command<'a>, AllocError>
+    ensures { IfOk result (λ app. app_of app ≡ with_subcommand (app_of bare.entry) (command_of job).top) }
 {
     let command = command(alloc, job)?;
-    program.subcommand(command)
+    bare.subcommand(command)
 }
 
 // The command of the job, with its options.
@@ -52,13 +78,13 @@ fn command<'a>(alloc: Global, job: Job) -> Result<Command<'a>, AllocError>
 }
 
 // The command with these options, each of which has a text.
-#[tactic(auto, unfolding(crate::specs::Application::with_options))]
+#[tactic(auto, unfolding(crate::specs::Application::with_rules))]
 fn with_options<'a>(
     alloc: Global,
     bare: Command<'a>,
     settings: &[Setting],
 ) -> Result<Command<'a>, AllocError>
-    ensures app { IfOk result (λ command. app_of command ≡ with_options (app_of bare.entry) (map name_of settings.now)) }
+    ensures app { IfOk result (λ command. app_of command ≡ with_rules (app_of bare.entry) (map setting_rule settings.now)) }
     ensures local { IfOk result (λ command. (fields_of command).has_globals ≡ (fields_of bare.entry).has_globals) }
 {
     match settings {
@@ -71,13 +97,13 @@ fn with_options<'a>(
 }
 
 // The command with these options, none of which has a text.
-#[tactic(auto, unfolding(crate::specs::Application::with_flags))]
+#[tactic(auto, unfolding(crate::specs::Application::with_rules))]
 fn with_flags<'a>(
     alloc: Global,
     bare: Command<'a>,
     flags: &[Flag],
 ) -> Result<Command<'a>, AllocError>
-    ensures app { IfOk result (λ command. app_of command ≡ with_flags (app_of bare.entry) (map flag_name flags.now)) }
+    ensures app { IfOk result (λ command. app_of command ≡ with_rules (app_of bare.entry) (map flag_rule flags.now)) }
     ensures local { IfOk result (λ command. (fields_of command).has_globals ≡ (fields_of bare.entry).has_globals) }
 {
     match flags {
@@ -89,19 +115,25 @@ fn with_flags<'a>(
     }
 }
 
-// The option `--NAME VALUE`.
+// The option `--NAME VALUE`, or the file that stands alone.
 fn option<'a>(alloc: Global, setting: Setting) -> Arg<'a>
-    ensures rule { rule_of result ≡ option_rule (name_of setting) }
+    ensures rule { rule_of result ≡ setting_rule setting }
     ensures local { result.global ≡ false }
 {
     let name: &'a str = setting.name();
     let value: &'a str = setting.value_name();
-    Arg::new(alloc, name).long(name).value_name(value)
+    let bare = Arg::new(alloc, name).value_name(value);
+    match setting {
+        Setting::File | Setting::Answers => bare,
+        Setting::Notes => bare.required(true),
+        Setting::After => bare.long(name).action(ArgAction::Append),
+        _ => bare.long(name),
+    }
 }
 
 // The option `--NAME`, which has no text.
 fn flag<'a>(alloc: Global, flag: Flag) -> Arg<'a>
-    ensures rule { rule_of result ≡ flag_rule (flag_name flag) }
+    ensures rule { rule_of result ≡ flag_rule flag }
     ensures local { result.global ≡ false }
 {
     let name: &'a str = flag.name();

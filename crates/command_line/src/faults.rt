@@ -44,6 +44,9 @@ impl LineFault {
 fn usage_text(alloc: Global, error: &Error, hint: Option<Hint>) -> Result<String, AllocError> {
     match hint {
         Some(Hint::Sentence(hint)) => format!(in alloc; "{error}{hint}\n"),
+        Some(Hint::OneFile(word)) => format!(in alloc;
+            "{error}hint: one FILE is read, or else standard input: scopectl {word} [OPTIONS] [FILE]\n"
+        ),
         Some(Hint::Meant(name)) => format!(in alloc; "{error}hint: did you mean '--{name}'?\n"),
         None => format!(in alloc; "{error}"),
     }

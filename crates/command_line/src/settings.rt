@@ -1,11 +1,12 @@
 //! The options of a job, and what they say.
 ghost use Rattle.std.specs.Prelude.{◌≡◌, ◌≤◌, ◌⊎◌, Bool, IfOk, IfErr, IfSome, Some, None, option_map};
 ghost use Rattle.std.specs.List.{list_all};
-ghost use Rattle.clap.specs.Words.{first_value, found_of};
+ghost use Rattle.clap.specs.Words.{first_of, found_of, rows_of};
 ghost use Rattle.command_line.specs.CommandLine.{format_by, format_said, picture_by, script_by, script_of, tree_by, tree_said};
 ghost use Rattle.command_line.specs.Faults.{IsUsageOrMemory};
-ghost use Rattle.command_line.specs.Settings.{HasFlag, flag_name, greatest_of, is_digit, is_plain, name_of, setting_number, numbers_by, numbers_of, plain_number, number_by, delay_of, delay_said};
+ghost use Rattle.command_line.specs.Settings.{flag_name, given_in, greatest_of, has_in, is_digit, is_plain, name_of, setting_number, numbers_by, numbers_of, plain_number, number_by, delay_of, delay_said};
 
+use crate::colors::ColorChoice;
 use crate::faults::LineFault;
 use clap::ArgMatches;
 use scope_rules::types::capacity::{LEVEL_LIMIT, LOAD_LIMIT, SCOPE_LIMIT, TASK_LIMIT};
@@ -37,7 +38,7 @@ pub const FORMAT_LIMIT: u32 = 2;
 const AWAITED_ALONE: &str =
     "error: the argument '--awaited' cannot be used with '--depth <N>' or '--scope <S>'\n\nFor more information, try '--help'.\n";
 
-/// An option of a job.
+/// What a job has with a text: an option, or a file that stands alone.
 #[derive(Clone, Copy)]
 pub enum Setting {
     /// How many scopes may be opened.
@@ -70,6 +71,18 @@ pub enum Setting {
     Depth,
     /// In which format a dump is written.
     Format,
+    /// The file with the replies that are expected.
+    Expect,
+    /// The file to which a plan's journal goes.
+    Journal,
+    /// When output has colors.
+    Color,
+    /// The file that is read, which stands alone.
+    File,
+    /// The journal that is checked, which stands alone.
+    Notes,
+    /// The answers that are checked, which stand alone behind the journal.
+    Answers,
 }
 
 impl Setting {
@@ -80,7 +93,7 @@ impl Setting {
         self.name_and_greatest().0
     }
 
-    /// The greatest number that the option can say.
+    /// The greatest number that the option can say; 0 if it says none.
     pub fn greatest(self) -> u32
         ensures { result ≡ greatest_of self }
     {
@@ -108,6 +121,12 @@ impl Setting {
             Setting::Scope => ("scope", SCOPE_NUMBER_LIMIT),
             Setting::Depth => ("depth", LEVEL_LIMIT),
             Setting::Format => ("format", FORMAT_LIMIT),
+            Setting::Expect => ("expect", 0),
+            Setting::Journal => ("journal", 0),
+            Setting::Color => ("color", 0),
+            Setting::File => ("FILE", 0),
+            Setting::Notes => ("JOURNAL", 0),
+            Setting::Answers => ("ANSWERS", 0),
         }
     }
 
@@ -118,37 +137,24 @@ impl Setting {
             Setting::After => "NAME=MS",
             Setting::Width => "PX",
             Setting::Scope => "S",
-            Setting::Scopes
-            | Setting::Tasks
-            | Setting::Load
-            | Setting::Seed
-            | Setting::Lines
-            | Setting::Rows
-            | Setting::From
-            | Setting::To
-            | Setting::Depth
-            | Setting::Format => "N",
+            Setting::Color => "WHEN",
+            Setting::Expect | Setting::Journal | Setting::File => "FILE",
+            Setting::Notes => "JOURNAL",
+            Setting::Answers => "ANSWERS",
+            _ => "N",
         }
+    }
+
+    /// Whether it is a file that stands alone, and no option.
+    pub fn stands_alone(self) -> bool {
+        matches!(self, Setting::File | Setting::Notes | Setting::Answers)
     }
 
     /// How errors say what is wanted before the numbers from 1 to the greatest.
     fn wanted(self) -> &'static str {
         match self {
-            Setting::Scopes
-            | Setting::Tasks
-            | Setting::Load
-            | Setting::Deadline
-            | Setting::TreeAfter
-            | Setting::Seed
-            | Setting::Lines
-            | Setting::Width
-            | Setting::Rows
-            | Setting::From
-            | Setting::To
-            | Setting::Scope
-            | Setting::Depth
-            | Setting::Format => "a decimal number",
             Setting::After => "the name of an offer, '=' and a decimal number",
+            _ => "a decimal number",
         }
     }
 }
@@ -168,6 +174,8 @@ pub enum Flag {
     Lenient,
     /// Only what is waited for is to be shown.
     Awaited,
+    /// Replies are to be JSON.
+    Json,
 }
 
 impl Flag {
@@ -182,6 +190,7 @@ impl Flag {
             Flag::Quiet => "quiet",
             Flag::Lenient => "lenient",
             Flag::Awaited => "awaited",
+            Flag::Json => "json",
         }
     }
 }
@@ -237,6 +246,35 @@ pub enum DumpFormat {
     Second,
 }
 
+/// Where a command reads, and what becomes of what it writes.
+#[derive(Clone, Copy)]
+pub struct StreamOptions<'a> {
+    /// The file that is read, if one is named.
+    pub file: Option<&'a str>,
+    /// The file with the replies that are expected, if replies are to be compared.
+    pub expected: Option<&'a str>,
+    /// The file to which a plan's journal goes, if it is to be kept.
+    pub journal: Option<&'a str>,
+    /// Whether replies are JSON.
+    pub json: bool,
+    /// Whether a journal is checked: its replies are not written.
+    pub checked: bool,
+    /// When output has colors.
+    pub color: ColorChoice,
+}
+
+impl StreamOptions<'_> {
+    /// Nothing is named, and nothing asked for.
+    pub const NONE: StreamOptions<'static> = StreamOptions {
+        file: None,
+        expected: None,
+        journal: None,
+        json: false,
+        checked: false,
+        color: ColorChoice::Auto,
+    };
+}
+
 /// A job of a plan's offer that is to take time.
 #[derive(Clone, Copy)]
 pub struct Delay {
@@ -251,10 +289,10 @@ pub struct Delay {
 /// # Errors
 /// `Usage` if a number is none or too great, `Memory` if memory was refused.
 pub fn script(alloc: Global, matches: &ArgMatches<'_>) -> Result<ScriptOptions, LineFault>
-    ensures said { (strict quiet : Bool) → HasFlag (found_of matches.now) Flag.Strict strict → HasFlag (found_of matches.now) Flag.Quiet quiet → IfOk result (λ options.
-        script_by (λ setting. first_value (found_of matches.now) (name_of setting)) strict quiet ≡ Some (script_of options)) }
-    ensures refused { (strict quiet : Bool) → IfErr result (λ fault. (fault ≡ LineFault.Memory)
-        ⊎ (script_by (λ setting. first_value (found_of matches.now) (name_of setting)) strict quiet ≡ None)) }
+    ensures said { IfOk result (λ options.
+        script_by (rows_of (found_of matches.now)) ≡ Some (script_of options)) }
+    ensures refused { IfErr result (λ fault. (fault ≡ LineFault.Memory)
+        ⊎ (script_by (rows_of (found_of matches.now)) ≡ None)) }
     ensures told { IfErr result IsUsageOrMemory }
 {
     let limits = limits(alloc, matches)?;
@@ -269,9 +307,19 @@ pub fn script(alloc: Global, matches: &ArgMatches<'_>) -> Result<ScriptOptions, 
 
 /// Whether the option was given, which is one of the job's: `clap` has a text for either case.
 pub fn is_set(matches: &ArgMatches<'_>, flag: Flag) -> bool
-    ensures { (set : Bool) → HasFlag (found_of matches.now) flag set → result ≡ set }
+    ensures { result ≡ has_in (rows_of (found_of matches.now)) flag }
 {
-    matches.get_flag(flag.name())
+    match text_of(matches, flag.name()) {
+        Some(text) => text == "true",
+        None => false,
+    }
+}
+
+/// The text that the parse has for the option.
+pub fn text_of<'a>(matches: &ArgMatches<'a>, name: &str) -> Option<&'a str>
+    ensures { option_map (λ text. text.now) result ≡ first_of name.now (rows_of (found_of matches.now)) }
+{
+    matches.get_str(name)
 }
 
 /// The limits that the options of a job say, each the greatest if its option is not given.
@@ -279,10 +327,8 @@ pub fn is_set(matches: &ArgMatches<'_>, flag: Flag) -> bool
 /// # Errors
 /// `Usage` if a number is none or too great, `Memory` if memory was refused.
 fn limits(alloc: Global, matches: &ArgMatches<'_>) -> Result<Limits, LineFault>
-    ensures said { IfOk result (λ limits. numbers_by (λ setting.
-        first_value (found_of matches.now) (name_of setting)) ≡ Some (numbers_of limits)) }
-    ensures refused { IfErr result (λ fault. (fault ≡ LineFault.Memory) ⊎ (numbers_by (λ setting.
-        first_value (found_of matches.now) (name_of setting)) ≡ None)) }
+    ensures said { IfOk result (λ limits. numbers_by (rows_of (found_of matches.now)) ≡ Some (numbers_of limits)) }
+    ensures refused { IfErr result (λ fault. (fault ≡ LineFault.Memory) ⊎ (numbers_by (rows_of (found_of matches.now)) ≡ None)) }
     ensures told { IfErr result IsUsageOrMemory }
 {
     let scopes = number(alloc, matches, Setting::Scopes)?;
@@ -298,13 +344,13 @@ fn limits(alloc: Global, matches: &ArgMatches<'_>) -> Result<Limits, LineFault>
 // The number of one option.
 fn number(alloc: Global, matches: &ArgMatches<'_>, setting: Setting) -> Result<u32, LineFault>
     ensures said { IfOk result (λ number.
-        setting_number setting (first_value (found_of matches.now) (name_of setting)) ≡ Some number) }
-    ensures within { IfOk result (λ number. (1 ≤ number) × (number ≤ greatest_of setting)) }
+        setting_number setting (given_in (rows_of (found_of matches.now)) setting) ≡ Some number) }
+    ensures within { 1 ≤ greatest_of setting → IfOk result (λ number. (1 ≤ number) × (number ≤ greatest_of setting)) }
     ensures refused { IfErr result (λ fault. (fault ≡ LineFault.Memory)
-        ⊎ (setting_number setting (first_value (found_of matches.now) (name_of setting)) ≡ None)) }
+        ⊎ (setting_number setting (given_in (rows_of (found_of matches.now)) setting) ≡ None)) }
     ensures told { IfErr result IsUsageOrMemory }
 {
-    let Some(text) = matches.get_str(setting.name()) else {
+    let Some(text) = text_of(matches, setting.name()) else {
         return Ok(setting.greatest());
     };
     match plain_number(text, setting.greatest()) {
@@ -323,12 +369,12 @@ pub fn number_if_given(
     setting: Setting,
 ) -> Result<Option<u32>, LineFault>
     ensures said { IfOk result (λ number.
-        number_by setting (first_value (found_of matches.now) (name_of setting)) ≡ Some number) }
+        number_by setting (rows_of (found_of matches.now)) ≡ Some number) }
     ensures refused { IfErr result (λ fault. (fault ≡ LineFault.Memory)
-        ⊎ (number_by setting (first_value (found_of matches.now) (name_of setting)) ≡ None)) }
+        ⊎ (number_by setting (rows_of (found_of matches.now)) ≡ None)) }
     ensures told { IfErr result IsUsageOrMemory }
 {
-    let Some(text) = matches.get_str(setting.name()) else {
+    let Some(text) = text_of(matches, setting.name()) else {
         return Ok(None);
     };
     match plain_number(text, setting.greatest()) {
@@ -342,10 +388,8 @@ pub fn number_if_given(
 /// # Errors
 /// `Usage` if the number is no format's, `Memory` if memory was refused.
 pub fn format(alloc: Global, matches: &ArgMatches<'_>) -> Result<DumpFormat, LineFault>
-    ensures said { IfOk result (λ format. format_by (λ setting.
-        first_value (found_of matches.now) (name_of setting)) ≡ Some format) }
-    ensures refused { IfErr result (λ fault. (fault ≡ LineFault.Memory) ⊎ (format_by (λ setting.
-        first_value (found_of matches.now) (name_of setting)) ≡ None)) }
+    ensures said { IfOk result (λ format. format_by (rows_of (found_of matches.now)) ≡ Some format) }
+    ensures refused { IfErr result (λ fault. (fault ≡ LineFault.Memory) ⊎ (format_by (rows_of (found_of matches.now)) ≡ None)) }
     ensures told { IfErr result IsUsageOrMemory }
 {
     let number = number_if_given(alloc, matches, Setting::Format)?;
@@ -367,10 +411,8 @@ fn format_said(number: Option<u32>) -> DumpFormat
 /// # Errors
 /// `Usage` if a number is none or too great, `Memory` if memory was refused.
 pub fn picture(alloc: Global, matches: &ArgMatches<'_>) -> Result<PictureOptions, LineFault>
-    ensures said { IfOk result (λ picture. picture_by (λ setting.
-        first_value (found_of matches.now) (name_of setting)) ≡ Some picture) }
-    ensures refused { IfErr result (λ fault. (fault ≡ LineFault.Memory) ⊎ (picture_by (λ setting.
-        first_value (found_of matches.now) (name_of setting)) ≡ None)) }
+    ensures said { IfOk result (λ picture. picture_by (rows_of (found_of matches.now)) ≡ Some picture) }
+    ensures refused { IfErr result (λ fault. (fault ≡ LineFault.Memory) ⊎ (picture_by (rows_of (found_of matches.now)) ≡ None)) }
     ensures told { IfErr result IsUsageOrMemory }
 {
     let width = number_if_given(alloc, matches, Setting::Width)?;
@@ -392,10 +434,10 @@ pub fn picture(alloc: Global, matches: &ArgMatches<'_>) -> Result<PictureOptions
 /// # Errors
 /// `Usage` if a number is none or too great, `Memory` if memory was refused.
 pub fn tree(alloc: Global, matches: &ArgMatches<'_>) -> Result<TreeOptions, LineFault>
-    ensures said { (awaited : Bool) → HasFlag (found_of matches.now) Flag.Awaited awaited → IfOk result (λ tree.
-        tree_by (λ setting. first_value (found_of matches.now) (name_of setting)) awaited ≡ Some tree) }
-    ensures refused { (awaited : Bool) → HasFlag (found_of matches.now) Flag.Awaited awaited → IfErr result (λ fault. (fault ≡ LineFault.Memory)
-        ⊎ (tree_by (λ setting. first_value (found_of matches.now) (name_of setting)) awaited ≡ None)) }
+    ensures said { IfOk result (λ tree.
+        tree_by (rows_of (found_of matches.now)) ≡ Some tree) }
+    ensures refused { IfErr result (λ fault. (fault ≡ LineFault.Memory)
+        ⊎ (tree_by (rows_of (found_of matches.now)) ≡ None)) }
     ensures told { IfErr result IsUsageOrMemory }
 {
     let depth = number_if_given(alloc, matches, Setting::Depth)?;

@@ -1,7 +1,7 @@
 # Says which kinds of reply were met too seldom: awk -v who=NAME -f met.awk KINDS LINES, where LINES are those of scripts,
 # each with its reply behind a `|`. In KINDS a form has the kinds of its replies behind a `:`, refusals by their
 # numbers; one with a `*` is the program's alone, since nobody holds what such a call of a realm needs, or it would
-# wait. Each kind has to be met, each form to be accepted and refused twenty times, and so often scopes to be
+# wait. A reply of another kind fails. Each kind has to be met, each form to be accepted and refused twenty times, and so often scopes to be
 # cancelled by each kind of cause, from around, and to be opened with a shield.
 
 function kind_of(reply,    part) {
@@ -20,8 +20,10 @@ function is_from_around(query, reply,    asked, part) {
     return part[1] == "cancelled" && part[2] != asked[2]
 }
 
-function expect(form, kind) {
-    if (sub(/[*]$/, "", kind) && who == "realm") return
+function expect(form, kind,    program_alone) {
+    program_alone = sub(/[*]$/, "", kind)
+    listed[form " " kind] = 1
+    if (program_alone && who == "realm") return
     least[form " " kind] = form == "cause" && kind ~ /^[a-z]/ ? 20 : 1
     least[side_of(form, kind)] = 20
 }
@@ -33,6 +35,7 @@ file == 1 { sub(/:$/, "", $1); for (place = 2; place <= NF; place++) expect($1, 
     form = substr($1, 1, index($1, " ") - 1)
     kind = kind_of($2)
     met[form " " kind]++
+    if (form != "" && !(form " " kind in listed)) { print "  " $1 ": " $2 " is no reply of it"; failed = 1 }
     met[side_of(form, kind)]++
     if (form == "cause" && is_from_around($1, $2)) met["cause from around"]++
     if (form == "open" && kind == "scope" && $1 ~ / shield$/) met["open with a shield"]++

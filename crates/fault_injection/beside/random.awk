@@ -16,7 +16,9 @@ function one_in(times) { return below(times) == 0 }
 function pick(words,    part, count) { count = split(words, part, " "); return part[below(count) + 1] }
 
 # A number past `from` up to the count, mostly one of the last four, and at times any number up to two too many.
+# A careless script often names one of before its retirement.
 function number(from, count,    fresh) {
+    if (careless && from && one_in(4)) return below(from) + 1
     if (one_in(16)) return below(count + 3)
     fresh = count - from
     return count - (one_in(3) || fresh < 4 ? below(fresh) : below(4))
@@ -83,6 +85,7 @@ function retired(a) {
 # A task at the stage, one of the newest, or at times any number; -1 for none.
 function task_at(wanted,    t) {
     t = number(old_tasks, tasks)
+    if (t <= old_tasks && careless) return t
     if (one_in(12)) return one_in(3) ? below(tasks + 2) : t
     while (t > old_tasks && stage[t] != wanted) t--
     return t > old_tasks ? t : -1
@@ -96,6 +99,7 @@ function task_of(s, wanted,    t) {
 }
 
 function an_actor(    t) {
+    if (careless && old_tasks && one_in(8)) return below(old_tasks) + 1
     if (one_in(2)) return 0
     if (one_in(16)) return below(tasks + 3)
     t = task_at("running")
@@ -112,7 +116,7 @@ function a_scope(    s) {
 
 function a_name() { return pick("user trace boom") }
 function a_value() { return pick("9223372036854775807 -9223372036854775808 " a_name() " -2 -1 0 1 2 3 4") }
-function an_end(t) { return one_in(3) ? "fail " t " " a_name() : "ok " t " " a_value() }
+function an_end(t) { return one_in(2) ? "fail " t " " a_name() : "ok " t " " a_value() }
 function earlier(soon) { return moment > soon ? moment - soon : 0 }
 
 # None, as mostly where much ends, or one that is soon, so that many are equal, or past, or at the end of time.
@@ -149,7 +153,7 @@ function unbind(    a, s) {
 # The task ends, or mostly closes its scope first.
 function finish(t,    s) {
     s = innermost(t)
-    if (s && acts(t) && !one_in(4)) return phase[s] == "closing" ? ending(s) : close_begin(t, s)
+    if (s && acts(t) && one_in(2)) return phase[s] == "closing" ? ending(s) : close_begin(t, s)
     if (acts(t) && t > 0 && !s) stage[t] = "finished"
     return an_end(t)
 }
@@ -198,7 +202,7 @@ function of_scope(form,    s, a, deadline) {
     return close_end(a, s)
 }
 
-function retire(    a) { a = one_in(6) ? below(tasks + 2) : 0; retired(a); return "retire " a }
+function retire(    a) { a = one_in(careless ? 3 : 6) ? below(tasks + 2) : 0; retired(a); return "retire " a }
 
 function of_form(form) {
     if (form == "open") return open()
@@ -239,7 +243,8 @@ function ask_some(is_last,    n, more) {
 }
 
 function begin(    few) {
-    leaning = leanings[below(4)]
+    careless = one_in(6)
+    leaning = leanings[careless ? 2 + below(2) : below(4)]
     split("", owner); split("", phase); split("", stage); split("", home); split("", pairs); split("", cut); split("", level)
     scopes = tasks = old_scopes = old_tasks = load = moment = 0
     few = one_in(4)

@@ -21,7 +21,9 @@
 #![tactic(auto)]
 
 mod beside;
+mod driving;
 mod duties;
+mod hands;
 mod jobs;
 mod marks;
 mod parts;

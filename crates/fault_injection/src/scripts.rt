@@ -1,6 +1,8 @@
 //! Scripts, on a book and on a realm under its lock.
 ghost use Rattle.std.specs.Prelude.{◌≡◌};
 
+use crate::driving::driven;
+use crate::hands::Hands;
 use crate::refusals::{Call, Refusals, again, use_up};
 use crate::said::Said;
 use realm_lock::{ActorToken, Realm, RealmName, Seed};
@@ -10,7 +12,6 @@ use scope_rules::{AnyEnd, Cause, Event, Limits, Refusal, ScopeId, TaskId};
 use scope_script::{Command, Line, Reply, perform, read_line};
 use std::alloc::{AllocError, Global};
 use std::sync::Wait;
-use test_driver::{Hands, driven};
 
 /// The line that uses memory up.
 const NO_MORE: &str = "# no more memory";

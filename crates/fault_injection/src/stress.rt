@@ -13,8 +13,8 @@ use std::alloc::{AllocError, Global};
 use std::marker::Brand;
 use std::rt::Clock as SystemTime;
 use std::sync::Wait;
-use test_driver::Throws;
-use thread_pool::{OsThreads, PoolRuntime, RefuseNth, ThreadPool};
+use test_driver::{RefuseNth, Throws};
+use thread_pool::{OsThreads, PoolRuntime, ThreadPool};
 
 /// How deep jobs fork jobs.
 const DEPTH: u32 = 2;

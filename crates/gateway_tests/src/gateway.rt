@@ -2,7 +2,6 @@
 
 mod asking;
 mod deadlines;
-mod late;
 mod plans;
 mod rows;
 mod serving;

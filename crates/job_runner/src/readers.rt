@@ -1,4 +1,4 @@
-ghost use Rattle.std.specs.Prelude.{◌≡◌, IfSome, None, Some, Ok, MatchResult};
+ghost use Rattle.std.specs.Prelude.{◌≡◌, IfSome, IsNone, None, Some, Ok, MatchResult};
 ghost use Rattle.std.specs.Option.{MatchOption};
 ghost use Rattle.once_cell.specs.Once.{Agrees};
 ghost use Rattle.cancel_marks.specs.Marked.{said_by};
@@ -6,7 +6,7 @@ ghost use Rattle.realm_core.specs.Calls.{SeesMore, history_seen};
 ghost use Rattle.realm_lock.specs.Waits.{HasCome, HasPassed, Stopped, Waited, shown_in};
 
 use cancel_marks::{Mark, MarkCell, Seat};
-use realm_lock::{ActorToken, Realm, RealmName};
+use realm_lock::{ActorToken, BellWait, Realm, RealmName};
 use scope_rules::{Catalog, Refusal};
 use share_ledger::Clock;
 use std::marker::Model;
@@ -71,7 +71,7 @@ impl CellReader {
         realm.wait_marked(rt, &self.cell, &mut self.seat)
     }
 
-    /// The same by a clock, until the moment, if one is given.
+    /// The same by a clock, until the moment, if one is given, or until the bell has rung.
     pub(crate) fn wait_by<C: Catalog, N: RealmName, R: Wait + SystemTime, K: Clock>(
         &mut self,
         rt: &R,
@@ -79,15 +79,16 @@ impl CellReader {
         token: &mut ActorToken,
         clock: &mut K,
         until: Option<u64>,
+        bell: Option<BellWait<'_>>,
     ) -> Result<Option<Mark>, Refusal>
         requires named { token.old.table ≡ N.table }
         ensures token { SeesMore token.old token.new }
         ensures answer { MatchResult result (λ _. Waited K.reads token.old clock.old token.new clock.new) (Stopped K.reads token.old token.new clock.old clock.new) }
         ensures cell { self.new.cell ≡ self.old.cell }
         ensures mark { MatchOption (shown_in result) ((self.old.known ≡ None) × (self.new.known ≡ None)) (λ mark. (mark.seat ≡ self.new) × (self.new.known ≡ Some (said_by mark)) × Agrees self.old.known (said_by mark)) }
-        ensures slept { result ≡ Ok None → HasPassed until (K.reading clock.new) }
+        ensures slept { result ≡ Ok None → IsNone bell.entry → HasPassed until (K.reading clock.new) }
         ensures passed_all { result ≡ Ok None → IfSome (K.reading clock.new) (λ now. HasCome (history_seen token.new) now → ⊥) }
     {
-        realm.wait_marked_by(rt, token, &self.cell, &mut self.seat, clock, until)
+        realm.wait_marked_by(rt, token, &self.cell, &mut self.seat, clock, until, bell)
     }
 }

@@ -1,4 +1,4 @@
-ghost use Rattle.std.specs.Prelude.{◌≡◌, ◌⊎◌, [], None, Some, Ok, IfOk, IfErr, IfSome, IsSome, MatchResult};
+ghost use Rattle.std.specs.Prelude.{◌≡◌, ◌⊎◌, [], None, Some, Ok, IfOk, IfErr, IfSome, IsNone, IsSome, MatchResult};
 ghost use Rattle.scope_rules.specs.declared.types.refusals.Refusal.TheVariants.{Memory, NotReady};
 ghost use Rattle.realm_state.specs.Fits.{Fitting};
 ghost use Rattle.realm_core.specs.Calls.{SeesMore, history_seen};
@@ -13,7 +13,7 @@ ghost use Rattle.thread_pool.specs.Teams.{AreGone};
 use crate::contexts::{OpenScope, TaskCtx};
 use crate::readers::CellReader;
 use cancel_marks::Mark;
-use realm_lock::{ActorToken, CloseReport, Joined, Realm, RealmName};
+use realm_lock::{ActorToken, BellWait, CloseReport, Joined, Realm, RealmName};
 use scope_rules::{Catalog, Refusal, ScopeId, Verdict};
 use share_ledger::Clock;
 use std::rt::Clock as SystemTime;
@@ -119,7 +119,7 @@ impl<C: Catalog, S: Spawner<N>, N: RealmName> TaskCtx<C, S, N> {
         ensures of { IfSome (shown_in result) (λ mark. scope_here self.old.around self.old.opened.items ≡ Some mark.scope) }
         ensures waits { IsSome (seat_here self.old.around self.old.opened.items) → IfOk result IsSome }
     {
-        self.await_mark_by(rt, clock, None)
+        self.await_mark_by(rt, clock, None, None)
     }
 
     /// Sleeps until this time of the realm, in milliseconds, or until `checkpoint` would show a mark, and gives that
@@ -138,40 +138,62 @@ impl<C: Catalog, S: Spawner<N>, N: RealmName> TaskCtx<C, S, N> {
         ensures slept { result ≡ Ok None → HasPassed (Some until) (K.reading clock.new) }
         ensures passed_all { result ≡ Ok None → IfSome (K.reading clock.new) (λ now. HasCome (history_seen self.new.token) now → ⊥) }
     {
-        self.await_mark_by(rt, clock, Some(until))
+        self.await_mark_by(rt, clock, Some(until), None)
     }
 
-    /// Waits until the mark is there, or until the moment, if one is given; if there is neither a seat
-    /// nor a moment, it doesn't.
-    fn await_mark_by<R: Wait + SystemTime, K: Clock>(
+    /// Waits until the bell has rung, or until `checkpoint` would show a mark, and gives that.
+    /// Each deadline that has come by then is passed first. Refused if a tick is. A ring is counted before the wait: who
+    /// reads the bell's count, looks for what it waits for, and finds nothing, misses no ring that comes behind its look.
+    pub fn wait_rung_by<R: Wait + SystemTime, K: Clock>(
         &mut self,
         rt: &R,
         clock: &mut K,
-        until: Option<u64>,
+        bell: BellWait<'_>,
     ) -> Result<Option<Mark>, Refusal>
         ensures rest { (self.new ≡ record self.old { token = self.new.token; around = self.new.around; opened = self.new.opened }) × SeesMore self.old.token self.new.token × KeepsOthers self.old.around self.new.around self.old.opened.items self.new.opened.items }
         ensures answer { MatchResult result (λ _. Waited K.reads self.old.token clock.old self.new.token clock.new) (Stopped K.reads self.old.token self.new.token clock.old clock.new) }
         ensures shows { Shows (seat_here self.old.around self.old.opened.items) (seat_here self.new.around self.new.opened.items) (shown_in result) }
         ensures of { IfSome (shown_in result) (λ mark. scope_here self.old.around self.old.opened.items ≡ Some mark.scope) }
-        ensures slept { result ≡ Ok None → IsSome (seat_here self.old.around self.old.opened.items) ⊎ IsSome until → HasPassed until (K.reading clock.new) }
-        ensures passed_all { result ≡ Ok None → IsSome (seat_here self.old.around self.old.opened.items) ⊎ IsSome until → IfSome (K.reading clock.new) (λ now. HasCome (history_seen self.new.token) now → ⊥) }
+        ensures passed_all { result ≡ Ok None → IfSome (K.reading clock.new) (λ now. HasCome (history_seen self.new.token) now → ⊥) }
+    {
+        self.await_mark_by(rt, clock, None, Some(bell))
+    }
+
+    /// Waits until the mark is there, or until the moment or a ring of the bell, if they are given; if there is neither
+    /// a seat nor one of these, it doesn't.
+    fn await_mark_by<R: Wait + SystemTime, K: Clock>(
+        &mut self,
+        rt: &R,
+        clock: &mut K,
+        until: Option<u64>,
+        bell: Option<BellWait<'_>>,
+    ) -> Result<Option<Mark>, Refusal>
+        ensures rest { (self.new ≡ record self.old { token = self.new.token; around = self.new.around; opened = self.new.opened }) × SeesMore self.old.token self.new.token × KeepsOthers self.old.around self.new.around self.old.opened.items self.new.opened.items }
+        ensures answer { MatchResult result (λ _. Waited K.reads self.old.token clock.old self.new.token clock.new) (Stopped K.reads self.old.token self.new.token clock.old clock.new) }
+        ensures shows { Shows (seat_here self.old.around self.old.opened.items) (seat_here self.new.around self.new.opened.items) (shown_in result) }
+        ensures of { IfSome (shown_in result) (λ mark. scope_here self.old.around self.old.opened.items ≡ Some mark.scope) }
+        ensures slept { result ≡ Ok None → IsNone bell.entry → IsSome (seat_here self.old.around self.old.opened.items) ⊎ IsSome until → HasPassed until (K.reading clock.new) }
+        ensures passed_all { result ≡ Ok None → IsSome (seat_here self.old.around self.old.opened.items) ⊎ IsSome until ⊎ IsSome bell.entry → IfSome (K.reading clock.new) (λ now. HasCome (history_seen self.new.token) now → ⊥) }
     {
         let realm = self.realm.lent();
         let token = &mut self.token;
         match self.opened.pop() {
             Some(open) => {
                 let OpenScope { scope, mut reader } = open;
-                let shown = reader.wait_by(rt, realm, &mut token.held, clock, until);
+                let shown = reader.wait_by(rt, realm, &mut token.held, clock, until, bell);
                 self.opened.push_reserved(OpenScope { scope, reader });
                 shown
             }
-            None => wait_around_by(rt, realm, &mut token.held, &mut self.around, clock, until),
+            None => {
+                let around = &mut self.around;
+                wait_around_by(rt, realm, &mut token.held, around, clock, until, bell)
+            }
         }
     }
 }
 
-/// What is waited for if the context has no open scope: the mark of the scope around, or the moment, or
-/// both, whichever there are.
+/// What is waited for if the context has no open scope: the mark of the scope around, the moment and a ring of the bell,
+/// whichever there are. Without a scope around there is a bell or a moment, or neither.
 fn wait_around_by<C: Catalog, N: RealmName, R: Wait + SystemTime, K: Clock>(
     rt: &R,
     realm: &Realm<C, N>,
@@ -179,23 +201,28 @@ fn wait_around_by<C: Catalog, N: RealmName, R: Wait + SystemTime, K: Clock>(
     around: &mut Option<CellReader>,
     clock: &mut K,
     until: Option<u64>,
+    bell: Option<BellWait<'_>>,
 ) -> Result<Option<Mark>, Refusal>
     requires named { token.old.table ≡ N.table }
     ensures token { SeesMore token.old token.new }
     ensures answer { MatchResult result (λ _. Waited K.reads token.old clock.old token.new clock.new) (Stopped K.reads token.old token.new clock.old clock.new) }
     ensures shows { Shows around.old around.new (shown_in result) }
     ensures of { IfSome (shown_in result) (λ mark. scope_here around.old [] ≡ Some mark.scope) }
-    ensures slept { result ≡ Ok None → IsSome around.old ⊎ IsSome until → HasPassed until (K.reading clock.new) }
-    ensures passed_all { result ≡ Ok None → IsSome around.old ⊎ IsSome until → IfSome (K.reading clock.new) (λ now. HasCome (history_seen token.new) now → ⊥) }
+    ensures slept { result ≡ Ok None → IsNone bell.entry → IsSome around.old ⊎ IsSome until → HasPassed until (K.reading clock.new) }
+    ensures passed_all { result ≡ Ok None → IsSome around.old ⊎ IsSome until ⊎ IsSome bell.entry → IfSome (K.reading clock.new) (λ now. HasCome (history_seen token.new) now → ⊥) }
 {
     match around {
-        Some(reader) => reader.wait_by(rt, realm, token, clock, until),
-        None => match until {
-            Some(until) => match realm.sleep_by(rt, token, clock, until) {
+        Some(reader) => reader.wait_by(rt, realm, token, clock, until, bell),
+        None => match (until, bell) {
+            (_, Some(bell)) => match realm.wait_rung_by(rt, token, clock, bell) {
                 Ok(()) => Ok(None),
                 Err(refusal) => Err(refusal),
             },
-            None => Ok(None),
+            (Some(until), None) => match realm.sleep_by(rt, token, clock, until) {
+                Ok(()) => Ok(None),
+                Err(refusal) => Err(refusal),
+            },
+            (None, None) => Ok(None),
         },
     }
 }

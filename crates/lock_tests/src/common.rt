@@ -1,9 +1,10 @@
 //! Calls of a realm that each row makes.
 ghost use Rattle.std.specs.Prelude.{◌≡◌, IfOk, IfSome};
+ghost use Rattle.realm_lock.specs.Cells.{IsFresh};
 ghost use Rattle.share_ledger.specs.Values.{IsWaiting};
 
 use join_rules::Joiner;
-use realm_lock::{ActorToken, Forked, Realm, RealmName, Ticket};
+use realm_lock::{ActorToken, Forked, MarkCell, Realm, RealmName, Seat, Ticket};
 use scope_rules::{AnyEnd, End, Label, Name, Options, ScopeId};
 use std::sync::Wait;
 use std::test::Fail;
@@ -82,4 +83,36 @@ pub fn finish<N: RealmName, R: Wait>(
         Ok(ticket) => Some(ticket),
         Err(_) => None,
     }
+}
+
+/// Opens a scope that awaits all its tasks, with its cell.
+pub fn open_marked<N: RealmName, R: Wait>(
+    rt: &R,
+    realm: &Realm<AnyEnd, N>,
+    token: &mut ActorToken,
+) -> Result<(ScopeId, MarkCell, Seat), Fail>
+    requires { token.old.table ≡ N.table }
+    ensures token { token.new ≡ record token.old { seen = token.new.seen } }
+    ensures cell { IfOk result (λ opened. IsFresh opened.1 opened.2) }
+{
+    match realm.open_marked(rt, token, Joiner::AwaitAll, Options::PLAIN) {
+        Ok(opened) => Ok(opened),
+        Err((refusal, _)) => Err(refusal)?,
+    }
+}
+
+/// Forks a task, and starts it. Its token.
+pub fn run<N: RealmName, R: Wait>(
+    rt: &R,
+    realm: &Realm<AnyEnd, N>,
+    main: &mut ActorToken,
+    scope: ScopeId,
+) -> Result<ActorToken, Fail>
+    requires { main.old.table ≡ N.table }
+    ensures main { main.new ≡ record main.old { seen = main.new.seen } }
+    ensures token { IfOk result (λ token. token.table ≡ N.table) }
+{
+    let ticket = fork(rt, realm, main, scope)?;
+    let (_ticket, token) = realm.start(rt, ticket);
+    Ok(token)
 }

@@ -1,10 +1,6 @@
-//! Rows of calls of a realm, each on one of its own: marks and reports by one thread, and tickets that go
-//! through others.
+//! Rows of calls of a realm, each on one of its own.
 ghost use Rattle.std.specs.Prelude.{◌≡◌};
 
-use crate::marks::{one_marked, one_of_two_marked};
-use crate::reports::{a_report_shows_each_run, closes_are_refused};
-use crate::stress::ten_thousand_rounds;
 use crate::threads::{ten_rounds, two_served, waited};
 use crate::waits::{
     Waker, a_cancel_wakes, a_close_wakes, a_mark_wakes, a_reject_wakes, an_end_wakes_a_close,
@@ -19,15 +15,10 @@ use std::rt::Clock as SystemTime;
 use std::sync::Wait;
 use std::test::Fail;
 use std::thread::Threads;
-use test_driver::Hands;
 
 /// Which row.
 #[derive(Clone, Copy)]
 enum Row {
-    OneMarked,
-    OneOfTwoMarked,
-    Reported,
-    Refused,
     TwoServed,
     Waited,
     Woken(Waker),
@@ -37,42 +28,19 @@ enum Row {
     SleepWoken,
     Marked,
     TenRounds,
-    TenThousandRounds,
 }
 
 impl Row {
     /// The limits of the row's realm.
     fn limits(self) -> Option<Limits> {
         match self {
-            Row::Reported | Row::Refused => Limits::new(4, 4, 60),
             Row::TenRounds => Limits::new(1, 1, 7),
             _ => Some(Limits::GREATEST),
         }
     }
 }
 
-/// A row of one thread that plays all actors, or one after which main has no token.
-fn play_with<N: RealmName + Send + Sync, R: Threads + Wait + SystemTime + Abort + Sync>(
-    rt: &R,
-    alloc: Global,
-    realm: &Realm<AnyEnd, N>,
-    main: ActorToken,
-    row: Row,
-) -> Result<(), Fail>
-    requires { main.table ≡ N.table }
-{
-    if let Row::TenRounds = row {
-        return ten_rounds(rt, realm, main);
-    }
-    let mut hands = Hands::<N>::new(alloc, main).ok_or("memory")?;
-    match row {
-        Row::Reported => a_report_shows_each_run(rt, alloc, realm, &mut hands),
-        _ => closes_are_refused(rt, alloc, realm, &mut hands),
-    }
-}
-
-/// A row in which a call waits, or one of several threads.
-fn play_waiting<N: RealmName + Send + Sync, R: Threads + Wait + SystemTime + Abort + Sync>(
+fn play<N: RealmName + Send + Sync, R: Threads + Wait + SystemTime + Abort + Sync>(
     rt: &R,
     realm: &Realm<AnyEnd, N>,
     mut main: ActorToken,
@@ -81,32 +49,15 @@ fn play_waiting<N: RealmName + Send + Sync, R: Threads + Wait + SystemTime + Abo
     requires { main.table ≡ N.table }
 {
     match row {
+        Row::TwoServed => two_served(rt, realm, &mut main),
         Row::Waited => waited(rt, realm, &mut main),
         Row::Woken(waker) => a_cancel_wakes(rt, realm, &mut main, waker),
         Row::WokenByReject => a_reject_wakes(rt, realm, &mut main),
         Row::WokenByClose => a_close_wakes(rt, realm, &mut main),
         Row::CloseWoken => an_end_wakes_a_close(rt, realm, &mut main),
-        Row::Marked => a_mark_wakes(rt, realm, &mut main),
         Row::SleepWoken => a_nearer_deadline_wakes(rt, realm, &mut main),
-        _ => two_served(rt, realm, &mut main),
-    }
-}
-
-fn play<N: RealmName + Send + Sync, R: Threads + Wait + SystemTime + Abort + Sync>(
-    rt: &R,
-    alloc: Global,
-    realm: &Realm<AnyEnd, N>,
-    mut main: ActorToken,
-    row: Row,
-) -> Result<(), Fail>
-    requires { main.table ≡ N.table }
-{
-    match row {
-        Row::OneMarked => one_marked(rt, realm, &mut main),
-        Row::OneOfTwoMarked => one_of_two_marked(rt, realm, &mut main),
-        Row::TenThousandRounds => ten_thousand_rounds(rt, alloc, realm, &mut main),
-        Row::Reported | Row::Refused | Row::TenRounds => play_with(rt, alloc, realm, main, row),
-        _ => play_waiting(rt, realm, main, row),
+        Row::Marked => a_mark_wakes(rt, realm, &mut main),
+        Row::TenRounds => ten_rounds(rt, realm, main),
     }
 }
 
@@ -120,15 +71,11 @@ fn check<N: RealmName + Send + Sync, R: Threads + Wait + SystemTime + Abort + Sy
 {
     let limits = row.limits().ok_or("limits")?;
     let (realm, main) = Realm::<AnyEnd, N>::new(alloc, seed, limits)?;
-    play(rt, alloc, &realm, main, row)
+    play(rt, &realm, main, row)
 }
 
 /// The rows, and how often each is played.
-const ROWS: [(Row, u32); 15] = [
-    (Row::OneMarked, 1),
-    (Row::OneOfTwoMarked, 1),
-    (Row::Reported, 1),
-    (Row::Refused, 1),
+const ROWS: [(Row, u32); 11] = [
     (Row::TwoServed, 1),
     (Row::Waited, 20),
     (Row::Woken(Waker::Cancel), 1),
@@ -150,10 +97,4 @@ fn rows_over_a_realm(rt: HostRuntime) -> Result<(), Fail> {
         }
     }
     Ok(())
-}
-
-#[test]
-fn ten_thousand_rounds_by_four_threads(rt: HostRuntime) -> Result<(), Fail> {
-    let seed = Seed::new(rt.alloc())?;
-    check::<Brand, _>(&rt, rt.alloc(), seed, Row::TenThousandRounds)
 }

@@ -3,8 +3,7 @@
 ghost use Rattle.std.specs.Prelude.{◌≡◌};
 ghost use Rattle.share_ledger.specs.Values.{IsWaiting};
 
-use crate::common::{finish, fork, open};
-use crate::marks::{open_marked, run};
+use crate::common::{finish, fork, open, open_marked, run};
 use crate::threads::join_by;
 use realm_lock::{ActorToken, Realm, RealmName, Ticket};
 use scope_rules::{AnyEnd, Options, ScopeId, Value};
@@ -188,7 +187,7 @@ pub fn a_mark_wakes<N: RealmName + Send + Sync, R: Threads + Wait + Abort + Sync
 ) -> Result<(), Fail>
     requires { main.old.table ≡ N.table }
 {
-    let (scope, cell, mut seat) = open_marked(rt, realm, main, Options::PLAIN)?;
+    let (scope, cell, mut seat) = open_marked(rt, realm, main)?;
     let mut token = run(rt, realm, main, scope)?;
     let (is_cancelled, marked) = thread::join(
         rt,

@@ -1,5 +1,4 @@
-//! Tests of the parts that a realm is made of, and of the plain evaluator: that calls succeed where there is
-//! memory, at large sizes too; threads; one part beside another.
+//! Tests of the parts that a realm is made of: callers' closures, cells and environments in threads, tickets.
 #![tactic(auto)]
 
 #[cfg(test)]

@@ -1,14 +1,9 @@
 //! The parts by themselves, each by its own calls.
 
 mod bindings;
-mod deadlines;
 mod joiners;
-mod logs;
 mod marks;
-mod realms;
 mod shares;
-mod trails;
-mod trees;
 mod types;
 
 ghost use Rattle.std.specs.Prelude.{◌≡◌, IfOk};

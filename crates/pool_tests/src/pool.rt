@@ -1,8 +1,8 @@
 //! Works and the pools that run them; named jobs.
 
 mod boards;
-mod keeping;
 mod naming;
+mod plays;
 mod recalls;
 mod rounds;
 mod rows;

@@ -21,9 +21,10 @@ mod timed;
 mod timed_waiters;
 mod views;
 
-pub use cancel_marks::{Mark, MarkCell, Seat};
+pub use cancel_marks::{Bell, Mark, MarkCell, Seat};
 pub use looks::Look;
 pub use realm::Realm;
 pub use realm_core::{BareOutcome, CloseReport, Forked, Joined, RealmName, View};
 pub use realm_state::RealmState;
 pub use share_ledger::{OwnerShare as ActorToken, Seed, Ticket};
+pub use timed_waiters::BellWait;

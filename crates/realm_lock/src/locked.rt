@@ -28,7 +28,7 @@ ghost use Rattle.realm_lock.specs.Sleeps.{IsHeldUp};
 
 use crate::setters::CancelSetters;
 use crate::timed_waiters::{Noted, TimedWaiters, WaitTarget};
-use cancel_marks::MarkCell;
+use cancel_marks::{Bell, MarkCell};
 use join_rules::Joiner;
 use realm_core::{
     BareOutcome, CloseReport, Forked, Joined, RealmCore, RealmName, begin, end_if_settled,
@@ -359,23 +359,38 @@ impl<C: Catalog, N: RealmName> LockedRealm<C, N> {
         self.core.realm().next_deadline()
     }
 
-    /// The deadline in effect for the scope whose cell the target is, in milliseconds, if there is one to come.
+    /// The deadline in effect for the scope of the target, in milliseconds, if there is one to come.
     pub(crate) fn deadline_at(&self, target: &WaitTarget) -> Option<u64> {
-        let WaitTarget::Cell(cell) = target else {
-            return None;
-        };
-        match queries::effective_deadline(self.core.realm(), cell.scope()) {
+        match queries::effective_deadline(self.core.realm(), target.scope()?) {
             Ok(Effective::At(deadline)) => Some(deadline),
             _ => None,
         }
     }
 
-    /// Notes that a call goes to sleep at the target that waits by a clock. None if no note is obtained.
+    /// Notes that a call goes to sleep at the target that waits by a clock, and its bell at the scope whose cancel wakes it.
+    /// None if no note is obtained.
     pub(crate) fn note_waiter(&mut self, target: &WaitTarget) -> Option<Noted>
         ensures { self.new ≡ self.old }
     {
-        let target = target.share()?;
-        self.timed_waiters.enter(target)
+        let noted = self.timed_waiters.enter(target.share()?)?;
+        let Some((scope, bell)) = target.bell() else {
+            return Some(noted);
+        };
+        match self.note_bell(scope, bell) {
+            Some(place) => Some(noted.with_bell(scope, place)),
+            None => {
+                self.forget_waiter(noted);
+                None
+            }
+        }
+    }
+
+    /// Notes the bell at the scope, and gives its place there.
+    fn note_bell(&mut self, scope: ScopeId, bell: &Bell) -> Option<usize>
+        ensures { self.new ≡ self.old }
+    {
+        let bell = bell.share().ok()?;
+        self.setters.note_bell(self.core.realm(), scope, bell)
     }
 
     /// Whether the call that is noted watches.
@@ -383,11 +398,13 @@ impl<C: Catalog, N: RealmName> LockedRealm<C, N> {
         self.timed_waiters.is_watching(noted)
     }
 
-    /// Forgets a call that has woken.
+    /// Forgets a call that has woken, and where its bell was noted.
     pub(crate) fn forget_waiter(&mut self, noted: Noted)
         ensures { self.new ≡ self.old }
     {
-        self.timed_waiters.leave(noted);
+        if let Some((scope, place)) = self.timed_waiters.leave(noted) {
+            self.setters.forget_bell(self.core.realm(), scope, place);
+        }
     }
 
     /// Where one sleeps that is to watch, if nobody does.

@@ -22,7 +22,7 @@ impl<C: Catalog, N: RealmName> Realm<C, N> {
         for _ in rt.forever() {
             match cell.checkpoint(seat) {
                 Some(mark) => return mark,
-                None => locked = cell.sleep(rt, locked),
+                None => locked = cell.park(rt, locked, None),
             }
         }
         unreachable!()

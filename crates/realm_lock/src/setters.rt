@@ -4,7 +4,7 @@ ghost use Rattle.scope_rules.specs.Cancels.{is_cancelled};
 ghost use Rattle.share_ledger.specs.Steps.{history_of};
 ghost use Rattle.realm_lock.specs.Marked.{AddsSetter, AreBehind, AreMarks, IsCellAt, UsesSetter};
 
-use cancel_marks::{CellReservation, MarkCell, MarkSetter};
+use cancel_marks::{Bell, CellReservation, MarkCell, MarkSetter};
 use realm_core::{RealmCore, RealmName};
 use realm_state::RealmState;
 use scope_checks::{Readings, queries};
@@ -91,10 +91,37 @@ impl CancelSetters {
 
     /// Wakes who sleeps at the cell of the scope.
     pub(crate) fn wake(&self, realm: &RealmState, scope: ScopeId) {
-        let before = u64::from(realm.retired_scopes()) + 1;
-        if let Some(place) = u64::from(scope).checked_sub(before) {
-            if let Some(setter) = self.setters.get(place as usize) {
-                setter.wake();
+        if let Some(setter) = self.setter(realm, scope) {
+            setter.wake();
+        }
+    }
+
+    /// The setter of the scope, if it was opened since the last retirement.
+    fn setter(&self, realm: &RealmState, scope: ScopeId) -> Option<&MarkSetter> {
+        self.setters.get(place_since(realm, scope)?)
+    }
+
+    /// Notes a bell whose sleeper is woken when the scope becomes cancelled, and gives its place at the scope. None if
+    /// memory is refused, or the scope lies before a retirement.
+    pub(crate) fn note_bell(
+        &mut self,
+        realm: &RealmState,
+        scope: ScopeId,
+        bell: Bell,
+    ) -> Option<usize>
+        ensures { self.new ≡ self.old }
+    {
+        let index = place_since(realm, scope)?;
+        self.setters.get_mut(index)?.note_bell(bell)
+    }
+
+    /// The bell at that place is noted no longer.
+    pub(crate) fn forget_bell(&mut self, realm: &RealmState, scope: ScopeId, place: usize)
+        ensures { self.new ≡ self.old }
+    {
+        if let Some(index) = place_since(realm, scope) {
+            if let Some(setter) = self.setters.get_mut(index) {
+                setter.forget_bell(place);
             }
         }
     }
@@ -114,4 +141,10 @@ impl CancelSetters {
         self.setters.clear();
         self.marked = 0;
     }
+}
+
+/// The place of a scope among those that were opened since the last retirement, if it was.
+fn place_since(realm: &RealmState, scope: ScopeId) -> Option<usize> {
+    let before = u64::from(realm.retired_scopes()) + 1;
+    Some(u64::from(scope).checked_sub(before)? as usize)
 }

@@ -34,7 +34,7 @@ impl<C: Catalog, N: RealmName> Realm<C, N> {
         requires busy { settled (history_of (mutex_guard_value locked).steps) scope ≡ false }
     {
         match locked.cell(scope) {
-            Ok(cell) => cell.sleep(rt, locked),
+            Ok(cell) => cell.park(rt, locked, None),
             Err(_) => {
                 drop(locked);
                 self.shared.locked.lock(rt)
@@ -101,8 +101,8 @@ impl<C: Catalog, N: RealmName> Realm<C, N> {
         most: Option<Duration>,
     ) -> MutexGuard<'a, LockedRealm<C, N>> {
         match (target, most) {
-            (WaitTarget::Cell(cell), Some(most)) => cell.park(rt, locked, most),
-            (WaitTarget::Cell(cell), None) => cell.sleep(rt, locked),
+            (WaitTarget::Cell(cell), most) => cell.park(rt, locked, most),
+            (WaitTarget::Bell { bell, heard, .. }, most) => bell.park(rt, locked, heard, most),
             (WaitTarget::Moment, Some(most)) => {
                 let (locked, _) = self.shared.moments.wait_timeout(rt, locked, most);
                 locked
@@ -113,7 +113,9 @@ impl<C: Catalog, N: RealmName> Realm<C, N> {
 
     /// A wait by a clock ends: if nobody watches, one who sleeps is woken to.
     pub(crate) fn hand_on(&self, locked: &LockedRealm<C, N>) {
-        self.wake(locked.heir());
+        if let Some(heir) = locked.heir() {
+            heir.wake(&self.shared.moments);
+        }
     }
 
     /// Wakes who watches, if the next deadline is nearer now than it was.
@@ -122,17 +124,10 @@ impl<C: Catalog, N: RealmName> Realm<C, N> {
     {
         if is_nearer(locked.next_deadline(), before) {
             if let Some(place) = locked.dismiss_watcher() {
-                self.wake(locked.target(place));
+                if let Some(target) = locked.target(place) {
+                    target.wake(&self.shared.moments);
+                }
             }
-        }
-    }
-
-    /// Wakes who sleeps at the target.
-    fn wake(&self, target: Option<&WaitTarget>) {
-        match target {
-            Some(WaitTarget::Cell(cell)) => cell.wake(),
-            Some(WaitTarget::Moment) => self.shared.moments.notify_all(),
-            None => {}
         }
     }
 }

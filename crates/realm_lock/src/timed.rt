@@ -1,4 +1,4 @@
-ghost use Rattle.std.specs.Prelude.{◌≡◌, ◌≤◌, ℕ, IsTrue, None, Some, Ok, Err, IfOk, IfErr, IfSome, MatchOption, MatchResult};
+ghost use Rattle.std.specs.Prelude.{◌≡◌, ◌≤◌, ℕ, IsTrue, None, Some, Ok, Err, IfOk, IfErr, IfSome, IsNone, MatchOption, MatchResult};
 ghost use Rattle.once_cell.specs.Once.{Agrees};
 ghost use Rattle.cancel_marks.specs.Marked.{said_by};
 ghost use Rattle.scope_rules.specs.declared.types.refusals.Refusal.TheVariants.{NotReady};
@@ -9,7 +9,7 @@ ghost use Rattle.realm_core.specs.Closes.{IsBegun};
 ghost use Rattle.realm_lock.specs.Waits.{HasCome, HasPassed, JoinsBy, StaysUnclosed, Stopped, StopsClosing, Waited, WaitsToClose, shown_in};
 
 use crate::realm::Realm;
-use crate::timed_waiters::WaitTarget;
+use crate::timed_waiters::{BellWait, WaitTarget};
 use cancel_marks::{Mark, MarkCell, Seat};
 use realm_core::{Joined, RealmName};
 use scope_rules::{Catalog, Refusal, ScopeId};
@@ -116,7 +116,8 @@ impl<C: Catalog, N: RealmName> Realm<C, N> {
     }
 
     /// Waits until the cell of a scope of this realm is set, as `wait_marked` does, and gives the mark; or
-    /// until the time `until`, in milliseconds, and gives none (Trio, `sleep_until`). If both have
+    /// until the time `until`, in milliseconds, and gives none (Trio, `sleep_until`). If a bell is given, it gives none
+    /// too once that has rung. If both have
     /// come it gives the mark; a deadline that has come by `until` is passed first.
     pub fn wait_marked_by<R: Wait + SystemTime, K: Clock>(
         &self,
@@ -126,6 +127,7 @@ impl<C: Catalog, N: RealmName> Realm<C, N> {
         seat: &mut Seat,
         clock: &mut K,
         until: Option<u64>,
+        bell: Option<BellWait<'_>>,
     ) -> Result<Option<Mark>, Refusal>
         requires named { token.old.table ≡ N.table }
         requires seat { seat.old.cell ≡ cell.now }
@@ -133,7 +135,7 @@ impl<C: Catalog, N: RealmName> Realm<C, N> {
         ensures answer { MatchResult result (λ _. Waited K.reads token.old clock.old token.new clock.new) (Stopped K.reads token.old token.new clock.old clock.new) }
         ensures cell { seat.new.cell ≡ cell.now }
         ensures mark { MatchOption (shown_in result) ((seat.old.known ≡ None) × (seat.new.known ≡ None)) (λ mark. (mark.seat ≡ seat.new) × (seat.new.known ≡ Some (said_by mark)) × Agrees seat.old.known (said_by mark)) }
-        ensures slept { result ≡ Ok None → HasPassed until (K.reading clock.new) }
+        ensures slept { result ≡ Ok None → IsNone bell.entry → HasPassed until (K.reading clock.new) }
         ensures passed_all { result ≡ Ok None → IfSome (K.reading clock.new) (λ now. HasCome (history_seen token.new) now → ⊥) }
     {
         for _ in rt.forever() {
@@ -141,12 +143,12 @@ impl<C: Catalog, N: RealmName> Realm<C, N> {
             let mut locked = self.shared.locked.lock(rt);
             match locked.marked_in_time(token, cell, seat, now) {
                 Ok(None) => {
-                    if is_over(until, now) {
+                    if is_over(until, now, &bell) {
                         self.hand_on(&locked);
                         return Ok(None);
                     }
-                    if let Ok(cell) = cell.share() {
-                        self.park(rt, locked, now, until, WaitTarget::Cell(cell));
+                    if let Some(target) = target_of(cell, &bell) {
+                        self.park(rt, locked, now, until, target);
                     }
                 }
                 Ok(Some(mark)) => {
@@ -193,12 +195,59 @@ impl<C: Catalog, N: RealmName> Realm<C, N> {
         }
         unreachable!()
     }
+
+    /// Waits until the bell has rung; no cancel ends the wait. A deadline that has come by then
+    /// is passed first.
+    pub fn wait_rung_by<R: Wait + SystemTime, K: Clock>(
+        &self,
+        rt: &R,
+        token: &mut OwnerShare,
+        clock: &mut K,
+        bell: BellWait<'_>,
+    ) -> Result<(), Refusal>
+        requires named { token.old.table ≡ N.table }
+        ensures token { SeesMore token.old token.new }
+        ensures answer { MatchResult result (λ _. Waited K.reads token.old clock.old token.new clock.new) (Stopped K.reads token.old token.new clock.old clock.new) }
+        ensures passed_all { IfOk result (λ _. IfSome (K.reading clock.new) (λ now. HasCome (history_seen token.new) now → ⊥)) }
+        ensures fitting { Fitting C.fitting (history_seen token.new) }
+    {
+        for _ in rt.forever() {
+            let now = clock.now();
+            let mut locked = self.shared.locked.lock(rt);
+            if let Err(refusal) = locked.pass_due(token, now) {
+                self.hand_on(&locked);
+                return Err(refusal);
+            }
+            if bell.has_rung() {
+                self.hand_on(&locked);
+                return Ok(());
+            }
+            if let Some(target) = bell.target(None) {
+                self.park(rt, locked, now, None, target);
+            }
+        }
+        unreachable!()
+    }
 }
 
-/// The moment until which is slept, if there is one, has come.
-fn is_over(until: Option<u64>, now: u64) -> bool
-    ensures { IsTrue result → (end : ℕ) × (until ≡ Some end) × (end ≤ now) }
+/// Where one sleeps who waits for the mark of the cell: at its bell, or else at the cell. None if std's count of holders
+/// is full.
+fn target_of(cell: &MarkCell, bell: &Option<BellWait<'_>>) -> Option<WaitTarget> {
+    match bell {
+        Some(bell) => bell.target(Some(cell.scope())),
+        None => Some(WaitTarget::Cell(cell.share().ok()?)),
+    }
+}
+
+/// The moment until which is slept has come, or the bell has rung, if there is one.
+fn is_over(until: Option<u64>, now: u64, bell: &Option<BellWait<'_>>) -> bool
+    ensures { IsTrue result → IsNone bell.now → (end : ℕ) × (until ≡ Some end) × (end ≤ now) }
 {
+    if let Some(bell) = bell {
+        if bell.has_rung() {
+            return true;
+        }
+    }
     match until {
         Some(end) => end <= now,
         None => false,

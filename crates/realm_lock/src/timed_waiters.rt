@@ -1,14 +1,46 @@
 ghost use Rattle.std.specs.Prelude.{◌≡◌, IfSome, IfNone, None, Some};
 
-use cancel_marks::MarkCell;
+use cancel_marks::{Bell, MarkCell};
+use scope_rules::ScopeId;
 use slab::Slab;
 use std::alloc::Global;
+use std::sync::Condvar;
+
+/// A bell that ends a wait. It had rung `heard` times when its owner looked last.
+#[derive(Clone, Copy)]
+pub struct BellWait<'a> {
+    pub bell: &'a Bell,
+    pub heard: u64,
+}
+
+impl BellWait<'_> {
+    /// Whether it has rung since.
+    pub(crate) fn has_rung(&self) -> bool {
+        self.bell.rings() != self.heard
+    }
+
+    /// Where its owner sleeps, whose wait a cancel of the scope ends, if one is given. None if std's count of holders is full.
+    pub(crate) fn target(&self, scope: Option<ScopeId>) -> Option<WaitTarget> {
+        Some(WaitTarget::Bell {
+            bell: self.bell.share().ok()?,
+            heard: self.heard,
+            scope,
+        })
+    }
+}
 
 /// Where a call sleeps that waits by a clock.
 #[derive(Drop)]
 pub(crate) enum WaitTarget {
     /// At the cell of the scope that it waits for.
     Cell(MarkCell),
+    /// At a bell of its own, which had rung so often when its owner looked last. A cancel of the scope wakes it, if one is
+    /// given.
+    Bell {
+        bell: Bell,
+        heard: u64,
+        scope: Option<ScopeId>,
+    },
     /// At no scope's: it waits for a moment alone.
     Moment,
 }
@@ -18,7 +50,38 @@ impl WaitTarget {
     pub(crate) fn share(&self) -> Option<WaitTarget> {
         match self {
             WaitTarget::Cell(cell) => Some(WaitTarget::Cell(cell.share().ok()?)),
+            WaitTarget::Bell { bell, heard, scope } => Some(WaitTarget::Bell {
+                bell: bell.share().ok()?,
+                heard: *heard,
+                scope: *scope,
+            }),
             WaitTarget::Moment => Some(WaitTarget::Moment),
+        }
+    }
+
+    /// The scope whose cancel ends the wait, if one does.
+    pub(crate) fn scope(&self) -> Option<ScopeId> {
+        match self {
+            WaitTarget::Cell(cell) => Some(cell.scope()),
+            WaitTarget::Bell { scope, .. } => *scope,
+            WaitTarget::Moment => None,
+        }
+    }
+
+    /// The bell to be noted at a scope, and that scope, if there are both.
+    pub(crate) fn bell(&self) -> Option<(ScopeId, &Bell)> {
+        match self {
+            WaitTarget::Bell { bell, scope, .. } => Some(((*scope)?, bell)),
+            _ => None,
+        }
+    }
+
+    /// Wakes who sleeps there; at the realm's `moments` who waits for a moment alone.
+    pub(crate) fn wake(&self, moments: &Condvar) {
+        match self {
+            WaitTarget::Cell(cell) => cell.wake(),
+            WaitTarget::Bell { bell, .. } => bell.wake(),
+            WaitTarget::Moment => moments.notify_all(),
         }
     }
 }
@@ -27,6 +90,19 @@ impl WaitTarget {
 /// program doesn't compile.
 pub(crate) struct Noted {
     place: usize,
+    // The scope at which the call's bell is noted, and its place there.
+    bell: Option<(ScopeId, usize)>,
+}
+
+impl Noted {
+    /// The bell of the call is noted at this place of the scope.
+    pub(crate) fn with_bell(self, scope: ScopeId, at: usize) -> Noted
+        ensures { result.place ≡ self.place }
+    {
+        let Noted { place, bell: _ } = self;
+        let bell = Some((scope, at));
+        Noted { place, bell }
+    }
 }
 
 /// The calls that sleep now and wait by a clock. One of them watches: it sleeps until the realm's next
@@ -58,7 +134,7 @@ impl TimedWaiters {
         if self.watcher.is_none() {
             self.watcher = Some(place);
         }
-        Some(Noted { place })
+        Some(Noted { place, bell: None })
     }
 
     /// Whether the call watches.
@@ -66,22 +142,23 @@ impl TimedWaiters {
         self.watcher == Some(noted.place)
     }
 
-    /// The call has woken, and watches no longer.
-    pub(crate) fn leave(&mut self, noted: Noted)
+    /// The call has woken, and watches no longer. Gives where its bell is noted.
+    pub(crate) fn leave(&mut self, noted: Noted) -> Option<(ScopeId, usize)>
         ensures { self.new.watcher ≡ Some noted.place → ⊥ }
     {
-        let Noted { place } = noted;
+        let Noted { place, bell } = noted;
         let _target = self.targets.try_remove(place);
         if self.watcher == Some(place) {
             self.watcher = None;
         }
+        bell
     }
 
-    /// The target of a call that is to watch, if nobody does.
+    /// The target of a call that is to watch, if nobody does: of the last, whom a channel or a limiter serves last.
     pub(crate) fn heir(&self) -> Option<&WaitTarget> {
         match self.watcher {
             Some(_) => None,
-            None => match self.targets.iter().next() {
+            None => match self.targets.iter().next_back() {
                 Some((_, target)) => Some(target),
                 None => None,
             },

@@ -1,5 +1,5 @@
 -- Why a word is not what it is to be.
-use Rattle.std.specs.Prelude.{ℕ, ◌==◌, Bool, ◌||◌, is_some, List, [], ◌∷◌, length, Option, Some, None, if◌then◌else◌}
+use Rattle.std.specs.Prelude.{ℕ, ◌==◌, Bool, true, false, not, ◌&&◌, ◌||◌, is_some, List, [], ◌∷◌, length, Option, Some, None, if◌then◌else◌}
 use Rattle.std.specs.Char.{is_ascii_digit}
 use Rattle.std.specs.List.{list_any}
 use Rattle.scope_rules.specs.NameText.{is_letter, is_inner}
@@ -60,9 +60,9 @@ number_cause (first ∷ others) =
     else if is_ascii_digit first then digits_cause first (first_other others)
     else cause.Plain
 
--- the same of a moment, which has no unit behind it
+-- the same of a moment: a letter behind its digits begins a unit, and it has none
 abbrev pub timed : Cause → Cause
-timed (cause.NoDigit other) = cause.HasUnit
+timed (cause.NoDigit other) = if is_letter other then cause.HasUnit else cause.NoDigit other
 timed c = c
 
 abbrev pub moment_cause : List ℕ → Cause
@@ -84,8 +84,13 @@ abbrev pub wide : Cause → Cause
 wide cause.TooGreat = cause.TooWide
 wide c = c
 
+abbrev pub is_zero : List ℕ → Bool
+is_zero (b ∷ []) = b == 48
+is_zero _ = false
+
+-- 0 has no sign
 abbrev pub signed_cause : ℕ → List ℕ → Cause
-signed_cause sign digits = if sign == 45 then wide (number_cause digits) else cause.Signed
+signed_cause sign digits = if (sign == 45) && not (is_zero digits) then wide (number_cause digits) else cause.Signed
 
 abbrev pub value_cause : List ℕ → Cause
 value_cause [] = cause.Plain

@@ -14,7 +14,7 @@ use Rattle.refusal_reasons.specs.declared.shapes.FieldKind.TheVariants as kind
 use Rattle.refusal_reasons.specs.declared.shapes.Shape.{Shape}
 use Rattle.refusal_reasons.specs.declared.shapes.Shape.TheVariants as shape
 use Rattle.refusal_reasons.specs.Causes.{alien_in, cause_of}
-use Rattle.script_words.specs.Near.{nearest}
+use Rattle.refusal_reasons.specs.Guesses.{nearest}
 use Rattle.refusal_reasons.specs.Shown.{shown_alone, shown_text}
 use Rattle.script_words.specs.Fields.{fields}
 use Rattle.script_words.specs.Joiners.{after, policy_said}

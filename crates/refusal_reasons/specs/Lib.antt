@@ -7,6 +7,7 @@ pub mod Shown
 pub mod Shapes
 pub mod Faults
 pub mod Causes
+pub mod Guesses
 pub mod FaultSentences
 pub mod LinePlaces
 pub mod FaultFits

@@ -1,7 +1,7 @@
 //! Why a word is not what it is to be.
 ghost use Rattle.std.specs.Prelude.{◌≡◌, is_some};
 ghost use Rattle.script_words.specs.Joiners.{after};
-ghost use Rattle.refusal_reasons.specs.Causes.{has_mark, has_byte, alien_in, first_other, first_strange, digits_cause, number_cause, timed, inner_cause, name_cause, wide, signed_cause, value_cause, cause_of};
+ghost use Rattle.refusal_reasons.specs.Causes.{has_mark, has_byte, alien_in, first_other, first_strange, digits_cause, number_cause, timed, inner_cause, name_cause, wide, is_zero, signed_cause, value_cause, cause_of};
 ghost use Rattle.scope_rules.specs.NameText.{is_letter, is_inner};
 
 use crate::shapes::FieldKind;
@@ -158,12 +158,12 @@ fn number_cause(word: &[u8]) -> Cause
     }
 }
 
-/// The cause, of a moment.
+/// The cause, of a moment: a letter behind its digits begins a unit.
 fn timed(cause: Cause) -> Cause
     ensures { result ≡ timed cause }
 {
     match cause {
-        Cause::NoDigit(_) => Cause::HasUnit,
+        Cause::NoDigit(other) if is_letter(other) => Cause::HasUnit,
         other => other,
     }
 }
@@ -204,11 +204,21 @@ fn wide(cause: Cause) -> Cause
     }
 }
 
-/// Why a word with this sign in front of the digits is no number of 64 bits.
+/// Whether the digits are 0 alone.
+fn is_zero(digits: &[u8]) -> bool
+    ensures { result ≡ is_zero digits.now }
+{
+    match digits {
+        [only] => *only == b'0',
+        _ => false,
+    }
+}
+
+/// Why a word with this sign in front of the digits is no number of 64 bits: 0 has no sign.
 fn signed_cause(sign: u8, digits: &[u8]) -> Cause
     ensures { result ≡ signed_cause sign digits.now }
 {
-    if sign == b'-' {
+    if sign == b'-' && !is_zero(digits) {
         wide(number_cause(digits))
     } else {
         Cause::Signed

@@ -1,9 +1,11 @@
-//! The events by which the scopes of a legal history were joined and closed.
+//! The events by which the scopes of a legal history were joined and closed, and how far their tasks have ended.
 
-ghost use Rattle.std.specs.Prelude.{◌≡◌, ◌<◌, IfSome, length};
+ghost use Rattle.std.specs.Prelude.{◌≡◌, ◌<◌, IfSome, None, length, take};
+ghost use Rattle.std.specs.List.{find};
 ghost use Rattle.scope_rules.specs.declared.types.capacity.Limits.{Limits};
 ghost use Rattle.scope_rules.specs.Legal.{Legal};
-ghost use Rattle.refusal_reasons.specs.Places.{joined_place, begun_place, closed_place};
+ghost use Rattle.scope_rules.specs.Nests.{tasks_of};
+ghost use Rattle.refusal_reasons.specs.Places.{joined_place, begun_place, closed_place, is_pending};
 
 use scope_rules::ScopeId;
 
@@ -33,4 +35,9 @@ pub trait Events {
     fn closed_place(&self, scope: ScopeId) -> Option<usize>
         ensures place { result ≡ closed_place (history self.now).events scope }
         ensures within { IfSome result (λ place. place < length (history self.now).events) };
+
+    /// How many of the scope's first tasks neither wait nor run, as far as is known: 0 is true of every scope. The
+    /// larger it is, the sooner is the first found that does.
+    fn passed_tasks(&self, scope: ScopeId) -> usize
+        ensures { find (is_pending (history self.now)) (take result (tasks_of (history self.now) scope)) ≡ None };
 }

@@ -64,7 +64,7 @@ pub(crate) fn reason_of<R: Readings, E: Events>(
         Failed::NotClosing(scope) => of_scope(scope, ScopeObstacle::NotClosing),
         Failed::ClosingAround(actor) => around_reason(readings, events, actor),
         Failed::Joined(scope) => joined_reason(events, scope),
-        Failed::Pending(scope) => pending_reason(readings, scope),
+        Failed::Pending(scope) => pending_reason(readings, events, scope),
         Failed::Unclosed(actor) => unclosed_reason(readings, actor),
         Failed::NotInnermost { actor, scope } => {
             let innermost = readings.innermost(actor);
@@ -211,11 +211,12 @@ fn around_reason<R: Readings, E: Events>(readings: &R, events: &E, actor: Actor)
 }
 
 /// Which task of the scope waits or runs.
-fn pending_reason<R: Readings>(readings: &R, scope: ScopeId) -> Reason
-    requires { Passes (scope_check (R.history readings.now) scope) }
+fn pending_reason<R: Readings, E: Events>(readings: &R, events: &E, scope: ScopeId) -> Reason
+    requires history { E.history events.now ≡ R.history readings.now }
+    requires known { Passes (scope_check (R.history readings.now) scope) }
     ensures { result ≡ pending_reason (R.history readings.now) scope }
 {
-    let (task, stage) = match pending_task(readings, scope) {
+    let (task, stage) = match pending_task(readings, events, scope) {
         Some(task) => (task, readings.stage(task)),
         None => (0, Stage::Never),
     };

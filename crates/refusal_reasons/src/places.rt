@@ -70,13 +70,18 @@ fn is_pending<R: Readings>(readings: &R, task: TaskId) -> bool
     }
 }
 
-/// The first task of the scope that waits or runs.
+/// The first task of the scope that waits or runs. It looks at no task of which `events` knows better.
 #[tactic(auto, using(crate::proofs::Searched::find_found, crate::proofs::Searched::find_passed, crate::proofs::Searched::all_passed), unfolding(crate::specs::Places::pending_task))]
-pub(crate) fn pending_task<R: Readings>(readings: &R, scope: ScopeId) -> Option<TaskId>
-    requires { Passes (scope_check (R.history readings.now) scope) }
+pub(crate) fn pending_task<R: Readings, E: Events>(
+    readings: &R,
+    events: &E,
+    scope: ScopeId,
+) -> Option<TaskId>
+    requires history { E.history events.now ≡ R.history readings.now }
+    requires known { Passes (scope_check (R.history readings.now) scope) }
     ensures { result ≡ pending_task (R.history readings.now) scope }
 {
-    for index in 0..readings.tasks() as usize {
+    for index in events.passed_tasks(scope)..readings.tasks() as usize {
         let task = readings.task_at(scope, index)?;
         if is_pending(readings, task) {
             return Some(task);

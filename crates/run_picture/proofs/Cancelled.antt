@@ -125,7 +125,7 @@ each_cancel h d s row has =
     once_counted (is_cancel_of s) (cancel_figures h d) s c (h.base.scopes + 1) (λ x. cancel_once h d s row x has) (opened_count h)
     ∙ inside (h.base.scopes + 1) s (opened_count h) c (omega (arith, within.0)) (omega (arith, within.1)) in
     let rows : count_in (is_cancel_of s) (all (row_at h d) (indexes h d)) ≡ 0 =
-    rows_drawn (is_cancel_of s) h d (λ r. 0) (λ i r. no_rows h d (is_cancel_of s) (λ row depth k. lane_none (is_cancel_of s) k (cancel_kind s) (cancel_task s k) h d row depth) (λ row depth x folded. band_none (is_cancel_of s) x (cancel_kind s) (λ at y o is e. refl) h d row depth folded) i r)
+    rows_drawn (is_cancel_of s) h d (λ r. 0) (λ i r. no_rows h d (is_cancel_of s) (λ row depth k folded. lane_none (is_cancel_of s) k (cancel_kind s) (cancel_task s k) h d row depth folded) (λ row depth x folded. band_none (is_cancel_of s) x (cancel_kind s) (λ at y o is e. refl) h d row depth folded) i r)
     ∙ sum_zero (λ r. 0) (drawn_rows h d) (λ r. refl) in
     let moments = moments_none (is_cancel_of s) kind h d in
     let events = events_none (is_cancel_of s) kind h d in

@@ -13,6 +13,7 @@ use Rattle.scope_rules.specs.Tasks.{finished, finishes, is_settled, rejected, re
 use Rattle.scope_rules.specs.Tasks as tasks
 use Rattle.scope_rules.proofs.Stages.{stage_is, staged}
 use Rattle.run_picture.specs.declared.landmarks.Landmark.TheVariants as landmark
+use Rattle.run_picture.specs.declared.rows.Folded.{Folded}
 use Rattle.run_picture.specs.declared.rows.Row.{Row}
 use Rattle.run_picture.specs.Chart.{drawn_rows}
 use Rattle.run_picture.specs.Drawing.{all, count_in}
@@ -92,10 +93,10 @@ shown_by v place true o = refl
 shown_by v place false (Some at) = refl
 shown_by v place false None = refl
 
-end_here : (h : History) (d : Sheet) (k row depth : ℕ) (f : Forking) → forking h k ≡ Some f → count_in (is_end_of k) (task_lane h d row depth k) ≡ cond (is_settled (stage h k) && shows d.view (end_place h k f)) 1 0
-end_here h d k row depth f is =
+end_here : (h : History) (d : Sheet) (k row depth : ℕ) (folded : Option Folded) (f : Forking) → forking h k ≡ Some f → count_in (is_end_of k) (task_lane h d row depth k folded) ≡ cond (is_settled (stage h k) && shows d.view (end_place h k f)) 1 0
+end_here h d k row depth folded f is =
     let c = cancelled_before h f.scope f.place in
-    lane_counts (is_end_of k) k false (k == k) (end_kind k) (end_task k k) h d row depth
+    lane_counts (is_end_of k) k false (k == k) (end_kind k) (end_task k k) h d row depth folded
     ∙ (ap (λ (o : Option Forking). option_map_or (λ (g : Forking). 0 + cond (k == k) (cond (end_shown h d.view k g) 1 0) 0) o 0) is
     ∙ (ap (λ b. 0 + cond b (cond (end_shown h d.view k f) 1 0) 0) (same_task k)
     ∙ (zero_first (cond (end_shown h d.view k f) 1 0)
@@ -106,9 +107,9 @@ end_here h d k row depth f is =
     zero_first : (n : ℕ) → 0 + n ≡ n
     zero_first n = omega arith
 
-end_elsewhere : (h : History) (d : Sheet) (k x row depth : ℕ) → (x == k) ≡ false → count_in (is_end_of k) (task_lane h d row depth x) ≡ 0
-end_elsewhere h d k x row depth other =
-    lane_counts (is_end_of k) x false (x == k) (end_kind k) (end_task k x) h d row depth
+end_elsewhere : (h : History) (d : Sheet) (k x row depth : ℕ) (folded : Option Folded) → (x == k) ≡ false → count_in (is_end_of k) (task_lane h d row depth x folded) ≡ 0
+end_elsewhere h d k x row depth folded other =
+    lane_counts (is_end_of k) x false (x == k) (end_kind k) (end_task k x) h d row depth folded
     ∙ by (forking h x)
   where
     by : (o : Option Forking) → option_map_or (λ (g : Forking). 0 + cond (x == k) (cond (end_shown h d.view x g) 1 0) 0) o 0 ≡ 0
@@ -124,8 +125,8 @@ ends_in_view h d k f = is_settled (stage h k) && shows d.view (end_place h k f)
 row_ends : (h : History) (d : Sheet) (k : ℕ) (f : Forking) → forking h k ≡ Some f → (i : ℕ) (r : Row) → count_in (is_end_of k) (row_drawn h d i r) ≡ cond (r.node == task_node h k) (cond (ends_in_view h d k f) 1 0) 0
 row_ends h d k f is i r =
     task_rows h d (is_end_of k) k (cond (ends_in_view h d k f) 1 0) f is
-    (λ row depth. end_here h d k row depth f is)
-    (λ x row depth other. end_elsewhere h d k x row depth other)
+    (λ row depth folded. end_here h d k row depth folded f is)
+    (λ x row depth folded other. end_elsewhere h d k x row depth folded other)
     (λ row depth s folded. band_none (is_end_of k) s (end_kind k) (λ at y x is e. refl) h d row depth folded) i r
 
 abbrev zero_by : Bool → ℕ

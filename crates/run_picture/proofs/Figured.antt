@@ -11,6 +11,7 @@ use Rattle.scope_rules.specs.declared.types.records.Forking.{Forking}
 use Rattle.scope_rules.specs.declared.types.records.Opening.{Opening}
 use Rattle.scope_rules.specs.Cancels.{cancelled_before}
 use Rattle.scope_rules.specs.History.{History, forking, opening, scope_numbers, tick_of}
+use Rattle.run_picture.specs.declared.captions.Measure.{Measure}
 use Rattle.run_picture.specs.declared.captions.Fate.{Fate}
 use Rattle.run_picture.specs.declared.captions.Fate.TheVariants as fate
 use Rattle.run_picture.specs.declared.captions.ShownFork.{ShownFork}
@@ -28,13 +29,14 @@ use Rattle.run_picture.specs.declared.strokes.Tick.{Tick}
 use Rattle.run_picture.specs.Cancels.{cancel_drawn, cancel_figures, is_accident, source_y}
 use Rattle.run_picture.specs.Drawing.{Drawing, Figure, ALabel, ABar, AMark, AReach, ATick, Blank, One, all, count_in, in_view}
 use Rattle.run_picture.specs.Events.{drawn, event_figures, marked, moment_line}
+use Rattle.run_picture.specs.Closings.{begins_to_close}
 use Rattle.run_picture.specs.Chart.{drawn_rows}
 use Rattle.run_picture.specs.declared.landmarks.Landmark.TheVariants as landmark
 use Rattle.run_picture.specs.declared.marks.ShownMark.{ShownMark}
 use Rattle.run_picture.specs.Drawing as drawing
 use Rattle.run_picture.specs.Landmarks.{first_place}
 use Rattle.scope_rules.specs.Tasks.{state}
-use Rattle.run_picture.specs.Lanes.{band_shade, bar_in, cancelled_bar, closing_bar, end_figure, end_mark, ended, folded_shade, fork_drawn, fork_of, forked_lane, lane_by, life_drawn, running_bar, running_fate, running_shade, covering_place, earlier, scope_lane, scope_of, started, task_lane}
+use Rattle.run_picture.specs.Lanes.{band_shade, bar_in, cancelled_bar, closing_bar, end_figure, end_mark, ended, folded_shade, fork_drawn, fork_of, forked_lane, lane_by, life_drawn, running_bar, running_fate, running_shade, scope_lane, scope_of, started, task_fate, task_lane}
 use Rattle.run_picture.specs.Marked.{figure_of}
 use Rattle.run_picture.specs.Picture.{figures, indexes, places, row_at}
 use Rattle.run_picture.specs.Sheet.{Sheet}
@@ -50,17 +52,17 @@ pub record IsKind (test : Figure → Bool) : Type 0 where
   pub ticks : (t : Tick) → test (ATick t) ≡ false
   pub bars : (b : Bar) → test (ABar b) ≡ false
   pub reaches : (r : Reach) → test (AReach r) ≡ false
-  pub joined : (p : Spot) (b : Bool) (n s : ℕ) → test (AMark (record { spot = p; lined = b; number = n; mark = mark.Joined s })) ≡ false
-  pub closing : (p : Spot) (b : Bool) (n s : ℕ) → test (AMark (record { spot = p; lined = b; number = n; mark = mark.Closing s })) ≡ false
-  pub closed : (p : Spot) (b : Bool) (n s : ℕ) → test (AMark (record { spot = p; lined = b; number = n; mark = mark.Closed s })) ≡ false
-  pub moved : (p : Spot) (b : Bool) (n s : ℕ) (o : Option ℕ) → test (AMark (record { spot = p; lined = b; number = n; mark = mark.Moved s o })) ≡ false
-  pub held : (p : Spot) (b : Bool) (n s q : ℕ) → test (AMark (record { spot = p; lined = b; number = n; mark = mark.Held s q })) ≡ false
+  pub joined : (p : Spot) (b : Measure) (n s : ℕ) → test (AMark (record { spot = p; measure = b; number = n; mark = mark.Joined s })) ≡ false
+  pub closing : (p : Spot) (b : Measure) (n s : ℕ) → test (AMark (record { spot = p; measure = b; number = n; mark = mark.Closing s })) ≡ false
+  pub closed : (p : Spot) (b : Measure) (n s : ℕ) → test (AMark (record { spot = p; measure = b; number = n; mark = mark.Closed s })) ≡ false
+  pub moved : (p : Spot) (b : Measure) (n s : ℕ) (o : Option ℕ) → test (AMark (record { spot = p; measure = b; number = n; mark = mark.Moved s o })) ≡ false
+  pub held : (p : Spot) (b : Measure) (n s q : ℕ) → test (AMark (record { spot = p; measure = b; number = n; mark = mark.Held s q })) ≡ false
 
 -- of task x: whether its label is of the kind, and whether the mark of its end is
 pub record TaskKind (test : Figure → Bool) (x : ℕ) (label mark_is : Bool) : Type 0 where
   pub labels : (at y : ℕ) (f : ShownFork) → f.task ≡ x → (e : Fate) → test (ALabel (record { x = at; y = y; subject = subject.Task f; fate = e })) ≡ label
-  pub nevers : (p : Spot) (b : Bool) (n : ℕ) → test (AMark (record { spot = p; lined = b; number = n; mark = mark.Never x })) ≡ mark_is
-  pub ends : (p : Spot) (b : Bool) (n : ℕ) (st : State) → test (AMark (record { spot = p; lined = b; number = n; mark = mark.Ended x st })) ≡ mark_is
+  pub nevers : (p : Spot) (b : Measure) (n : ℕ) → test (AMark (record { spot = p; measure = b; number = n; mark = mark.Never x })) ≡ mark_is
+  pub ends : (p : Spot) (b : Measure) (n : ℕ) (st : State) → test (AMark (record { spot = p; measure = b; number = n; mark = mark.Ended x st })) ≡ mark_is
 
 pub figure_kind : (labels : Subject → Bool) (ends cancels : ℕ → Bool) → IsKind (figure_of labels ends cancels)
 figure_kind labels ends cancels = record {
@@ -104,10 +106,10 @@ pub zero_of : (b : Bool) → b ≡ false → unit b ≡ 0
 zero_of b is = ap unit is
 
 -- the mark in the row of a scope
-marked_none : (test : Figure → Bool) (h : History) (d : Sheet) (i s : ℕ) (m : Mark) → ((p : Spot) (b : Bool) (n : ℕ) → test (AMark (record { spot = p; lined = b; number = n; mark = m })) ≡ false) → count_in test (marked h d i s m) ≡ 0
+marked_none : (test : Figure → Bool) (h : History) (d : Sheet) (i s : ℕ) (m : Mark) → ((p : Spot) (b : Measure) (n : ℕ) → test (AMark (record { spot = p; measure = b; number = n; mark = m })) ≡ false) → count_in test (marked h d i s m) ≡ 0
 marked_none test h d i s m none =
     none_or test (λ row. drawing.mark (mark_at h d i (row_y row) m)) (scope_row h d s)
-    (λ row. let x : ShownMark = mark_at h d i (row_y row) m in zero_of (test (AMark x)) (none x.spot x.lined x.number))
+    (λ row. let x : ShownMark = mark_at h d i (row_y row) m in zero_of (test (AMark x)) (none x.spot x.measure x.number))
 
 -- ---- moments, events and shields
 
@@ -147,7 +149,7 @@ unfolding shield_figures
 shields_none test kind h d = none_in_all test (shield_figures h d) (scope_numbers h) (λ s. none_or test (opened_shield h d s) (opening h s) (shield_none test kind h d s))
 
 -- a kind that no mark of a cancel is of has none among the cancels
-pub cancels_none : (test : Figure → Bool) → IsKind test → ((p : Spot) (b : Bool) (n s : ℕ) (c : Cause) (a : Bool) → test (AMark (record { spot = p; lined = b; number = n; mark = mark.Cancelled s c a })) ≡ false) → (h : History) (d : Sheet) → count_in test (all (cancel_figures h d) (scope_numbers h)) ≡ 0
+pub cancels_none : (test : Figure → Bool) → IsKind test → ((p : Spot) (b : Measure) (n s : ℕ) (c : Cause) (a : Bool) → test (AMark (record { spot = p; measure = b; number = n; mark = mark.Cancelled s c a })) ≡ false) → (h : History) (d : Sheet) → count_in test (all (cancel_figures h d) (scope_numbers h)) ≡ 0
 unfolding cancel_figures
 cancels_none test kind marks h d = none_in_all test (cancel_figures h d) (scope_numbers h) (λ s. none_or test (λ row. option_map_or (λ c. in_view d.view c.0 (cancel_drawn h d s row c.0 c.1)) (cancellation h s) Blank) (scope_row h d s) (λ row. none_or test (λ (c : ℕ × Cause). in_view d.view c.0 (cancel_drawn h d s row c.0 c.1)) (cancellation h s) (λ c. none_in_view test d.view c.0 (cancel_drawn h d s row c.0 c.1) (two row s c))))
   where
@@ -156,12 +158,12 @@ cancels_none test kind marks h d = none_in_all test (cancel_figures h d) (scope_
         let r : Reach = record { x = x_in h d c.0; source = source_y h d c.1.scope (row_y row); reached = row_y row } in
         let m : ShownMark = mark_at h d c.0 (row_y row) (mark.Cancelled s c.1 (is_accident h c.0 c.1)) in
         let line = zero_of (test (AReach r)) (kind.reaches r) in
-        let marked = zero_of (test (AMark m)) (marks m.spot m.lined m.number s c.1 (is_accident h c.0 c.1)) in
+        let marked = zero_of (test (AMark m)) (marks m.spot m.measure m.number s c.1 (is_accident h c.0 c.1)) in
         omega (arith, line, marked)
 
 -- ---- the lane of a task
 
-end_counts : (test : Figure → Bool) (x : ℕ) (label mark_is : Bool) → TaskKind test x label mark_is → (p : Spot) (b : Bool) (n : ℕ) (o : Option ℕ) (st : State) → unit (test (AMark (record { spot = p; lined = b; number = n; mark = end_mark x o st }))) ≡ unit mark_is
+end_counts : (test : Figure → Bool) (x : ℕ) (label mark_is : Bool) → TaskKind test x label mark_is → (p : Spot) (b : Measure) (n : ℕ) (o : Option ℕ) (st : State) → unit (test (AMark (record { spot = p; measure = b; number = n; mark = end_mark x o st }))) ≡ unit mark_is
 end_counts test x label mark_is kind p b n (Some at) st = ap unit (kind.ends p b n st)
 end_counts test x label mark_is kind p b n None st = ap unit (kind.nevers p b n)
 
@@ -181,26 +183,26 @@ unfolding fork_drawn
 fork_counts test x label mark_is kind task h d y f = by (cancelled_before h f.scope f.place)
   where
     by : (c : Bool) → count_in test (cond c (in_view d.view f.place (drawing.mark (mark_at h d f.place y (mark.Never x)))) (life_drawn h d y x f)) ≡ cond mark_is (cond (cond c (shows d.view f.place) (option_map_or (shows d.view) (ended h x) false)) 1 0) 0
-    by true = let m : ShownMark = mark_at h d f.place y (mark.Never x) in counts_in_view test d.view f.place mark_is (drawing.mark m) (ap unit (task.nevers m.spot m.lined m.number))
+    by true = let m : ShownMark = mark_at h d f.place y (mark.Never x) in counts_in_view test d.view f.place mark_is (drawing.mark m) (ap unit (task.nevers m.spot m.measure m.number))
     by false =
         let b : Bar = bar_in h d y (fork_of x f) f.place (option_or (started h x) (ended h x)) shade.Waiting fate.Waits in
         let r : ℕ → Bar = λ at. bar_in h d y (fork_of x f) at (ended h x) (running_shade (ended h x) (state h x)) (running_fate (ended h x) (state h x)) in
         let e : ℕ → ShownMark = λ at. mark_at h d at y (end_mark x (started h x) (state h x)) in
         let waits = zero_of (test (ABar b)) (kind.bars b) in
         let runs : count_in test (running_bar h d y x f) ≡ 0 = none_or test (λ at. drawing.bar (r at)) (started h x) (λ at. zero_of (test (ABar (r at))) (kind.bars (r at))) in
-        let ends : count_in test (end_figure h d y x) ≡ cond mark_is (cond (option_map_or (shows d.view) (ended h x) false) 1 0) 0 = either_counts test d.view mark_is (λ at. drawing.mark (e at)) (ended h x) (λ at. end_counts test x label mark_is task (e at).spot (e at).lined (e at).number (started h x) (state h x)) in
+        let ends : count_in test (end_figure h d y x) ≡ cond mark_is (cond (option_map_or (shows d.view) (ended h x) false) 1 0) 0 = either_counts test d.view mark_is (λ at. drawing.mark (e at)) (ended h x) (λ at. end_counts test x label mark_is task (e at).spot (e at).measure (e at).number (started h x) (state h x)) in
         omega (arith, waits, runs, ends)
 
 -- its label, if it was forked, and the mark of its end, if it has one
-pub lane_counts : (test : Figure → Bool) (x : ℕ) (label mark_is : Bool) → IsKind test → TaskKind test x label mark_is → (h : History) (d : Sheet) (row depth : ℕ) →
-    count_in test (task_lane h d row depth x) ≡ option_map_or (λ (f : Forking). cond label 1 0 + cond mark_is (cond (end_shown h d.view x f) 1 0) 0) (forking h x) 0
+pub lane_counts : (test : Figure → Bool) (x : ℕ) (label mark_is : Bool) → IsKind test → TaskKind test x label mark_is → (h : History) (d : Sheet) (row depth : ℕ) (folded : Option Folded) →
+    count_in test (task_lane h d row depth x folded) ≡ option_map_or (λ (f : Forking). cond label 1 0 + cond mark_is (cond (end_shown h d.view x f) 1 0) 0) (forking h x) 0
 unfolding task_lane
-lane_counts test x label mark_is kind task h d row depth = by (forking h x)
+lane_counts test x label mark_is kind task h d row depth folded = by (forking h x)
   where
-    by : (o : Option Forking) → count_in test (option_map_or (forked_lane h d row depth x) o Blank) ≡ option_map_or (λ (f : Forking). cond label 1 0 + cond mark_is (cond (end_shown h d.view x f) 1 0) 0) o 0
+    by : (o : Option Forking) → count_in test (option_map_or (forked_lane h d row depth x folded) o Blank) ≡ option_map_or (λ (f : Forking). cond label 1 0 + cond mark_is (cond (end_shown h d.view x f) 1 0) 0) o 0
     by None = refl
     by (Some f) =
-        let named = ap unit (task.labels (8 + 10 * min depth 12) (min (row_y row + 4) 18446744073709551615) (record { task = x; name = f.label.name; scope = f.scope }) refl fate.Open) in
+        let named = ap unit (task.labels (8 + 10 * min depth 12) (min (row_y row + 4) 18446744073709551615) (record { task = x; name = f.label.name; scope = f.scope }) refl (task_fate folded)) in
         let rest = fork_counts test x label mark_is kind task h d (row_y row) f in
         omega (arith, named, rest)
 
@@ -220,7 +222,7 @@ scope_by test s label kind labels h d row depth None o =
     let e : ℕ → Bar = λ at. bar_in h d (row_y row) (scope_of s o) at (closed_place h s) shade.Closing fate.Closing in
     let band = zero_of (test (ABar b)) (kind.bars b) in
     let cancelled : count_in test (cancelled_bar h d (row_y row) s o) ≡ 0 = none_or test (λ x. drawing.bar (c x)) (cancellation h s) (λ x. zero_of (test (ABar (c x))) (kind.bars (c x))) in
-    let closing : count_in test (closing_bar h d (row_y row) s o) ≡ 0 = none_or test (λ at. drawing.bar (e at)) (earlier (first_place landmark.Began h.events s) (covering_place h s)) (λ at. zero_of (test (ABar (e at))) (kind.bars (e at))) in
+    let closing : count_in test (closing_bar h d (row_y row) s o) ≡ 0 = none_or test (λ at. drawing.bar (e at)) (begins_to_close h s) (λ at. zero_of (test (ABar (e at))) (kind.bars (e at))) in
     omega (arith, named, band, cancelled, closing)
 
 pub band_counts : (test : Figure → Bool) (s : ℕ) (label : Bool) → IsKind test → ((at y : ℕ) (x : ShownScope) → x.scope ≡ s → (e : Fate) → test (ALabel (record { x = at; y = y; subject = subject.Scope x; fate = e })) ≡ label) →
@@ -240,8 +242,8 @@ no_lanes o = option_map_or (λ (f : Forking). 0 + 0) o 0
 abbrev no_bands : Option Opening → ℕ
 no_bands o = option_map_or (λ (x : Opening). 0) o 0
 
-pub lane_none : (test : Figure → Bool) (k : ℕ) → IsKind test → TaskKind test k false false → (h : History) (d : Sheet) (row depth : ℕ) → count_in test (task_lane h d row depth k) ≡ 0
-lane_none test k kind task h d row depth = lane_counts test k false false kind task h d row depth ∙ by (forking h k)
+pub lane_none : (test : Figure → Bool) (k : ℕ) → IsKind test → TaskKind test k false false → (h : History) (d : Sheet) (row depth : ℕ) (folded : Option Folded) → count_in test (task_lane h d row depth k folded) ≡ 0
+lane_none test k kind task h d row depth folded = lane_counts test k false false kind task h d row depth folded ∙ by (forking h k)
   where
     by : (o : Option Forking) → no_lanes o ≡ 0
     by None = refl

@@ -31,15 +31,15 @@ label_task k x = record { labels = λ at y f is e. ap (λ t. t == k) is; nevers 
 abbrev one_if : Bool → Option Forking → ℕ
 one_if b o = option_map_or (λ (f : Forking). cond b 1 0 + 0) o 0
 
-lane_label : (h : History) (d : Sheet) (k x row depth : ℕ) → count_in (is_label_of k) (task_lane h d row depth x) ≡ one_if (x == k) (forking h x)
-lane_label h d k x row depth = lane_counts (is_label_of k) x (x == k) false (label_kind k) (label_task k x) h d row depth
+lane_label : (h : History) (d : Sheet) (k x row depth : ℕ) (folded : Option Folded) → count_in (is_label_of k) (task_lane h d row depth x folded) ≡ one_if (x == k) (forking h x)
+lane_label h d k x row depth folded = lane_counts (is_label_of k) x (x == k) false (label_kind k) (label_task k x) h d row depth folded
 
-label_here : (h : History) (d : Sheet) (k row depth : ℕ) (f : Forking) → forking h k ≡ Some f → count_in (is_label_of k) (task_lane h d row depth k) ≡ 1
-label_here h d k row depth f is =
-    lane_label h d k k row depth ∙ (ap (one_if (k == k)) is ∙ (ap (λ b. one_if b (Some f)) (eq-eqb k k refl) ∙ omega arith))
+label_here : (h : History) (d : Sheet) (k row depth : ℕ) (folded : Option Folded) (f : Forking) → forking h k ≡ Some f → count_in (is_label_of k) (task_lane h d row depth k folded) ≡ 1
+label_here h d k row depth folded f is =
+    lane_label h d k k row depth folded ∙ (ap (one_if (k == k)) is ∙ (ap (λ b. one_if b (Some f)) (eq-eqb k k refl) ∙ omega arith))
 
-label_elsewhere : (h : History) (d : Sheet) (k x row depth : ℕ) → (x == k) ≡ false → count_in (is_label_of k) (task_lane h d row depth x) ≡ 0
-label_elsewhere h d k x row depth other = lane_label h d k x row depth ∙ (ap (λ b. one_if b (forking h x)) other ∙ by (forking h x))
+label_elsewhere : (h : History) (d : Sheet) (k x row depth : ℕ) (folded : Option Folded) → (x == k) ≡ false → count_in (is_label_of k) (task_lane h d row depth x folded) ≡ 0
+label_elsewhere h d k x row depth folded other = lane_label h d k x row depth folded ∙ (ap (λ b. one_if b (forking h x)) other ∙ by (forking h x))
   where
     by : (o : Option Forking) → one_if false o ≡ 0
     by None = refl
@@ -50,7 +50,7 @@ each_lane h d k f is =
     let kind = label_kind k in
     let rows : count_in (is_label_of k) (all (row_at h d) (indexes h d)) ≡ lanes_of h d k =
     rows_drawn (is_label_of k) h d (λ r. cond (r.node == task_node h k) 1 0)
-    (λ i r. task_rows h d (is_label_of k) k 1 f is (λ row depth. label_here h d k row depth f is) (λ x row depth other. label_elsewhere h d k x row depth other) (λ row depth s folded. band_none (is_label_of k) s (label_kind k) (λ at y x is e. refl) h d row depth folded) i r) in
+    (λ i r. task_rows h d (is_label_of k) k 1 f is (λ row depth folded. label_here h d k row depth folded f is) (λ x row depth folded other. label_elsewhere h d k x row depth folded other) (λ row depth s folded. band_none (is_label_of k) s (label_kind k) (λ at y x is e. refl) h d row depth folded) i r) in
     let moments = moments_none (is_label_of k) kind h d in
     let events = events_none (is_label_of k) kind h d in
     let shields = shields_none (is_label_of k) kind h d in
@@ -88,7 +88,7 @@ each_band h d s o is =
     let kind = band_kind s in
     let rows : count_in (is_band_of s) (all (row_at h d) (indexes h d)) ≡ bands_of h d s =
     rows_drawn (is_band_of s) h d (λ r. cond (r.node == scope_node h s) 1 0)
-    (λ i r. scope_rows h d (is_band_of s) s 1 o is (λ row depth folded. band_here h d s row depth folded o is) (λ x row depth folded other. band_elsewhere h d s x row depth folded other) (λ row depth k. lane_none (is_band_of s) k (band_kind s) (band_task s k) h d row depth) i r) in
+    (λ i r. scope_rows h d (is_band_of s) s 1 o is (λ row depth folded. band_here h d s row depth folded o is) (λ x row depth folded other. band_elsewhere h d s x row depth folded other) (λ row depth k folded. lane_none (is_band_of s) k (band_kind s) (band_task s k) h d row depth folded) i r) in
     let moments = moments_none (is_band_of s) kind h d in
     let events = events_none (is_band_of s) kind h d in
     let shields = shields_none (is_band_of s) kind h d in

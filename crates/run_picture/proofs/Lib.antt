@@ -15,6 +15,7 @@ mod Rowed
 mod Ended
 mod Staged
 mod Labelled
+mod Lined
 mod Cancelled
 mod Truthful
 mod Forested
@@ -22,3 +23,7 @@ mod Rooted
 mod Stretches
 mod Recorded
 mod Stamped
+mod Existing
+mod Firsts
+mod Covered
+mod Written

@@ -9,7 +9,7 @@ use Rattle.run_picture.specs.declared.rows.Class.TheVariants as class
 use Rattle.run_picture.specs.declared.rows.Folded.{Folded}
 use Rattle.run_picture.specs.declared.rows.Row.{Row}
 use Rattle.run_picture.specs.Laws.{LosesNothing, is_failure, is_task, row_failures, row_tasks}
-use Rattle.run_picture.specs.Rows.{begun, class_of, counted, folded_from, folded_in, or_begun, plain, rows_of, taken_in}
+use Rattle.run_picture.specs.Rows.{begun, class_of, counted, fits, folded_from, folded_in, or_begun, plain, rows_of, taken_in}
 
 at_most : (b : Bool) → cond b 1 0 ≤ 1
 at_most true = omega arith
@@ -18,7 +18,7 @@ at_most false = omega arith
 -- what is counted of the nodes, and how much of it a folded row holds: nothing at first, and one more with such a node
 record IsCounted (test : Class → Bool) (held : Folded → ℕ) : Type 0 where
   scopes : (closed : Bool) → test (class.Scope closed) ≡ false
-  nothing : held (record { tasks = 0; failed = 0 }) ≡ 0
+  nothing : (run : Option Bool) → held (record { tasks = 0; failed = 0; run = run }) ≡ 0
   one_more : (f : Folded) (c : Class) → held f < 4294967295 → held (counted f c) ≡ held f + cond (test c) 1 0
 
 module _ (test : Class → Bool) (held : Folded → ℕ) (it : IsCounted test held) (h : History) where
@@ -27,26 +27,33 @@ module _ (test : Class → Bool) (held : Folded → ℕ) (it : IsCounted test he
   worth r = cond (test (class_of h r.node)) 1 0 + option_map_or held r.folded 0
 
   begun_worth : (p : Placed) (c : Class) → class_of h p.node ≡ c → worth (begun p c) ≡ cond (test c) 1 0
-  begun_worth p (class.Task failed) is = let e : cond (test (class_of h p.node)) 1 0 ≡ cond (test (class.Task failed)) 1 0 = ap {B = ℕ} (λ (x : Class). cond (test x) 1 0) is in omega (arith, e)
+  begun_worth p (class.Task failed false) is = let e : cond (test (class_of h p.node)) 1 0 ≡ cond (test (class.Task failed false)) 1 0 = ap {B = ℕ} (λ (x : Class). cond (test x) 1 0) is in omega (arith, e)
+  begun_worth p (class.Task failed true) is =
+      let e : cond (test (class_of h p.node)) 1 0 ≡ cond (test (class.Task failed true)) 1 0 = ap {B = ℕ} (λ (x : Class). cond (test x) 1 0) is in
+      omega (arith, e, it.nothing (Some failed))
   begun_worth p (class.Scope true) is =
       let e : cond (test (class_of h p.node)) 1 0 ≡ cond (test (class.Scope true)) 1 0 = ap {B = ℕ} (λ (x : Class). cond (test x) 1 0) is in
-      omega (arith, e, it.nothing)
+      omega (arith, e, it.nothing None)
   begun_worth p (class.Scope false) is = let e : cond (test (class_of h p.node)) 1 0 ≡ cond (test (class.Scope false)) 1 0 = ap {B = ℕ} (λ (x : Class). cond (test x) 1 0) is in omega (arith, e)
 
-  last_worth : (r : Row) (p : Placed) (c : Class) (folded : Option Folded) (below : Bool) → r.folded ≡ folded → nat_lt r.depth p.depth ≡ below → class_of h p.node ≡ c → worth r < 4294967295 →
-      sum_by worth (or_begun r p c (option_map_or (λ f. cond below (Some (record { node = r.node; depth = r.depth; folded = Some (counted f c) })) None) folded None)) ≡ worth r + cond (test c) 1 0
-  last_worth r p c None below is deep class small = let b = begun_worth p c class in omega (arith, b)
-  last_worth r p c (Some f) false is deep class small = let b = begun_worth p c class in omega (arith, b)
-  last_worth r p c (Some f) true is deep class small =
+  last_by : (r : Row) (p : Placed) (c : Class) (f : Folded) (taken : Bool) → r.folded ≡ Some f → class_of h p.node ≡ c → worth r < 4294967295 →
+      sum_by worth (or_begun r p c (cond taken (Some (record { node = r.node; depth = r.depth; folded = Some (counted f c) })) None)) ≡ worth r + cond (test c) 1 0
+  last_by r p c f false is class small = let b = begun_worth p c class in omega (arith, b)
+  last_by r p c f true is class small =
       let at : option_map_or held r.folded 0 ≡ held f = ap (λ (o : Option Folded). option_map_or held o 0) is in
       let n = it.one_more f c (omega (arith, at, small)) in
       omega (arith, at, n)
+
+  last_worth : (r : Row) (p : Placed) (c : Class) (folded : Option Folded) → r.folded ≡ folded → class_of h p.node ≡ c → worth r < 4294967295 →
+      sum_by worth (or_begun r p c (option_map_or (λ f. cond (fits f.run r p c) (Some (record { node = r.node; depth = r.depth; folded = Some (counted f c) })) None) folded None)) ≡ worth r + cond (test c) 1 0
+  last_worth r p c None is class small = let b = begun_worth p c class in omega (arith, b)
+  last_worth r p c (Some f) is class small = last_by r p c f (fits f.run r p c) is class small
 
   -- one node more counts once
   in_worth : (rows : List Row) (p : Placed) (c : Class) → class_of h p.node ≡ c → sum_by worth rows < 4294967295 → sum_by worth (folded_in rows p c) ≡ sum_by worth rows + cond (test c) 1 0
   in_worth [] p c class small = let b = begun_worth p c class in omega (arith, b)
   in_worth (r ∷ []) p c class small =
-      let b = last_worth r p c r.folded (nat_lt r.depth p.depth) refl refl class (omega (arith, small)) in omega (arith, b)
+      let b = last_worth r p c r.folded refl class (omega (arith, small)) in omega (arith, b)
   in_worth (r ∷ q ∷ rows) p c class small =
       let whole = sum_by-cons worth r (q ∷ rows) in
       let more = sum_by-cons worth r (folded_in (q ∷ rows) p c) in
@@ -74,20 +81,20 @@ module _ (test : Class → Bool) (held : Folded → ℕ) (it : IsCounted test he
 -- ---- tasks, and those that failed
 
 pub counted_tasks : (f : Folded) (c : Class) → f.tasks < 4294967295 → (counted f c).tasks ≡ f.tasks + cond (is_task c) 1 0
-counted_tasks f (class.Task true) small = omega arith
-counted_tasks f (class.Task false) small = omega arith
+counted_tasks f (class.Task true ended) small = omega arith
+counted_tasks f (class.Task false ended) small = omega arith
 counted_tasks f (class.Scope closed) small = omega arith
 
 pub counted_failures : (f : Folded) (c : Class) → f.failed < 4294967295 → (counted f c).failed ≡ f.failed + cond (is_failure c) 1 0
-counted_failures f (class.Task true) small = omega arith
-counted_failures f (class.Task false) small = omega arith
+counted_failures f (class.Task true ended) small = omega arith
+counted_failures f (class.Task false ended) small = omega arith
 counted_failures f (class.Scope closed) small = omega arith
 
 tasks_are : IsCounted is_task (λ f. f.tasks)
-tasks_are = record { scopes = λ closed. refl; nothing = refl; one_more = counted_tasks }
+tasks_are = record { scopes = λ closed. refl; nothing = λ run. refl; one_more = counted_tasks }
 
 failures_are : IsCounted is_failure (λ f. f.failed)
-failures_are = record { scopes = λ closed. refl; nothing = refl; one_more = counted_failures }
+failures_are = record { scopes = λ closed. refl; nothing = λ run. refl; one_more = counted_failures }
 
 pub from_nothing : (h : History) (placed : List Placed) → length placed < 4294967295 → LosesNothing h (folded_from h [] placed) placed
 from_nothing h placed small = record {

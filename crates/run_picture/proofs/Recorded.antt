@@ -1,19 +1,21 @@
 -- Each task, scope and cancel has its record, and each record tells the truth.
-use Rattle.std.proofs.Common.{◌≡◌, ◌≢◌, ◌⊎◌, inl, inr, ℕ, ◌+◌, ◌-◌, ◌<◌, ◌≤◌, ◌==◌, ◌||◌, ◌&&◌, nat_lt, nat_le, Bool, true, false, cond, is_some, Option, Some, None, option_map, List, slice_get, length, refl, ap, sym, ◌∙◌, arith, subst}
+use Rattle.std.proofs.Common.{◌≡◌, ◌≢◌, ◌⊎◌, inl, inr, ℕ, ◌+◌, ◌-◌, ◌<◌, ◌≤◌, ◌==◌, ◌||◌, ◌&&◌, nat_lt, nat_le, Bool, true, false, cond, is_some, unwrap_or, Option, Some, None, option_map, List, slice_get, length, refl, ap, sym, ◌∙◌, arith, subst}
 use Rattle.std.proofs.lemmas.Bool.{cases_eq, eq-eqb, eqb-true, ne_eqb, le-leb, lt-ltb}
 use Rattle.std.proofs.lemmas.List.{take_all}
 use Rattle.std.specs.List.{list_any, range_with_len}
-use Rattle.std.specs.Option.{option_and_then, option_map_or}
+use Rattle.std.specs.Option.{option_and_then, option_map_or, option_or}
 use Rattle.scope_checks.specs.Queries.{cancellation}
 use Rattle.scope_rules.specs.declared.types.answers.Cause.{Cause}
 use Rattle.scope_rules.specs.declared.types.answers.State.{State}
+use Rattle.scope_rules.specs.declared.types.capacity.Limits.{Limits}
 use Rattle.scope_rules.specs.declared.types.events.Event.{Event}
 use Rattle.scope_rules.specs.declared.types.events.Event.TheVariants as event
 use Rattle.scope_rules.specs.declared.types.records.Forking.{Forking}
 use Rattle.scope_rules.specs.declared.types.records.Opening.{Opening}
-use Rattle.scope_rules.specs.Cancels.{is_cancelled}
+use Rattle.scope_rules.specs.Cancels.{cancelled_before, is_cancelled}
 use Rattle.scope_rules.specs.History.{History, forked_count, forking, opened_count, opening, scope_numbers, scopes, task_numbers, tasks}
-use Rattle.scope_rules.specs.Scopes.{closed, ends}
+use Rattle.scope_rules.specs.Legal.{Legal}
+use Rattle.scope_rules.specs.Scopes.{closed, closing, ends}
 use Rattle.scope_rules.specs.Search.{earliest}
 use Rattle.scope_rules.specs.Tasks.{finished, finishes, rejected, rejects, started, starts, state}
 use Rattle.scope_rules.proofs.Forkings.{forked_after}
@@ -23,16 +25,18 @@ use Rattle.scope_rules.proofs.Searching.{earliest_where}
 use Rattle.run_picture.specs.declared.landmarks.Landmark.{Landmark}
 use Rattle.run_picture.specs.declared.landmarks.Landmark.TheVariants as landmark
 use Rattle.run_picture.specs.declared.slices.Stretch.{Stretch}
+use Rattle.run_picture.specs.Closings.{begins_to_close}
 use Rattle.run_picture.specs.Landmarks.{first_place, is_named, named_at}
 use Rattle.run_picture.specs.Parts.{Parts, Blank, Both, One, Everywhere, all, count_in}
-use Rattle.run_picture.specs.Trace.{Record, ATask, AScope, AnArrow, AnInstant, arrow_from, arrow_in, band_in, cancel_from, cancel_records, instant_in, micros, reached_from, records, result_in, scope_slice, slice_in, stretch_in, task_from, task_slice}
-use Rattle.run_picture.specs.Traced.{CancelledFrom, EachCancelHasOneInstant, EachRecordIsSo, EachScopeHasOneSlice, EachTaskHasOneSlice, EndsBy, GoesFrom, IsArrowOf, IsBandOf, IsInstantOf, IsSliceOf, IsSo, is_band_of, is_instant_of, is_slice_of}
+use Rattle.run_picture.specs.Trace.{Record, ATrack, AWait, ANever, ATask, AScope, AClosing, AnArrow, AnInstant, arrow_from, arrow_in, band_in, beginning, cancel_from, cancel_records, closing_from, closing_in, forked_records, instant_in, micros, never_in, reached_from, records, result_in, scope_records, slice_in, stretch_in, task_records, track_in, wait_by, wait_in}
+use Rattle.run_picture.specs.Traced.{CancelledFrom, EachCancelHasOneInstant, EachClosingHasOneInstant, EachRecordIsSo, EachScopeHasOneSlice, EachTaskBeginsOnce, EachTaskHasOneSlice, EndsBy, GoesFrom, IsArrowOf, IsBandOf, IsClosingOf, IsInstantOf, IsNeverOf, IsSliceOf, IsSo, IsTrackOf, IsWait, IsWaitOf, is_band_of, is_beginning_of, is_closing_of, is_instant_of, is_slice_of}
 use Rattle.run_picture.proofs.Cancelled.{cancelled_drawn}
 use Rattle.run_picture.proofs.Counted.{once_counted}
+use Rattle.run_picture.proofs.Covered.{begins_is, begins_there}
 use Rattle.run_picture.proofs.Drawings.{everywhere_all, none_in_all}
 use Rattle.run_picture.proofs.Ended.{ended_is, started_is}
 use Rattle.run_picture.proofs.Searched.{any_alike, any_take, closed_anywhere}
-use Rattle.run_picture.proofs.Truthful.{cancel_there, everywhere_or}
+use Rattle.run_picture.proofs.Truthful.{cancel_there, everywhere_if, everywhere_or}
 
 -- ---- how many there are
 
@@ -59,45 +63,117 @@ one_of_all test f s a n c here other lower upper = once_counted test f s c a eac
 
 -- ---- tasks
 
-task_counts : (h : History) (times : List ℕ) (k x : ℕ) → count_in (is_slice_of k) (task_slice h times x) ≡ option_map_or (λ (f : Forking). cond (is_some (first_place landmark.Started h.events x)) (cond (x == k) 1 0) 0) (forking h x) 0
-unfolding task_slice
-task_counts h times k x = by (forking h x)
+-- what the test says of the records of task x: of its beginning, and of its run
+record TaskTest (test : Record → Bool) (h : History) (times : List ℕ) (x : ℕ) (begins runs : Bool) : Type 0 where
+  tracks : (f : Forking) → test (ATrack (track_in x f)) ≡ false
+  nevers : (f : Forking) → test (ANever (never_in times x f)) ≡ begins
+  waits : (f : Forking) → test (AWait (wait_in h times x f)) ≡ begins
+  slices : (f : Forking) (from : ℕ) → test (ATask (slice_in h times x f from (first_place landmark.Ended h.events x))) ≡ runs
+
+-- 1, if it is so
+abbrev unit : Bool → ℕ
+unit b = cond b 1 0
+
+abbrev task_weight : History → ℕ → Bool → Bool → Option Forking → ℕ
+task_weight h x begins runs o = option_map_or (λ (f : Forking). unit begins + cond (is_some (first_place landmark.Started h.events x)) (unit runs) 0) o 0
+
+task_counts : (test : Record → Bool) (h : History) (times : List ℕ) (x : ℕ) (begins runs : Bool) → TaskTest test h times x begins runs → count_in test (task_records h times x) ≡ task_weight h x begins runs (forking h x)
+unfolding task_records
+task_counts test h times x begins runs it = by (forking h x)
   where
-    by_start : (f : Forking) (o : Option ℕ) → count_in (is_slice_of k) (option_map_or (λ from. One (ATask (slice_in h times x f from (first_place landmark.Ended h.events x)))) o Blank) ≡ cond (is_some o) (cond (x == k) 1 0) 0
+    by_begin : (f : Forking) (b : Bool) → count_in test (cond b (One (ANever (never_in times x f))) (One (AWait (wait_in h times x f)))) ≡ unit begins
+    by_begin f true = ap unit (it.nevers f)
+    by_begin f false = ap unit (it.waits f)
+
+    by_start : (f : Forking) (o : Option ℕ) → count_in test (option_map_or (λ from. One (ATask (slice_in h times x f from (first_place landmark.Ended h.events x)))) o Blank) ≡ cond (is_some o) (unit runs) 0
     by_start f None = refl
-    by_start f (Some from) = refl
+    by_start f (Some from) = ap unit (it.slices f from)
 
-    by : (o : Option Forking) → count_in (is_slice_of k) (option_map_or (task_from h times x) o Blank) ≡ option_map_or (λ (f : Forking). cond (is_some (first_place landmark.Started h.events x)) (cond (x == k) 1 0) 0) o 0
+    by : (o : Option Forking) → count_in test (option_map_or (forked_records h times x) o Blank) ≡ task_weight h x begins runs o
     by None = refl
-    by (Some f) = by_start f (first_place landmark.Started h.events x)
+    by (Some f) =
+        let track : unit (test (ATrack (track_in x f))) ≡ 0 = ap unit (it.tracks f) in
+        let begin = by_begin f (cancelled_before h f.scope f.place) in
+        let run = by_start f (first_place landmark.Started h.events x) in
+        omega (arith, track, begin, run)
 
-task_here : (h : History) (times : List ℕ) (k : ℕ) (f : Forking) → forking h k ≡ Some f → count_in (is_slice_of k) (task_slice h times k) ≡ cond (started h k) 1 0
-task_here h times k f is =
-    task_counts h times k k
-    ∙ (ap (λ (o : Option Forking). option_map_or (λ (g : Forking). cond (is_some (first_place landmark.Started h.events k)) (cond (k == k) 1 0) 0) o 0) is
-    ∙ (ap (λ b. cond (is_some (first_place landmark.Started h.events k)) (cond b 1 0) 0) (eq-eqb k k refl)
-    ∙ ap (λ b. cond b 1 0) (started_is h k)))
+abbrev none_by : Bool → ℕ
+none_by b = cond b 0 0
 
-abbrev zero_by : Bool → ℕ
-zero_by b = cond b 0 0
+zero_by : (b : Bool) → none_by b ≡ 0
+zero_by true = refl
+zero_by false = refl
 
-zero_either : (b : Bool) → zero_by b ≡ 0
-zero_either true = refl
-zero_either false = refl
+one_by : (b : Bool) → 1 + none_by b ≡ 1
+one_by true = refl
+one_by false = refl
 
-task_elsewhere : (h : History) (times : List ℕ) (k x : ℕ) → x ≢ k → count_in (is_slice_of k) (task_slice h times x) ≡ 0
-task_elsewhere h times k x differ =
-    task_counts h times k x
-    ∙ (ap (λ b. option_map_or (λ (f : Forking). cond (is_some (first_place landmark.Started h.events x)) (cond b 1 0) 0) (forking h x) 0) (ne_eqb x k differ)
-    ∙ by (forking h x))
+no_task : (test : Record → Bool) (h : History) (times : List ℕ) (x : ℕ) → TaskTest test h times x false false → count_in test (task_records h times x) ≡ 0
+no_task test h times x it = task_counts test h times x false false it ∙ by (forking h x)
   where
-    by : (o : Option Forking) → option_map_or (λ (f : Forking). zero_by (is_some (first_place landmark.Started h.events x))) o 0 ≡ 0
+    by : (o : Option Forking) → task_weight h x false false o ≡ 0
     by None = refl
-    by (Some f) = zero_either (is_some (first_place landmark.Started h.events x))
+    by (Some f) = let none = zero_by (is_some (first_place landmark.Started h.events x)) in omega (arith, none)
 
-no_bands : (h : History) (times : List ℕ) (k s : ℕ) → count_in (is_slice_of k) (scope_slice h times s) ≡ 0
-unfolding scope_slice
-no_bands h times k s = none_or (is_slice_of k) (λ o. One (AScope (band_in h times s o))) (opening h s) (λ o. refl)
+slice_test : (h : History) (times : List ℕ) (k x : ℕ) → TaskTest (is_slice_of k) h times x false (x == k)
+slice_test h times k x = record { tracks = λ f. refl; nevers = λ f. refl; waits = λ f. refl; slices = λ f from. refl }
+
+beginning_test : (h : History) (times : List ℕ) (k x : ℕ) → TaskTest (is_beginning_of k) h times x (x == k) false
+beginning_test h times k x = record { tracks = λ f. refl; nevers = λ f. refl; waits = λ f. refl; slices = λ f from. refl }
+
+slice_here : (h : History) (times : List ℕ) (k : ℕ) (f : Forking) → forking h k ≡ Some f → count_in (is_slice_of k) (task_records h times k) ≡ cond (started h k) 1 0
+slice_here h times k f is =
+    task_counts (is_slice_of k) h times k false (k == k) (slice_test h times k k)
+    ∙ (ap (task_weight h k false (k == k)) is
+    ∙ (ap (λ b. 0 + cond (is_some (first_place landmark.Started h.events k)) (unit b) 0) (eq-eqb k k refl)
+    ∙ ap (λ b. 0 + cond b 1 0) (started_is h k)
+    ∙ plain (cond (started h k) 1 0)))
+  where
+    plain : (n : ℕ) → 0 + n ≡ n
+    plain n = omega arith
+
+beginning_here : (h : History) (times : List ℕ) (k : ℕ) (f : Forking) → forking h k ≡ Some f → count_in (is_beginning_of k) (task_records h times k) ≡ 1
+beginning_here h times k f is =
+    task_counts (is_beginning_of k) h times k (k == k) false (beginning_test h times k k)
+    ∙ (ap (task_weight h k (k == k) false) is
+    ∙ (ap (λ b. unit b + none_by (is_some (first_place landmark.Started h.events k))) (eq-eqb k k refl)
+    ∙ one_by (is_some (first_place landmark.Started h.events k))))
+
+slice_elsewhere : (h : History) (times : List ℕ) (k x : ℕ) → x ≢ k → count_in (is_slice_of k) (task_records h times x) ≡ 0
+slice_elsewhere h times k x differ = no_task (is_slice_of k) h times x (record { tracks = λ f. refl; nevers = λ f. refl; waits = λ f. refl; slices = λ f from. ne_eqb x k differ })
+
+beginning_elsewhere : (h : History) (times : List ℕ) (k x : ℕ) → x ≢ k → count_in (is_beginning_of k) (task_records h times x) ≡ 0
+beginning_elsewhere h times k x differ = no_task (is_beginning_of k) h times x (record { tracks = λ f. refl; nevers = λ f. ne_eqb x k differ; waits = λ f. ne_eqb x k differ; slices = λ f from. refl })
+
+-- what the test says of the records of scope x: of its band, and of where it begins to close
+record ScopeTest (test : Record → Bool) (h : History) (times : List ℕ) (x : ℕ) (bands closes : Bool) : Type 0 where
+  bands_are : (o : Opening) → test (AScope (band_in h times x o)) ≡ bands
+  closings_are : (o : Opening) (place : ℕ) → test (AClosing (closing_in times x o place)) ≡ closes
+
+abbrev scope_weight : History → ℕ → Bool → Bool → Option Opening → ℕ
+scope_weight h x bands closes o = option_map_or (λ (y : Opening). unit bands + cond (is_some (begins_to_close h x)) (unit closes) 0) o 0
+
+scope_counts : (test : Record → Bool) (h : History) (times : List ℕ) (x : ℕ) (bands closes : Bool) → ScopeTest test h times x bands closes → count_in test (scope_records h times x) ≡ scope_weight h x bands closes (opening h x)
+unfolding scope_records
+scope_counts test h times x bands closes it = by (opening h x)
+  where
+    by_close : (o : Opening) (p : Option ℕ) → count_in test (option_map_or (λ place. One (AClosing (closing_in times x o place))) p Blank) ≡ cond (is_some p) (unit closes) 0
+    by_close o None = refl
+    by_close o (Some place) = ap unit (it.closings_are o place)
+
+    by : (o : Option Opening) → count_in test (option_map_or (λ y. Both (One (AScope (band_in h times x y))) (closing_from h times x y)) o Blank) ≡ scope_weight h x bands closes o
+    by None = refl
+    by (Some o) =
+        let band : unit (test (AScope (band_in h times x o))) ≡ unit bands = ap unit (it.bands_are o) in
+        let close = by_close o (begins_to_close h x) in
+        omega (arith, band, close)
+
+no_scope : (test : Record → Bool) (h : History) (times : List ℕ) (x : ℕ) → ScopeTest test h times x false false → count_in test (scope_records h times x) ≡ 0
+no_scope test h times x it = scope_counts test h times x false false it ∙ by (opening h x)
+  where
+    by : (o : Option Opening) → scope_weight h x false false o ≡ 0
+    by None = refl
+    by (Some o) = let none = zero_by (is_some (begins_to_close h x)) in omega (arith, none)
 
 reached_none : (test : Record → Bool) (h : History) (times : List ℕ) (s owner place : ℕ) (cause : Cause) → test (AnInstant (instant_in times s owner place cause)) ≡ false → ((o : Opening) → test (AnArrow (arrow_in times s o.actor owner place)) ≡ false) → count_in test (reached_from h times s owner place cause) ≡ 0
 reached_none test h times s owner place cause instant arrow =
@@ -118,36 +194,58 @@ cancels_none test h times instants arrows s =
 pub each_task : EachTaskHasOneSlice
 each_task h times k f is =
     let it = forked_after h k f is in
-    let found = one_of_all (is_slice_of k) (task_slice h times) k (h.base.tasks + 1) (forked_count h) (cond (started h k) 1 0) (task_here h times k f is) (task_elsewhere h times k) (omega (arith, it.2)) (omega (arith, it.1, it.2)) in
-    let bands = none_in_all (is_slice_of k) (scope_slice h times) (scope_numbers h) (no_bands h times k) in
+    let found = one_of_all (is_slice_of k) (task_records h times) k (h.base.tasks + 1) (forked_count h) (cond (started h k) 1 0) (slice_here h times k f is) (slice_elsewhere h times k) (omega (arith, it.2)) (omega (arith, it.1, it.2)) in
+    let scopes = none_in_all (is_slice_of k) (scope_records h times) (scope_numbers h) (λ s. no_scope (is_slice_of k) h times s (record { bands_are = λ o. refl; closings_are = λ o p. refl })) in
     let cancels = none_in_all (is_slice_of k) (cancel_records h times) (scope_numbers h) (cancels_none (is_slice_of k) h times (λ s owner place cause. refl) (λ s from owner place. refl)) in
-    omega (arith, found, bands, cancels)
+    omega (arith, found, scopes, cancels)
+
+pub each_beginning : EachTaskBeginsOnce
+each_beginning h times k f is =
+    let it = forked_after h k f is in
+    let found = one_of_all (is_beginning_of k) (task_records h times) k (h.base.tasks + 1) (forked_count h) 1 (beginning_here h times k f is) (beginning_elsewhere h times k) (omega (arith, it.2)) (omega (arith, it.1, it.2)) in
+    let scopes = none_in_all (is_beginning_of k) (scope_records h times) (scope_numbers h) (λ s. no_scope (is_beginning_of k) h times s (record { bands_are = λ o. refl; closings_are = λ o p. refl })) in
+    let cancels = none_in_all (is_beginning_of k) (cancel_records h times) (scope_numbers h) (cancels_none (is_beginning_of k) h times (λ s owner place cause. refl) (λ s from owner place. refl)) in
+    omega (arith, found, scopes, cancels)
 
 -- ---- scopes
 
-no_slices : (test : Record → Bool) (h : History) (times : List ℕ) → ((k : ℕ) (f : Forking) (from : ℕ) → test (ATask (slice_in h times k f from (first_place landmark.Ended h.events k))) ≡ false) → (k : ℕ) → count_in test (task_slice h times k) ≡ 0
-unfolding task_slice
-no_slices test h times none k =
-    none_or test (task_from h times k) (forking h k)
-    (λ f. none_or test (λ from. One (ATask (slice_in h times k f from (first_place landmark.Ended h.events k)))) (first_place landmark.Started h.events k) (λ from. ap (λ b. cond b 1 0) (none k f from)))
+no_task_test : (test : Record → Bool) (h : History) (times : List ℕ) (x : ℕ) → ((f : Forking) → test (ATrack (track_in x f)) ≡ false) → ((f : Forking) → test (ANever (never_in times x f)) ≡ false) → ((f : Forking) → test (AWait (wait_in h times x f)) ≡ false) →
+    ((f : Forking) (from : ℕ) → test (ATask (slice_in h times x f from (first_place landmark.Ended h.events x))) ≡ false) → TaskTest test h times x false false
+no_task_test test h times x tracks nevers waits slices = record { tracks = tracks; nevers = nevers; waits = waits; slices = slices }
 
-band_here : (h : History) (times : List ℕ) (s : ℕ) (o : Opening) → opening h s ≡ Some o → count_in (is_band_of s) (scope_slice h times s) ≡ 1
-unfolding scope_slice
+band_here : (h : History) (times : List ℕ) (s : ℕ) (o : Opening) → opening h s ≡ Some o → count_in (is_band_of s) (scope_records h times s) ≡ 1
 band_here h times s o is =
-    ap (λ (x : Option Opening). count_in (is_band_of s) (option_map_or (λ y. One (AScope (band_in h times s y))) x Blank)) is
-    ∙ ap (λ b. cond b 1 0) (eq-eqb s s refl)
-
-band_elsewhere : (h : History) (times : List ℕ) (s x : ℕ) → x ≢ s → count_in (is_band_of s) (scope_slice h times x) ≡ 0
-unfolding scope_slice
-band_elsewhere h times s x differ = none_or (is_band_of s) (λ o. One (AScope (band_in h times x o))) (opening h x) (λ o. ap (λ b. cond b 1 0) (ne_eqb x s differ))
+    scope_counts (is_band_of s) h times s (s == s) false (record { bands_are = λ x. refl; closings_are = λ x p. refl })
+    ∙ (ap (scope_weight h s (s == s) false) is
+    ∙ (ap (λ b. unit b + none_by (is_some (begins_to_close h s))) (eq-eqb s s refl)
+    ∙ one_by (is_some (begins_to_close h s))))
 
 pub each_scope : EachScopeHasOneSlice
 each_scope h times s o is =
     let it = opened_after h s o is in
-    let found = one_of_all (is_band_of s) (scope_slice h times) s (h.base.scopes + 1) (opened_count h) 1 (band_here h times s o is) (band_elsewhere h times s) (omega (arith, it.2)) (omega (arith, it.1, it.2)) in
-    let slices = none_in_all (is_band_of s) (task_slice h times) (task_numbers h) (no_slices (is_band_of s) h times (λ k f from. refl)) in
+    let found = one_of_all (is_band_of s) (scope_records h times) s (h.base.scopes + 1) (opened_count h) 1 (band_here h times s o is) (λ x differ. no_scope (is_band_of s) h times x (record { bands_are = λ y. ne_eqb x s differ; closings_are = λ y p. refl })) (omega (arith, it.2)) (omega (arith, it.1, it.2)) in
+    let tasks = none_in_all (is_band_of s) (task_records h times) (task_numbers h) (λ k. no_task (is_band_of s) h times k (no_task_test (is_band_of s) h times k (λ f. refl) (λ f. refl) (λ f. refl) (λ f from. refl))) in
     let cancels = none_in_all (is_band_of s) (cancel_records h times) (scope_numbers h) (cancels_none (is_band_of s) h times (λ x owner place cause. refl) (λ x from owner place. refl)) in
-    omega (arith, found, slices, cancels)
+    omega (arith, found, tasks, cancels)
+
+closing_here : (L : Limits) (h : History) (times : List ℕ) (s : ℕ) (o : Opening) → Legal L h → opening h s ≡ Some o → count_in (is_closing_of s) (scope_records h times s) ≡ cond (closing h s) 1 0
+closing_here L h times s o legal is =
+    scope_counts (is_closing_of s) h times s false (s == s) (record { bands_are = λ x. refl; closings_are = λ x p. refl })
+    ∙ (ap (scope_weight h s false (s == s)) is
+    ∙ (ap (λ b. 0 + cond (is_some (begins_to_close h s)) (unit b) 0) (eq-eqb s s refl)
+    ∙ (ap (λ b. 0 + cond b 1 0) (begins_is L h s legal (ap is_some is))
+    ∙ plain (cond (closing h s) 1 0))))
+  where
+    plain : (n : ℕ) → 0 + n ≡ n
+    plain n = omega arith
+
+pub each_closing : EachClosingHasOneInstant
+each_closing L h times s o legal is =
+    let it = opened_after h s o is in
+    let found = one_of_all (is_closing_of s) (scope_records h times) s (h.base.scopes + 1) (opened_count h) (cond (closing h s) 1 0) (closing_here L h times s o legal is) (λ x differ. no_scope (is_closing_of s) h times x (record { bands_are = λ y. refl; closings_are = λ y p. ne_eqb x s differ })) (omega (arith, it.2)) (omega (arith, it.1, it.2)) in
+    let tasks = none_in_all (is_closing_of s) (task_records h times) (task_numbers h) (λ k. no_task (is_closing_of s) h times k (no_task_test (is_closing_of s) h times k (λ f. refl) (λ f. refl) (λ f. refl) (λ f from. refl))) in
+    let cancels = none_in_all (is_closing_of s) (cancel_records h times) (scope_numbers h) (cancels_none (is_closing_of s) h times (λ x owner place cause. refl) (λ x from owner place. refl)) in
+    omega (arith, found, tasks, cancels)
 
 -- ---- cancels
 
@@ -183,17 +281,13 @@ cancel_elsewhere h times s x differ =
         let other = arrow_none h times s x o.actor c.0 c.1 in
         omega (arith, one, other)
 
-no_band : (h : History) (times : List ℕ) (s x : ℕ) → count_in (is_instant_of s) (scope_slice h times x) ≡ 0
-unfolding scope_slice
-no_band h times s x = none_or (is_instant_of s) (λ y. One (AScope (band_in h times x y))) (opening h x) (λ y. refl)
-
 pub each_cancel : EachCancelHasOneInstant
 each_cancel h times s o is =
     let it = opened_after h s o is in
     let found = one_of_all (is_instant_of s) (cancel_records h times) s (h.base.scopes + 1) (opened_count h) (cond (is_cancelled h s) 1 0) (cancel_here h times s o is) (cancel_elsewhere h times s) (omega (arith, it.2)) (omega (arith, it.1, it.2)) in
-    let slices = none_in_all (is_instant_of s) (task_slice h times) (task_numbers h) (no_slices (is_instant_of s) h times (λ k f from. refl)) in
-    let bands = none_in_all (is_instant_of s) (scope_slice h times) (scope_numbers h) (no_band h times s) in
-    omega (arith, found, slices, bands)
+    let tasks = none_in_all (is_instant_of s) (task_records h times) (task_numbers h) (λ k. no_task (is_instant_of s) h times k (no_task_test (is_instant_of s) h times k (λ f. refl) (λ f. refl) (λ f. refl) (λ f from. refl))) in
+    let scopes = none_in_all (is_instant_of s) (scope_records h times) (scope_numbers h) (λ x. no_scope (is_instant_of s) h times x (record { bands_are = λ y. refl; closings_are = λ y p. refl })) in
+    omega (arith, found, tasks, scopes)
 
 -- ---- what they say
 
@@ -219,12 +313,16 @@ closed_named : (s : ℕ) (e : Event) → is_named landmark.Closed s e ≡ true �
 closed_named s (event.EndClose actor scope) so = so
 closed_named s _ so = absurd cc
 
-goes : (times : List ℕ) (track from : ℕ) (to : Option ℕ) → GoesFrom times (stretch_in times track from to) track from to
-goes times track from to = record {
+started_named : (k : ℕ) (e : Event) → is_named landmark.Started k e ≡ true → starts k e ≡ true
+started_named k (event.Start task) so = so
+started_named k _ so = absurd cc
+
+goes : (h : History) (times : List ℕ) (track from : ℕ) (to : Option ℕ) → GoesFrom h times (stretch_in h times track from to) track from to
+goes h times track from to = record {
   on = refl;
   at = refl;
-  open_end = λ none. ap (option_map (λ place. micros times place - micros times from)) none;
-  ended = λ i is. ap (option_map (λ place. micros times place - micros times from)) is;
+  goes_on = λ none. ap (λ o. micros times (unwrap_or o (length h.events)) - micros times from) none;
+  ended = λ i is. ap (λ o. micros times (unwrap_or o (length h.events)) - micros times from) is;
 }
 
 none_some : {A : Type 0} (o : Option A) → o ≡ None → is_some o ≡ false
@@ -243,7 +341,7 @@ module _ (h : History) (times : List ℕ) where
         from = from;
         begins = start.1 ∙ ap Some (start_is k start.0 start.2);
         to = first_place landmark.Ended h.events k;
-        goes = goes times k from (first_place landmark.Ended h.events k);
+        goes = goes h times k from (first_place landmark.Ended h.events k);
         ends = record {
           here = λ i at. let it = placed landmark.Ended h.events k i at in (it.0, it.1, ended_named k it.0 it.2);
           never = λ none. sym (ended_is h k) ∙ none_some (first_place landmark.Ended h.events k) none;
@@ -256,27 +354,87 @@ module _ (h : History) (times : List ℕ) where
       result_so None st so = absurd cc
       result_so (Some i) st so = cc
 
-  tasks_so : (k : ℕ) → Everywhere (IsSo h times) (task_slice h times k)
-  unfolding task_slice
+  never_so : (k : ℕ) (f : Forking) → forking h k ≡ Some f → cancelled_before h f.scope f.place ≡ true → IsNeverOf h times (never_in times k f) k
+  never_so k f is under = record { forked = f; is = is; at = refl; scope = refl; cancelled = under }
+
+  -- where the wait of a task ends, and how
+  wait_ends : (k : ℕ) (start end : Option ℕ) → first_place landmark.Started h.events k ≡ start → first_place landmark.Ended h.events k ≡ end →
+      EndsBy h (λ e. starts k e || (rejects k e || finishes k e)) (started h k || (rejected h k || finished h k)) (option_or start end) × IsWait h k (wait_by start end)
+  wait_ends k (Some i) end begun over =
+      let it = placed landmark.Started h.events k i begun in
+      let ran : started h k ≡ true = sym (started_is h k) ∙ ap is_some begun in (
+        record {
+          here = λ j at. let same : i ≡ j = cc in (it.0, subst (λ n. slice_get h.events n ≡ Some it.0) same it.1, ap (λ b. b || (rejects k it.0 || finishes k it.0)) (started_named k it.0 it.2));
+          never = λ none. absurd cc;
+        },
+        ran,
+      )
+  wait_ends k None (Some i) begun over =
+      let it = placed landmark.Ended h.events k i over in
+      let unrun : started h k ≡ false = sym (started_is h k) ∙ ap is_some begun in
+      let ran : (rejected h k || finished h k) ≡ true = sym (ended_is h k) ∙ ap is_some over in (
+        record {
+          here = λ j at. let same : i ≡ j = cc in (it.0, subst (λ n. slice_get h.events n ≡ Some it.0) same it.1, either (starts k it.0) (ended_named k it.0 it.2));
+          never = λ none. absurd cc;
+        },
+        (unrun, ran),
+      )
+    where
+      either : (a : Bool) {b : Bool} → b ≡ true → (a || b) ≡ true
+      either true is = refl
+      either false is = is
+  wait_ends k None None begun over =
+      let unrun : started h k ≡ false = sym (started_is h k) ∙ ap is_some begun in
+      let lives : (rejected h k || finished h k) ≡ false = sym (ended_is h k) ∙ ap is_some over in
+      (record { here = λ j at. absurd cc; never = λ none. ap (λ b. b || (rejected h k || finished h k)) unrun ∙ lives }, (unrun, lives))
+
+  wait_so : (k : ℕ) (f : Forking) → forking h k ≡ Some f → cancelled_before h f.scope f.place ≡ false → IsWaitOf h times (wait_in h times k f) k
+  wait_so k f is free =
+      let it = wait_ends k (first_place landmark.Started h.events k) (first_place landmark.Ended h.events k) refl refl in
+      record {
+        forked = f;
+        is = is;
+        scope = refl;
+        free = free;
+        to = option_or (first_place landmark.Started h.events k) (first_place landmark.Ended h.events k);
+        goes = goes h times k f.place (option_or (first_place landmark.Started h.events k) (first_place landmark.Ended h.events k));
+        ends = it.0;
+        wait = it.1;
+      }
+
+  beginning_so : (k : ℕ) (f : Forking) → forking h k ≡ Some f → Everywhere (IsSo h times) (beginning h times k f)
+  beginning_so k f is = everywhere_if (IsSo h times) (cancelled_before h f.scope f.place) (One (ANever (never_in times k f))) (One (AWait (wait_in h times k f))) (never_so k f is) (wait_so k f is)
+
+  tasks_so : (k : ℕ) → Everywhere (IsSo h times) (task_records h times k)
+  unfolding task_records
   tasks_so k =
-      everywhere_or (IsSo h times) (task_from h times k) (forking h k)
-      (λ f is. everywhere_or (IsSo h times) (λ from. One (ATask (slice_in h times k f from (first_place landmark.Ended h.events k)))) (first_place landmark.Started h.events k) (λ from began. task_so k f from is began))
+      everywhere_or (IsSo h times) (forked_records h times k) (forking h k)
+      (λ f is. (
+        record { forked = f; is = is; name = refl },
+        (beginning_so k f is, everywhere_or (IsSo h times) (λ from. One (ATask (slice_in h times k f from (first_place landmark.Ended h.events k)))) (first_place landmark.Started h.events k) (λ from began. task_so k f from is began)),
+      ))
 
   scope_so : (s : ℕ) (o : Opening) → opening h s ≡ Some o → IsBandOf h times (band_in h times s o) s
   scope_so s o is = record {
     opened = o;
     is = is;
     to = first_place landmark.Closed h.events s;
-    goes = goes times o.actor o.place (first_place landmark.Closed h.events s);
+    goes = goes h times o.actor o.place (first_place landmark.Closed h.events s);
     ends = record {
       here = λ i at. let it = placed landmark.Closed h.events s i at in (it.0, it.1, closed_named s it.0 it.2);
       never = λ none. sym (closed_anywhere h s) ∙ none_some (first_place landmark.Closed h.events s) none;
     };
+    told = closed_anywhere h s;
   }
 
-  scopes_so : (s : ℕ) → Everywhere (IsSo h times) (scope_slice h times s)
-  unfolding scope_slice
-  scopes_so s = everywhere_or (IsSo h times) (λ o. One (AScope (band_in h times s o))) (opening h s) (scope_so s)
+  closing_so : (s : ℕ) (o : Opening) (place : ℕ) → opening h s ≡ Some o → begins_to_close h s ≡ Some place → IsClosingOf h times (closing_in times s o place) s
+  closing_so s o place is begins = record { opened = o; is = is; on = refl; place = place; at = refl; covers = λ L legal. sym (begins_there L h s legal (ap is_some is)) ∙ begins }
+
+  scopes_so : (s : ℕ) → Everywhere (IsSo h times) (scope_records h times s)
+  unfolding scope_records
+  scopes_so s =
+      everywhere_or (IsSo h times) (λ o. Both (One (AScope (band_in h times s o))) (closing_from h times s o)) (opening h s)
+      (λ o is. (scope_so s o is, everywhere_or (IsSo h times) (λ place. One (AClosing (closing_in times s o place))) (begins_to_close h s) (λ place begins. closing_so s o place is begins)))
 
   arrow_so : (s : ℕ) (o : Opening) (c : ℕ × Cause) → opening h s ≡ Some o → cancellation h s ≡ Some c → Everywhere (IsSo h times) (arrow_from h times s o.actor c.0 c.1)
   arrow_so s o c is first_cancel = by (c.1.scope == s)
@@ -310,6 +468,6 @@ module _ (h : History) (times : List ℕ) where
 
 pub each_record : EachRecordIsSo
 each_record h times = (
-  everywhere_all (IsSo h times) (task_slice h times) (task_numbers h) (tasks_so h times),
-  (everywhere_all (IsSo h times) (scope_slice h times) (scope_numbers h) (scopes_so h times), everywhere_all (IsSo h times) (cancel_records h times) (scope_numbers h) (cancels_so h times)),
+  everywhere_all (IsSo h times) (task_records h times) (task_numbers h) (tasks_so h times),
+  (everywhere_all (IsSo h times) (scope_records h times) (scope_numbers h) (scopes_so h times), everywhere_all (IsSo h times) (cancel_records h times) (scope_numbers h) (cancels_so h times)),
 )

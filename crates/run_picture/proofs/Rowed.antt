@@ -56,8 +56,8 @@ scope_node_is h s o is =
 
 -- if the lane of task k has so many figures of the kind, and no other row has one
 pub task_rows : (h : History) (d : Sheet) (test : Figure → Bool) (k c : ℕ) (f : Forking) → forking h k ≡ Some f →
-    ((row depth : ℕ) → count_in test (task_lane h d row depth k) ≡ c) →
-    ((x row depth : ℕ) → (x == k) ≡ false → count_in test (task_lane h d row depth x) ≡ 0) →
+    ((row depth : ℕ) (folded : Option Folded) → count_in test (task_lane h d row depth k folded) ≡ c) →
+    ((x row depth : ℕ) (folded : Option Folded) → (x == k) ≡ false → count_in test (task_lane h d row depth x folded) ≡ 0) →
     ((row depth s : ℕ) (folded : Option Folded) → count_in test (scope_lane h d row depth s folded) ≡ 0) →
     (i : ℕ) (r : Row) → count_in test (row_drawn h d i r) ≡ cond (r.node == task_node h k) c 0
 task_rows h d test k c f is here other scope i r =
@@ -68,11 +68,11 @@ task_rows h d test k c f is here other scope i r =
             | inl same ↦
                 let numbered : h.base.tasks + 1 + r.node ≡ k = omega (arith, same, it.2) in
                 ap (λ n. count_in test (node_lane h d i r n)) (task_at h r.node small ∙ ap (λ x. Some (node.Task x)) numbered)
-                ∙ (here i r.depth ∙ sym (ap (λ b. cond b c 0) (eq-eqb r.node (task_node h k) (same ∙ sym it.3))))
+                ∙ (here i r.depth r.folded ∙ sym (ap (λ b. cond b c 0) (eq-eqb r.node (task_node h k) (same ∙ sym it.3))))
             | inr differ ↦
                 let apart : h.base.tasks + 1 + r.node ≢ k = λ same. differ (omega (arith, same, it.2)) in
                 ap (λ n. count_in test (node_lane h d i r n)) (task_at h r.node small)
-                ∙ (other (h.base.tasks + 1 + r.node) i r.depth (ne_eqb (h.base.tasks + 1 + r.node) k apart) ∙ sym (ap (λ b. cond b c 0) (ne_eqb r.node (task_node h k) (λ same. differ (same ∙ it.3)))))
+                ∙ (other (h.base.tasks + 1 + r.node) i r.depth r.folded (ne_eqb (h.base.tasks + 1 + r.node) k apart) ∙ sym (ap (λ b. cond b c 0) (ne_eqb r.node (task_node h k) (λ same. differ (same ∙ it.3)))))
           ]
       | inr more ↦
           let apart : r.node ≢ task_node h k = λ same. omega (arith, same, it.3, it.1, more) in
@@ -89,7 +89,7 @@ task_rows h d test k c f is here other scope i r =
 pub scope_rows : (h : History) (d : Sheet) (test : Figure → Bool) (s c : ℕ) (o : Opening) → opening h s ≡ Some o →
     ((row depth : ℕ) (folded : Option Folded) → count_in test (scope_lane h d row depth s folded) ≡ c) →
     ((x row depth : ℕ) (folded : Option Folded) → (x == s) ≡ false → count_in test (scope_lane h d row depth x folded) ≡ 0) →
-    ((row depth k : ℕ) → count_in test (task_lane h d row depth k) ≡ 0) →
+    ((row depth k : ℕ) (folded : Option Folded) → count_in test (task_lane h d row depth k folded) ≡ 0) →
     (i : ℕ) (r : Row) → count_in test (row_drawn h d i r) ≡ cond (r.node == scope_node h s) c 0
 scope_rows h d test s c o is here other task i r =
     let it = scope_node_is h s o is in
@@ -97,7 +97,7 @@ scope_rows h d test s c o is here other task i r =
       | inl small ↦
           let apart : r.node ≢ scope_node h s = λ same. omega (arith, same, it.3, small) in
           ap (λ n. count_in test (node_lane h d i r n)) (task_at h r.node small)
-          ∙ (task i r.depth (h.base.tasks + 1 + r.node) ∙ sym (ap (λ b. cond b c 0) (ne_eqb r.node (scope_node h s) apart)))
+          ∙ (task i r.depth (h.base.tasks + 1 + r.node) r.folded ∙ sym (ap (λ b. cond b c 0) (ne_eqb r.node (scope_node h s) apart)))
       | inr more ↦
           ap (λ n. count_in test (node_lane h d i r n)) (scope_at h r.node more)
           ∙ elim (cases_eq r.node (scope_node h s)) [
@@ -118,11 +118,11 @@ scope_rows h d test s c o is here other task i r =
 
 -- ---- rows that draw none
 
-pub no_rows : (h : History) (d : Sheet) (test : Figure → Bool) → ((row depth k : ℕ) → count_in test (task_lane h d row depth k) ≡ 0) → ((row depth s : ℕ) (folded : Option Folded) → count_in test (scope_lane h d row depth s folded) ≡ 0) →
+pub no_rows : (h : History) (d : Sheet) (test : Figure → Bool) → ((row depth k : ℕ) (folded : Option Folded) → count_in test (task_lane h d row depth k folded) ≡ 0) → ((row depth s : ℕ) (folded : Option Folded) → count_in test (scope_lane h d row depth s folded) ≡ 0) →
     (i : ℕ) (r : Row) → count_in test (row_drawn h d i r) ≡ 0
 no_rows h d test task scope i r = by (node_of h r.node)
   where
     by : (o : Option Node) → count_in test (node_lane h d i r o) ≡ 0
-    by (Some (node.Task k)) = task i r.depth k
+    by (Some (node.Task k)) = task i r.depth k r.folded
     by (Some (node.Scope s)) = scope i r.depth s r.folded
     by None = refl

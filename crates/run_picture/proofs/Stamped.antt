@@ -9,8 +9,8 @@ use Rattle.scope_rules.specs.History.{History, forking, opening}
 use Rattle.scope_rules.specs.Tasks.{started}
 use Rattle.run_picture.specs.declared.landmarks.Landmark.TheVariants as landmark
 use Rattle.run_picture.specs.Landmarks.{first_place}
-use Rattle.run_picture.specs.Stamps.{open_time, opens_to, reading_at, start_time, starts_to}
-use Rattle.run_picture.specs.Traced.{EachStartTimeIsItsOwn, EachOpenTimeIsItsOwn}
+use Rattle.run_picture.specs.Stamps.{fork_time, forks_to, open_time, opens_to, reading_at, start_time, starts_to}
+use Rattle.run_picture.specs.Traced.{EachForkTimeIsItsOwn, EachStartTimeIsItsOwn, EachOpenTimeIsItsOwn}
 use Rattle.run_picture.proofs.Ended.{started_is}
 use Rattle.run_picture.proofs.Recorded.{placed, start_is}
 
@@ -21,6 +21,14 @@ starts_none h times = refl
 pub opens_none : (h : History) (times : List ℕ) → opens_to h times 0 ≡ []
 unfolding opens_to
 opens_none h times = refl
+
+pub forks_none : (h : History) (times : List ℕ) → forks_to h times 0 ≡ []
+unfolding forks_to
+forks_none h times = refl
+
+pub forks_more : (h : History) (times : List ℕ) (n : ℕ) → forks_to h times (n + 1) ≡ forks_to h times n ++ fork_time h times (h.base.tasks + 1 + n) ∷ []
+unfolding forks_to
+forks_more h times n = map-range_with_len_more (fork_time h times) (h.base.tasks + 1) n (h.base.tasks + 1 + n) (omega arith)
 
 pub starts_more : (h : History) (times : List ℕ) (n : ℕ) → starts_to h times (n + 1) ≡ starts_to h times n ++ start_time h times (h.base.tasks + 1 + n) ∷ []
 unfolding starts_to
@@ -43,3 +51,7 @@ each_start h times k f is ran = by (first_place landmark.Started h.events k) ref
 pub each_open : EachOpenTimeIsItsOwn
 unfolding open_time
 each_open h times s o is = ap (λ (x : Option Opening). option_map_or (λ y. reading_at times y.place) x 0) is
+
+pub each_fork : EachForkTimeIsItsOwn
+unfolding fork_time
+each_fork h times k f is = ap (λ (x : Option Forking). option_map_or (λ y. reading_at times y.place) x 0) is

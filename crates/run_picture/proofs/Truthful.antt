@@ -27,11 +27,12 @@ use Rattle.run_picture.specs.declared.rows.Node.{Node}
 use Rattle.run_picture.specs.declared.rows.Node.TheVariants as node
 use Rattle.run_picture.specs.declared.rows.Row.{Row}
 use Rattle.run_picture.specs.Cancels.{cancel_drawn, cancel_figures}
+use Rattle.run_picture.specs.Closings.{begins_to_close}
 use Rattle.run_picture.specs.Chart.{drawn_rows}
 use Rattle.run_picture.specs.Drawing as drawing
 use Rattle.run_picture.specs.Drawing.{Drawing, Everywhere, Figure, Blank, all, in_view}
 use Rattle.run_picture.specs.Events.{drawn, event_figures, marked, moment_line}
-use Rattle.run_picture.specs.Lanes.{bar_in, covering_place, earlier, end_mark, ended, fork_drawn, forked_lane, lane_by, life_drawn, node_lane, row_drawn, scope_lane, scope_of, started, task_lane}
+use Rattle.run_picture.specs.Lanes.{bar_in, end_mark, ended, fork_drawn, forked_lane, lane_by, life_drawn, node_lane, row_drawn, scope_lane, scope_of, started, task_lane}
 use Rattle.run_picture.specs.Marked.{ComesTo, there, inwards, EachMarkIsSo, HoldsAgainst, IsCancelledAt, IsReachOf, IsSo, StandsAt, TellsTruth}
 use Rattle.run_picture.specs.Parts.{Parts}
 use Rattle.run_picture.specs.Picture.{figures, indexes, places, row_at}
@@ -54,7 +55,7 @@ pub everywhere_or : {A B : Type 0} (P : B → Type 0) (draw : A → Parts B) (o 
 everywhere_or P draw None each = tt
 everywhere_or P draw (Some x) each = each x refl
 
-everywhere_if : (P : Figure → Type 0) (b : Bool) (one other : Drawing) → (b ≡ true → Everywhere P one) → (b ≡ false → Everywhere P other) → Everywhere P (cond b one other)
+pub everywhere_if : {A : Type 0} (P : A → Type 0) (b : Bool) (one other : Parts A) → (b ≡ true → Everywhere P one) → (b ≡ false → Everywhere P other) → Everywhere P (cond b one other)
 everywhere_if P true one other yes_so no_so = yes_so refl
 everywhere_if P false one other yes_so no_so = no_so refl
 
@@ -237,13 +238,13 @@ module _ (h : History) (d : Sheet) where
         everywhere_if (TellsTruth h d) (cancelled_before h f.scope f.place) (in_view d.view f.place (drawing.mark (mark_at h d f.place y (mark.Never k)))) (life_drawn h d y k f) (λ under. everywhere_in_view (TellsTruth h d) d.view f.place _ (under_cancel L h legal k f is under))
         (λ lives. (tt, (everywhere_or (TellsTruth h d) _ (started h k) (λ at ran. tt), everywhere_or (TellsTruth h d) (λ at. in_view d.view at (drawing.mark (mark_at h d at y (end_mark k (started h k) (state h k))))) (ended h k) (λ at ends. everywhere_in_view (TellsTruth h d) d.view at _ (end_so k at y f is lives ends)))))
 
-    task_so : (row depth k : ℕ) → Everywhere (TellsTruth h d) (task_lane h d row depth k)
+    task_so : (row depth k : ℕ) (folded : Option Folded) → Everywhere (TellsTruth h d) (task_lane h d row depth k folded)
     unfolding task_lane
-    task_so row depth k = everywhere_or (TellsTruth h d) (forked_lane h d row depth k) (forking h k) (λ f is. (tt, fork_so (row_y row) k f is))
+    task_so row depth k folded = everywhere_or (TellsTruth h d) (forked_lane h d row depth k folded) (forking h k) (λ f is. (tt, fork_so (row_y row) k f is))
 
   lane_so : (row depth s : ℕ) (folded : Option Folded) (o : Opening) → Everywhere (TellsTruth h d) (lane_by h d row depth s folded o)
   lane_so row depth s (Some f) o = (tt, tt)
-  lane_so row depth s None o = (tt, (tt, (everywhere_or (TellsTruth h d) _ (cancellation h s) (λ c is. tt), everywhere_or (TellsTruth h d) (λ at. drawing.bar (bar_in h d (row_y row) (scope_of s o) at (closed_place h s) shade.Closing fate.Closing)) (earlier (first_place landmark.Began h.events s) (covering_place h s)) (λ at is. tt))))
+  lane_so row depth s None o = (tt, (tt, (everywhere_or (TellsTruth h d) _ (cancellation h s) (λ c is. tt), everywhere_or (TellsTruth h d) (λ at. drawing.bar (bar_in h d (row_y row) (scope_of s o) at (closed_place h s) shade.Closing fate.Closing)) (begins_to_close h s) (λ at is. tt))))
 
   scope_so : (row depth s : ℕ) (folded : Option Folded) → Everywhere (TellsTruth h d) (scope_lane h d row depth s folded)
   unfolding scope_lane
@@ -251,7 +252,7 @@ module _ (h : History) (d : Sheet) where
 
   module _ (L : Limits) (legal : Legal L h) where
     node_so : (i : ℕ) (r : Row) (o : Option Node) → Everywhere (TellsTruth h d) (node_lane h d i r o)
-    node_so i r (Some (node.Task k)) = task_so L legal i r.depth k
+    node_so i r (Some (node.Task k)) = task_so L legal i r.depth k r.folded
     node_so i r (Some (node.Scope s)) = scope_so i r.depth s r.folded
     node_so i r None = tt
 

@@ -1,11 +1,13 @@
 -- What a row and a bar are called.
-use Rattle.std.specs.Prelude.{ℕ, ◌==◌, Bool, true, false, Option, None, Some, List, [], ◌++◌, codes, if◌then◌else◌}
+use Rattle.std.specs.Prelude.{ℕ, ◌==◌, Option, None, Some, List, [], ◌++◌, codes, if◌then◌else◌}
 use Rattle.std.specs.Fmt.{decimal}
 use Rattle.scope_rules.specs.Names.{text_of}
 use Rattle.scope_log.specs.LogText.{joiner_text, options_text}
 use Rattle.run_picture.specs.declared.captions.Fate.{Fate}
 use Rattle.run_picture.specs.declared.captions.Fate.TheVariants as fate
 use Rattle.run_picture.specs.declared.captions.Label.{Label}
+use Rattle.run_picture.specs.declared.captions.Measure.{Measure}
+use Rattle.run_picture.specs.declared.captions.Measure.TheVariants.{Events, Lines, Millis}
 use Rattle.run_picture.specs.declared.captions.ShownFork.{ShownFork}
 use Rattle.run_picture.specs.declared.captions.ShownScope.{ShownScope}
 use Rattle.run_picture.specs.declared.captions.Span.{Span}
@@ -46,22 +48,33 @@ fate_text fate.Open = []
 fate_text (fate.Cancelled cause) = cause_text cause
 fate_text fate.Closing = codes " closing"
 fate_text (fate.Folded folded) = folded_text folded
+fate_text (fate.More folded) = codes " and more" ++ folded_text folded
 fate_text fate.Waits = codes " waits"
 fate_text fate.Runs = codes " runs"
 fate_text (fate.Ended state) = ended_text state
 
 -- what is counted
-abbrev pub unit_word : Bool → List ℕ
-unit_word true = codes "line "
-unit_word false = codes "event "
+abbrev pub unit_word : Measure → List ℕ
+unit_word Events = codes "event "
+unit_word Lines = codes "line "
+unit_word Millis = []
 
-abbrev pub span_end : Option ℕ → List ℕ
-span_end (Some n) = codes " to " ++ decimal n
-span_end None = codes " on"
+-- the unit behind a number
+abbrev pub unit_end : Measure → List ℕ
+unit_end Millis = codes " ms"
+unit_end _ = []
 
--- from which event, or line, to which
+abbrev pub span_end : Measure → Option ℕ → List ℕ
+span_end m (Some n) = codes " to " ++ decimal n ++ unit_end m
+span_end m None = codes " on"
+
+abbrev pub lasting_text : Option ℕ → List ℕ
+lasting_text (Some millis) = codes " (" ++ decimal millis ++ codes " ms)"
+lasting_text None = []
+
+-- from which place to which, and how long that lasts
 unfoldable pub span_text : Span → List ℕ
-span_text s = codes ", " ++ unit_word s.lined ++ decimal s.from ++ span_end s.to ++ codes ":"
+span_text s = codes ", " ++ unit_word s.measure ++ decimal s.from ++ unit_end s.measure ++ span_end s.measure s.to ++ lasting_text s.lasts ++ codes ":"
 
 -- what is read if a bar is pointed at
 unfoldable pub title_text : Title → List ℕ

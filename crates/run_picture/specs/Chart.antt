@@ -10,6 +10,7 @@ use Rattle.run_picture.specs.declared.forest.Placed.{Placed}
 use Rattle.run_picture.specs.declared.landmarks.Landmark.TheVariants as landmark
 use Rattle.run_picture.specs.declared.rows.Row.{Row}
 use Rattle.run_picture.specs.Arounds.{IsNestOf}
+use Rattle.run_picture.specs.Closings.{AreClosings}
 use Rattle.run_picture.specs.Forest.{first_from, rows_from}
 use Rattle.run_picture.specs.Landmarks.{HasFirsts}
 use Rattle.run_picture.specs.Nodes.{keys, node_count, scope_node}
@@ -66,7 +67,7 @@ pub record IsChartOf (chart : Chart) (drawn : Drawn) (h : History) : Type 0 wher
   pub starts : HasFirsts chart.starts landmark.Started h.events h.base.tasks (forked_count h)
   pub ends : HasFirsts chart.ends landmark.Ended h.events h.base.tasks (forked_count h)
   pub joins : HasFirsts chart.joins landmark.Joined h.events h.base.scopes (opened_count h)
-  pub begins : HasFirsts chart.begins landmark.Began h.events h.base.scopes (opened_count h)
+  pub closings : AreClosings chart.closings h (opened_count h)
   pub rows : chart.rows.items ≡ drawn_rows h (sheet_of drawn)
   pub shown : AreShown chart.shown.items (drawn_rows h (sheet_of drawn)) (node_count h) (length (drawn_rows h (sheet_of drawn)))
   pub columns : chart.columns ≡ length h.events

@@ -21,9 +21,13 @@ abbrev pub axis_word : Bool → List ℕ
 axis_word true = codes "time in ms"
 axis_word false = codes "events, not time"
 
--- what the picture shows: so many events, up to this moment
+abbrev pub until_word : Bool → List ℕ
+until_word true = codes "in"
+until_word false = codes "up to"
+
+-- what the picture shows: so many events, up to this moment, or in this time
 unfoldable pub name_text : Frame → List ℕ
-name_text f = codes "<title>" ++ decimal f.columns ++ codes " events up to " ++ decimal f.now ++ codes " ms</title>\n"
+name_text f = codes "<title>" ++ decimal f.columns ++ codes " events " ++ until_word f.timed ++ codes " " ++ decimal f.now ++ codes " ms</title>\n"
 
 abbrev pub opened_text : Frame → List ℕ
 opened_text f = svg_begin ++ size_text f ++ view_text f ++ name_text f

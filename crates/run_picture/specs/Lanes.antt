@@ -1,9 +1,7 @@
 -- What a row draws: a task, a scope, or a closed scope with all that lies in it.
-use Rattle.std.specs.Prelude.{ℕ, ◌+◌, ◌*◌, ◌==◌, ◌&&◌, min, nat_lt, Bool, true, false, Option, None, Some, if◌then◌else◌}
+use Rattle.std.specs.Prelude.{ℕ, ◌+◌, ◌*◌, min, nat_lt, Bool, true, false, Option, None, Some, if◌then◌else◌}
 use Rattle.std.specs.Option.{option_map_or, option_or}
 use Rattle.scope_checks.specs.Queries.{cancellation}
-use Rattle.scope_rules.specs.declared.types.answers.CauseKind.{CauseKind}
-use Rattle.scope_rules.specs.declared.types.answers.CauseKind.TheVariants.{Close}
 use Rattle.scope_rules.specs.declared.types.answers.State.{State}
 use Rattle.scope_rules.specs.declared.types.answers.State.TheVariants as state
 use Rattle.scope_rules.specs.declared.types.records.Forking.{Forking}
@@ -28,6 +26,7 @@ use Rattle.run_picture.specs.declared.strokes.Bar.{Bar}
 use Rattle.run_picture.specs.declared.strokes.Shade.{Shade}
 use Rattle.run_picture.specs.declared.strokes.Shade.TheVariants as shade
 use Rattle.run_picture.specs.Cancels.{is_accident}
+use Rattle.run_picture.specs.Closings.{begins_to_close}
 use Rattle.run_picture.specs.Drawing.{Drawing, Blank, Both, bar, in_view, label, mark}
 use Rattle.run_picture.specs.Landmarks.{first_place}
 use Rattle.run_picture.specs.Rows.{node_of}
@@ -89,12 +88,17 @@ life_drawn h d y k f = Both (bar (bar_in h d y (fork_of k f) f.place (option_or 
 unfoldable pub fork_drawn : History → Sheet → ℕ → ℕ → Forking → Drawing
 fork_drawn h d y k f = if cancelled_before h f.scope f.place then in_view d.view f.place (mark (mark_at h d f.place y (Never k))) else life_drawn h d y k f
 
--- the row of task k
-abbrev pub forked_lane : History → Sheet → ℕ → ℕ → ℕ → Forking → Drawing
-forked_lane h d row depth k f = Both (label (label_in depth (row_y row) (fork_of k f) fate.Open)) (fork_drawn h d (row_y row) k f)
+-- what the label of a task's row says beside the task: how many more ended like it, if they lie in the row
+abbrev pub task_fate : Option Folded → Fate
+task_fate (Some f) = if nat_lt 0 f.tasks then fate.More f else fate.Open
+task_fate None = fate.Open
 
-unfoldable pub task_lane : History → Sheet → ℕ → ℕ → ℕ → Drawing
-task_lane h d row depth k = option_map_or (forked_lane h d row depth k) (forking h k) Blank
+-- the row of task k
+abbrev pub forked_lane : History → Sheet → ℕ → ℕ → ℕ → Option Folded → Forking → Drawing
+forked_lane h d row depth k folded f = Both (label (label_in depth (row_y row) (fork_of k f) (task_fate folded))) (fork_drawn h d (row_y row) k f)
+
+unfoldable pub task_lane : History → Sheet → ℕ → ℕ → ℕ → Option Folded → Drawing
+task_lane h d row depth k folded = option_map_or (forked_lane h d row depth k folded) (forking h k) Blank
 
 -- a scope that was closed is distinguished from one that is open still
 abbrev pub band_shade : Option ℕ → Shade
@@ -103,19 +107,6 @@ band_shade None = shade.Open
 
 abbrev pub folded_shade : Folded → Shade
 folded_shade f = if nat_lt 0 f.failed then shade.Fallen else shade.Folded
-
-abbrev pub earlier : Option ℕ → Option ℕ → Option ℕ
-earlier (Some i) (Some j) = Some (min i j)
-earlier (Some i) None = Some i
-earlier None other = other
-
-abbrev pub is_close : CauseKind → Bool
-is_close Close = true
-is_close _ = false
-
--- where a close gave scope s its own cancel, if one did: its own, or that of another scope that covers it
-abbrev pub covering_place : History → ℕ → Option ℕ
-covering_place h s = option_map_or (λ c. if (c.1.scope == s) && is_close c.1.kind then Some c.0 else None) (cancellation h s) None
 
 abbrev pub accident_shade : Bool → Shade
 accident_shade true = shade.Cancelled
@@ -130,7 +121,7 @@ cancelled_bar h d y s o = option_map_or (λ c. bar (bar_in h d y (scope_of s o) 
 
 -- and from where it is closing on: by its own close, or by another's that covers it
 abbrev pub closing_bar : History → Sheet → ℕ → ℕ → Opening → Drawing
-closing_bar h d y s o = option_map_or (λ at. bar (bar_in h d y (scope_of s o) at (closed_place h s) shade.Closing fate.Closing)) (earlier (first_place landmark.Began h.events s) (covering_place h s)) Blank
+closing_bar h d y s o = option_map_or (λ at. bar (bar_in h d y (scope_of s o) at (closed_place h s) shade.Closing fate.Closing)) (begins_to_close h s) Blank
 
 -- the row of scope s, which was opened so
 abbrev pub opened_lane : History → Sheet → ℕ → ℕ → ℕ → Opening → Drawing
@@ -148,7 +139,7 @@ unfoldable pub scope_lane : History → Sheet → ℕ → ℕ → ℕ → Option
 scope_lane h d row depth s folded = option_map_or (lane_by h d row depth s folded) (opening h s) Blank
 
 abbrev pub node_lane : History → Sheet → ℕ → Row → Option Node → Drawing
-node_lane h d index row (Some (node.Task k)) = task_lane h d index row.depth k
+node_lane h d index row (Some (node.Task k)) = task_lane h d index row.depth k row.folded
 node_lane h d index row (Some (node.Scope s)) = scope_lane h d index row.depth s row.folded
 node_lane h d index row None = Blank
 

@@ -13,7 +13,7 @@ use Rattle.run_picture.specs.declared.rows.Folded.{Folded}
 use Rattle.run_picture.specs.declared.rows.Row.{Row}
 use Rattle.run_picture.specs.Chart.{drawn_rows, placed_rows}
 use Rattle.run_picture.specs.Nodes.{node_count, scope_node, task_node}
-use Rattle.run_picture.specs.Rows.{class_of, rows_of}
+use Rattle.run_picture.specs.Rows.{class_of, is_done, rows_of}
 use Rattle.run_picture.specs.Seen.{task_end}
 use Rattle.run_picture.specs.Sheet.{Sheet}
 use Rattle.run_picture.specs.Sites.{closed_place}
@@ -21,11 +21,11 @@ use Rattle.run_picture.specs.View.{meets}
 
 -- the node is a task, and one that failed
 abbrev pub is_task : Class → Bool
-is_task (class.Task failed) = true
+is_task (class.Task failed ended) = true
 is_task (class.Scope closed) = false
 
 abbrev pub is_failure : Class → Bool
-is_failure (class.Task failed) = failed
+is_failure (class.Task failed ended) = failed
 is_failure (class.Scope closed) = false
 
 -- how many tasks a row stands for: itself, if it is one, and those that lie in it
@@ -65,16 +65,18 @@ times_placed h n = count_by (λ p. p.node == n) (placed_rows h None)
 abbrev pub EachIsPlacedOnce : Type 0
 EachIsPlacedOnce = (L : Limits) (h : History) (n : ℕ) → Legal L h → n < node_count h → times_placed h n ≡ 1
 
--- the row stands for the nodes: it is begun by the first; it is folded if that is a closed scope, and then counts the
--- tasks among the others, and those that failed; the others lie below the first. A row that is not folded has no others.
+-- the row stands for the nodes: it is begun by the first, and the others do not lie higher. A row that is not folded has no
+-- others. A folded one counts the tasks among the others, and those that failed. It is a closed scope with what lies below
+-- it, or begins with a task that has ended, and all in it has ended or is closed.
 pub record IsFoldOf (h : History) (r : Row) (first : Placed) (inside : List Placed) : Type 0 where
   pub node : r.node ≡ first.node
   pub depth : r.depth ≡ first.depth
-  pub deeper : All (λ p. first.depth < p.depth) inside
+  pub lower : All (λ p. first.depth ≤ p.depth) inside
   pub alone : r.folded ≡ None → inside ≡ []
   pub tasks : (f : Folded) → r.folded ≡ Some f → f.tasks ≡ count_by (λ p. is_task (class_of h p.node)) inside
   pub failures : (f : Folded) → r.folded ≡ Some f → f.failed ≡ count_by (λ p. is_failure (class_of h p.node)) inside
-  pub closed : (f : Folded) → r.folded ≡ Some f → class_of h first.node ≡ class.Scope true
+  pub closed : (f : Folded) → r.folded ≡ Some f → f.run ≡ None → (class_of h first.node ≡ class.Scope true) × All (λ p. first.depth < p.depth) inside
+  pub ended : (f : Folded) (failed : Bool) → r.folded ≡ Some f → f.run ≡ Some failed → (class_of h first.node ≡ class.Task failed true) × All (λ p. is_done (class_of h p.node) ≡ true) inside
 
 -- the rows stand for the nodes, one stretch of them after the other
 pub data StandFor (h : History) : List Row → List Placed → Type 0 where

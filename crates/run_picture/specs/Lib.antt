@@ -15,6 +15,8 @@ pub mod Pieces
 pub mod Frame
 pub mod Landmarks
 pub mod Arounds
+pub mod Axis
+pub mod Focus
 pub mod Forest
 pub mod Nodes
 pub mod View
@@ -28,3 +30,8 @@ pub mod Trace
 pub mod Marked
 pub mod Stamps
 pub mod Traced
+pub mod Closings
+pub mod Columns
+pub mod Digits
+pub mod Words
+pub mod Page

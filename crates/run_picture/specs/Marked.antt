@@ -10,7 +10,7 @@ use Rattle.scope_rules.specs.declared.types.records.Opening.{Opening}
 use Rattle.scope_rules.specs.Cancels.{cancelled_at, cancelled_before, cause, is_cancelled}
 use Rattle.scope_rules.specs.History.{History, before, forking, opening}
 use Rattle.scope_rules.specs.Legal.{Legal}
-use Rattle.scope_rules.specs.Scopes.{around, closed}
+use Rattle.scope_rules.specs.Scopes.{around, closed, closing}
 use Rattle.scope_rules.specs.Tasks.{is_settled, stage, state}
 use Rattle.run_picture.specs.declared.captions.Subject.{Subject}
 use Rattle.run_picture.specs.declared.captions.Subject.TheVariants as subject
@@ -18,7 +18,11 @@ use Rattle.run_picture.specs.declared.marks.Mark.{Mark}
 use Rattle.run_picture.specs.declared.marks.Mark.TheVariants as mark
 use Rattle.run_picture.specs.declared.marks.ShownMark.{ShownMark}
 use Rattle.run_picture.specs.declared.strokes.Reach.{Reach}
+use Rattle.run_picture.specs.declared.strokes.Shade.{Shade}
+use Rattle.run_picture.specs.declared.strokes.Shade.TheVariants.{Closing}
+use Rattle.run_picture.specs.Closings.{begins_to_close, closing_place}
 use Rattle.run_picture.specs.Drawing.{Everywhere, Figure, ALabel, ABar, AMark, AReach, ATick, count_in}
+use Rattle.run_picture.specs.Lanes.{opened_lane}
 use Rattle.run_picture.specs.Laws.{lanes_of, bands_of}
 use Rattle.run_picture.specs.Picture.{figures}
 use Rattle.run_picture.specs.Seen.{task_end}
@@ -99,6 +103,23 @@ EachLaneHasOneLabel = (h : History) (d : Sheet) (k : ℕ) (f : Forking) → fork
 
 abbrev pub EachBandHasOneLabel : Type 0
 EachBandHasOneLabel = (h : History) (d : Sheet) (s : ℕ) (o : Opening) → opening h s ≡ Some o → count_in (is_band_of s) (figures h d) ≡ bands_of h d s
+
+-- a line that says that a scope is closing
+abbrev pub is_closing_shade : Shade → Bool
+is_closing_shade Closing = true
+is_closing_shade _ = false
+
+abbrev pub is_closing_line : Figure → Bool
+is_closing_line (ABar b) = is_closing_shade b.shade
+is_closing_line _ = false
+
+-- in a legal history the lane of a scope has one such line, if the rules say that it is closing or closed, and else none
+abbrev pub EachClosingHasOneLine : Type 0
+EachClosingHasOneLine = (L : Limits) (h : History) (d : Sheet) (row depth s : ℕ) (o : Opening) → Legal L h → opening h s ≡ Some o → count_in is_closing_line (opened_lane h d row depth s o) ≡ cond (closing h s) 1 0
+
+-- and it begins at the first event by which a close begins that covers the scope
+abbrev pub EachClosingBeginsThere : Type 0
+EachClosingBeginsThere = (L : Limits) (h : History) (s : ℕ) (o : Opening) → Legal L h → opening h s ≡ Some o → begins_to_close h s ≡ closing_place h s
 
 -- ---- what the marks say
 

@@ -7,7 +7,7 @@ use Rattle.run_picture.specs.declared.spots.Spot.{Spot}
 use Rattle.run_picture.specs.declared.marks.Mark.{Mark}
 use Rattle.run_picture.specs.declared.marks.Mark.TheVariants as mark
 use Rattle.run_picture.specs.declared.marks.ShownMark.{ShownMark}
-use Rattle.run_picture.specs.Captions.{unit_word}
+use Rattle.run_picture.specs.Captions.{unit_end, unit_word}
 use Rattle.run_picture.specs.MarkText.{cause_text, ended_text, held_text, moved_text}
 
 -- the mark of a cancel: of a normal end, or else of the scope's own, or of one that reached it
@@ -47,9 +47,9 @@ note_text (mark.Held scope source) = scope_text scope ++ held_text source
 unfoldable pub at_text : Spot → List ℕ
 at_text spot = codes " x='" ++ decimal spot.x ++ codes "' y='" ++ decimal spot.y ++ codes "'"
 
--- what is read if the mark is pointed at: what happened at the event, or line, of this number
+-- what is read if the mark is pointed at: what happened at the event of this number or time
 unfoldable pub note_title : ShownMark → List ℕ
-note_title m = codes "<title>" ++ unit_word m.lined ++ decimal m.number ++ codes ": " ++ note_text m.mark ++ codes "</title>"
+note_title m = codes "<title>" ++ unit_word m.measure ++ decimal m.number ++ unit_end m.measure ++ codes ": " ++ note_text m.mark ++ codes "</title>"
 
 -- a mark at its spot
 abbrev pub mark_text : ShownMark → List ℕ

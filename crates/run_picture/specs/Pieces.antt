@@ -7,7 +7,7 @@ svg_begin = codes "<svg xmlns='http://www.w3.org/2000/svg'"
 
 -- the style in light
 unfoldable pub light : List ℕ
-light = codes "<style>text{font:11px system-ui,sans-serif;fill:#222}.scope{font-weight:600;clip-path:url(#left)}.task{clip-path:url(#left)}.moment{font-size:10px;fill:#666}path{fill:none}.open,.shut,.cancelled,.settled,.closing,.folded,.fallen,.waiting,.running,.done,.failed,.lost{shape-rendering:crispEdges}.open{stroke:#8cc8f0;stroke-width:14}.shut{stroke:#dceaf4;stroke-width:14}.cancelled{stroke:#e9bcd3;stroke-width:14}.settled{stroke:#d5e5d8;stroke-width:14}.closing{stroke:#aaa;stroke-width:4}.folded{stroke:#b9d8c4;stroke-width:16}.fallen{stroke:#f0b98d;stroke-width:16}.waiting{stroke:#0072b2;stroke-width:2;stroke-dasharray:4 3}.running{stroke:#0072b2;stroke-width:8}.done{stroke:#009e73;stroke-width:8}.failed{stroke:#d55e00;stroke-width:8}.lost{stroke:#888;stroke-width:8}.ground{fill:#fff}.tick{stroke:#999;stroke-dasharray:1 3}.reach{stroke:#a3195b;stroke-width:2;stroke-dasharray:3 2}"
+light = codes "<style>text{font:11px system-ui,sans-serif;fill:#222}.scope{font-weight:600;clip-path:url(#left)}.task{clip-path:url(#left)}.moment{font-size:10px;fill:#666}path{fill:none}.open,.shut,.cancelled,.settled,.closing,.folded,.fallen,.waiting,.running,.done,.failed,.lost{shape-rendering:crispEdges}.open{stroke:#8cc8f0;stroke-width:14}.shut{stroke:#dceaf4;stroke-width:14}.cancelled{stroke:#e9bcd3;stroke-width:14}.settled{stroke:#d5e5d8;stroke-width:14}.closing{stroke:#aaa;stroke-width:4}.folded{stroke:#b9d8c4;stroke-width:16}.fallen{stroke:#f0b98d;stroke-width:16}.waiting{stroke:#0072b2;stroke-width:2;stroke-dasharray:4 3}.running{stroke:#0072b2;stroke-width:8}.done{stroke:#009e73;stroke-width:8}.failed{stroke:#d55e00;stroke-width:8}.lost{stroke:#888;stroke-width:8}.ground{fill:#fff}.tick{stroke:#999;stroke-dasharray:1 3}.axis{stroke:#8883}.time{text-anchor:middle}.reach{stroke:#a3195b;stroke-width:2;stroke-dasharray:3 2}"
 
 -- the style in the dark
 unfoldable pub dark : List ℕ

@@ -1,11 +1,11 @@
--- The rows of a picture: a task, a scope, or a closed scope with all that lies in it.
-use Rattle.std.specs.Prelude.{ℕ, ◌+◌, ◌-◌, min, nat_lt, Bool, true, false, Option, None, Some, List, [], ◌∷◌, length, map, if◌then◌else◌}
+-- The rows of a picture: a task, a scope, a closed scope with all that lies in it, or tasks of one scope that have ended.
+use Rattle.std.specs.Prelude.{ℕ, ◌+◌, ◌-◌, ◌==◌, ◌&&◌, ◌||◌, min, nat_lt, Bool, true, false, Option, None, Some, List, [], ◌∷◌, length, map, if◌then◌else◌}
 use Rattle.std.specs.Option.{option_map_or}
 use Rattle.scope_rules.specs.declared.types.answers.State.{State}
 use Rattle.scope_rules.specs.declared.types.answers.State.TheVariants as state
 use Rattle.scope_rules.specs.History.{History, forked_count, opened_count, forking}
 use Rattle.scope_rules.specs.Scopes.{closed}
-use Rattle.scope_rules.specs.Tasks.{state}
+use Rattle.scope_rules.specs.Tasks.{is_settled, stage, state}
 use Rattle.run_picture.specs.declared.forest.Placed.{Placed}
 use Rattle.run_picture.specs.declared.rows.Class.{Class}
 use Rattle.run_picture.specs.declared.rows.Class.TheVariants as class
@@ -25,12 +25,16 @@ is_failed _ = false
 abbrev pub has_failed : History → ℕ → Bool
 has_failed h k = option_map_or (λ f. is_failed (state h k)) (forking h k) false
 
+-- task k has ended, or never starts
+abbrev pub has_ended : History → ℕ → Bool
+has_ended h k = option_map_or (λ f. is_settled (stage h k)) (forking h k) false
+
 abbrev pub class_by : History → Option Node → Class
-class_by h (Some (node.Task k)) = class.Task (has_failed h k)
+class_by h (Some (node.Task k)) = class.Task (has_failed h k) (has_ended h k)
 class_by h (Some (node.Scope s)) = class.Scope (closed h s)
 class_by h None = class.Scope false
 
--- what node n is for a fold: a task, failed or not, or a scope, closed or not
+-- what node n is for a fold: a task, failed or not, which has ended or not, or a scope, closed or not
 abbrev pub class_of : History → ℕ → Class
 class_of h n = class_by h (node_of h n)
 
@@ -39,22 +43,45 @@ abbrev pub one_more : ℕ → ℕ
 one_more n = min (n + 1) 4294967295
 
 abbrev pub counted : Folded → Class → Folded
-counted f (class.Task true) = record { tasks = one_more f.tasks; failed = one_more f.failed }
-counted f (class.Task false) = record { tasks = one_more f.tasks; failed = f.failed }
+counted f (class.Task true ended) = record { tasks = one_more f.tasks; failed = one_more f.failed; run = f.run }
+counted f (class.Task false ended) = record { tasks = one_more f.tasks; failed = f.failed; run = f.run }
 counted f (class.Scope closed) = f
 
 -- a row by itself
 abbrev pub plain : Placed → Row
 plain p = record { node = p.node; depth = p.depth; folded = None }
 
--- the row that a node begins, in a picture that is folded: a closed scope takes in what lies below it
+-- the row that a node begins, with nothing else in it yet
+abbrev pub begun_with : Placed → Option Bool → Row
+begun_with p run = record { node = p.node; depth = p.depth; folded = Some (record { tasks = 0; failed = 0; run = run }) }
+
+-- the row that a node begins, in a picture that is folded: a closed scope takes in what lies below it, and a task that has
+-- ended takes in those behind it in the same scope that ended alike
 abbrev pub begun : Placed → Class → Row
-begun p (class.Scope true) = record { node = p.node; depth = p.depth; folded = Some (record { tasks = 0; failed = 0 }) }
+begun p (class.Scope true) = begun_with p None
+begun p (class.Task failed true) = begun_with p (Some failed)
 begun p _ = plain p
 
--- the row with the node in it, if it is folded and the node lies below it
+-- a task that has ended, or a closed scope
+abbrev pub is_done : Class → Bool
+is_done (class.Task failed ended) = ended
+is_done (class.Scope closed) = closed
+
+-- a task that ended so
+abbrev pub is_ended_as : Bool → Class → Bool
+is_ended_as true (class.Task true true) = true
+is_ended_as false (class.Task false true) = true
+is_ended_as _ _ = false
+
+-- the row takes in the node: a closed scope what lies below it, and a run of tasks that have ended one more of them, with
+-- what lies below it
+abbrev pub fits : Option Bool → Row → Placed → Class → Bool
+fits None r p c = nat_lt r.depth p.depth
+fits (Some failed) r p c = (nat_lt r.depth p.depth && is_done c) || ((r.depth == p.depth) && is_ended_as failed c)
+
+-- the row with the node in it, if it is folded and takes the node in
 abbrev pub taken_in : Row → Placed → Class → Option Row
-taken_in r p c = option_map_or (λ f. if nat_lt r.depth p.depth then Some (record { node = r.node; depth = r.depth; folded = Some (counted f c) }) else None) r.folded None
+taken_in r p c = option_map_or (λ f. if fits f.run r p c then Some (record { node = r.node; depth = r.depth; folded = Some (counted f c) }) else None) r.folded None
 
 abbrev pub or_begun : Row → Placed → Class → Option Row → List Row
 or_begun r p c (Some taken) = taken ∷ []

@@ -1,20 +1,19 @@
 -- Where in the picture something stands.
-use Rattle.std.specs.Prelude.{ℕ, ◌+◌, min, nat_lt, not, Option, None, option_map, length, slice_get, ◌==◌, if◌then◌else◌}
+use Rattle.std.specs.Prelude.{ℕ, ◌+◌, ◌-◌, nat_lt, not, Option, None, Some, option_map, length, slice_get, ◌==◌, if◌then◌else◌}
 use Rattle.std.specs.Option.{option_map_or}
 use Rattle.scope_rules.specs.History.{History}
+use Rattle.run_picture.specs.declared.captions.Measure.{Measure}
+use Rattle.run_picture.specs.declared.captions.Measure.TheVariants.{Events, Lines, Millis}
 use Rattle.run_picture.specs.declared.captions.Span.{Span}
 use Rattle.run_picture.specs.Sheet.{Sheet}
 use Rattle.run_picture.specs.declared.landmarks.Landmark.TheVariants as landmark
 use Rattle.run_picture.specs.declared.marks.Mark.{Mark}
 use Rattle.run_picture.specs.declared.marks.ShownMark.{ShownMark}
 use Rattle.run_picture.specs.Chart.{drawn_rows, row_of}
+use Rattle.run_picture.specs.Focus.{column_of}
 use Rattle.run_picture.specs.Landmarks.{first_place}
 use Rattle.run_picture.specs.Nodes.{node_count, scope_node}
-use Rattle.run_picture.specs.View.{x_at}
-
--- a place as a column
-abbrev pub column_of : ℕ → ℕ
-column_of place = min place 4294967295
+use Rattle.run_picture.specs.View.{time_at, x_at}
 
 -- how far from the left the event at the place stands
 abbrev pub x_in : History → Sheet → ℕ → ℕ
@@ -24,17 +23,25 @@ x_in h d place = x_at d.view d.times (length h.events) (length (drawn_rows h d))
 abbrev pub end_x : History → Sheet → Option ℕ → ℕ
 end_x h d place = option_map_or (x_in h d) place (x_in h d (length h.events))
 
--- the number of the event at the place, or of its line, if that is known
+-- what places are named by: by times, if there are any, or else by lines, if these are known
+abbrev pub measure_in : Sheet → Measure
+measure_in d = if not (length d.times == 0) then Millis else (if not (length d.lines == 0) then Lines else Events)
+
+-- the time of the event at the place, or the number of its line, or its own
 abbrev pub number_in : Sheet → ℕ → ℕ
-number_in d place = option_map_or (λ line. line) (slice_get d.lines (column_of place)) (column_of place + 1)
+number_in d place = if not (length d.times == 0) then time_at d.times (column_of place) else option_map_or (λ line. line) (slice_get d.lines (column_of place)) (column_of place + 1)
+
+-- how long it lasts from the one place to the other, or else to the last reading of the clock, if there are times
+abbrev pub lasting_in : Sheet → ℕ → Option ℕ → Option ℕ
+lasting_in d from to = if length d.times == 0 then None else Some (time_at d.times (option_map_or column_of to 4294967295) - time_at d.times (column_of from))
 
 -- from the one place to the other, in such numbers
 abbrev pub span_in : Sheet → ℕ → Option ℕ → Span
-span_in d from to = record { lined = not (length d.lines == 0); from = number_in d from; to = option_map (number_in d) to }
+span_in d from to = record { measure = measure_in d; from = number_in d from; to = option_map (number_in d) to; lasts = lasting_in d from to }
 
 -- the mark at the place, so far from above
 abbrev pub mark_at : History → Sheet → ℕ → ℕ → Mark → ShownMark
-mark_at h d place y mark = record { spot = record { x = x_in h d place; y = y }; lined = not (length d.lines == 0); number = number_in d place; mark = mark }
+mark_at h d place y mark = record { spot = record { x = x_in h d place; y = y }; measure = measure_in d; number = number_in d place; mark = mark }
 
 -- the row of scope s, unless it is not drawn or lies in another
 abbrev pub scope_row : History → Sheet → ℕ → Option ℕ

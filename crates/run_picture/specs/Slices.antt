@@ -1,5 +1,5 @@
 -- The records of a trace: a line of JSON each, behind the one before.
-use Rattle.std.specs.Prelude.{ℕ, Option, None, Some, List, [], ◌++◌, codes}
+use Rattle.std.specs.Prelude.{ℕ, Bool, true, false, Option, None, Some, List, ◌++◌, codes}
 use Rattle.std.specs.Fmt.{decimal}
 use Rattle.scope_rules.specs.declared.types.answers.Cause.{Cause}
 use Rattle.scope_rules.specs.declared.types.answers.State.{State}
@@ -9,29 +9,66 @@ use Rattle.scope_log.specs.LogText.{joiner_text, options_text}
 use Rattle.run_picture.specs.declared.slices.Arrow.{Arrow}
 use Rattle.run_picture.specs.declared.slices.Instant.{Instant}
 use Rattle.run_picture.specs.declared.slices.ScopeSlice.{ScopeSlice}
+use Rattle.run_picture.specs.declared.slices.Point.{Point}
 use Rattle.run_picture.specs.declared.slices.Stretch.{Stretch}
 use Rattle.run_picture.specs.declared.slices.TaskSlice.{TaskSlice}
+use Rattle.run_picture.specs.declared.slices.Track.{Track}
+use Rattle.run_picture.specs.declared.slices.Wait.{Wait}
+use Rattle.run_picture.specs.declared.slices.Wait.TheVariants.{Still, Started, Rejected}
+use Rattle.run_picture.specs.declared.slices.WaitSlice.{WaitSlice}
 
--- a slice: complete, if it ended, and else its beginning
-abbrev pub stretch_by : Stretch → Option ℕ → List ℕ
-stretch_by s (Some micros) = codes ",\n{\"ph\":\"X\",\"pid\":1,\"tid\":" ++ decimal s.track ++ codes ",\"ts\":" ++ decimal s.at ++ codes ",\"dur\":" ++ decimal micros ++ codes ",\"name\":\""
-stretch_by s None = codes ",\n{\"ph\":\"B\",\"pid\":1,\"tid\":" ++ decimal s.track ++ codes ",\"ts\":" ++ decimal s.at ++ codes ",\"name\":\""
+-- the name of a task's track
+unfoldable pub track_head : ℕ → List ℕ
+track_head k = codes ",\n{\"ph\":\"M\",\"pid\":1,\"tid\":" ++ decimal k ++ codes ",\"name\":\"thread_name\",\"args\":{\"name\":\""
 
-abbrev pub stretch_text : Stretch → List ℕ
-stretch_text s = stretch_by s s.lasts
+unfoldable pub track_text : Track → List ℕ
+track_text t = track_head t.task ++ codes "task " ++ decimal t.task ++ codes " " ++ text_of t.name ++ codes "\"}}"
 
--- what can be read of a task that ended
+-- a slice, as far as its name
+unfoldable pub stretch_text : Stretch → List ℕ
+stretch_text s = codes ",\n{\"ph\":\"X\",\"pid\":1,\"tid\":" ++ decimal s.track ++ codes ",\"ts\":" ++ decimal s.at ++ codes ",\"dur\":" ++ decimal s.lasts ++ codes ",\"name\":\""
+
+abbrev pub wait_word : Wait → List ℕ
+wait_word Still = codes "waiting"
+wait_word Started = codes "started"
+wait_word Rejected = codes "rejected"
+
+-- what there is to say of a task beside its name: its scope, and how it stands
+unfoldable pub told_text : ℕ → List ℕ → List ℕ
+told_text scope word = codes "\",\"args\":{\"scope\":" ++ decimal scope ++ codes ",\"is\":\"" ++ word ++ codes "\"}}"
+
+-- a task that waits for its thread
+unfoldable pub wait_text : WaitSlice → List ℕ
+wait_text s = stretch_text s.stretch ++ codes "waits" ++ told_text s.scope (wait_word s.wait)
+
+-- what can be read of a task that ended; else it runs
 abbrev pub result_text : Option State → List ℕ
-result_text None = []
-result_text (Some state) = codes ",\"is\":\"" ++ state_word state ++ codes "\""
+result_text None = codes "running"
+result_text (Some state) = state_word state
 
 -- a task, from its start on
 unfoldable pub task_text : TaskSlice → List ℕ
-task_text s = stretch_text s.stretch ++ text_of s.name ++ codes "\",\"args\":{\"scope\":" ++ decimal s.scope ++ result_text s.result ++ codes "}}"
+task_text s = stretch_text s.stretch ++ text_of s.name ++ told_text s.scope (result_text s.result)
+
+abbrev pub closed_args : Bool → List ℕ
+closed_args true = codes "\",\"args\":{\"is\":\"closed\"}}"
+closed_args false = codes "\",\"args\":{\"is\":\"open\"}}"
 
 -- a scope, from its opening on
 unfoldable pub scope_text : ScopeSlice → List ℕ
-scope_text s = stretch_text s.stretch ++ codes "scope " ++ decimal s.scope ++ codes " " ++ joiner_text s.policy ++ options_text s.options ++ codes "\"}"
+scope_text s = stretch_text s.stretch ++ codes "scope " ++ decimal s.scope ++ codes " " ++ joiner_text s.policy ++ options_text s.options ++ closed_args s.closed
+
+-- what happens at once, as far as its name
+unfoldable pub point_text : Point → List ℕ
+point_text s = codes ",\n{\"ph\":\"i\",\"s\":\"t\",\"pid\":1,\"tid\":" ++ decimal s.track ++ codes ",\"ts\":" ++ decimal s.at ++ codes ",\"name\":\""
+
+-- a task never starts
+unfoldable pub never_text : Point → List ℕ
+never_text s = point_text s ++ codes "never starts\",\"args\":{\"scope\":" ++ decimal s.scope ++ codes "}}"
+
+-- a scope begins to close
+unfoldable pub closing_text : Point → List ℕ
+closing_text s = point_text s ++ codes "closing " ++ decimal s.scope ++ codes "\"}"
 
 -- why a scope is cancelled: the scope whose own cancel reached it, and what made that
 unfoldable pub cause_args : Cause → List ℕ

@@ -14,6 +14,10 @@ reading_at times place = get_or times place 0
 unfoldable pub start_time : History → List ℕ → ℕ → ℕ
 start_time h times k = option_map_or (λ f. option_map_or (reading_at times) (first_place landmark.Started h.events k) 0) (forking h k) 0
 
+-- the reading as task k was forked
+unfoldable pub fork_time : History → List ℕ → ℕ → ℕ
+fork_time h times k = option_map_or (λ f. reading_at times f.place) (forking h k) 0
+
 -- the reading as scope s was opened
 unfoldable pub open_time : History → List ℕ → ℕ → ℕ
 open_time h times s = option_map_or (λ o. reading_at times o.place) (opening h s) 0
@@ -22,12 +26,18 @@ open_time h times s = option_map_or (λ o. reading_at times o.place) (opening h 
 unfoldable pub starts_to : History → List ℕ → ℕ → List ℕ
 starts_to h times n = map (start_time h times) (range_with_len (h.base.tasks + 1) n)
 
+unfoldable pub forks_to : History → List ℕ → ℕ → List ℕ
+forks_to h times n = map (fork_time h times) (range_with_len (h.base.tasks + 1) n)
+
 unfoldable pub opens_to : History → List ℕ → ℕ → List ℕ
 opens_to h times n = map (open_time h times) (range_with_len (h.base.scopes + 1) n)
 
 -- those of all tasks, and of all scopes
 abbrev pub start_times : History → List ℕ → List ℕ
 start_times h times = starts_to h times (forked_count h)
+
+abbrev pub fork_times : History → List ℕ → List ℕ
+fork_times h times = forks_to h times (forked_count h)
 
 abbrev pub open_times : History → List ℕ → List ℕ
 open_times h times = opens_to h times (opened_count h)

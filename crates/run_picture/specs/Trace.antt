@@ -1,34 +1,51 @@
 -- The run as Chrome trace events, as JSON.
-use Rattle.std.specs.Prelude.{◌≡◌, ℕ, ◌-◌, ◌*◌, ◌==◌, min, if◌then◌else◌, Option, None, Some, option_map, List, ◌++◌, codes, length}
-use Rattle.std.specs.Option.{option_map_or}
+use Rattle.std.specs.Prelude.{◌≡◌, ℕ, ◌-◌, ◌*◌, ◌==◌, min, not, Bool, true, false, if◌then◌else◌, is_some, unwrap_or, Option, None, Some, option_map, List, ◌++◌, codes, length}
+use Rattle.std.specs.Option.{option_map_or, option_or}
 use Rattle.scope_checks.specs.Queries.{cancellation}
 use Rattle.scope_rules.specs.declared.types.answers.Cause.{Cause}
 use Rattle.scope_rules.specs.declared.types.answers.State.{State}
 use Rattle.scope_rules.specs.declared.types.records.Forking.{Forking}
 use Rattle.scope_rules.specs.declared.types.records.Opening.{Opening}
+use Rattle.scope_rules.specs.Cancels.{cancelled_before}
 use Rattle.scope_rules.specs.History.{History, forked_count, forking, opened_count, opening, scope_numbers, task_numbers}
 use Rattle.scope_rules.specs.Tasks.{state}
 use Rattle.run_picture.specs.declared.landmarks.Landmark.TheVariants as landmark
 use Rattle.run_picture.specs.declared.slices.Arrow.{Arrow}
 use Rattle.run_picture.specs.declared.slices.Instant.{Instant}
+use Rattle.run_picture.specs.declared.slices.Point.{Point}
 use Rattle.run_picture.specs.declared.slices.ScopeSlice.{ScopeSlice}
 use Rattle.run_picture.specs.declared.slices.Stretch.{Stretch}
 use Rattle.run_picture.specs.declared.slices.TaskSlice.{TaskSlice}
+use Rattle.run_picture.specs.declared.slices.Track.{Track}
+use Rattle.run_picture.specs.declared.slices.Wait.{Wait}
+use Rattle.run_picture.specs.declared.slices.Wait.TheVariants.{Still, Started, Rejected}
+use Rattle.run_picture.specs.declared.slices.WaitSlice.{WaitSlice}
 use Rattle.run_picture.specs.declared.trace.Course.{Course}
+use Rattle.run_picture.specs.declared.trace.Traced.{Traced}
+use Rattle.run_picture.specs.Arounds.{IsNestOf}
+use Rattle.run_picture.specs.Closings.{AreClosings, begins_to_close}
 use Rattle.run_picture.specs.Landmarks.{HasFirsts, first_place}
 use Rattle.run_picture.specs.Parts.{Parts, Blank, Both, One, all, written}
-use Rattle.run_picture.specs.Slices.{arrow_text, instant_text, scope_text, task_text}
+use Rattle.run_picture.specs.Slices.{arrow_text, closing_text, instant_text, never_text, scope_text, task_text, track_text, wait_text}
 use Rattle.run_picture.specs.View.{time_at}
 
 pub data Record : Type 0 where
+  ATrack : Track → Record
+  AWait : WaitSlice → Record
+  ANever : Point → Record
   ATask : TaskSlice → Record
   AScope : ScopeSlice → Record
+  AClosing : Point → Record
   AnInstant : Instant → Record
   AnArrow : Arrow → Record
 
 abbrev pub record_text : Record → List ℕ
+record_text (ATrack t) = track_text t
+record_text (AWait s) = wait_text s
+record_text (ANever s) = never_text s
 record_text (ATask s) = task_text s
 record_text (AScope s) = scope_text s
+record_text (AClosing s) = closing_text s
 record_text (AnInstant i) = instant_text i
 record_text (AnArrow a) = arrow_text a
 
@@ -36,36 +53,89 @@ record_text (AnArrow a) = arrow_text a
 abbrev pub micros : List ℕ → ℕ → ℕ
 micros times place = 1000 * time_at times (min place 4294967295)
 
--- from the one place to the other, if it ended there, on the track
-abbrev pub stretch_in : List ℕ → ℕ → ℕ → Option ℕ → Stretch
-stretch_in times track from to = record { track = track; at = micros times from; lasts = option_map (λ place. micros times place - micros times from) to }
+-- from the one place to the other, if it ended there, or else to the last reading of the clock, on the track
+abbrev pub stretch_in : History → List ℕ → ℕ → ℕ → Option ℕ → Stretch
+stretch_in h times track from to = record { track = track; at = micros times from; lasts = micros times (unwrap_or to (length h.events)) - micros times from }
 
--- the course is that of the history: where tasks started and ended, and where scopes were closed
+-- the course is that of the history: where tasks started and ended, and where scopes began to close and were closed
 pub record IsCourseOf (course : Course) (h : History) : Type 0 where
   pub starts : HasFirsts course.starts landmark.Started h.events h.base.tasks (forked_count h)
   pub ends : HasFirsts course.ends landmark.Ended h.events h.base.tasks (forked_count h)
-  pub closes : HasFirsts course.closes landmark.Closed h.events h.base.scopes (opened_count h)
+  pub closings : AreClosings course.closings h (opened_count h)
+  pub nest : IsNestOf course.nest h
+
+-- what is traced is the history
+pub record IsTracedOf (traced : Traced) (h : History) : Type 0 where
+  pub same : traced.events.now ≡ h.events
+  pub course : IsCourseOf traced.course.now h
+
+-- ---- tasks
+
+abbrev pub track_in : ℕ → Forking → Track
+track_in k f = record { task = k; name = f.label.name }
+
+-- a task that was forked under a cancel never starts
+abbrev pub never_in : List ℕ → ℕ → Forking → Point
+never_in times k f = record { track = k; at = micros times f.place; scope = f.scope }
+
+-- what became of its wait, by where it started and ended
+abbrev pub wait_by : Option ℕ → Option ℕ → Wait
+wait_by (Some start) to = Started
+wait_by None (Some end) = Rejected
+wait_by None None = Still
+
+-- any other waits from its fork up to its start, or to its end without one
+abbrev pub wait_in : History → List ℕ → ℕ → Forking → WaitSlice
+wait_in h times k f = record {
+  stretch = stretch_in h times k f.place (option_or (first_place landmark.Started h.events k) (first_place landmark.Ended h.events k));
+  scope = f.scope;
+  wait = wait_by (first_place landmark.Started h.events k) (first_place landmark.Ended h.events k);
+}
+
+abbrev pub beginning : History → List ℕ → ℕ → Forking → Parts Record
+beginning h times k f = if cancelled_before h f.scope f.place then One (ANever (never_in times k f)) else One (AWait (wait_in h times k f))
 
 -- what can be read of task k, if it ended
 abbrev pub result_in : History → ℕ → Option ℕ → Option State
 result_in h k ended = option_map (λ place. state h k) ended
 
 abbrev pub slice_in : History → List ℕ → ℕ → Forking → ℕ → Option ℕ → TaskSlice
-slice_in h times k f from to = record { stretch = stretch_in times k from to; name = f.label.name; scope = f.scope; result = result_in h k to }
+slice_in h times k f from to = record { stretch = stretch_in h times k from to; name = f.label.name; scope = f.scope; result = result_in h k to }
 
+-- its slice, if it got its thread
 abbrev pub task_from : History → List ℕ → ℕ → Forking → Parts Record
 task_from h times k f = option_map_or (λ from. One (ATask (slice_in h times k f from (first_place landmark.Ended h.events k)))) (first_place landmark.Started h.events k) Blank
 
--- the slice of task k, if it got its thread
-unfoldable pub task_slice : History → List ℕ → ℕ → Parts Record
-task_slice h times k = option_map_or (task_from h times k) (forking h k) Blank
+abbrev pub forked_records : History → List ℕ → ℕ → Forking → Parts Record
+forked_records h times k f = Both (One (ATrack (track_in k f))) (Both (beginning h times k f) (task_from h times k f))
+
+-- the records of task k: the name of its track, how it began, and its run
+unfoldable pub task_records : History → List ℕ → ℕ → Parts Record
+task_records h times k = option_map_or (forked_records h times k) (forking h k) Blank
+
+-- ---- scopes
 
 abbrev pub band_in : History → List ℕ → ℕ → Opening → ScopeSlice
-band_in h times s o = record { stretch = stretch_in times o.actor o.place (first_place landmark.Closed h.events s); scope = s; policy = o.policy; options = o.options }
+band_in h times s o = record {
+  stretch = stretch_in h times o.actor o.place (first_place landmark.Closed h.events s);
+  scope = s;
+  policy = o.policy;
+  options = o.options;
+  closed = is_some (first_place landmark.Closed h.events s);
+}
 
--- the slice of scope s, on the track of its owner
-unfoldable pub scope_slice : History → List ℕ → ℕ → Parts Record
-scope_slice h times s = option_map_or (λ o. One (AScope (band_in h times s o))) (opening h s) Blank
+abbrev pub closing_in : List ℕ → ℕ → Opening → ℕ → Point
+closing_in times s o place = record { track = o.actor; at = micros times place; scope = s }
+
+-- scope s begins to close, if it does
+abbrev pub closing_from : History → List ℕ → ℕ → Opening → Parts Record
+closing_from h times s o = option_map_or (λ place. One (AClosing (closing_in times s o place))) (begins_to_close h s) Blank
+
+-- the slice of scope s, on the track of its owner, and where it begins to close
+unfoldable pub scope_records : History → List ℕ → ℕ → Parts Record
+scope_records h times s = option_map_or (λ o. Both (One (AScope (band_in h times s o))) (closing_from h times s o)) (opening h s) Blank
+
+-- ---- cancels
 
 abbrev pub arrow_in : List ℕ → ℕ → ℕ → ℕ → ℕ → Arrow
 arrow_in times s from to place = record { at = micros times place; scope = s; from = from; to = to }
@@ -87,17 +157,24 @@ cancel_from h times s o = option_map_or (λ c. reached_from h times s o.actor c.
 unfoldable pub cancel_records : History → List ℕ → ℕ → Parts Record
 cancel_records h times s = option_map_or (cancel_from h times s) (opening h s) Blank
 
+-- ---- all of them
+
 -- the records of a run: what lies around another comes first
 abbrev pub records : History → List ℕ → Parts Record
-records h times = Both (all (task_slice h times) (task_numbers h)) (Both (all (scope_slice h times) (scope_numbers h)) (all (cancel_records h times) (scope_numbers h)))
+records h times = Both (all (task_records h times) (task_numbers h)) (Both (all (scope_records h times) (scope_numbers h)) (all (cancel_records h times) (scope_numbers h)))
+
+-- what the realm is called: without times it is said that there are none
+abbrev pub realm_name : Bool → List ℕ
+realm_name true = codes "realm"
+realm_name false = codes "realm without times: an event a millisecond"
 
 -- how a trace begins, and how it ends
-unfoldable pub head : List ℕ
-head = codes "[{\"ph\":\"M\",\"pid\":1,\"name\":\"process_name\",\"args\":{\"name\":\"realm\"}},\n{\"ph\":\"M\",\"pid\":1,\"tid\":0,\"name\":\"thread_name\",\"args\":{\"name\":\"main\"}}"
+unfoldable pub head : Bool → List ℕ
+head timed = codes "[{\"ph\":\"M\",\"pid\":1,\"name\":\"process_name\",\"args\":{\"name\":\"" ++ realm_name timed ++ codes "\"}},\n{\"ph\":\"M\",\"pid\":1,\"tid\":0,\"name\":\"thread_name\",\"args\":{\"name\":\"main\"}}"
 
 unfoldable pub foot : List ℕ
 foot = codes "\n]\n"
 
 -- the trace of a run
 abbrev pub trace_text : History → List ℕ → List ℕ
-trace_text h times = head ++ (written record_text (records h times) ++ foot)
+trace_text h times = head (not (length times == 0)) ++ (written record_text (records h times) ++ foot)

@@ -1,24 +1,32 @@
 -- Laws of traces, in the words of the rules.
-use Rattle.std.specs.Prelude.{◌≡◌, ℕ, ◌+◌, ◌-◌, ◌==◌, ◌||◌, Bool, true, false, cond, Option, None, Some, List, slice_get}
+use Rattle.std.specs.Prelude.{◌≡◌, ℕ, ◌-◌, ◌==◌, ◌||◌, Bool, true, false, cond, Option, None, Some, List, length, slice_get}
 use Rattle.scope_rules.specs.declared.types.answers.Cause.{Cause}
 use Rattle.scope_rules.specs.declared.types.answers.State.{State}
+use Rattle.scope_rules.specs.declared.types.capacity.Limits.{Limits}
 use Rattle.scope_rules.specs.declared.types.events.Event.{Event}
 use Rattle.scope_rules.specs.declared.types.events.Event.TheVariants as event
 use Rattle.scope_rules.specs.declared.types.records.Forking.{Forking}
 use Rattle.scope_rules.specs.declared.types.records.Opening.{Opening}
-use Rattle.scope_rules.specs.Cancels.{is_cancelled}
+use Rattle.scope_rules.specs.Cancels.{cancelled_before, is_cancelled}
 use Rattle.scope_rules.specs.History.{History, forking, opening}
-use Rattle.scope_rules.specs.Scopes.{closed, ends}
-use Rattle.scope_rules.specs.Tasks.{finished, finishes, rejected, rejects, started, state}
+use Rattle.scope_rules.specs.Legal.{Legal}
+use Rattle.scope_rules.specs.Scopes.{closed, closing, ends}
+use Rattle.scope_rules.specs.Tasks.{finished, finishes, rejected, rejects, started, starts, state}
 use Rattle.run_picture.specs.declared.slices.Arrow.{Arrow}
 use Rattle.run_picture.specs.declared.slices.Instant.{Instant}
+use Rattle.run_picture.specs.declared.slices.Point.{Point}
 use Rattle.run_picture.specs.declared.slices.ScopeSlice.{ScopeSlice}
 use Rattle.run_picture.specs.declared.slices.Stretch.{Stretch}
 use Rattle.run_picture.specs.declared.slices.TaskSlice.{TaskSlice}
+use Rattle.run_picture.specs.declared.slices.Track.{Track}
+use Rattle.run_picture.specs.declared.slices.Wait.{Wait}
+use Rattle.run_picture.specs.declared.slices.Wait.TheVariants.{Still, Started, Rejected}
+use Rattle.run_picture.specs.declared.slices.WaitSlice.{WaitSlice}
+use Rattle.run_picture.specs.Closings.{closing_place}
 use Rattle.run_picture.specs.Marked.{IsCancelledAt}
 use Rattle.run_picture.specs.Parts.{Everywhere, count_in}
-use Rattle.run_picture.specs.Stamps.{open_time, reading_at, start_time}
-use Rattle.run_picture.specs.Trace.{Record, ATask, AScope, AnInstant, AnArrow, micros, records}
+use Rattle.run_picture.specs.Stamps.{fork_time, open_time, reading_at, start_time}
+use Rattle.run_picture.specs.Trace.{Record, ATrack, AWait, ANever, ATask, AScope, AClosing, AnInstant, AnArrow, micros, records}
 
 -- ---- which records there are
 
@@ -26,13 +34,27 @@ abbrev pub is_slice_of : ℕ → Record → Bool
 is_slice_of k (ATask s) = s.stretch.track == k
 is_slice_of k _ = false
 
+-- a wait of task k, or that it never starts
+abbrev pub is_beginning_of : ℕ → Record → Bool
+is_beginning_of k (AWait s) = s.stretch.track == k
+is_beginning_of k (ANever p) = p.track == k
+is_beginning_of k _ = false
+
 abbrev pub is_band_of : ℕ → Record → Bool
 is_band_of s (AScope b) = b.scope == s
 is_band_of s _ = false
 
+abbrev pub is_closing_of : ℕ → Record → Bool
+is_closing_of s (AClosing p) = p.scope == s
+is_closing_of s _ = false
+
 abbrev pub is_instant_of : ℕ → Record → Bool
 is_instant_of s (AnInstant i) = i.scope == s
 is_instant_of s _ = false
+
+-- each task waits exactly once, or is told once that it never starts
+abbrev pub EachTaskBeginsOnce : Type 0
+EachTaskBeginsOnce = (h : History) (times : List ℕ) (k : ℕ) (f : Forking) → forking h k ≡ Some f → count_in (is_beginning_of k) (records h times) ≡ 1
 
 -- each task that got its thread has exactly one slice, and one that got none has none
 abbrev pub EachTaskHasOneSlice : Type 0
@@ -42,23 +64,58 @@ EachTaskHasOneSlice = (h : History) (times : List ℕ) (k : ℕ) (f : Forking) �
 abbrev pub EachScopeHasOneSlice : Type 0
 EachScopeHasOneSlice = (h : History) (times : List ℕ) (s : ℕ) (o : Opening) → opening h s ≡ Some o → count_in (is_band_of s) (records h times) ≡ 1
 
+-- in a legal history each scope begins to close at exactly one instant, if it is closing or closed, and else at none
+abbrev pub EachClosingHasOneInstant : Type 0
+EachClosingHasOneInstant = (L : Limits) (h : History) (times : List ℕ) (s : ℕ) (o : Opening) → Legal L h → opening h s ≡ Some o → count_in (is_closing_of s) (records h times) ≡ cond (closing h s) 1 0
+
 -- each scope has exactly one instant, if it is cancelled, and else none
 abbrev pub EachCancelHasOneInstant : Type 0
 EachCancelHasOneInstant = (h : History) (times : List ℕ) (s : ℕ) (o : Opening) → opening h s ≡ Some o → count_in (is_instant_of s) (records h times) ≡ cond (is_cancelled h s) 1 0
 
 -- ---- what the records say
 
--- the stretch goes from the one place to the other, if it ended there
-pub record GoesFrom (times : List ℕ) (s : Stretch) (track from : ℕ) (to : Option ℕ) : Type 0 where
+-- the stretch goes from the one place to the other, if it ended there, or else to the last reading of the clock
+pub record GoesFrom (h : History) (times : List ℕ) (s : Stretch) (track from : ℕ) (to : Option ℕ) : Type 0 where
   pub on : s.track ≡ track
   pub at : s.at ≡ micros times from
-  pub open_end : to ≡ None → s.lasts ≡ None
-  pub ended : (i : ℕ) → to ≡ Some i → s.lasts ≡ Some (micros times i - micros times from)
+  pub goes_on : to ≡ None → s.lasts ≡ micros times (length h.events) - micros times from
+  pub ended : (i : ℕ) → to ≡ Some i → s.lasts ≡ micros times i - micros times from
 
 -- it ends, if it does, at an event that ends it, and what can be read then is so; if it does not end, no event ends it
 pub record EndsBy (h : History) (ends : Event → Bool) (ended : Bool) (to : Option ℕ) : Type 0 where
   pub here : (i : ℕ) → to ≡ Some i → (e : Event) × (slice_get h.events i ≡ Some e) × (ends e ≡ true)
   pub never : to ≡ None → ended ≡ false
+
+-- the name of a track is that of its task
+pub record IsTrackOf (h : History) (t : Track) (k : ℕ) : Type 0 where
+  pub forked : Forking
+  pub is : forking h k ≡ Some forked
+  pub name : t.name ≡ forked.label.name
+
+-- the word says whether the task waits still, got its thread, or ended without one
+abbrev pub IsWait : History → ℕ → Wait → Type 0
+IsWait h k Started = started h k ≡ true
+IsWait h k Rejected = (started h k ≡ false) × ((rejected h k || finished h k) ≡ true)
+IsWait h k Still = (started h k ≡ false) × ((rejected h k || finished h k) ≡ false)
+
+-- a wait begins at the task's own fork, which was not under a cancel, and ends as the task starts, or ends without a start
+pub record IsWaitOf (h : History) (times : List ℕ) (w : WaitSlice) (k : ℕ) : Type 0 where
+  pub forked : Forking
+  pub is : forking h k ≡ Some forked
+  pub scope : w.scope ≡ forked.scope
+  pub free : cancelled_before h forked.scope forked.place ≡ false
+  pub to : Option ℕ
+  pub goes : GoesFrom h times w.stretch k forked.place to
+  pub ends : EndsBy h (λ e. starts k e || (rejects k e || finishes k e)) (started h k || (rejected h k || finished h k)) to
+  pub wait : IsWait h k w.wait
+
+-- a task never starts that was forked in a scope which was cancelled before
+pub record IsNeverOf (h : History) (times : List ℕ) (p : Point) (k : ℕ) : Type 0 where
+  pub forked : Forking
+  pub is : forking h k ≡ Some forked
+  pub at : p.at ≡ micros times forked.place
+  pub scope : p.scope ≡ forked.scope
+  pub cancelled : cancelled_before h forked.scope forked.place ≡ true
 
 -- a slice of a task begins at its own start and ends at its own end, with what can be read of it, on its own track
 pub record IsSliceOf (h : History) (times : List ℕ) (s : TaskSlice) (k : ℕ) : Type 0 where
@@ -69,7 +126,7 @@ pub record IsSliceOf (h : History) (times : List ℕ) (s : TaskSlice) (k : ℕ) 
   pub from : ℕ
   pub begins : slice_get h.events from ≡ Some (event.Start k)
   pub to : Option ℕ
-  pub goes : GoesFrom times s.stretch k from to
+  pub goes : GoesFrom h times s.stretch k from to
   pub ends : EndsBy h (λ e. rejects k e || finishes k e) (rejected h k || finished h k) to
   pub result : (st : State) → s.result ≡ Some st → st ≡ state h k
   pub open_result : to ≡ None → s.result ≡ None
@@ -79,8 +136,18 @@ pub record IsBandOf (h : History) (times : List ℕ) (b : ScopeSlice) (s : ℕ) 
   pub opened : Opening
   pub is : opening h s ≡ Some opened
   pub to : Option ℕ
-  pub goes : GoesFrom times b.stretch opened.actor opened.place to
+  pub goes : GoesFrom h times b.stretch opened.actor opened.place to
   pub ends : EndsBy h (ends s) (closed h s) to
+  pub told : b.closed ≡ closed h s
+
+-- a scope begins to close, on the track of its owner, at the first event by which a close begins that covers it
+pub record IsClosingOf (h : History) (times : List ℕ) (p : Point) (s : ℕ) : Type 0 where
+  pub opened : Opening
+  pub is : opening h s ≡ Some opened
+  pub on : p.track ≡ opened.actor
+  pub place : ℕ
+  pub at : p.at ≡ micros times place
+  pub covers : (L : Limits) → Legal L h → closing_place h s ≡ Some place
 
 -- an instant stands on the track of the owner of the scope that became cancelled, at that event
 pub record IsInstantOf (h : History) (times : List ℕ) (i : Instant) (s : ℕ) : Type 0 where
@@ -111,8 +178,12 @@ pub record IsArrowOf (h : History) (times : List ℕ) (a : Arrow) (s : ℕ) : Ty
   pub comes : CancelledFrom h s place source
 
 abbrev pub IsSo : History → List ℕ → Record → Type 0
+IsSo h times (ATrack t) = IsTrackOf h t t.task
+IsSo h times (AWait w) = IsWaitOf h times w w.stretch.track
+IsSo h times (ANever p) = IsNeverOf h times p p.track
 IsSo h times (ATask s) = IsSliceOf h times s s.stretch.track
 IsSo h times (AScope b) = IsBandOf h times b b.scope
+IsSo h times (AClosing p) = IsClosingOf h times p p.scope
 IsSo h times (AnInstant i) = IsInstantOf h times i i.scope
 IsSo h times (AnArrow a) = IsArrowOf h times a a.scope
 
@@ -125,6 +196,10 @@ EachRecordIsSo = (h : History) (times : List ℕ) → Everywhere (IsSo h times) 
 -- the reading of a task's start is that of the event by which this task started
 abbrev pub EachStartTimeIsItsOwn : Type 0
 EachStartTimeIsItsOwn = (h : History) (times : List ℕ) (k : ℕ) (f : Forking) → forking h k ≡ Some f → started h k ≡ true → (i : ℕ) × (slice_get h.events i ≡ Some (event.Start k)) × (start_time h times k ≡ reading_at times i)
+
+-- that of its fork is that of its own fork
+abbrev pub EachForkTimeIsItsOwn : Type 0
+EachForkTimeIsItsOwn = (h : History) (times : List ℕ) (k : ℕ) (f : Forking) → forking h k ≡ Some f → fork_time h times k ≡ reading_at times f.place
 
 -- and that of a scope's opening is that of its own opening
 abbrev pub EachOpenTimeIsItsOwn : Type 0

@@ -15,9 +15,9 @@ shows v i = nat_le v.from i && nat_le i v.to
 abbrev pub meets : View → ℕ → Option ℕ → Bool
 meets v from to = nat_le from v.to && option_map_or (nat_le v.from) to true
 
--- how high so many rows are, of those heights that a page is drawn for
+-- how high so many rows are, of those heights that a page is drawn for: the smallest text has 10 px before it is scaled
 abbrev pub high : ℕ → ℕ
-high rows = min (max (168 + 22 * rows) 1000) 5000
+high rows = min (max (168 + 22 * rows) 1000) 1250
 
 -- the width of the page
 abbrev pub page_width : ℕ → ℕ
@@ -38,13 +38,17 @@ last_place view columns = min view.to columns
 abbrev pub first_place : View → ℕ → ℕ
 first_place view columns = min view.from (last_place view columns)
 
--- how far from the left the event at the place stands, of so many events: between those that the view begins and
--- ends at, by the times, or else by the places
+-- when the view begins, by the times, or else by the places, and how long it lasts
+abbrev pub first_time : View → List ℕ → ℕ → ℕ
+first_time view times columns = time_at times (first_place view columns)
+
+abbrev pub span_time : View → List ℕ → ℕ → ℕ
+span_time view times columns = time_at times (last_place view columns) - first_time view times columns
+
+-- how far from the left the time stands, of so many events
+abbrev pub x_by : View → List ℕ → ℕ → ℕ → ℕ → ℕ
+x_by view times columns rows time = 256 + min (time - first_time view times columns) (span_time view times columns) * (natural_width view.width rows - 280) / max (span_time view times columns) 1
+
+-- how far from the left the event at the place stands
 unfoldable pub x_at : View → List ℕ → ℕ → ℕ → ℕ → ℕ
-x_at view times columns rows place =
-    let first = first_place view columns in
-    let last = last_place view columns in
-    let begin = time_at times first in
-    let span = time_at times last - begin in
-    let here = time_at times (min (max place first) last) in
-    256 + min (here - begin) span * (natural_width view.width rows - 280) / max span 1
+x_at view times columns rows place = x_by view times columns rows (time_at times (min (max place (first_place view columns)) (last_place view columns)))

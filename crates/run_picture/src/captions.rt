@@ -1,6 +1,6 @@
 //! What a row and a bar are called.
 ghost use Rattle.std.specs.Prelude.{◌≡◌, Some};
-ghost use Rattle.run_picture.specs.Captions.{fate_text, folded_text, fork_text, label_class, label_text, opener_text, scope_text, span_end, span_text, subject_text, title_text, titled_text, unit_word};
+ghost use Rattle.run_picture.specs.Captions.{fate_text, folded_text, fork_text, label_class, label_text, lasting_text, opener_text, scope_text, span_end, span_text, subject_text, title_text, titled_text, unit_end, unit_word};
 
 use crate::marks::{ShownCause, ShownState};
 use crate::rows::Folded;
@@ -102,6 +102,8 @@ pub enum Fate {
     Closing,
     /// So much lies in a closed scope.
     Folded(Folded),
+    /// So many tasks behind the first one ended like it.
+    More(Folded),
     /// A task waits for its thread.
     Waits,
     /// A task runs.
@@ -132,6 +134,7 @@ impl fmt::Display for Fate {
             Fate::Cancelled(cause) => write!(f, "{}", ShownCause(*cause)),
             Fate::Closing => write!(f, " closing"),
             Fate::Folded(folded) => write!(f, "{}", ShownFolded(*folded)),
+            Fate::More(folded) => write!(f, " and more{}", ShownFolded(*folded)),
             Fate::Waits => write!(f, " waits"),
             Fate::Runs => write!(f, " runs"),
             Fate::Ended(state) => write!(f, "{}", ShownState(*state)),
@@ -139,34 +142,79 @@ impl fmt::Display for Fate {
     }
 }
 
-/// From which event, or line of the script, to which.
+/// What numbers a picture names places by.
+#[derive(Clone, Copy)]
+pub enum Measure {
+    /// Events, from 1.
+    Events,
+    /// The lines of the script.
+    Lines,
+    /// Readings of a clock, in milliseconds.
+    Millis,
+}
+
+/// What is counted: events, lines or milliseconds.
+pub(crate) fn unit_word(measure: Measure) -> &'static str
+    ensures { result.now ≡ unit_word measure }
+{
+    match measure {
+        Measure::Events => "event ",
+        Measure::Lines => "line ",
+        Measure::Millis => "",
+    }
+}
+
+/// The unit behind a number.
+pub(crate) fn unit_end(measure: Measure) -> &'static str
+    ensures { result.now ≡ unit_end measure }
+{
+    match measure {
+        Measure::Millis => " ms",
+        _ => "",
+    }
+}
+
+/// From which place to which, and how long that lasts.
 #[derive(Clone, Copy)]
 pub struct Span {
-    /// Whether these are lines.
-    pub lined: bool,
+    pub measure: Measure,
     pub from: u64,
     /// The last one, if it is over.
     pub to: Option<u64>,
-}
-
-/// What is counted: events, or lines.
-pub(crate) fn unit_word(lined: bool) -> &'static str
-    ensures { result.now ≡ unit_word lined }
-{
-    if lined { "line " } else { "event " }
+    /// How long it lasts or has lasted, in milliseconds, if there are times.
+    pub lasts: Option<u64>,
 }
 
 /// The end of a span.
 #[derive(Clone, Copy)]
-struct ShownEnd(Option<u64>);
+struct ShownEnd {
+    to: Option<u64>,
+    measure: Measure,
+}
 
 impl fmt::Display for ShownEnd {
-    ghost output = { λ e. Some (span_end e.0) };
+    ghost output = { λ e. Some (span_end e.measure e.to) };
+
+    fn fmt<W: fmt::Write>(&self, f: &mut fmt::Formatter<W>) -> fmt::Result {
+        let unit = unit_end(self.measure);
+        match self.to {
+            Some(number) => write!(f, " to {number}{unit}"),
+            None => write!(f, " on"),
+        }
+    }
+}
+
+/// How long a span lasts.
+#[derive(Clone, Copy)]
+struct ShownLasting(Option<u64>);
+
+impl fmt::Display for ShownLasting {
+    ghost output = { λ l. Some (lasting_text l.0) };
 
     fn fmt<W: fmt::Write>(&self, f: &mut fmt::Formatter<W>) -> fmt::Result {
         match self.0 {
-            Some(number) => write!(f, " to {number}"),
-            None => write!(f, " on"),
+            Some(millis) => write!(f, " ({millis} ms)"),
+            None => Ok(()),
         }
     }
 }
@@ -176,8 +224,14 @@ impl fmt::Display for Span {
 
     #[tactic(auto, unfolding(crate::specs::Captions::span_text))]
     fn fmt<W: fmt::Write>(&self, f: &mut fmt::Formatter<W>) -> fmt::Result {
-        let unit = unit_word(self.lined);
-        write!(f, ", {unit}{}{}:", self.from, ShownEnd(self.to))
+        let word = unit_word(self.measure);
+        let unit = unit_end(self.measure);
+        let end = ShownEnd {
+            to: self.to,
+            measure: self.measure,
+        };
+        let lasting = ShownLasting(self.lasts);
+        write!(f, ", {word}{}{unit}{end}{lasting}:", self.from)
     }
 }
 

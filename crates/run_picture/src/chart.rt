@@ -1,16 +1,20 @@
 //! What is kept of a run while it is drawn: where something happened first, and the rows.
 ghost use Rattle.std.specs.Prelude.{◌≡◌, ◌<◌, ◌^◌, ◌++◌, ℕ, IfOk, OnOk, None, get_or, length};
 ghost use Rattle.run_picture.specs.Arounds.{IsNestOf};
+ghost use Rattle.run_picture.specs.Focus.{focused, focused_view};
 ghost use Rattle.run_picture.specs.Nodes.{node_count};
+ghost use Rattle.run_picture.specs.Sheet.{sheet_of};
 ghost use Rattle.run_picture.specs.Chart.{AreShown, IsChartOf, chosen_rows, one_with_all, placed_rows, shown_in};
 
 use crate::arounds::{Nest, nest_of};
+use crate::closings::closings_of;
 use crate::forest::{Forest, Placed, append_rows, below, forest_of, nothings};
 use crate::landmarks::{Firsts, Landmark, firsts_of};
 use crate::nodes::{keys_of, node_count, scope_node};
 use crate::rows::{Row, rows_of};
 use crate::seen::seen_of;
-use crate::view::View;
+use crate::turns::closed_at;
+use crate::view::{View, column_of};
 use scope_checks::Readings;
 use scope_rules::{Event, ScopeId};
 use std::alloc::{AllocError, Global};
@@ -34,7 +38,7 @@ pub(crate) struct Chart<'a> {
     pub(crate) starts: Firsts,
     pub(crate) ends: Firsts,
     pub(crate) joins: Firsts,
-    pub(crate) begins: Firsts,
+    pub(crate) closings: Firsts,
     pub(crate) rows: Vec<Row>,
     /// By node, its row, unless it lies in another.
     pub(crate) shown: Vec<Option<u32>>,
@@ -122,6 +126,30 @@ fn show(shown: &mut Vec<Option<u32>>, row: Row, index: u32)
     }
 }
 
+/// What is in view: if one scope alone is drawn, what lasts or happens between its opening and its close.
+fn focused_view<R: Readings>(readings: &R, nest: &Nest, view: View) -> View
+    requires { IsNestOf nest.now (R.history readings.now) }
+    ensures { result ≡ focused_view (R.history readings.now) view }
+{
+    let Some(scope) = view.scope else {
+        return view;
+    };
+    let Some(opened) = readings.opening(scope) else {
+        return view;
+    };
+    let last = match closed_at(readings, &nest.closes, scope) {
+        Some(place) => column_of(place),
+        None => u32::MAX,
+    };
+    View {
+        width: view.width,
+        rows: view.rows,
+        from: view.from.max(column_of(opened.place)),
+        to: view.to.min(last),
+        scope: view.scope,
+    }
+}
+
 /// The chart of what was read. It is refused for memory alone; of 2^31 events or nodes, which no realm has, it asks
 /// none, and is refused too.
 pub(crate) fn chart_of<'a, R: Readings>(
@@ -130,7 +158,8 @@ pub(crate) fn chart_of<'a, R: Readings>(
     drawn: Drawn<'a>,
 ) -> Result<Chart<'a>, AllocError>
     requires { drawn.events.now ≡ (R.history readings.now).events }
-    ensures { IfOk result (λ chart. IsChartOf chart drawn.entry (R.history readings.now)) }
+    ensures chart { IfOk result (λ chart. IsChartOf chart chart.drawn (R.history readings.now)) }
+    ensures sheet { IfOk result (λ chart. sheet_of chart.drawn ≡ focused (R.history readings.now) (sheet_of drawn.entry)) }
 {
     let Ok(columns) = u32::try_from(drawn.events.len()) else {
         return Err(AllocError);
@@ -141,7 +170,15 @@ pub(crate) fn chart_of<'a, R: Readings>(
     let scopes_before = readings.retired_scopes();
     let scopes = readings.scopes() - scopes_before;
     let nest = nest_of(alloc, readings, events)?;
+    let drawn = Drawn {
+        events,
+        lines: drawn.lines,
+        times: drawn.times,
+        view: focused_view(readings, &nest, drawn.view),
+    };
     let ends = firsts_of(alloc, events, Landmark::Ended, tasks_before, tasks)?;
+    let begins = firsts_of(alloc, events, Landmark::Began, scopes_before, scopes)?;
+    let closings = closings_of(alloc, readings, &nest, &begins)?;
     let placed = placed_of(alloc, readings, &nest, drawn.view.scope)?;
     let seen = seen_of(alloc, readings, &nest, &ends, &placed, drawn.view)?;
     let rows = rows_of(alloc, readings, &seen, drawn.view.rows)?;
@@ -158,7 +195,7 @@ pub(crate) fn chart_of<'a, R: Readings>(
         starts: firsts_of(alloc, events, Landmark::Started, tasks_before, tasks)?,
         ends,
         joins: firsts_of(alloc, events, Landmark::Joined, scopes_before, scopes)?,
-        begins: firsts_of(alloc, events, Landmark::Began, scopes_before, scopes)?,
+        closings,
         rows,
         shown,
         columns,

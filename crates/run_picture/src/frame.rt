@@ -1,6 +1,6 @@
 //! What stands around the rows: the picture's head and its foot.
 ghost use Rattle.std.specs.Prelude.{◌≡◌, Some};
-ghost use Rattle.run_picture.specs.Frame.{axis_text, axis_word, foot_text, head_text, legend_begin, name_text, opened_text, prepared_text, size_text, tall, view_text};
+ghost use Rattle.run_picture.specs.Frame.{axis_text, axis_word, foot_text, head_text, legend_begin, name_text, opened_text, prepared_text, size_text, tall, until_word, view_text};
 
 use crate::pieces::{
     cancel_legend, dark, end_shapes, light, line_legend, mark_legend, scope_shapes, svg_begin,
@@ -17,7 +17,7 @@ pub struct Frame {
     /// How many events there are.
     pub columns: u32,
     pub rows: u32,
-    /// The moment, in milliseconds.
+    /// The last reading of the clock, or else the moment, in milliseconds.
     pub now: u64,
     /// Whether the way to the right is time.
     pub timed: bool,
@@ -71,6 +71,13 @@ fn axis_word(timed: bool) -> &'static str
     }
 }
 
+/// What stands before the moment, or before the last reading of the clock.
+fn until_word(timed: bool) -> &'static str
+    ensures { result.now ≡ until_word timed }
+{
+    if timed { "in" } else { "up to" }
+}
+
 /// What the picture shows: so many events, up to this moment.
 #[derive(Clone, Copy)]
 struct ShownName(Frame);
@@ -80,9 +87,10 @@ impl fmt::Display for ShownName {
 
     #[tactic(auto, unfolding(crate::specs::Frame::name_text))]
     fn fmt<W: fmt::Write>(&self, f: &mut fmt::Formatter<W>) -> fmt::Result {
+        let word = until_word(self.0.timed);
         write!(
             f,
-            "<title>{} events up to {} ms</title>\n",
+            "<title>{} events {word} {} ms</title>\n",
             self.0.columns, self.0.now
         )
     }

@@ -5,19 +5,18 @@ ghost use Rattle.scope_rules.specs.Tasks.{state};
 ghost use Rattle.run_picture.specs.Drawing.{shown};
 ghost use Rattle.run_picture.specs.Chart.{IsChartOf};
 ghost use Rattle.run_picture.specs.Sheet.{sheet_of};
-ghost use Rattle.run_picture.specs.Lanes.{band_shade, band, bar_in, cancelled_bar, closing_bar, covering_place, earlier, end_mark, end_shade, end_figure, folded_lane, folded_shade, fork_drawn, fork_of, forked_lane, label_in, life_drawn, opened_lane, row_drawn, running_fate, running_shade, running_bar, scope_lane, scope_of, task_lane};
+ghost use Rattle.run_picture.specs.Lanes.{band_shade, band, bar_in, cancelled_bar, closing_bar, end_mark, end_shade, end_figure, folded_lane, folded_shade, fork_drawn, fork_of, forked_lane, label_in, life_drawn, opened_lane, row_drawn, running_fate, running_shade, running_bar, scope_lane, scope_of, task_fate, task_lane};
 
 use crate::cancels::{is_accident, is_cancelled_before};
 use crate::captions::{Fate, Label, ShownFork, ShownScope, Subject, Title};
 use crate::chart::Chart;
 use crate::marks::Mark;
 use crate::rows::{Folded, Node, Row, node_of};
-use crate::sites::{begin_of, close_of, end_of, end_x, mark_at, span_of, start_of, x_of};
+use crate::sites::{close_of, closing_of, end_of, end_x, mark_at, span_of, start_of, x_of};
 use crate::spots::row_y;
 use crate::strokes::{Bar, Shade};
 use scope_checks::Readings;
 use scope_checks::queries::cancellation;
-use scope_rules::types::answers::CauseKind;
 use scope_rules::types::records::{Forking, Opening};
 use scope_rules::{ScopeId, State, TaskId};
 use std::alloc::AllocError;
@@ -233,6 +232,16 @@ fn append_fork_line<R: Readings>(
     }
 }
 
+/// What the label of a task's row says beside the task: how many more ended like it, if they lie in the row.
+fn task_fate(folded: Option<Folded>) -> Fate
+    ensures { result ≡ task_fate folded }
+{
+    match folded {
+        Some(folded) if folded.tasks > 0 => Fate::More(folded),
+        _ => Fate::Open,
+    }
+}
+
 /// Appends the row of the task. It is refused for memory alone.
 fn append_forked<R: Readings>(
     readings: &R,
@@ -241,14 +250,15 @@ fn append_forked<R: Readings>(
     row: u32,
     depth: u32,
     task: TaskId,
+    folded: Option<Folded>,
     forked: Forking,
 ) -> Result<(), AllocError>
     requires chart { IsChartOf chart.now chart.now.drawn (R.history readings.now) }
     requires forked { forking (R.history readings.now) task ≡ Some forked }
-    ensures { OnOk result (string_bytes text.new ≡ string_bytes text.old ++ shown (forked_lane (R.history readings.now) (sheet_of chart.now.drawn) row depth task forked)) }
+    ensures { OnOk result (string_bytes text.new ≡ string_bytes text.old ++ shown (forked_lane (R.history readings.now) (sheet_of chart.now.drawn) row depth task folded forked)) }
 {
     let y = row_y(row);
-    let label = label_of(depth, y, fork_of(task, forked), Fate::Open);
+    let label = label_of(depth, y, fork_of(task, forked), task_fate(folded));
     write!(text, "{label}")?;
     append_fork_line(readings, chart, text, y, task, forked)
 }
@@ -262,12 +272,13 @@ fn append_task<R: Readings>(
     row: u32,
     depth: u32,
     task: TaskId,
+    folded: Option<Folded>,
 ) -> Result<(), AllocError>
     requires { IsChartOf chart.now chart.now.drawn (R.history readings.now) }
-    ensures { OnOk result (string_bytes text.new ≡ string_bytes text.old ++ shown (task_lane (R.history readings.now) (sheet_of chart.now.drawn) row depth task)) }
+    ensures { OnOk result (string_bytes text.new ≡ string_bytes text.old ++ shown (task_lane (R.history readings.now) (sheet_of chart.now.drawn) row depth task folded)) }
 {
     match readings.forking(task) {
-        Some(forking) => append_forked(readings, chart, text, row, depth, task, forking),
+        Some(forking) => append_forked(readings, chart, text, row, depth, task, folded, forking),
         None => Ok(()),
     }
 }
@@ -302,29 +313,6 @@ fn folded_shade(folded: Folded) -> Shade
         Shade::Fallen
     } else {
         Shade::Folded
-    }
-}
-
-/// The earlier one of two places.
-fn earlier(one: Option<usize>, other: Option<usize>) -> Option<usize>
-    ensures { result ≡ earlier one other }
-{
-    match (one, other) {
-        (Some(one), Some(other)) => Some(one.min(other)),
-        (Some(one), None) => Some(one),
-        (None, other) => other,
-    }
-}
-
-/// Where a close gave the scope its own cancel, if one did: its own, or that of another scope that covers it.
-fn covering_place<R: Readings>(readings: &R, scope: ScopeId) -> Option<usize>
-    ensures { result ≡ covering_place (R.history readings.now) scope }
-{
-    match cancellation(readings, scope) {
-        Some((place, cause)) if cause.scope == scope && cause.kind == CauseKind::Close => {
-            Some(place)
-        },
-        _ => None,
     }
 }
 
@@ -376,8 +364,7 @@ fn append_closing<R: Readings>(
     requires opened { opening (R.history readings.now) scope ≡ Some opened }
     ensures { OnOk result (string_bytes text.new ≡ string_bytes text.old ++ shown (closing_bar (R.history readings.now) (sheet_of chart.now.drawn) y scope opened)) }
 {
-    let began = begin_of(readings, chart, scope);
-    let Some(place) = earlier(began, covering_place(readings, scope)) else {
+    let Some(place) = closing_of(readings, chart, scope) else {
         return Ok(());
     };
     let closed = close_of(readings, chart, scope);
@@ -512,7 +499,9 @@ pub(crate) fn append_row<R: Readings>(
     ensures { OnOk result (string_bytes text.new ≡ string_bytes text.old ++ shown (row_drawn (R.history readings.now) (sheet_of chart.now.drawn) index row)) }
 {
     match node_of(readings, row.node) {
-        Some(Node::Task(task)) => append_task(readings, chart, text, index, row.depth, task),
+        Some(Node::Task(task)) => {
+            append_task(readings, chart, text, index, row.depth, task, row.folded)
+        },
         Some(Node::Scope(scope)) => {
             append_scope(readings, chart, text, index, row.depth, scope, row.folded)
         },

@@ -1,7 +1,7 @@
 //! Laws of pictures and traces, above their definitions. Each function does nothing: its contract is the law.
 ghost use Rattle.run_picture.specs.Laws.{EachIsPlacedOnce, EachRowCountsItsOwn, EachScopeHasOneBand, EachTaskHasOneLane};
-ghost use Rattle.run_picture.specs.Marked.{EachBandHasOneLabel, EachCancelHasOneMark, EachEndHasOneMark, EachLaneHasOneLabel, EachMarkIsSo};
-ghost use Rattle.run_picture.specs.Traced.{EachCancelHasOneInstant, EachOpenTimeIsItsOwn, EachRecordIsSo, EachScopeHasOneSlice, EachStartTimeIsItsOwn, EachTaskHasOneSlice};
+ghost use Rattle.run_picture.specs.Marked.{EachBandHasOneLabel, EachCancelHasOneMark, EachClosingBeginsThere, EachClosingHasOneLine, EachEndHasOneMark, EachLaneHasOneLabel, EachMarkIsSo};
+ghost use Rattle.run_picture.specs.Traced.{EachCancelHasOneInstant, EachClosingHasOneInstant, EachForkTimeIsItsOwn, EachOpenTimeIsItsOwn, EachRecordIsSo, EachScopeHasOneSlice, EachStartTimeIsItsOwn, EachTaskBeginsOnce, EachTaskHasOneSlice};
 
 /// In a picture of the whole run each task and each scope is placed exactly once. If nothing is folded, each task in view
 /// has one lane and each scope in view one band, in rows of their own; what has no part in view has none.
@@ -37,6 +37,13 @@ pub fn cancels_are_marked_once()
     ensures { EachCancelHasOneMark }
 {}
 
+/// In a picture of a legal history the lane of a scope has one line that says that it is closing, if the rules say that it
+/// is closing or closed, and else none. The line begins where a close begins that covers the scope: its own, or another's.
+pub fn closings_are_drawn()
+    ensures one { EachClosingHasOneLine }
+    ensures there { EachClosingBeginsThere }
+{}
+
 /// In a picture of a legal history each mark tells the truth, and so does each line of a cancel.
 ///
 /// - It stands in the row of its scope, at the event that it speaks of.
@@ -47,28 +54,36 @@ pub fn marks_are_so()
     ensures { EachMarkIsSo }
 {}
 
-/// In a trace each task that got its thread has exactly one slice, each scope has exactly one, and each cancelled scope has
-/// exactly one instant.
-#[tactic(auto, using(crate::proofs::Recorded::each_task, crate::proofs::Recorded::each_scope, crate::proofs::Recorded::each_cancel))]
+/// In a trace each task waits exactly once, or is told once that it never starts, and each that got its thread has exactly
+/// one slice. Each scope has exactly one, and each cancelled scope has exactly one instant. In a legal history each scope
+/// that is closing or closed begins to close exactly once.
+#[tactic(auto, using(crate::proofs::Recorded::each_task, crate::proofs::Recorded::each_beginning, crate::proofs::Recorded::each_scope, crate::proofs::Recorded::each_closing, crate::proofs::Recorded::each_cancel))]
 pub fn records_stand_once()
     ensures tasks { EachTaskHasOneSlice }
+    ensures beginnings { EachTaskBeginsOnce }
     ensures scopes { EachScopeHasOneSlice }
+    ensures closings { EachClosingHasOneInstant }
     ensures cancels { EachCancelHasOneInstant }
 {}
 
 /// Each record of a trace tells the truth.
 ///
+/// - A wait goes from the task's own fork, which was not under a cancel, to its start, or to its end without one.
+/// - A task that never starts was forked under a cancel.
 /// - A slice of a task goes from its own start to its own end, on its own track, with what can be read of it.
 /// - A slice of a scope goes from its own opening to its own close, on the track of its owner.
+/// - What has not ended lasts to the last reading of the clock.
+/// - A scope of a legal history begins to close at the first event by which a close begins that covers it.
 /// - An instant stands on the track of the owner, where the scope became cancelled.
 /// - An arrow goes from the owner of the scope whose own cancel it was to the owner of the one that it reached.
 pub fn records_are_so()
     ensures { EachRecordIsSo }
 {}
 
-/// The reading of a task's start is that of the event by which this task started, and the reading of a scope's opening is
-/// that of its own opening.
+/// The reading of a task's start is that of the event by which this task started. The reading of its fork is that of its
+/// own fork, and the reading of a scope's opening is that of its own opening.
 pub fn times_are_their_own()
+    ensures forks { EachForkTimeIsItsOwn }
     ensures starts { EachStartTimeIsItsOwn }
     ensures opens { EachOpenTimeIsItsOwn }
 {}

@@ -3,12 +3,13 @@
 //! Each scope and each task that was numbered since the last retirement has a row, in the order of the tree: a scope,
 //! its tasks below it, a task's own scopes below the task, and then the scopes that its owner opened in it. Rows are
 //! indented by depth. If they are more than the view allows, a closed scope is one row with all that lies in it, and
-//! says how many tasks these are and how many of them failed. A view may show one scope alone, and from one event to
+//! says how many tasks these are and how many of them failed. So are tasks of one scope that have ended, one behind the
+//! other, all of which failed, or none. A view may show one scope alone, as long as that lasts, and from one event to
 //! another: then only what lasts in between has a row, and only what happened there has a mark.
 //!
-//! The way to the right is time if the caller hands the times of the events, and else their order; the picture says
-//! which. It fits the page that the view asks for, and is scaled down as a whole up to a fifth, so that some 200 rows
-//! are one screen. What comes later is drawn over what comes before.
+//! The way to the right is time if the caller hands the times of the events, with an axis of round ones, and else their
+//! order; the picture says which. It fits the page that the view asks for, and is scaled down as a whole by a fifth at
+//! most, so that no text is lower than 8 pixels. What comes later is drawn over what comes before.
 //!
 //! - A scope is a band from its opening to its close, or to the right edge, with its number, its owner if that is a
 //!   task, its joiner and its options at the left. A band that ended is distinguished from an open one. It changes its colour
@@ -24,8 +25,8 @@
 //! - A shield that holds is a mark at the cancel of the scope around the shielded one, in the row of the latter, which
 //!   is open then, and not cancelled itself.
 //!
-//! Bars, labels and marks say in words what they are, where they are pointed at, with the line of the script if the
-//! caller hands the lines, or else the number of the event, from 1. Numbers are decimal, and names have no character
+//! Bars, labels and marks say in words what they are, where they are pointed at. If the caller hands times, they say when,
+//! and bars how long; or else the line of the script, if the caller hands the lines, or the number of the event, from 1. Numbers are decimal, and names have no character
 //! that XML keeps for itself: what is written is XML, without more ado. The colours are distinguished by those who see
 //! some of them alike, in light and in the dark. No number is larger than viewers take.
 //!
@@ -33,9 +34,13 @@
 #![tactic(auto)]
 
 mod arounds;
+mod axis;
 mod cancels;
 mod captions;
 mod chart;
+mod closings;
+mod columns;
+mod digits;
 mod events;
 mod forest;
 mod frame;
@@ -44,6 +49,11 @@ mod lanes;
 pub mod laws;
 mod marks;
 mod nodes;
+mod page;
+pub mod page_drawing;
+pub mod page_head;
+pub mod page_model;
+mod page_rows;
 mod picture;
 mod pieces;
 mod rows;
@@ -57,18 +67,23 @@ mod strokes;
 mod trace;
 mod turns;
 mod view;
+mod words;
 
-pub use captions::{Fate, Label, ShownFork, ShownScope, Span, Subject, Title};
+pub use axis::AxisMark;
+pub use captions::{Fate, Label, Measure, ShownFork, ShownScope, Span, Subject, Title};
 pub use chart::Drawn;
+pub use columns::{Columns, ScopeRow, TaskRow, columns_of};
 pub use forest::Placed;
 pub use frame::{Frame, ShownFoot, ShownHead};
 pub use landmarks::Landmark;
 pub use marks::{Mark, ShownMark};
+pub use page::page_of;
 pub use picture::{picture_of, picture_with};
 pub use rows::{Class, Folded, Node, Row};
-pub use slices::{Arrow, Instant, ScopeSlice, Stretch, TaskSlice};
+pub use slices::{Arrow, Instant, Point, ScopeSlice, Stretch, TaskSlice, Track, Wait, WaitSlice};
 pub use spots::Spot;
-pub use stamps::{open_times, start_times};
+pub use stamps::{fork_times, open_times, start_times};
 pub use strokes::{Bar, Reach, Shade, Tick};
 pub use trace::trace_of;
 pub use view::View;
+pub use words::Words;

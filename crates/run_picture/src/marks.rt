@@ -3,7 +3,7 @@ ghost use Rattle.std.specs.Prelude.{◌≡◌, Some};
 ghost use Rattle.run_picture.specs.MarkText.{cause_text, ended_text, held_text, moved_text};
 ghost use Rattle.run_picture.specs.Marks.{at_text, cancel_word, mark_text, mark_word, note_text, note_title};
 
-use crate::captions::unit_word;
+use crate::captions::{Measure, unit_end, unit_word};
 use crate::spots::Spot;
 use scope_rules::{Cause, ScopeId, State, TaskId};
 use std::fmt;
@@ -187,9 +187,10 @@ impl fmt::Display for ShownTitle {
 
     #[tactic(auto, unfolding(crate::specs::Marks::note_title))]
     fn fmt<W: fmt::Write>(&self, f: &mut fmt::Formatter<W>) -> fmt::Result {
-        let unit = unit_word(self.0.lined);
+        let word = unit_word(self.0.measure);
+        let unit = unit_end(self.0.measure);
         let note = ShownNote(self.0.mark);
-        write!(f, "<title>{unit}{}: {note}</title>", self.0.number)
+        write!(f, "<title>{word}{}{unit}: {note}</title>", self.0.number)
     }
 }
 
@@ -197,9 +198,8 @@ impl fmt::Display for ShownTitle {
 #[derive(Clone, Copy)]
 pub struct ShownMark {
     pub spot: Spot,
-    /// Whether the number is that of a line of the script.
-    pub lined: bool,
-    /// The number of the event, or of its line.
+    pub measure: Measure,
+    /// The number of the event, or of its line, or its time.
     pub number: u64,
     pub mark: Mark,
 }

@@ -1,5 +1,6 @@
 //! The picture.
 ghost use Rattle.std.specs.Prelude.{◌≡◌, ◌++◌, IfOk, OnOk, length, string_bytes};
+ghost use Rattle.run_picture.specs.Axis.{axis_text};
 ghost use Rattle.run_picture.specs.Frame.{foot_text};
 ghost use Rattle.scope_rules.specs.History.{scope_numbers};
 ghost use Rattle.run_picture.specs.Cancels.{cancel_figures};
@@ -8,15 +9,16 @@ ghost use Rattle.run_picture.specs.Chart.{IsChartOf, drawn_rows};
 ghost use Rattle.run_picture.specs.Sheet.{sheet_of};
 ghost use Rattle.run_picture.specs.Events.{event_figures, moment_line};
 ghost use Rattle.run_picture.specs.Shields.{shield_figures};
-ghost use Rattle.run_picture.specs.Picture.{drawn_text, figures, indexes, picture_text, places, row_at};
+ghost use Rattle.run_picture.specs.Picture.{drawn_text, figures, indexes, now_in, picture_text, places, row_at};
 
+use crate::axis::append_axis;
 use crate::cancels::append_cancel;
 use crate::chart::{Chart, Drawn, chart_of};
 use crate::events::{append_event, append_moment};
 use crate::frame::{Frame, ShownFoot, ShownHead};
 use crate::lanes::append_row;
 use crate::shields::append_shield;
-use crate::view::View;
+use crate::view::{View, time_at};
 use scope_checks::Readings;
 use scope_rules::Event;
 use std::alloc::{AllocError, Global};
@@ -129,14 +131,26 @@ fn append_body<R: Readings>(
     text: &mut String,
 ) -> Result<(), AllocError>
     requires { IsChartOf chart.now chart.now.drawn (R.history readings.now) }
-    ensures { OnOk result (string_bytes text.new ≡ string_bytes text.old ++ (shown (figures (R.history readings.now) (sheet_of chart.now.drawn)) ++ foot_text (length (drawn_rows (R.history readings.now) (sheet_of chart.now.drawn))))) }
+    ensures { OnOk result (string_bytes text.new ≡ string_bytes text.old ++ (axis_text (R.history readings.now) (sheet_of chart.now.drawn) ++ (shown (figures (R.history readings.now) (sheet_of chart.now.drawn)) ++ foot_text (length (drawn_rows (R.history readings.now) (sheet_of chart.now.drawn)))))) }
 {
+    append_axis(readings, chart, text)?;
     append_moments(readings, chart, text)?;
     append_rows_of(readings, chart, text)?;
     append_events(readings, chart, text)?;
     append_cancels(readings, chart, text)?;
     append_shields(readings, chart, text)?;
     write!(text, "{}", ShownFoot(chart.height))
+}
+
+/// The last reading of the clock, if there are times, or else the moment.
+fn now_of<R: Readings>(readings: &R, drawn: &Drawn<'_>) -> u64
+    ensures { result ≡ now_in (R.history readings.now) (sheet_of drawn.now) }
+{
+    if drawn.times.is_empty() {
+        readings.moment()
+    } else {
+        time_at(drawn.times, u32::MAX)
+    }
 }
 
 /// The picture of what was read, as an SVG text: as much of it as the view says, with the lines of the script and
@@ -158,7 +172,7 @@ pub fn picture_with<R: Readings>(
         width: chart.drawn.view.width,
         columns: chart.columns,
         rows: chart.height,
-        now: readings.moment(),
+        now: now_of(readings, &chart.drawn),
         timed: !chart.drawn.times.is_empty(),
     };
     let head = ShownHead(frame);

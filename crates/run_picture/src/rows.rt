@@ -1,11 +1,12 @@
-//! The rows of a picture: a task, a scope, or a closed scope with all that lies in it.
+//! The rows of a picture: a task, a scope, a closed scope with all that lies in it, or tasks of one scope that have ended.
 ghost use Rattle.std.specs.Prelude.{◌≡◌, ◌<◌, [], IfOk, OnOk, length, map};
+ghost use Rattle.scope_rules.specs.Tasks.{is_settled};
 ghost use Rattle.run_picture.specs.Laws.{LosesNothing};
-ghost use Rattle.run_picture.specs.Rows.{begun, class_of, counted, folded_from, folded_in, has_failed, is_failed, node_of, plain, rows_of, taken_in};
+ghost use Rattle.run_picture.specs.Rows.{begun, begun_with, class_of, counted, fits, folded_from, folded_in, has_ended, has_failed, is_done, is_ended_as, is_failed, node_of, plain, rows_of, taken_in};
 
 use crate::forest::Placed;
 use scope_checks::Readings;
-use scope_rules::{ScopeId, State, TaskId};
+use scope_rules::{ScopeId, Stage, State, TaskId};
 use std::alloc::{AllocError, Global};
 
 /// What a node of the tree is.
@@ -20,6 +21,8 @@ pub enum Node {
 pub struct Folded {
     pub tasks: u32,
     pub failed: u32,
+    /// If the row is a run of tasks that have ended, whether they failed: all of them, or none.
+    pub run: Option<bool>,
 }
 
 /// A row of a picture.
@@ -36,8 +39,8 @@ pub struct Row {
 /// What a node is for a fold.
 #[derive(Clone, Copy)]
 pub enum Class {
-    /// A task, failed or not.
-    Task { failed: bool },
+    /// A task, failed or not, which has ended or not.
+    Task { failed: bool, ended: bool },
     /// A scope, closed or not.
     Scope { closed: bool },
 }
@@ -76,6 +79,24 @@ fn is_failed(state: State) -> bool
     matches!(state, State::Failed(_))
 }
 
+/// Whether the task has ended, or never starts.
+#[tactic(auto, using(scope_checks::proofs::Checked::task_passes))]
+fn ended<R: Readings>(readings: &R, task: TaskId) -> bool
+    ensures { result ≡ has_ended (R.history readings.now) task }
+{
+    match readings.forking(task) {
+        Some(_) => is_settled(readings.stage(task)),
+        None => false,
+    }
+}
+
+/// Whether nothing more comes of a task at this stage.
+fn is_settled(stage: Stage) -> bool
+    ensures { result ≡ is_settled stage }
+{
+    matches!(stage, Stage::Never | Stage::Finished)
+}
+
 /// What the node is for a fold.
 fn class_of<R: Readings>(readings: &R, node: u32) -> Class
     ensures { result ≡ class_of (R.history readings.now) node }
@@ -83,6 +104,7 @@ fn class_of<R: Readings>(readings: &R, node: u32) -> Class
     match node_of(readings, node) {
         Some(Node::Task(task)) => Class::Task {
             failed: failed(readings, task),
+            ended: ended(readings, task),
         },
         Some(Node::Scope(scope)) => Class::Scope {
             closed: readings.closed(scope),
@@ -97,13 +119,15 @@ impl Folded {
         ensures { result ≡ counted self class }
     {
         match class {
-            Class::Task { failed: true } => Folded {
+            Class::Task { failed: true, .. } => Folded {
                 tasks: self.tasks.saturating_add(1),
                 failed: self.failed.saturating_add(1),
+                run: self.run,
             },
-            Class::Task { failed: false } => Folded {
+            Class::Task { failed: false, .. } => Folded {
                 tasks: self.tasks.saturating_add(1),
                 failed: self.failed,
+                run: self.run,
             },
             Class::Scope { .. } => self,
         }
@@ -121,29 +145,88 @@ fn plain(placed: Placed) -> Row
     }
 }
 
-/// The row that the node begins, in a picture that is folded.
+/// The row that the node begins, with nothing else in it yet.
+fn begun_with(placed: Placed, run: Option<bool>) -> Row
+    ensures { result ≡ begun_with placed run }
+{
+    Row {
+        node: placed.node,
+        depth: placed.depth,
+        folded: Some(Folded {
+            tasks: 0,
+            failed: 0,
+            run,
+        }),
+    }
+}
+
+/// The row that the node begins, in a picture that is folded: a closed scope takes in what lies below it, and a task that
+/// has ended takes in those behind it in the same scope that ended alike.
 fn begun(placed: Placed, class: Class) -> Row
     ensures { result ≡ begun placed class }
 {
     match class {
-        Class::Scope { closed: true } => Row {
-            node: placed.node,
-            depth: placed.depth,
-            folded: Some(Folded {
-                tasks: 0,
-                failed: 0,
-            }),
-        },
+        Class::Scope { closed: true } => begun_with(placed, None),
+        Class::Task {
+            failed,
+            ended: true,
+        } => begun_with(placed, Some(failed)),
         _ => plain(placed),
     }
 }
 
-/// The row with the node in it, if it is folded and the node lies below it.
+/// Whether the node is a task that has ended, or a closed scope.
+fn is_done(class: Class) -> bool
+    ensures { result ≡ is_done class }
+{
+    match class {
+        Class::Task { ended, .. } => ended,
+        Class::Scope { closed } => closed,
+    }
+}
+
+/// Whether the node is a task that ended so.
+fn is_ended_as(failed: bool, class: Class) -> bool
+    ensures { result ≡ is_ended_as failed class }
+{
+    match (failed, class) {
+        (
+            true,
+            Class::Task {
+                failed: true,
+                ended: true,
+            },
+        ) => true,
+        (
+            false,
+            Class::Task {
+                failed: false,
+                ended: true,
+            },
+        ) => true,
+        _ => false,
+    }
+}
+
+/// Whether the row takes in the node.
+fn fits(run: Option<bool>, row: Row, placed: Placed, class: Class) -> bool
+    ensures { result ≡ fits run row placed class }
+{
+    match run {
+        None => row.depth < placed.depth,
+        Some(failed) => {
+            (row.depth < placed.depth && is_done(class))
+                || (row.depth == placed.depth && is_ended_as(failed, class))
+        },
+    }
+}
+
+/// The row with the node in it, if it is folded and takes the node in.
 fn taken_in(row: Row, placed: Placed, class: Class) -> Option<Row>
     ensures { result ≡ taken_in row placed class }
 {
     match row.folded {
-        Some(folded) if row.depth < placed.depth => Some(Row {
+        Some(folded) if fits(folded.run, row, placed, class) => Some(Row {
             node: row.node,
             depth: row.depth,
             folded: Some(folded.with(class)),
@@ -152,7 +235,7 @@ fn taken_in(row: Row, placed: Placed, class: Class) -> Option<Row>
     }
 }
 
-/// Puts the node into the last row, if that is folded and the node lies below it, or else begins a row. It is refused
+/// Puts the node into the last row, if that takes it in, or else begins a row. It is refused
 /// for memory alone.
 #[tactic(auto, using(std::proofs::lemmas::Grind::common_steps, crate::proofs::Folding::folded_last))]
 fn fold_in(rows: &mut Vec<Row>, placed: Placed, class: Class) -> Result<(), AllocError>

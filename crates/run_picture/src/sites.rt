@@ -3,26 +3,20 @@ ghost use Rattle.std.specs.Prelude.{◌≡◌, true, is_some};
 ghost use Rattle.scope_rules.specs.History.{forking, opening};
 ghost use Rattle.run_picture.specs.declared.landmarks.Landmark.TheVariants as landmark;
 ghost use Rattle.run_picture.specs.Chart.{IsChartOf};
+ghost use Rattle.run_picture.specs.Closings.{begins_to_close};
 ghost use Rattle.run_picture.specs.Sheet.{sheet_of};
 ghost use Rattle.run_picture.specs.Landmarks.{first_place};
-ghost use Rattle.run_picture.specs.Sites.{closed_place, column_of, end_x, mark_at, number_in, scope_row, span_in, x_in};
+ghost use Rattle.run_picture.specs.Sites.{closed_place, end_x, lasting_in, mark_at, measure_in, number_in, scope_row, span_in, x_in};
 
-use crate::captions::Span;
+use crate::captions::{Measure, Span};
 use crate::chart::{Chart, Drawn};
 use crate::marks::{Mark, ShownMark};
 use crate::nodes::{node_count, scope_node};
 use crate::spots::Spot;
-use crate::turns::{closed_at, ended_at, started_at};
-use crate::view::x_at;
+use crate::turns::{closed_at, closing_at, ended_at, started_at};
+use crate::view::{column_of, time_at, x_at};
 use scope_checks::Readings;
 use scope_rules::{ScopeId, TaskId};
-
-/// The place as a column.
-pub(crate) fn column_of(place: usize) -> u32
-    ensures { result ≡ column_of place }
-{
-    place.min(u32::MAX as usize) as u32
-}
 
 /// How far from the left the event at the place stands.
 pub(crate) fn x_of<R: Readings>(readings: &R, chart: &Chart<'_>, place: usize) -> u64
@@ -50,15 +44,45 @@ pub(crate) fn end_x<R: Readings>(readings: &R, chart: &Chart<'_>, place: Option<
     }
 }
 
-/// The number of the event at the place, or of its line.
+/// What places are named by: by times, if there are any, or else by lines, if these are known.
+pub(crate) fn measure_of(drawn: &Drawn<'_>) -> Measure
+    ensures { result ≡ measure_in (sheet_of drawn.now) }
+{
+    if !drawn.times.is_empty() {
+        Measure::Millis
+    } else if !drawn.lines.is_empty() {
+        Measure::Lines
+    } else {
+        Measure::Events
+    }
+}
+
+/// The time of the event at the place, or the number of its line, or its own.
 pub(crate) fn number_of(drawn: &Drawn<'_>, place: usize) -> u64
     ensures { result ≡ number_in (sheet_of drawn.now) place }
 {
     let column = column_of(place);
+    if !drawn.times.is_empty() {
+        return time_at(drawn.times, column);
+    }
     match drawn.lines.get(column as usize) {
         Some(line) => u64::from(*line),
         None => u64::from(column) + 1,
     }
+}
+
+/// How long it lasts from the one place to the other, or else to the last reading of the clock, if there are times.
+fn lasting_of(drawn: &Drawn<'_>, from: usize, to: Option<usize>) -> Option<u64>
+    ensures { result ≡ lasting_in (sheet_of drawn.now) from to }
+{
+    if drawn.times.is_empty() {
+        return None;
+    }
+    let last = match to {
+        Some(place) => column_of(place),
+        None => u32::MAX,
+    };
+    Some(time_at(drawn.times, last).saturating_sub(time_at(drawn.times, column_of(from))))
 }
 
 /// From the one place to the other, in such numbers.
@@ -70,9 +94,10 @@ pub(crate) fn span_of(drawn: &Drawn<'_>, from: usize, to: Option<usize>) -> Span
         None => None,
     };
     Span {
-        lined: !drawn.lines.is_empty(),
+        measure: measure_of(drawn),
         from: number_of(drawn, from),
         to: last,
+        lasts: lasting_of(drawn, from, to),
     }
 }
 
@@ -92,7 +117,7 @@ pub(crate) fn mark_at<R: Readings>(
             x: x_of(readings, chart, place),
             y,
         },
-        lined: !chart.drawn.lines.is_empty(),
+        measure: measure_of(&chart.drawn),
         number: number_of(&chart.drawn, place),
         mark,
     }
@@ -139,18 +164,17 @@ pub(crate) fn join_of<R: Readings>(readings: &R, chart: &Chart<'_>, scope: Scope
     chart.joins.place(scope)
 }
 
-/// Where a close of the scope itself began, if one did.
-pub(crate) fn begin_of<R: Readings>(
+/// Where the scope begins to close, by its own close or by one that covers it, if it does.
+pub(crate) fn closing_of<R: Readings>(
     readings: &R,
     chart: &Chart<'_>,
     scope: ScopeId,
 ) -> Option<usize>
     requires chart { IsChartOf chart.now chart.now.drawn (R.history readings.now) }
     requires opened { is_some (opening (R.history readings.now) scope) ≡ true }
-    ensures { result ≡ first_place landmark.Began (R.history readings.now).events scope }
+    ensures { result ≡ begins_to_close (R.history readings.now) scope }
 {
-    let _readings = readings;
-    chart.begins.place(scope)
+    closing_at(readings, &chart.closings, scope)
 }
 
 /// Where the scope was closed, if it was.

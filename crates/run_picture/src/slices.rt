@@ -1,10 +1,44 @@
 //! The records of a trace.
-ghost use Rattle.std.specs.Prelude.{Some};
-ghost use Rattle.run_picture.specs.Slices.{arrow_head, arrow_tail, arrow_text, cause_args, instant_text, result_text, scope_text, stretch_text, task_text};
+ghost use Rattle.std.specs.Prelude.{◌≡◌, Some};
+ghost use Rattle.run_picture.specs.Slices.{arrow_head, arrow_tail, arrow_text, cause_args, closed_args, closing_text, instant_text, never_text, result_text, scope_text, point_text, stretch_text, task_text, told_text, track_head, track_text, wait_text, wait_word};
 
 use scope_log::{ShownJoiner, ShownOptions};
-use scope_rules::{Actor, Cause, Name, Options, Policy, ScopeId, State};
+use scope_rules::{Actor, Cause, Name, Options, Policy, ScopeId, State, TaskId};
 use std::fmt;
+
+/// The name of a task's track.
+#[derive(Clone, Copy)]
+pub struct Track {
+    pub task: TaskId,
+    pub name: Name,
+}
+
+/// The track that gets a name.
+#[derive(Clone, Copy)]
+struct TrackHead(TaskId);
+
+impl fmt::Display for TrackHead {
+    ghost output = { λ h. Some (track_head h.0) };
+
+    #[tactic(auto, unfolding(crate::specs::Slices::track_head))]
+    fn fmt<W: fmt::Write>(&self, f: &mut fmt::Formatter<W>) -> fmt::Result {
+        write!(
+            f,
+            ",\n{{\"ph\":\"M\",\"pid\":1,\"tid\":{},\"name\":\"thread_name\",\"args\":{{\"name\":\"",
+            self.0
+        )
+    }
+}
+
+impl fmt::Display for Track {
+    ghost output = { λ t. Some (track_text t) };
+
+    #[tactic(auto, unfolding(crate::specs::Slices::track_text))]
+    fn fmt<W: fmt::Write>(&self, f: &mut fmt::Formatter<W>) -> fmt::Result {
+        let head = TrackHead(self.task);
+        write!(f, "{head}task {} {}\"}}}}", self.task, self.name)
+    }
+}
 
 /// A stretch of a track, in microseconds.
 #[derive(Clone, Copy)]
@@ -12,48 +46,100 @@ pub struct Stretch {
     /// The track: 0 is main's, and each task has its own.
     pub track: Actor,
     pub at: u64,
-    /// How long it lasts, if it ended.
-    pub lasts: Option<u64>,
+    /// How long it lasts: up to its end, or else up to the last reading of the clock.
+    pub lasts: u64,
 }
 
 impl fmt::Display for Stretch {
     ghost output = { λ s. Some (stretch_text s) };
 
+    #[tactic(auto, unfolding(crate::specs::Slices::stretch_text))]
     fn fmt<W: fmt::Write>(&self, f: &mut fmt::Formatter<W>) -> fmt::Result {
-        match self.lasts {
-            Some(micros) => write!(
-                f,
-                ",\n{{\"ph\":\"X\",\"pid\":1,\"tid\":{},\"ts\":{},\"dur\":{micros},\"name\":\"",
-                self.track, self.at
-            ),
-            None => write!(
-                f,
-                ",\n{{\"ph\":\"B\",\"pid\":1,\"tid\":{},\"ts\":{},\"name\":\"",
-                self.track, self.at
-            ),
-        }
+        write!(
+            f,
+            ",\n{{\"ph\":\"X\",\"pid\":1,\"tid\":{},\"ts\":{},\"dur\":{},\"name\":\"",
+            self.track, self.at, self.lasts
+        )
     }
 }
 
-/// What can be read of a task, if it ended.
+/// What became of a task that waits for its thread.
 #[derive(Clone, Copy)]
-struct ShownResult(Option<State>);
+pub enum Wait {
+    /// It waits still.
+    Still,
+    /// It got its thread.
+    Started,
+    /// It was refused one.
+    Rejected,
+}
 
-impl fmt::Display for ShownResult {
-    ghost output = { λ r. Some (result_text r.0) };
-
-    fn fmt<W: fmt::Write>(&self, f: &mut fmt::Formatter<W>) -> fmt::Result {
-        match self.0 {
-            None => Ok(()),
-            Some(state) => {
-                let word = state.word();
-                write!(f, ",\"is\":\"{word}\"")
-            },
+impl Wait {
+    /// The word for it.
+    fn word(self) -> &'static str
+        ensures { result.now ≡ wait_word self }
+    {
+        match self {
+            Wait::Still => "waiting",
+            Wait::Started => "started",
+            Wait::Rejected => "rejected",
         }
     }
 }
 
-/// A task, from its start on, on a track of its own.
+/// What there is to say of a task beside its name: its scope, and how it stands.
+#[derive(Clone, Copy)]
+struct Told {
+    scope: ScopeId,
+    word: &'static str,
+}
+
+impl fmt::Display for Told {
+    ghost output = { λ t. Some (told_text t.scope t.word.now) };
+
+    #[tactic(auto, unfolding(crate::specs::Slices::told_text))]
+    fn fmt<W: fmt::Write>(&self, f: &mut fmt::Formatter<W>) -> fmt::Result {
+        write!(
+            f,
+            "\",\"args\":{{\"scope\":{},\"is\":\"{}\"}}}}",
+            self.scope, self.word
+        )
+    }
+}
+
+/// A task that waits for its thread, from its fork on, on its track.
+#[derive(Clone, Copy)]
+pub struct WaitSlice {
+    pub stretch: Stretch,
+    /// The scope that it was forked in.
+    pub scope: ScopeId,
+    pub wait: Wait,
+}
+
+impl fmt::Display for WaitSlice {
+    ghost output = { λ s. Some (wait_text s) };
+
+    #[tactic(auto, unfolding(crate::specs::Slices::wait_text))]
+    fn fmt<W: fmt::Write>(&self, f: &mut fmt::Formatter<W>) -> fmt::Result {
+        let told = Told {
+            scope: self.scope,
+            word: self.wait.word(),
+        };
+        write!(f, "{}waits{told}", self.stretch)
+    }
+}
+
+/// What can be read of a task that ended; else it runs.
+fn result_word(read: Option<State>) -> &'static str
+    ensures { result.now ≡ result_text read }
+{
+    match read {
+        None => "running",
+        Some(state) => state.word(),
+    }
+}
+
+/// A task, from its start on, on its track.
 #[derive(Clone, Copy)]
 pub struct TaskSlice {
     pub stretch: Stretch,
@@ -69,12 +155,22 @@ impl fmt::Display for TaskSlice {
 
     #[tactic(auto, unfolding(crate::specs::Slices::task_text))]
     fn fmt<W: fmt::Write>(&self, f: &mut fmt::Formatter<W>) -> fmt::Result {
-        let result = ShownResult(self.result);
-        write!(
-            f,
-            "{}{}\",\"args\":{{\"scope\":{}{result}}}}}",
-            self.stretch, self.name, self.scope
-        )
+        let told = Told {
+            scope: self.scope,
+            word: result_word(self.result),
+        };
+        write!(f, "{}{}{told}", self.stretch, self.name)
+    }
+}
+
+/// Whether a scope was closed.
+fn closed_args(closed: bool) -> &'static str
+    ensures { result.now ≡ closed_args closed }
+{
+    if closed {
+        "\",\"args\":{\"is\":\"closed\"}}"
+    } else {
+        "\",\"args\":{\"is\":\"open\"}}"
     }
 }
 
@@ -85,6 +181,7 @@ pub struct ScopeSlice {
     pub scope: ScopeId,
     pub policy: Policy,
     pub options: Options,
+    pub closed: bool,
 }
 
 impl fmt::Display for ScopeSlice {
@@ -94,11 +191,65 @@ impl fmt::Display for ScopeSlice {
     fn fmt<W: fmt::Write>(&self, f: &mut fmt::Formatter<W>) -> fmt::Result {
         let joiner = ShownJoiner(self.policy);
         let options = ShownOptions(self.options);
+        let closed = closed_args(self.closed);
         write!(
             f,
-            "{}scope {} {joiner}{options}\"}}",
+            "{}scope {} {joiner}{options}{closed}",
             self.stretch, self.scope
         )
+    }
+}
+
+/// Something that happens at once.
+#[derive(Clone, Copy)]
+pub struct Point {
+    pub track: Actor,
+    /// In microseconds.
+    pub at: u64,
+    /// The scope that a task never starts in, or that begins to close.
+    pub scope: ScopeId,
+}
+
+impl fmt::Display for Point {
+    ghost output = { λ s. Some (point_text s) };
+
+    #[tactic(auto, unfolding(crate::specs::Slices::point_text))]
+    fn fmt<W: fmt::Write>(&self, f: &mut fmt::Formatter<W>) -> fmt::Result {
+        write!(
+            f,
+            ",\n{{\"ph\":\"i\",\"s\":\"t\",\"pid\":1,\"tid\":{},\"ts\":{},\"name\":\"",
+            self.track, self.at
+        )
+    }
+}
+
+/// A task never starts, as it was forked in a cancelled scope.
+#[derive(Clone, Copy)]
+pub(crate) struct Never(pub(crate) Point);
+
+impl fmt::Display for Never {
+    ghost output = { λ n. Some (never_text n.0) };
+
+    #[tactic(auto, unfolding(crate::specs::Slices::never_text))]
+    fn fmt<W: fmt::Write>(&self, f: &mut fmt::Formatter<W>) -> fmt::Result {
+        write!(
+            f,
+            "{}never starts\",\"args\":{{\"scope\":{}}}}}",
+            self.0, self.0.scope
+        )
+    }
+}
+
+/// A scope begins to close.
+#[derive(Clone, Copy)]
+pub(crate) struct Closing(pub(crate) Point);
+
+impl fmt::Display for Closing {
+    ghost output = { λ c. Some (closing_text c.0) };
+
+    #[tactic(auto, unfolding(crate::specs::Slices::closing_text))]
+    fn fmt<W: fmt::Write>(&self, f: &mut fmt::Formatter<W>) -> fmt::Result {
+        write!(f, "{}closing {}\"}}", self.0, self.0.scope)
     }
 }
 

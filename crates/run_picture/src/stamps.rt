@@ -3,7 +3,7 @@ ghost use Rattle.std.specs.Prelude.{◌≡◌, IfOk};
 ghost use Rattle.scope_rules.specs.History.{forked_count};
 ghost use Rattle.run_picture.specs.declared.landmarks.Landmark.TheVariants as landmark;
 ghost use Rattle.run_picture.specs.Landmarks.{HasFirsts};
-ghost use Rattle.run_picture.specs.Stamps.{open_time, open_times, reading_at, start_time, start_times};
+ghost use Rattle.run_picture.specs.Stamps.{fork_time, fork_times, open_time, open_times, reading_at, start_time, start_times};
 
 use crate::landmarks::{Firsts, Landmark, firsts_of};
 use crate::turns::started_at;
@@ -32,6 +32,17 @@ fn start_time<R: Readings>(readings: &R, starts: &Firsts, times: &[u32], task: T
     };
     match started_at(readings, starts, task) {
         Some(place) => reading_at(times, place),
+        None => 0,
+    }
+}
+
+/// The reading as the task was forked.
+#[tactic(auto, unfolding(crate::specs::Stamps::fork_time))]
+fn fork_time<R: Readings>(readings: &R, times: &[u32], task: TaskId) -> u32
+    ensures { result ≡ fork_time (R.history readings.now) times.now task }
+{
+    match readings.forking(task) {
+        Some(forking) => reading_at(times, forking.place),
         None => 0,
     }
 }
@@ -68,6 +79,27 @@ pub fn start_times<R: Readings>(
     let mut found = Vec::new(alloc);
     for index in 0..count {
         found.push(start_time(readings, &starts, times, before + 1 + index))?;
+    }
+    Ok(found)
+}
+
+/// By task since the last retirement, the reading as it was forked, of these readings by event.
+///
+/// # Errors
+/// It is refused for memory alone.
+#[tactic(auto, using(std::proofs::lemmas::Grind::common_steps, crate::proofs::Stamped::forks_none, crate::proofs::Stamped::forks_more))]
+pub fn fork_times<R: Readings>(
+    alloc: Global,
+    readings: &R,
+    times: &[u32],
+) -> Result<Vec<u32>, AllocError>
+    ensures { IfOk result (λ found. found.items ≡ fork_times (R.history readings.now) times.now) }
+{
+    let before = readings.retired_tasks();
+    let count = readings.tasks() - before;
+    let mut found = Vec::new(alloc);
+    for index in 0..count {
+        found.push(fork_time(readings, times, before + 1 + index))?;
     }
     Ok(found)
 }

@@ -2,24 +2,40 @@
 ghost use Rattle.std.specs.Prelude.{◌≡◌, ◌++◌, IfOk, OnOk, Some, string_bytes};
 ghost use Rattle.scope_rules.specs.History.{forking, opening, scope_numbers, task_numbers};
 ghost use Rattle.run_picture.specs.Parts.{all, written};
-ghost use Rattle.run_picture.specs.Trace.{IsCourseOf, arrow_from, cancel_records, foot, head, micros, reached_from, record_text, result_in, scope_slice, stretch_in, task_from, task_slice, trace_text};
+ghost use Rattle.scope_rules.specs.History.{History};
+ghost use Rattle.run_picture.specs.Trace.{IsCourseOf, IsTracedOf, arrow_from, beginning, cancel_records, closing_from, foot, forked_records, head, micros, reached_from, realm_name, record_text, result_in, scope_records, stretch_in, task_from, task_records, trace_text, wait_by};
 
+use crate::arounds::{Nest, nest_of};
+use crate::cancels::is_cancelled_before;
+use crate::closings::closings_of;
 use crate::landmarks::{Firsts, Landmark, firsts_of};
-use crate::slices::{Arrow, Instant, ScopeSlice, Stretch, TaskSlice};
-use crate::turns::{closed_at, ended_at, started_at};
+use crate::slices::{
+    Arrow, Closing, Instant, Never, Point, ScopeSlice, Stretch, TaskSlice, Track, Wait, WaitSlice,
+};
+use crate::turns::{closed_at, closing_at, ended_at, started_at};
 use crate::view::time_at;
 use scope_checks::Readings;
 use scope_checks::queries::cancellation;
-use scope_rules::types::records::Forking;
+use scope_rules::types::records::{Forking, Opening};
 use scope_rules::{Actor, Cause, Event, ScopeId, State, TaskId};
 use std::alloc::{AllocError, Global};
+use std::fmt;
 
-/// Where tasks started and ended, and where scopes were closed.
+/// Where tasks started and ended, and where scopes began to close and were closed.
 #[derive(Drop)]
 pub(crate) struct Course {
     pub(crate) starts: Firsts,
     pub(crate) ends: Firsts,
-    pub(crate) closes: Firsts,
+    pub(crate) closings: Firsts,
+    pub(crate) nest: Nest,
+}
+
+/// What is traced: the events, their times, if there are any, and the course.
+#[derive(Clone, Copy)]
+pub(crate) struct Traced<'a> {
+    pub(crate) events: &'a [Event],
+    pub(crate) times: &'a [u32],
+    pub(crate) course: &'a Course,
 }
 
 /// The course of what was read. It is refused for memory alone.
@@ -35,10 +51,14 @@ fn course_of<R: Readings>(
     let tasks = readings.tasks() - tasks_before;
     let scopes_before = readings.retired_scopes();
     let scopes = readings.scopes() - scopes_before;
+    let nest = nest_of(alloc, readings, events)?;
+    let begins = firsts_of(alloc, events, Landmark::Began, scopes_before, scopes)?;
+    let closings = closings_of(alloc, readings, &nest, &begins)?;
     Ok(Course {
         starts: firsts_of(alloc, events, Landmark::Started, tasks_before, tasks)?,
         ends: firsts_of(alloc, events, Landmark::Ended, tasks_before, tasks)?,
-        closes: firsts_of(alloc, events, Landmark::Closed, scopes_before, scopes)?,
+        closings,
+        nest,
     })
 }
 
@@ -49,16 +69,23 @@ fn micros(times: &[u32], place: usize) -> u64
     1000 * time_at(times, place.min(u32::MAX as usize) as u32)
 }
 
-/// From the one place to the other, if it ended there, on the track.
-fn stretch_of(times: &[u32], track: Actor, from: usize, to: Option<usize>) -> Stretch
-    ensures { result ≡ stretch_in times.now track from to }
+/// From the one place to the other, if it ended there, or else to the last reading of the clock, on the track.
+fn stretch_of(
+    events: &[Event],
+    times: &[u32],
+    track: Actor,
+    from: usize,
+    to: Option<usize>,
+) -> Stretch
+    ensures { (h : History) → events.now ≡ h.events → result ≡ stretch_in h times.now track from to }
 {
     let at = micros(times, from);
-    let lasts = match to {
-        Some(place) => Some(micros(times, place).saturating_sub(at)),
-        None => None,
-    };
-    Stretch { track, at, lasts }
+    let end = micros(times, to.unwrap_or(events.len()));
+    Stretch {
+        track,
+        at,
+        lasts: end.saturating_sub(at),
+    }
 }
 
 /// What can be read of the task, if it ended.
@@ -78,25 +105,71 @@ fn result_of<R: Readings>(
     }
 }
 
-/// Appends the slice of the task that was forked, if it got its thread. It is refused for memory alone.
-fn append_started<R: Readings>(
+/// What became of the wait of a task that started and ended there, if it did.
+fn wait_by(started: Option<usize>, ended: Option<usize>) -> Wait
+    ensures { result ≡ wait_by started ended }
+{
+    match (started, ended) {
+        (Some(_), _) => Wait::Started,
+        (None, Some(_)) => Wait::Rejected,
+        (None, None) => Wait::Still,
+    }
+}
+
+/// Appends how the task begins: with its wait, or with that it never starts. It is refused for memory alone.
+fn append_beginning<R: Readings>(
     readings: &R,
-    course: &Course,
-    times: &[u32],
+    traced: &Traced<'_>,
     text: &mut String,
     task: TaskId,
     forked: Forking,
 ) -> Result<(), AllocError>
-    requires course { IsCourseOf course.now (R.history readings.now) }
+    requires traced { IsTracedOf traced.now (R.history readings.now) }
     requires forked { forking (R.history readings.now) task ≡ Some forked }
-    ensures { OnOk result (string_bytes text.new ≡ string_bytes text.old ++ written record_text (task_from (R.history readings.now) times.now task forked)) }
+    ensures { OnOk result (string_bytes text.new ≡ string_bytes text.old ++ written record_text (beginning (R.history readings.now) traced.now.times.now task forked)) }
 {
-    let Some(started) = started_at(readings, &course.starts, task) else {
+    if is_cancelled_before(readings, forked.scope, forked.place) {
+        let never = Never(Point {
+            track: task,
+            at: micros(traced.times, forked.place),
+            scope: forked.scope,
+        });
+        return write!(text, "{never}");
+    }
+    let started = started_at(readings, &traced.course.starts, task);
+    let ended = ended_at(readings, &traced.course.ends, task);
+    let slice = WaitSlice {
+        stretch: stretch_of(
+            traced.events,
+            traced.times,
+            task,
+            forked.place,
+            started.or(ended),
+        ),
+        scope: forked.scope,
+        wait: wait_by(started, ended),
+    };
+    write!(text, "{slice}")
+}
+
+/// Appends the slice of the task that was forked, if it got its thread. It is refused for memory alone.
+fn append_started<R: Readings>(
+    readings: &R,
+    traced: &Traced<'_>,
+    text: &mut String,
+    task: TaskId,
+    forked: Forking,
+) -> Result<(), AllocError>
+    requires traced { IsTracedOf traced.now (R.history readings.now) }
+    requires forked { forking (R.history readings.now) task ≡ Some forked }
+    ensures { OnOk result (string_bytes text.new ≡ string_bytes text.old ++ written record_text (task_from (R.history readings.now) traced.now.times.now task forked)) }
+{
+    let Some(started) = started_at(readings, &traced.course.starts, task) else {
         return Ok(());
     };
-    let ended = ended_at(readings, &course.ends, task);
+    let ended = ended_at(readings, &traced.course.ends, task);
     let slice = TaskSlice {
-        stretch: stretch_of(times, task, started, ended),
+        stretch: stretch_of(traced.events, traced.times, task, started, ended),
         name: forked.label.name,
         scope: forked.scope,
         result: result_of(readings, task, forked, ended),
@@ -104,47 +177,97 @@ fn append_started<R: Readings>(
     write!(text, "{slice}")
 }
 
-/// Appends the slice of the task, if it got its thread. It is refused for memory alone.
-#[tactic(auto, unfolding(crate::specs::Trace::task_slice))]
+/// Appends the records of the task. It is refused for memory alone.
+fn append_forked<R: Readings>(
+    readings: &R,
+    traced: &Traced<'_>,
+    text: &mut String,
+    task: TaskId,
+    forked: Forking,
+) -> Result<(), AllocError>
+    requires traced { IsTracedOf traced.now (R.history readings.now) }
+    requires forked { forking (R.history readings.now) task ≡ Some forked }
+    ensures { OnOk result (string_bytes text.new ≡ string_bytes text.old ++ written record_text (forked_records (R.history readings.now) traced.now.times.now task forked)) }
+{
+    let track = Track {
+        task,
+        name: forked.label.name,
+    };
+    write!(text, "{track}")?;
+    append_beginning(readings, traced, text, task, forked)?;
+    append_started(readings, traced, text, task, forked)
+}
+
+/// Appends the records of the task, if it was forked since the base. It is refused for memory alone.
+#[tactic(auto, unfolding(crate::specs::Trace::task_records))]
 fn append_task<R: Readings>(
     readings: &R,
-    course: &Course,
-    times: &[u32],
+    traced: &Traced<'_>,
     text: &mut String,
     task: TaskId,
 ) -> Result<(), AllocError>
-    requires { IsCourseOf course.now (R.history readings.now) }
-    ensures { OnOk result (string_bytes text.new ≡ string_bytes text.old ++ written record_text (task_slice (R.history readings.now) times.now task)) }
+    requires { IsTracedOf traced.now (R.history readings.now) }
+    ensures { OnOk result (string_bytes text.new ≡ string_bytes text.old ++ written record_text (task_records (R.history readings.now) traced.now.times.now task)) }
 {
     match readings.forking(task) {
-        Some(forking) => append_started(readings, course, times, text, task, forking),
+        Some(forking) => append_forked(readings, traced, text, task, forking),
         None => Ok(()),
     }
 }
 
-/// Appends the slice of the scope. It is refused for memory alone.
-#[tactic(auto, unfolding(crate::specs::Trace::scope_slice))]
+/// Appends that the scope begins to close, if it does. It is refused for memory alone.
+fn append_closing<R: Readings>(
+    readings: &R,
+    traced: &Traced<'_>,
+    text: &mut String,
+    scope: ScopeId,
+    opened: Opening,
+) -> Result<(), AllocError>
+    requires traced { IsTracedOf traced.now (R.history readings.now) }
+    requires opened { opening (R.history readings.now) scope ≡ Some opened }
+    ensures { OnOk result (string_bytes text.new ≡ string_bytes text.old ++ written record_text (closing_from (R.history readings.now) traced.now.times.now scope opened)) }
+{
+    let Some(place) = closing_at(readings, &traced.course.closings, scope) else {
+        return Ok(());
+    };
+    let closing = Closing(Point {
+        track: opened.actor,
+        at: micros(traced.times, place),
+        scope,
+    });
+    write!(text, "{closing}")
+}
+
+/// Appends the slice of the scope, and that it begins to close, if it does. It is refused for memory alone.
+#[tactic(auto, unfolding(crate::specs::Trace::scope_records))]
 fn append_scope<R: Readings>(
     readings: &R,
-    course: &Course,
-    times: &[u32],
+    traced: &Traced<'_>,
     text: &mut String,
     scope: ScopeId,
 ) -> Result<(), AllocError>
-    requires { IsCourseOf course.now (R.history readings.now) }
-    ensures { OnOk result (string_bytes text.new ≡ string_bytes text.old ++ written record_text (scope_slice (R.history readings.now) times.now scope)) }
+    requires { IsTracedOf traced.now (R.history readings.now) }
+    ensures { OnOk result (string_bytes text.new ≡ string_bytes text.old ++ written record_text (scope_records (R.history readings.now) traced.now.times.now scope)) }
 {
     let Some(opening) = readings.opening(scope) else {
         return Ok(());
     };
-    let closed = closed_at(readings, &course.closes, scope);
+    let closed = closed_at(readings, &traced.course.nest.closes, scope);
     let slice = ScopeSlice {
-        stretch: stretch_of(times, opening.actor, opening.place, closed),
+        stretch: stretch_of(
+            traced.events,
+            traced.times,
+            opening.actor,
+            opening.place,
+            closed,
+        ),
         scope,
         policy: opening.policy,
         options: opening.options,
+        closed: closed.is_some(),
     };
-    write!(text, "{slice}")
+    write!(text, "{slice}")?;
+    append_closing(readings, traced, text, scope, opening)
 }
 
 /// Appends the arrow of a cancel that came to the scope from another one. It is refused for memory alone.
@@ -215,40 +338,38 @@ fn append_cancel<R: Readings>(
     append_reached(readings, times, text, scope, opening.actor, place, cause)
 }
 
-/// Appends the slices of the tasks. It is refused for memory alone.
+/// Appends the records of the tasks. It is refused for memory alone.
 #[tactic(auto, using(std::proofs::lemmas::Grind::common_steps, crate::proofs::Drawings::all_more))]
 fn append_tasks<R: Readings>(
     readings: &R,
-    course: &Course,
-    times: &[u32],
+    traced: &Traced<'_>,
     text: &mut String,
 ) -> Result<(), AllocError>
-    requires { IsCourseOf course.now (R.history readings.now) }
-    ensures { OnOk result (string_bytes text.new ≡ string_bytes text.old ++ written record_text (all (task_slice (R.history readings.now) times.now) (task_numbers (R.history readings.now)))) }
+    requires { IsTracedOf traced.now (R.history readings.now) }
+    ensures { OnOk result (string_bytes text.new ≡ string_bytes text.old ++ written record_text (all (task_records (R.history readings.now) traced.now.times.now) (task_numbers (R.history readings.now)))) }
 {
     let before = readings.retired_tasks();
     let last = readings.tasks();
     for index in 0..last - before {
-        append_task(readings, course, times, text, before + 1 + index)?;
+        append_task(readings, traced, text, before + 1 + index)?;
     }
     Ok(())
 }
 
-/// Appends the slices of the scopes. It is refused for memory alone.
+/// Appends the records of the scopes. It is refused for memory alone.
 #[tactic(auto, using(std::proofs::lemmas::Grind::common_steps, crate::proofs::Drawings::all_more))]
 fn append_scopes<R: Readings>(
     readings: &R,
-    course: &Course,
-    times: &[u32],
+    traced: &Traced<'_>,
     text: &mut String,
 ) -> Result<(), AllocError>
-    requires { IsCourseOf course.now (R.history readings.now) }
-    ensures { OnOk result (string_bytes text.new ≡ string_bytes text.old ++ written record_text (all (scope_slice (R.history readings.now) times.now) (scope_numbers (R.history readings.now)))) }
+    requires { IsTracedOf traced.now (R.history readings.now) }
+    ensures { OnOk result (string_bytes text.new ≡ string_bytes text.old ++ written record_text (all (scope_records (R.history readings.now) traced.now.times.now) (scope_numbers (R.history readings.now)))) }
 {
     let before = readings.retired_scopes();
     let last = readings.scopes();
     for index in 0..last - before {
-        append_scope(readings, course, times, text, before + 1 + index)?;
+        append_scope(readings, traced, text, before + 1 + index)?;
     }
     Ok(())
 }
@@ -270,11 +391,18 @@ fn append_cancels<R: Readings>(
     Ok(())
 }
 
-/// The run as Chrome trace events, a text of JSON: each task that got a thread is a slice on a track of its own, from its
-/// start to its end, with what can be read of it. Each scope is one on the track of its owner, from its opening to its
-/// close. What has not ended is a slice without an end. Each cancel that reached a scope is an instant there, with an
-/// arrow from the track where it was made, if that was at another scope. Times are in microseconds, or places a
-/// millisecond apart if no times are handed. The events are those of the history that is read.
+/// The run as Chrome trace events, a text of JSON.
+///
+/// - Each task has a track of its own, with its name. There it waits from its fork to its start, and runs from there to
+///   its end, with what can be read of it; or it is an instant that it never starts.
+/// - Each scope is a slice on the track of its owner, from its opening to its close, with an instant where it begins to
+///   close, by its own close or by one that covers it.
+/// - What has not ended lasts to the last reading of the clock, and says that it waits, runs or is open.
+/// - Each cancel that reached a scope is an instant there, with an arrow from the track where it was made, if that was at
+///   another scope.
+///
+/// Times are in microseconds, or places a millisecond apart if no times are handed, as the name of the process says then.
+/// The events are those of the history that is read.
 ///
 /// # Errors
 /// It is refused for memory alone.
@@ -288,22 +416,51 @@ pub fn trace_of<R: Readings>(
     ensures { IfOk result (λ text. string_bytes text ≡ trace_text (R.history readings.now) times.now) }
 {
     let course = course_of(alloc, readings, events)?;
-    let head = head();
+    let traced = Traced {
+        events,
+        times,
+        course: &course,
+    };
+    let head = Head {
+        timed: !times.is_empty(),
+    };
     let mut text = format!(in alloc; "{head}")?;
-    append_tasks(readings, &course, times, &mut text)?;
-    append_scopes(readings, &course, times, &mut text)?;
+    append_tasks(readings, &traced, &mut text)?;
+    append_scopes(readings, &traced, &mut text)?;
     append_cancels(readings, times, &mut text)?;
     let foot = foot();
     write!(text, "{foot}")?;
     Ok(text)
 }
 
-/// How a trace begins: with the name of what it traces, and of main's track.
-#[tactic(auto, unfolding(crate::specs::Trace::head))]
-fn head() -> &'static str
-    ensures { result.now ≡ head }
+/// What the realm is called: without times it is said that there are none.
+fn realm_name(timed: bool) -> &'static str
+    ensures { result.now ≡ realm_name timed }
 {
-    "[{\"ph\":\"M\",\"pid\":1,\"name\":\"process_name\",\"args\":{\"name\":\"realm\"}},\n{\"ph\":\"M\",\"pid\":1,\"tid\":0,\"name\":\"thread_name\",\"args\":{\"name\":\"main\"}}"
+    if timed {
+        "realm"
+    } else {
+        "realm without times: an event a millisecond"
+    }
+}
+
+/// How a trace begins: with the name of what it traces, and of main's track.
+#[derive(Clone, Copy)]
+struct Head {
+    timed: bool,
+}
+
+impl fmt::Display for Head {
+    ghost output = { λ h. Some (head h.timed) };
+
+    #[tactic(auto, unfolding(crate::specs::Trace::head))]
+    fn fmt<W: fmt::Write>(&self, f: &mut fmt::Formatter<W>) -> fmt::Result {
+        let name = realm_name(self.timed);
+        write!(
+            f,
+            "[{{\"ph\":\"M\",\"pid\":1,\"name\":\"process_name\",\"args\":{{\"name\":\"{name}\"}}}},\n{{\"ph\":\"M\",\"pid\":1,\"tid\":0,\"name\":\"thread_name\",\"args\":{{\"name\":\"main\"}}}}"
+        )
+    }
 }
 
 /// How it ends.

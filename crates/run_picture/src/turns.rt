@@ -2,6 +2,7 @@
 ghost use Rattle.std.specs.Prelude.{◌≡◌, true, is_some};
 ghost use Rattle.scope_rules.specs.History.{forked_count, forking, opened_count, opening};
 ghost use Rattle.run_picture.specs.declared.landmarks.Landmark.TheVariants as landmark;
+ghost use Rattle.run_picture.specs.Closings.{AreClosings, begins_to_close};
 ghost use Rattle.run_picture.specs.Landmarks.{HasFirsts, first_place};
 
 use crate::landmarks::Firsts;
@@ -36,4 +37,18 @@ pub(crate) fn closed_at<R: Readings>(readings: &R, closes: &Firsts, scope: Scope
 {
     let _readings = readings;
     closes.place(scope)
+}
+
+/// Where the scope begins to close, if it does: by its own close, or by one of a scope around that covers it.
+pub(crate) fn closing_at<R: Readings>(
+    readings: &R,
+    closings: &Firsts,
+    scope: ScopeId,
+) -> Option<usize>
+    requires closings { AreClosings closings.now (R.history readings.now) (opened_count (R.history readings.now)) }
+    requires opened { is_some (opening (R.history readings.now) scope) ≡ true }
+    ensures { result ≡ begins_to_close (R.history readings.now) scope }
+{
+    let _readings = readings;
+    closings.place(scope)
 }

@@ -1,6 +1,7 @@
 //! What of a run is drawn, and how large.
 ghost use Rattle.std.specs.Prelude.{◌≡◌, ◌<◌, ◌≤◌};
-ghost use Rattle.run_picture.specs.View.{high, meets, natural_width, page_width, shows, time_at, whole, x_at};
+ghost use Rattle.run_picture.specs.Focus.{column_of};
+ghost use Rattle.run_picture.specs.View.{first_time, high, meets, natural_width, page_width, shows, span_time, time_at, whole, x_at, x_by};
 
 use scope_rules::ScopeId;
 
@@ -52,11 +53,19 @@ impl View {
     }
 }
 
-/// How high so many rows are, of those heights that a page is drawn for.
+/// The place as a column.
+pub(crate) fn column_of(place: usize) -> u32
+    ensures { result ≡ column_of place }
+{
+    place.min(u32::MAX as usize) as u32
+}
+
+/// How high so many rows are, of those heights that a page is drawn for: the tallest is scaled down so that its smallest text
+/// is 8 px high.
 pub(crate) fn high(rows: u32) -> u64
     ensures { result ≡ high rows }
 {
-    (168 + 22 * u64::from(rows)).max(1000).min(5000)
+    (168 + 22 * u64::from(rows)).max(1000).min(1250)
 }
 
 /// The width of the page, in pixels.
@@ -85,6 +94,34 @@ pub(crate) fn time_at(times: &[u32], place: u32) -> u64
     u64::from(times[(place as usize).min(times.len() - 1)])
 }
 
+/// The time at which the view begins, of so many events.
+pub(crate) fn first_time(view: View, times: &[u32], columns: u32) -> u64
+    ensures is { result ≡ first_time view times.now columns }
+    ensures bound { result < 4294967296 }
+{
+    time_at(times, view.from.min(view.to.min(columns)))
+}
+
+/// How long the view lasts.
+pub(crate) fn span_time(view: View, times: &[u32], columns: u32) -> u64
+    ensures is { result ≡ span_time view times.now columns }
+    ensures bound { result < 4294967296 }
+{
+    let last = time_at(times, view.to.min(columns));
+    last.saturating_sub(first_time(view, times, columns))
+}
+
+/// How far from the left the time stands.
+pub(crate) fn x_by(view: View, times: &[u32], columns: u32, rows: u32, time: u64) -> u64
+    ensures { result ≡ x_by view times.now columns rows time }
+{
+    let span = span_time(view, times, columns);
+    let far = time
+        .saturating_sub(first_time(view, times, columns))
+        .min(span);
+    256 + far * (natural_width(view.width, rows) - 280) / span.max(1)
+}
+
 /// How far from the left the event at the place stands, of so many events.
 #[tactic(auto, unfolding(crate::specs::View::x_at))]
 pub(crate) fn x_at(view: View, times: &[u32], columns: u32, rows: u32, place: u32) -> u64
@@ -92,9 +129,6 @@ pub(crate) fn x_at(view: View, times: &[u32], columns: u32, rows: u32, place: u3
 {
     let last = view.to.min(columns);
     let first = view.from.min(last);
-    let begin = time_at(times, first);
-    let span = time_at(times, last).saturating_sub(begin);
-    let here = time_at(times, place.max(first).min(last));
-    let far = here.saturating_sub(begin).min(span);
-    256 + far * (natural_width(view.width, rows) - 280) / span.max(1)
+    let time = time_at(times, place.max(first).min(last));
+    x_by(view, times, columns, rows, time)
 }

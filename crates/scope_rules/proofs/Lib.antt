@@ -9,6 +9,9 @@ pub mod Pushing
 pub mod Growing
 pub mod ChainLaws
 pub mod EarliestLaws
+pub mod LeastDeadlines
+pub mod ReadTasks
+pub mod Violations
 pub mod Nesting
 pub mod Staying
 pub mod Joined

@@ -1,8 +1,11 @@
 -- What closing leaves: nothing of a closed scope goes on, and nothing without a scope of main.
-use Rattle.std.specs.Prelude.{◌≡◌, ℕ, true, Some, None}
+use Rattle.std.specs.Prelude.{◌≡◌, ◌↔◌, ℕ, true, Some, None, slice_get}
 use Rattle.scope_rules.specs.declared.types.capacity.Limits.{Limits}
-use Rattle.scope_rules.specs.History.{History}
-use Rattle.scope_rules.specs.Scopes.{closed, innermost, parent}
+use Rattle.scope_rules.specs.declared.types.events.Event.TheVariants.{BeginClose}
+use Rattle.scope_rules.specs.declared.types.answers.Verdict.TheVariants.{Violated}
+use Rattle.scope_rules.specs.History.{History, before}
+use Rattle.scope_rules.specs.Scopes.{closed, covers, innermost, parent}
+use Rattle.scope_rules.specs.Verdicts.{verdict}
 use Rattle.scope_rules.specs.Tasks.{stage, is_settled, settled}
 use Rattle.scope_rules.specs.Legal.{Legal}
 
@@ -23,3 +26,16 @@ ClosedScopeIsWhole = (L : Limits) (h : History) (s : ℕ) → Legal L h → clos
 -- if main has no scope that isn't closed, no task waits or runs
 abbrev pub NothingRunsWithoutAScopeOfMain : Type 0
 NothingRunsWithoutAScopeOfMain = (L : Limits) (h : History) (k : ℕ) → Legal L h → innermost h 0 ≡ None → is_settled (stage h k) ≡ true
+
+-- a close of scope s began for itself, and covered another scope
+pub record CoveredAnother (h : History) (s : ℕ) : Type 0 where
+  pub place : ℕ
+  pub actor : ℕ
+  pub began : slice_get h.events place ≡ Some (BeginClose actor s)
+  pub other : ℕ
+  pub apart : other ≡ s → ⊥
+  pub covered : covers (before h place) s other ≡ true
+
+-- a scope was closed out of order exactly if its own close covered another
+abbrev pub ViolatedIfItCoveredAnother : Type 0
+ViolatedIfItCoveredAnother = (h : History) (s : ℕ) → (verdict h s ≡ Violated) ↔ CoveredAnother h s

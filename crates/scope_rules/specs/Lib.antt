@@ -34,3 +34,4 @@ pub mod OutcomeLaws
 pub mod BindingLaws
 pub mod LevelLaws
 pub mod ClosingLaws
+pub mod DeadlineLaws

@@ -2,6 +2,7 @@
 //! is the law.
 
 ghost use Rattle.scope_rules.specs.Laws.{OwnCancelStays, OwnCancelGrows, FirstCancelIsEarliest, ChainGoesOutwards, OuterIsSmaller, CauseStays, NumbersNeverFall, ScopeNumberStays, TaskNumberStays, ScopeNumberGivenOnce, TaskNumberGivenOnce};
+ghost use Rattle.scope_rules.specs.DeadlineLaws.{EffectiveIsLeast};
 
 pub mod bindings;
 pub mod closing;
@@ -19,6 +20,12 @@ pub fn own_cancel_stays()
 /// those nearer are later, so the nearest wins a tie.
 pub fn cause_is_earliest()
     ensures { FirstCancelIsEarliest }
+{}
+
+/// The deadline in effect for a scope is the least that counts on its chain: none does if it is never,
+/// and it is past exactly if the scope is cancelled.
+pub fn least_deadline_is_in_effect()
+    ensures { EffectiveIsLeast }
 {}
 
 /// The chain of a scope is the scope and the chain of its outer scope, whose number is smaller.

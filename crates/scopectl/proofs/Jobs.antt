@@ -7,6 +7,7 @@ use Rattle.scope_script.specs.Streams.{AppendsPart}
 use Rattle.scope_script.specs.declared.session.run.Mode.TheVariants.{Replies}
 use Rattle.scope_script.specs.declared.session.run.ScriptFault.{ScriptFault}
 use Rattle.scope_script.specs.declared.session.run.ScriptFault.TheVariants as ended
+use Rattle.script_jobs.specs.Paging.{Paged}
 use Rattle.script_jobs.specs.Jobs.{NotedPartly, ReadSome, Replayed, ReplayedNoted, ReplayedPartly, Showed, ShowedNoted}
 use Rattle.script_jobs.specs.declared.noting.NotedFault.{NotedFault}
 use Rattle.script_jobs.specs.declared.noting.NotedFault.TheVariants as noted
@@ -199,6 +200,27 @@ module _ (v : ViewOptions) (script : ScriptOptions) (lenient explain : Bool) (ru
   pub view_stopped_noted : (mid : Option (List ℕ)) → NotedPartly run.taken (turn_to run mid) script.limits Refusals → Appends run.written.before run.written.after [] → DidPart (line.Show script v lenient explain) run
   view_stopped_noted mid some unwritten = record { bytes = some.script; read = some.read; wrote = inl unwritten }
 
+-- ---- a page
+
+pub page_made : (script : ScriptOptions) (lenient : Bool) (unread unread_new : Option (List ℕ)) (text : List ℕ) (count : Count) → Paged unread unread_new script.limits text count → Made (Makes (line.Page script lenient)) unread unread_new text
+page_made script lenient unread unread_new text count paged = record {
+  bytes = paged.script;
+  whole = record { read = paged.read; all = paged.all };
+  makes = paged.is;
+}
+
+module _ (script : ScriptOptions) (lenient : Bool) (run : Run) where
+  pub page_told_part : (mid : Option (List ℕ)) (text : List ℕ) → Made (Makes (line.Page script lenient)) run.taken.before run.taken.after text → Appends run.written.before mid [] → AppendsPart mid run.written.after text → run.ByWriter
+      → DidPart (line.Page script lenient) run
+  page_told_part mid text made unwritten wrote fails = record {
+    bytes = made.bytes;
+    read = made.whole.read;
+    wrote = late (line.Page script lenient) run mid text made unwritten wrote fails;
+  }
+
+  pub page_stopped : ReadSome run.taken.before run.taken.after → Appends run.written.before run.written.after [] → DidPart (line.Page script lenient) run
+  page_stopped some unwritten = record { bytes = some.bytes; read = some.read; wrote = inl unwritten }
+
 -- ---- a command that was done, with what was said of the lines that were refused
 
 module _ (run : Run) (result : ℕ) (script : ScriptOptions) (count : Count) where
@@ -245,4 +267,12 @@ module _ (run : Run) (result : ℕ) (script : ScriptOptions) (count : Count) whe
         counted = subst (λ (t : Count). Noted script.quiet t (run.said.after ≡ said) said run.said.after run.errors_failed) it.shown.counted noted;
       };
       status = status ∙ ap (status_of script.strict lenient) it.shown.counted;
+    }
+
+  module _ (lenient : Bool) (status : result ≡ status_of script.strict lenient count) (mid : Option (List ℕ)) (text : List ℕ) (unwritten : Appends run.written.before mid []) (wrote : Appends mid run.written.after text) where
+    pub page_whole : Noted script.quiet count run.ErrorsKept run.said.before run.said.after run.errors_failed → Paged run.taken.before run.taken.after script.limits text count → DidWhole (line.Page script lenient) run result
+    page_whole noted it = record {
+      did = record { bytes = it.script; read = it.read; all = it.all; text = text; makes = it.is; wrote = Appends-trans run.written.before mid run.written.after [] text unwritten wrote };
+      noted = subst (λ (t : Count). Noted script.quiet t run.ErrorsKept run.said.before run.said.after run.errors_failed) it.counted noted;
+      status = status ∙ ap (status_of script.strict lenient) it.counted;
     }

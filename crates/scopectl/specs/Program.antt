@@ -1,5 +1,5 @@
 -- What the program has done.
-use Rattle.std.specs.Prelude.{◌≡◌, ◌⊎◌, ◌++◌, ◌-◌, ◌&&◌, ℕ, Bool, true, false, Option, None, Some, List, [], ◌∷◌, unwrap_or}
+use Rattle.std.specs.Prelude.{◌≡◌, ◌⊎◌, ◌++◌, ◌-◌, ◌&&◌, ℕ, Bool, true, false, Option, None, Some, Result, Ok, Err, List, [], ◌∷◌, unwrap_or}
 use Rattle.std.specs.Io.KnownBytes.{Appends, Consumes, IsAtEnd}
 use Rattle.scope_rules.specs.declared.types.capacity.Limits.{Limits}
 use Rattle.scope_script.specs.Sessions.{replies_of, realm_of_script}
@@ -12,6 +12,7 @@ use Rattle.script_jobs.specs.declared.notes.Notes.{Notes}
 use Rattle.script_jobs.specs.declared.notes.Notes.TheVariants as notes
 use Rattle.scopectl.specs.Runs.{Run}
 use Rattle.scopectl.specs.Saying.{Noted, SaidNotes, status_of}
+use Rattle.run_picture.specs.Page.{IsPageOf}
 use Rattle.script_jobs.specs.Jobs.{shown_text}
 use Rattle.script_jobs.specs.Times.{stamps_of_script}
 use Rattle.script_jobs.specs.declared.showing.View.{View}
@@ -39,12 +40,19 @@ use Rattle.scope_rules.specs.declared.types.names.Name.{Name}
 use Rattle.std.specs.List.{list_any}
 use Rattle.command_line.specs.declared.settings.ScriptOptions.{ScriptOptions}
 use Rattle.command_line.specs.CommandLine.{Says, SaysNone}
-use Rattle.command_line.specs.Faults.{IsNoRequest}
+use Rattle.command_line.specs.Faults.{Answers, IsNoRequest}
+use Rattle.command_line.specs.declared.faults.LineFault.{LineFault}
+use Rattle.command_line.specs.declared.faults.LineFault.TheVariants.{Memory}
 use Rattle.command_line.specs.Texts.{AsksFor}
 
 -- the words say no command, and ask for neither help nor the version
 abbrev pub IsNotUnderstood : List (List ℕ) → Type 0
 IsNotUnderstood words = SaysNone words × IsNoRequest words
+
+-- the words say this command; or they get this fault, and say none unless memory was refused
+abbrev pub IsRead : List (List ℕ) → Result CommandLine LineFault → Type 0
+IsRead words (Ok command) = Says words command
+IsRead words (Err fault) = ((fault ≡ Memory) ⊎ SaysNone words) × Answers words fault
 
 -- ---- what was read and written
 
@@ -144,11 +152,16 @@ view_of asked.TraceEvents = view.TraceEvents
 abbrev pub Shows : View → Limits → (bytes text : List ℕ) → Type 0
 Shows view limits bytes text = text ≡ shown_text view limits (realm_of_script limits bytes).history (stamps_of_script limits bytes)
 
--- what a command makes of the bytes that are read: the replies to a script, in a realm of its limits; a view of the
--- realm that the script leaves; or an answer to a plan by the deadline
+-- the text is a page of the realm of these limits that the script leaves, by the readings of a clock in it
+abbrev pub Pages : Limits → (bytes text : List ℕ) → Type 0
+Pages limits bytes text = IsPageOf text (realm_of_script limits bytes).history (stamps_of_script limits bytes).events
+
+-- what a command makes of the bytes that are read: the replies to a script, in a realm of its limits; a view or a page of
+-- the realm that the script leaves; or an answer to a plan by the deadline
 abbrev pub Makes : CommandLine → (bytes text : List ℕ) → Type 0
 Makes (line.Replay script explain trace) bytes text = text ≡ replies_of script.limits bytes
 Makes (line.Show script view lenient explain) bytes text = Shows (view_of view) script.limits bytes text
+Makes (line.Page script lenient) bytes text = Pages script.limits bytes text
 Makes (line.Quote deadline after tree_after) bytes text = AnswersPlan deadline after.items bytes text
 Makes (line.Generate seed lines) bytes text = IsScript (lines_or lines) text
 
@@ -168,6 +181,7 @@ no_count = record { tally = no_refusals; is_foreign = false }
 abbrev pub count_of : CommandLine → List ℕ → Count
 count_of (line.Replay script explain trace) bytes = count_of_script script.limits bytes
 count_of (line.Show script view lenient explain) bytes = count_of_script script.limits bytes
+count_of (line.Page script lenient) bytes = count_of_script script.limits bytes
 count_of (line.Quote deadline after tree_after) bytes = no_count
 count_of (line.Generate seed lines) bytes = no_count
 
@@ -175,18 +189,21 @@ count_of (line.Generate seed lines) bytes = no_count
 abbrev pub is_strict : CommandLine → Bool
 is_strict (line.Replay script explain trace) = script.strict
 is_strict (line.Show script view lenient explain) = script.strict
+is_strict (line.Page script lenient) = script.strict
 is_strict (line.Quote deadline after tree_after) = false
 is_strict (line.Generate seed lines) = false
 
 -- the status is 0 though lines are no commands
 abbrev pub is_lenient : CommandLine → Bool
 is_lenient (line.Show script view lenient explain) = lenient
+is_lenient (line.Page script lenient) = lenient
 is_lenient _ = true
 
 -- nothing is to be said of how many lines were refused
 abbrev pub is_quiet : CommandLine → Bool
 is_quiet (line.Replay script explain trace) = script.quiet
 is_quiet (line.Show script view lenient explain) = script.quiet
+is_quiet (line.Page script lenient) = script.quiet
 is_quiet (line.Quote deadline after tree_after) = true
 is_quiet (line.Generate seed lines) = true
 

@@ -1,5 +1,5 @@
 -- The lines that name a fault.
-use Rattle.std.specs.Prelude.{◌++◌, ℕ, List, [], ◌∷◌, codes}
+use Rattle.std.specs.Prelude.{◌++◌, ℕ, List, [], ◌∷◌, Option, None, Some, codes}
 use Rattle.std.specs.Fmt.{decimal}
 use Rattle.scope_script.specs.declared.session.run.ScriptFault.{ScriptFault}
 use Rattle.scope_script.specs.declared.session.run.ScriptFault.TheVariants as script
@@ -43,7 +43,7 @@ word_of Strange = codes "strange"
 word_of Rejected = codes "rejected"
 word_of Cancelled = codes "cancelled"
 word_of Lost = codes "lost"
-word_of NoOffer = codes "after: no offer of the plan has that name"
+word_of NoOffer = codes "after"
 word_of Time = codes "time"
 
 -- where the fault is: in which line of the plan, if in one
@@ -51,15 +51,21 @@ abbrev pub place_of : ProgramFault → List ℕ
 place_of (PlanLine line why) = codes "plan line " ++ decimal line ++ codes ": "
 place_of _ = []
 
--- why a line of the plan is a bad one
-abbrev pub cause_of : ProgramFault → List ℕ
-cause_of (PlanLine line why) = codes ": " ++ words_of why
-cause_of _ = []
+-- what more is said: why a line of the plan is a bad one, and what the plan lacks
+abbrev pub cause_of : ProgramFault → Option (List ℕ)
+cause_of (PlanLine line why) = Some (words_of why)
+cause_of NoOffer = Some (codes "no offer of the plan has that name")
+cause_of _ = None
+
+-- the line of a cause
+abbrev pub cause_line : Option (List ℕ) → List ℕ
+cause_line (Some cause) = codes "hint: " ++ cause ++ 10 ∷ []
+cause_line None = []
 
 -- the line that is said of a word that is not UTF-8
 abbrev pub not_utf8_line : List ℕ
 not_utf8_line = codes "error: a word of the command line is not UTF-8" ++ 10 ∷ []
 
--- the line that names a fault
+-- the line that names a fault, and that of its cause
 abbrev pub line_of : ProgramFault → List ℕ
-line_of fault = codes "scopectl: " ++ place_of fault ++ word_of fault ++ cause_of fault ++ 10 ∷ []
+line_of fault = codes "scopectl: " ++ place_of fault ++ word_of fault ++ 10 ∷ cause_line (cause_of fault)

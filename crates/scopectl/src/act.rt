@@ -4,7 +4,7 @@ ghost use Rattle.std.specs.Io.KnownBytes.{Appends};
 ghost use Rattle.scope_script.specs.Streams.{AppendsPart};
 ghost use Rattle.scopectl.specs.Acting.{DidAll, DidNothing, DidSome};
 ghost use Rattle.scopectl.specs.Naming.{Names, NamesAfter, NamesAfterNotes, NamesAlone, NamesAny, NamesOf, NamesOfPlan};
-ghost use Rattle.scopectl.specs.Program.{DidJob, DidPart, DidReplay, DidWhole, WroteScriptPartly, lines_or, notes_wanted, place_or, seen_of, tree_part, view_of};
+ghost use Rattle.scopectl.specs.Program.{DidJob, DidPart, DidReplay, DidWhole, IsRead, WroteScriptPartly, lines_or, notes_wanted, place_or, seen_of, tree_part, view_of};
 ghost use Rattle.scopectl.specs.Runs.{IsSound, run};
 ghost use Rattle.script_jobs.specs.Made.{IsScript};
 ghost use Rattle.scopectl.specs.Saying.{IsSaid, Noted, SaidSome, count_text, is_silent, status_of, three_if_some};
@@ -16,7 +16,7 @@ use crate::quoting::quoted;
 use crate::streams::Streams;
 use command_line::{
     CommandLine, Delay, DumpFormat, LineFault, PictureOptions, ScriptOptions, TreeOptions,
-    VERSION_LINE, ViewOptions, help_of, line,
+    VERSION_LINE, ViewOptions, help_of,
 };
 use job_runner::JobWork;
 use quote_gateway::LateJob;
@@ -26,7 +26,7 @@ use scope_rules::Due;
 use scope_rules::types::capacity::LEVEL_LIMIT;
 use scope_script::Watched;
 use script_jobs::{
-    Count, Notes, Rendering, View, replayed, replayed_noted, script_by, shown, shown_noted,
+    Count, Notes, Rendering, View, paged, replayed, replayed_noted, script_by, shown, shown_noted,
 };
 use std::alloc::Global;
 use std::io::{ErrorKind, Read, Write};
@@ -52,20 +52,21 @@ pub const NOT_UNDERSTOOD: u8 = 2;
 /// The status of a line that was carried out, if lines of the script were refused and the status is to tell so.
 pub const LINES_REFUSED: u8 = 3;
 
-/// Does what the words say, of which the first is the program's name, and answers the exit status.
+/// Does what the words say, of which the first is the program's name, and answers the exit status. What they say was read
+/// before: `line` answered `said` of them.
 /// What is read, written and said of faults goes over the streams. The threads of a plan's jobs are the spawner's, and the seed
 /// is that of the realm that they run in; else neither is used. That realm is looked at by `looks`, if that was asked for;
 /// what it writes is in no clause.
 ///
 /// With status 0 or 3 the words asked for help or the version, and exactly that text was written and nothing
 /// read; or they said a replay, all bytes were read, and exactly the reply text of them was written, in
-/// a realm of the limits that stand in the words; or they said a dump, a tree, a timeline or a trace, all bytes were read,
-/// and exactly that text of the realm that they leave was written; or they said a quote, all bytes
+/// a realm of the limits that stand in the words; or they said a dump, a tree, a timeline, a trace or a page, all bytes were
+/// read, and exactly that text of the realm that they leave was written; or they said a quote, all bytes
 /// were read, which are a plan, and exactly a line that it allows was written, and a line feed; by a deadline
 /// the line may say some of the prices. Where lines of a script were refused and the words are not quiet, a line on
 /// `errors` says how many, and how many of them are no commands, and another one if no other line did anything;
 /// before it stand the notes on the lines of a replay that are to be explained or traced; else nothing was said
-/// there. The status is 3 if lines were refused and the words are strict, or where lines of a tree, timeline or trace
+/// there. The status is 3 if lines were refused and the words are strict, or where lines of a tree, timeline, trace or page
 /// are no commands and the words are not lenient, and else 0.
 ///
 /// With status 1 one line on `errors` names the fault: `read` or `write` only if that stream failed,
@@ -83,7 +84,6 @@ pub const LINES_REFUSED: u8 = 3;
 /// that say a command or ask for a text never end with 2, and other words with 2, or with 1 if memory
 /// was refused.
 pub fn act<
-    'a,
     N: RealmName + Send + Sync + 'static,
     S: Spawns<N, JobWork<Due, N, LateJob<T>>> + Drop,
     T: PoolRuntime + SystemTime,
@@ -96,10 +96,12 @@ pub fn act<
     seed: Seed,
     spawner: S,
     looks: &mut Looker<'_>,
-    words: &'a [&'a str],
+    words: &[&str],
+    said: Result<CommandLine, LineFault>,
     streams: &mut Streams<'_, R, W, E>,
 ) -> u8
     requires named { seed ≡ N.table }
+    requires read { IsRead (map (λ word. word.now) words.now) said }
     requires sound { IsSound streams.old }
     ensures status { result ≤ 3 }
     ensures done { result ≢ 1 → result ≢ 2 → DidAll (map (λ word. word.now) words.now) (run R.remaining W.contents E.contents streams.old streams.new) result }
@@ -107,7 +109,7 @@ pub fn act<
     ensures named { result ≡ 1 → NamesAny (map (λ word. word.now) words.now) (run R.remaining W.contents E.contents streams.old streams.new) }
     ensures not_understood { result ≡ 2 → DidNothing (map (λ word. word.now) words.now) (run R.remaining W.contents E.contents streams.old streams.new) }
 {
-    match line(alloc, words) {
+    match said {
         Ok(
             CommandLine::Replay {
                 script,
@@ -123,6 +125,7 @@ pub fn act<
                 explain,
             },
         ) => show(alloc, script, view, lenient, explain, streams),
+        Ok(CommandLine::Page { script, lenient }) => page(alloc, script, lenient, streams),
         Ok(
             CommandLine::Quote {
                 deadline,
@@ -348,6 +351,30 @@ fn show_noted<R: Read + Drop, W: Write + Drop, E: Write + Drop>(
     ) {
         Ok(shown) => tell_shown(script, lenient, &shown, &mut streams.writer, streams.errors),
         Err(reason) => fail(ProgramFault::of_noted(reason), streams.errors),
+    }
+}
+
+/// Writes the run of the script as a page.
+fn page<R: Read + Drop, W: Write + Drop, E: Write + Drop>(
+    alloc: Global,
+    script: ScriptOptions,
+    lenient: bool,
+    streams: &mut Streams<'_, R, W, E>,
+) -> u8
+    requires { IsSound streams.old }
+    ensures status { (result ≤ 3) × (result ≢ 2) }
+    ensures done { result ≢ 1 → DidWhole (CommandLine.Page script lenient) (run R.remaining W.contents E.contents streams.old streams.new) result }
+    ensures fault { result ≡ 1 → DidPart (CommandLine.Page script lenient) (run R.remaining W.contents E.contents streams.old streams.new) }
+    ensures named { result ≡ 1 → Names (run R.remaining W.contents E.contents streams.old streams.new) (λ _. ⊥) }
+{
+    match paged(
+        alloc,
+        script.limits,
+        &mut streams.reader,
+        &mut streams.writer,
+    ) {
+        Ok(shown) => tell_shown(script, lenient, &shown, &mut streams.writer, streams.errors),
+        Err(reason) => fail(ProgramFault::of_run(reason), streams.errors),
     }
 }
 

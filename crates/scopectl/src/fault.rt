@@ -1,7 +1,7 @@
 //! What the program says on standard error: why it ends with status 1, and how many lines were refused.
-ghost use Rattle.std.specs.Prelude.{◌≡◌, ◌≤◌, length};
+ghost use Rattle.std.specs.Prelude.{◌≡◌, ◌≤◌, IfSome, length, option_map};
 ghost use Rattle.scopectl.specs.Saying.{count_text, foreign_text};
-ghost use Rattle.scopectl.specs.Texts.{fault_of_noted, fault_of_plan, fault_of_run, fault_of_service, line_of, word_of};
+ghost use Rattle.scopectl.specs.Texts.{cause_of, fault_of_noted, fault_of_plan, fault_of_run, fault_of_service, line_of, word_of};
 
 use arrayvec::ArrayString;
 use itoa::Buffer;
@@ -27,7 +27,7 @@ pub enum ProgramFault {
     Memory,
     /// This line of the plan is the first bad one, counted from 1, for this cause; if no line says a mode
     /// and none is bad, it is the line after the last.
-    #[error("plan line {line}: bad-word: {}", .why.words())]
+    #[error("plan line {line}: bad-word")]
     PlanLine { line: usize, why: PlanWhy },
     /// The jobs weren't those of the plan.
     #[error("strange")]
@@ -42,14 +42,14 @@ pub enum ProgramFault {
     #[error("lost")]
     Lost,
     /// No offer of the plan has the name of the one that is to take time.
-    #[error("after: no offer of the plan has that name")]
+    #[error("after")]
     NoOffer,
     /// The system gives no time.
     #[error("time")]
     Time,
 }
 
-/// How many bytes the line that names a fault may have: a line of a plan has its number and its cause.
+/// How many bytes the lines that name a fault and its cause may have.
 pub const LINE_ROOM: usize = 192;
 
 impl ProgramFault {
@@ -97,8 +97,9 @@ impl ProgramFault {
         }
     }
 
-    /// The one line on standard error that names the fault, with its end. It takes no memory. Its text is that of
-    /// the derive, of which no clause can speak: so it is made here once more, and a test compares the two.
+    /// The line on standard error that names the fault, with its end, and the line of its cause behind it, if it has one.
+    /// It takes no memory. Its text is that of
+    /// the derive, of which no clause can speak: so it is made here once more, and `gate/texts` compares the two.
     pub fn line(self) -> ArrayString<LINE_ROOM>
         ensures { result.bytes ≡ line_of self }
     {
@@ -115,12 +116,25 @@ impl ProgramFault {
             line.push_str(": ");
         }
         line.push_str(self.word());
-        if let ProgramFault::PlanLine { line: _, why } = self {
-            line.push_str(": ");
-            line.push_str(why.words());
-        }
         line.push_str("\n");
+        if let Some(cause) = self.cause() {
+            line.push_str("hint: ");
+            line.push_str(cause);
+            line.push_str("\n");
+        }
         line
+    }
+
+    /// What more is said of the fault, in a line of its own.
+    fn cause(self) -> Option<&'static str>
+        ensures cause { option_map (λ words. words.now) result ≡ cause_of self }
+        ensures short { IfSome result (λ words. length words.now ≤ 90) }
+    {
+        match self {
+            ProgramFault::PlanLine { line: _, why } => Some(why.words()),
+            ProgramFault::NoOffer => Some("no offer of the plan has that name"),
+            _ => None,
+        }
     }
 
     /// The word at the end of the line that names the fault.
@@ -138,7 +152,7 @@ impl ProgramFault {
             ProgramFault::Rejected => "rejected",
             ProgramFault::Cancelled => "cancelled",
             ProgramFault::Lost => "lost",
-            ProgramFault::NoOffer => "after: no offer of the plan has that name",
+            ProgramFault::NoOffer => "after",
             ProgramFault::Time => "time",
         }
     }
@@ -172,48 +186,5 @@ fn foreign_text(count: Count) -> &'static str
         "scopectl: this does not look like a script: no line of it did anything\n"
     } else {
         ""
-    }
-}
-
-#[cfg(test)]
-mod tests {
-    use super::ProgramFault;
-    use quote_gateway::PlanWhy;
-    use std::alloc::{AllocError, Global};
-
-    const FAULTS: [ProgramFault; 12] = [
-        ProgramFault::Read,
-        ProgramFault::Write,
-        ProgramFault::Notes,
-        ProgramFault::Memory,
-        ProgramFault::PlanLine {
-            line: 1,
-            why: PlanWhy::ModeWanted,
-        },
-        ProgramFault::PlanLine {
-            line: 4_096,
-            why: PlanWhy::BadPrice,
-        },
-        ProgramFault::Strange,
-        ProgramFault::Rejected,
-        ProgramFault::Cancelled,
-        ProgramFault::Lost,
-        ProgramFault::NoOffer,
-        ProgramFault::Time,
-    ];
-
-    #[test]
-    fn lines_have_the_derived_texts(rt: HostRuntime) -> Result<(), AllocError> {
-        for fault in FAULTS {
-            let is_same = has_derived_text(rt.alloc(), fault)?;
-            assert!(rt; is_same, "{fault}");
-        }
-        Ok(())
-    }
-
-    /// Whether the line of the fault is the program's name, the text that the derive writes, and a line feed.
-    fn has_derived_text(alloc: Global, fault: ProgramFault) -> Result<bool, AllocError> {
-        let derived = format!(in alloc; "scopectl: {fault}\n")?;
-        Ok(fault.line().as_str() == derived.as_str())
     }
 }

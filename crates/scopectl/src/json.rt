@@ -1,14 +1,44 @@
 //! Replies as JSON, one object a line.
 
-use std::alloc::{AllocError, Global};
+use arrayvec::ArrayVec;
 use std::io::{ErrorKind, Write};
-use std::{io, str};
+use std::{io, mem};
+
+/// How many bytes a word of a reply has at most: a name, `=` and a value, or two numbers.
+const WORD_ROOM: usize = 64;
+
+/// How many bytes are written at a time.
+const PIECE: usize = 4096;
 
 /// Standard output, to which replies go as text or as JSON.
 #[derive(Drop)]
 pub enum Replies<W: Drop> {
     Text(W),
     Json(JsonReplies<W>),
+}
+
+impl<W: Drop> Replies<W> {
+    /// Nothing was written yet.
+    pub fn new(is_json: bool, inner: W) -> Replies<W> {
+        if is_json {
+            Replies::Json(JsonReplies {
+                inner,
+                word: ArrayVec::new(),
+                part: Part::Before,
+                out: ArrayVec::new(),
+            })
+        } else {
+            Replies::Text(inner)
+        }
+    }
+
+    /// The stream itself.
+    pub fn into_inner(self) -> W {
+        match self {
+            Replies::Text(inner) => inner,
+            Replies::Json(replies) => replies.inner,
+        }
+    }
 }
 
 impl<W: Write + Drop> Write for Replies<W> {
@@ -27,46 +57,139 @@ impl<W: Write + Drop> Write for Replies<W> {
     }
 }
 
+/// Which part of an object was written last.
+#[derive(Clone, Copy)]
+enum Part {
+    /// None.
+    Before,
+    /// Its first word.
+    Reply,
+    /// A word without `=`.
+    Values,
+    /// A word with `=`.
+    Named,
+}
+
 /// A writer to which replies go as JSON. A reply `WORD A.. K=V..` becomes
 /// `{"reply":"WORD","values":[A,..],"named":{"K":V,..}}`, without the parts that it lacks. A word of decimal digits, with
-/// or without a hyphen in front, is a number, and each other one a string.
+/// or without a hyphen in front, is a number, and each other one a string. It takes no memory.
 #[derive(Drop)]
 pub struct JsonReplies<W: Drop> {
-    alloc: Global,
     inner: W,
-    line: Vec<u8>,
+    word: ArrayVec<u8, WORD_ROOM>,
+    part: Part,
+    out: ArrayVec<u8, PIECE>,
 }
 
 impl<W: Write + Drop> JsonReplies<W> {
-    /// No reply was written yet.
-    pub fn new(alloc: Global, inner: W) -> JsonReplies<W> {
-        JsonReplies {
-            alloc,
-            inner,
-            line: Vec::new(alloc),
-        }
+    /// Writes what has come together.
+    fn send(&mut self) -> io::Result<()> {
+        self.inner.write_all(self.out.as_slice())?;
+        self.out.clear();
+        Ok(())
     }
 
-    /// Writes the object of the reply whose line has ended.
+    /// Writes the bytes, now or later.
+    fn put(&mut self, bytes: &[u8]) -> io::Result<()> {
+        for byte in bytes {
+            if self.out.is_full() {
+                self.send()?;
+            }
+            if self.out.try_push(*byte).is_err() {
+                return Err(ErrorKind::WriteZero.into());
+            }
+        }
+        Ok(())
+    }
+
+    /// Writes the word that has ended.
+    fn end_word(&mut self) -> io::Result<()> {
+        let taken = mem::replace(&mut self.word, ArrayVec::new());
+        let word = taken.as_slice();
+        match self.part {
+            Part::Before => {
+                self.put(b"{\"reply\":\"")?;
+                self.put(word)?;
+                self.put(b"\"")?;
+                self.part = Part::Reply;
+            }
+            _ => match word.iter().position(|byte| *byte == b'=') {
+                Some(place) => {
+                    let (name, value) = word.split_at(place);
+                    self.put_named(name, value.split_at(1).1)?;
+                }
+                None => self.put_plain(word)?,
+            },
+        }
+        Ok(())
+    }
+
+    /// Writes a word without `=`.
+    fn put_plain(&mut self, word: &[u8]) -> io::Result<()> {
+        match self.part {
+            Part::Values => self.put(b",")?,
+            _ => self.put(b",\"values\":[")?,
+        }
+        self.part = Part::Values;
+        self.put_value(word)
+    }
+
+    /// Writes a word with `=`, which stands behind those without.
+    fn put_named(&mut self, name: &[u8], value: &[u8]) -> io::Result<()> {
+        match self.part {
+            Part::Named => self.put(b",\"")?,
+            Part::Values => self.put(b"],\"named\":{\"")?,
+            _ => self.put(b",\"named\":{\"")?,
+        }
+        self.part = Part::Named;
+        self.put(name)?;
+        self.put(b"\":")?;
+        self.put_value(value)
+    }
+
+    /// Writes the word as a number if it is one, and else as a string.
+    fn put_value(&mut self, word: &[u8]) -> io::Result<()> {
+        if is_number(word) {
+            return self.put(word);
+        }
+        self.put(b"\"")?;
+        self.put(word)?;
+        self.put(b"\"")
+    }
+
+    /// Ends the object.
     fn end_line(&mut self) -> io::Result<()> {
-        let Ok(line) = str::from_utf8(&self.line) else {
-            return Err(ErrorKind::InvalidData.into());
-        };
-        let object = object_of(self.alloc, line)?;
-        self.line.clear();
-        self.inner.write_all(object.as_bytes())
+        match self.part {
+            Part::Values => self.put(b"]}\n")?,
+            Part::Named => self.put(b"}}\n")?,
+            _ => self.put(b"}\n")?,
+        }
+        self.part = Part::Before;
+        Ok(())
+    }
+
+    /// Takes one byte of a reply.
+    fn take(&mut self, byte: u8) -> io::Result<()> {
+        match byte {
+            b' ' => self.end_word(),
+            b'\n' => {
+                self.end_word()?;
+                self.end_line()
+            }
+            _ => match self.word.try_push(byte) {
+                Ok(()) => Ok(()),
+                Err(_) => Err(ErrorKind::InvalidData.into()),
+            },
+        }
     }
 }
 
 impl<W: Write + Drop> Write for JsonReplies<W> {
     fn write(&mut self, buf: &[u8]) -> io::Result<usize> {
         for byte in buf {
-            if *byte == b'\n' {
-                self.end_line()?;
-            } else {
-                self.line.push(*byte)?;
-            }
+            self.take(*byte)?;
         }
+        self.send()?;
         Ok(buf.len())
     }
 
@@ -75,77 +198,11 @@ impl<W: Write + Drop> Write for JsonReplies<W> {
     }
 }
 
-/// The object of the reply that has this line, and a line feed.
-fn object_of(alloc: Global, line: &str) -> Result<String, AllocError> {
-    let reply = line.split(' ').next().unwrap_or("");
-    let mut object = format!(in alloc; "{{\"reply\":\"{reply}\"")?;
-    append_values(&mut object, line)?;
-    append_named(&mut object, line)?;
-    object.push_str("}\n")?;
-    Ok(object)
-}
-
-/// Appends the words behind the first that have no `=`, if there are such words.
-fn append_values(object: &mut String, line: &str) -> Result<(), AllocError> {
-    let mut has_some = false;
-    for word in line.split(' ').skip(1) {
-        if word.split_once('=').is_none() {
-            append_item(object, has_some, ",\"values\":[")?;
-            append_value(object, word)?;
-            has_some = true;
-        }
-    }
-    append_end(object, has_some, ']')
-}
-
-/// Appends the words behind the first that have a `=`, if there are such words.
-fn append_named(object: &mut String, line: &str) -> Result<(), AllocError> {
-    let mut has_some = false;
-    for word in line.split(' ').skip(1) {
-        if let Some((name, value)) = word.split_once('=') {
-            append_item(object, has_some, ",\"named\":{")?;
-            append_name(object, name)?;
-            append_value(object, value)?;
-            has_some = true;
-        }
-    }
-    append_end(object, has_some, '}')
-}
-
-/// Appends what stands before an item: a comma, or what opens the list.
-fn append_item(object: &mut String, has_some: bool, opens: &str) -> Result<(), AllocError> {
-    if has_some {
-        object.push(',')?;
-    } else {
-        object.push_str(opens)?;
-    }
-    Ok(())
-}
-
-/// Appends what closes a list that has some items.
-fn append_end(object: &mut String, has_some: bool, closes: char) -> Result<(), AllocError> {
-    if has_some {
-        object.push(closes)?;
-    }
-    Ok(())
-}
-
-/// Appends the name of a value.
-fn append_name(object: &mut String, name: &str) -> Result<(), AllocError> {
-    write!(object, "\"{name}\":")
-}
-
-/// Appends the word, as a number if it is one.
-fn append_value(object: &mut String, word: &str) -> Result<(), AllocError> {
-    if is_number(word) {
-        object.push_str(word)
-    } else {
-        write!(object, "\"{word}\"")
-    }
-}
-
 /// Whether the word is of decimal digits, with or without a hyphen in front.
-fn is_number(word: &str) -> bool {
-    let digits = word.strip_prefix('-').unwrap_or(word);
-    !digits.is_empty() && digits.bytes().all(|byte| byte.is_ascii_digit())
+fn is_number(word: &[u8]) -> bool {
+    let digits = match word {
+        [b'-', digits @ ..] => digits,
+        _ => word,
+    };
+    !digits.is_empty() && digits.iter().all(|byte| byte.is_ascii_digit())
 }

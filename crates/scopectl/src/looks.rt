@@ -1,6 +1,7 @@
 //! A look at the realm of a plan from outside, while it is served: its tree after a time, and its journal at the end.
 
-use crate::act::FAULT;
+use crate::act::{FAULT, fail};
+use crate::fault::ProgramFault;
 use job_runner::{Clock, SystemClock};
 use realm_lock::{Look, Realm, RealmName, RealmState};
 use scope_rules::{Base, Due, Event, Limits};
@@ -8,7 +9,7 @@ use scope_script::Watched;
 use script_jobs::{View, shown};
 use script_journal::ShownEvent;
 use std::alloc::{AllocError, Global};
-use std::io::Write;
+use std::io::{ErrorKind, Write};
 use std::rt::HostRuntime;
 use std::sync::atomic::{AtomicBool, Ordering};
 use std::sync::{Arc, Wait};
@@ -28,14 +29,23 @@ pub struct Looker<'a> {
     host: HostRuntime,
     journal: Option<&'a str>,
     looking: Option<Looking>,
-    has_failed: bool,
+    fault: Option<JournalFault>,
+}
+
+/// Why there is no journal in the file.
+#[derive(Clone, Copy)]
+enum JournalFault {
+    /// It could not be made, for this cause.
+    Unmade(ProgramFault),
+    /// The file can't be written.
+    Unwritten,
 }
 
 /// The thread that looks. It ends soon after `done` is set, and gives the journal.
 #[derive(Drop)]
 struct Looking {
     done: Arc<AtomicBool, Global>,
-    thread: JoinHandle<Option<String>>,
+    thread: JoinHandle<Result<String, ProgramFault>>,
 }
 
 impl<'a> Looker<'a> {
@@ -45,29 +55,36 @@ impl<'a> Looker<'a> {
             host,
             journal,
             looking: None,
-            has_failed: false,
+            fault: None,
         }
     }
 
-    /// The status of a run that ended with this one: a fault if the journal could not be written, which is said.
+    /// The status of a run that ended with this one: a fault if the journal could not be written. That is said, but behind
+    /// a fault of the run, which was.
     pub fn status<E: Write + Drop>(&self, status: u8, errors: &mut Watched<E>) -> u8 {
-        if !self.has_failed {
-            return status;
+        match self.fault {
+            None => status,
+            Some(_) if status == FAULT => FAULT,
+            Some(JournalFault::Unmade(fault)) => fail(fault, errors),
+            Some(JournalFault::Unwritten) => {
+                let _said = errors.write_bytes(b"scopectl: journal\nhint: it can't be written\n");
+                FAULT
+            }
         }
-        let _said = errors.write_bytes(b"scopectl: journal: it can't be written\n");
-        FAULT
     }
 
     /// Writes the journal, if one is wanted.
-    fn write(&mut self, journal: Option<String>) {
+    fn write(&mut self, journal: Result<String, ProgramFault>) {
         let Some(path) = self.journal else {
             return;
         };
-        let is_written = match journal {
-            Some(text) => fs::write(&self.host, path, text.as_str()).is_ok(),
-            None => false,
+        self.fault = match journal {
+            Ok(text) => match fs::write(&self.host, path, text.as_str()) {
+                Ok(()) => None,
+                Err(error) => Some(unwritten(error.kind())),
+            },
+            Err(fault) => Some(JournalFault::Unmade(fault)),
         };
-        self.has_failed = !is_written;
     }
 
     /// The plan is going to be served in this realm, of which the tree is wanted after so many milliseconds, if it is.
@@ -81,12 +98,9 @@ impl<'a> Looker<'a> {
         if self.journal.is_none() && tree_after.is_none() {
             return;
         }
-        self.has_failed = self.journal.is_some();
-        let Ok(done) = Arc::new(self.host.alloc(), AtomicBool::new(false)) else {
-            return;
-        };
-        if let Some(thread) = begin_look(rt, self.host, realm, &done, tree_after) {
-            self.looking = Some(Looking { done, thread });
+        match begin_look(rt, self.host, realm, tree_after) {
+            Ok(looking) => self.looking = Some(looking),
+            Err(fault) => self.write(Err(fault)),
         }
     }
 
@@ -101,18 +115,34 @@ impl<'a> Looker<'a> {
     }
 }
 
-/// Begins to look by a thread of its own, if there is one.
+/// Why the file can't be written.
+fn unwritten(kind: ErrorKind) -> JournalFault {
+    if kind == ErrorKind::OutOfMemory {
+        JournalFault::Unmade(ProgramFault::Memory)
+    } else {
+        JournalFault::Unwritten
+    }
+}
+
+/// Begins to look by a thread of its own.
 fn begin_look<N: RealmName + Send + Sync + 'static, T: PoolRuntime>(
     rt: &T,
     host: HostRuntime,
     realm: Realm<Due, N>,
-    done: &Arc<AtomicBool, Global>,
     tree_after: Option<u32>,
-) -> Option<JoinHandle<Option<String>>> {
-    let theirs = Arc::try_clone(done).ok()?;
+) -> Result<Looking, ProgramFault> {
+    let Ok(done) = Arc::new(host.alloc(), AtomicBool::new(false)) else {
+        return Err(ProgramFault::Memory);
+    };
+    let Ok(theirs) = Arc::try_clone(&done) else {
+        return Err(ProgramFault::Memory);
+    };
     let runtime = *rt;
     let look = move || look_until(&runtime, &host, &realm, &theirs, tree_after);
-    thread::spawn(rt, look).ok()
+    match thread::spawn(rt, look) {
+        Ok(thread) => Ok(Looking { done, thread }),
+        Err(_) => Err(ProgramFault::Rejected),
+    }
 }
 
 /// How many events there are.
@@ -147,39 +177,59 @@ impl Look for Copying {
     }
 }
 
-/// Looks until that is done, and answers the journal with times. The tree is written once its time has come. There is no
-/// journal if memory was refused, or the system gives no time.
+/// Looks until that is done, and answers the journal with times. The tree is written once its time has come.
+///
+/// # Errors
+/// `Memory` if memory was refused, `Time` if the system gives no time.
 fn look_until<N: RealmName, T: Wait>(
     rt: &T,
     host: &HostRuntime,
     realm: &Realm<Due, N>,
     done: &AtomicBool,
     tree_after: Option<u32>,
-) -> Option<String> {
-    let mut clock = SystemClock::starting_at(*host, 0)?;
+) -> Result<String, ProgramFault> {
+    let Some(mut clock) = SystemClock::starting_at(*host, 0) else {
+        return Err(ProgramFault::Time);
+    };
     let mut times = Vec::new(host.alloc());
     let mut tree_at = tree_after.map(u64::from);
     for _ in 0..u64::MAX {
         let is_done = done.load(Ordering::SeqCst);
         let now = clock.now();
         let count = realm.look_from_outside(rt, Counting);
-        times.resize(count, now).ok()?;
+        if times.resize(count, now).is_err() {
+            return Err(ProgramFault::Memory);
+        }
         if is_done {
-            return journal(rt, host.alloc(), realm, &times, now).ok();
+            return journal(rt, host.alloc(), realm, &times, now);
         }
         if tree_at.is_some_and(|at| at <= now) {
             tree_at = None;
-            let script = journal(rt, host.alloc(), realm, &times, now).ok()?;
+            let script = journal(rt, host.alloc(), realm, &times, now)?;
             let _shown = show_tree(host, script.as_bytes());
         }
         thread::sleep(host, Duration::from_millis(EVERY));
     }
-    None
+    Err(ProgramFault::Time)
 }
 
 /// The script of what happened in the realm, which never retired. Before an event stands a comment with its time, in
 /// milliseconds, if that is another than the last one's, and at the end one with the time of this look.
 fn journal<N: RealmName, T: Wait>(
+    rt: &T,
+    alloc: Global,
+    realm: &Realm<Due, N>,
+    times: &[u64],
+    now: u64,
+) -> Result<String, ProgramFault> {
+    let Ok(text) = journal_text(rt, alloc, realm, times, now) else {
+        return Err(ProgramFault::Memory);
+    };
+    Ok(text)
+}
+
+/// The same, if memory isn't refused.
+fn journal_text<N: RealmName, T: Wait>(
     rt: &T,
     alloc: Global,
     realm: &Realm<Due, N>,

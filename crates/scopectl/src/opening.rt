@@ -1,12 +1,17 @@
 //! From where a line's job reads, and what is said before it does.
-use crate::act::{FAULT, LINES_REFUSED, NOT_UNDERSTOOD, fail, note, refuse_words};
+ghost use Rattle.std.specs.Prelude.{map};
+ghost use Rattle.scopectl.specs.Program.{IsRead};
+
+use crate::act::{DONE, FAULT, LINES_REFUSED, NOT_UNDERSTOOD, fail, note, refuse_words};
+use crate::checking::first_finding;
 use crate::fault::ProgramFault;
+use crate::json::Replies;
 use crate::looks::Looker;
-use crate::streams::Streams;
+use crate::streams::{Kept, Streams};
 use crate::threads::act_on;
-use command_line::{CommandLine, ScriptOptions, line};
+use command_line::{Asked, CommandLine, LineFault, ScriptOptions, StreamOptions, line};
 use scope_script::Watched;
-use script_jobs::{Notes, first_difference, prompted};
+use script_jobs::{Notes, Saves, first_difference, prompted};
 use std::alloc::Global;
 use std::io::{ErrorKind, Read, Write};
 use std::rt::{Clock as SystemTime, Files};
@@ -20,6 +25,31 @@ pub const PROMPT_GREETING: &str =
 /// The one line that is said where any other job reads a terminal.
 pub const GREETING: &str =
     "scopectl: reading from the terminal, line by line; Ctrl-D ends the input. For help: scopectl help\n";
+
+/// What the words of a line say.
+#[derive(Drop)]
+pub struct Parsed<'a> {
+    /// The command, or why there is none.
+    pub said: Result<CommandLine, LineFault>,
+    /// Where the command reads, and what becomes of what it writes.
+    pub streams: StreamOptions<'a>,
+}
+
+/// Reads the words of a line, of which the first is the program's name.
+pub fn read_words<'a>(alloc: Global, words: &'a [&'a str]) -> Parsed<'a>
+    ensures { IsRead (map (λ word. word.now) words.entry.now) result.said }
+{
+    match line(alloc, words) {
+        Ok(Asked { command, streams }) => Parsed {
+            said: Ok(command),
+            streams,
+        },
+        Err(fault) => Parsed {
+            said: Err(fault),
+            streams: StreamOptions::NONE,
+        },
+    }
+}
 
 /// How a script that a person types is replayed.
 #[derive(Clone, Copy)]
@@ -38,13 +68,26 @@ fn prompted_by(command: &CommandLine) -> Option<Prompted> {
     }
 }
 
+/// Saves what a person types.
+#[derive(Drop)]
+pub struct Saver<F> {
+    pub files: F,
+}
+
+impl<F: Files> Saves for Saver<F> {
+    fn save(&mut self, name: &str, lines: &[u8]) -> bool {
+        fs::write(&self.files, name, lines).is_ok()
+    }
+}
+
 /// Replays what a person types at a terminal, with a prompt, and answers the exit status. Refused lines are explained.
-pub fn act_prompted<R: Read + Drop, W: Write + Drop, E: Write + Drop>(
+pub fn act_prompted<R: Read + Drop, W: Write + Drop, E: Write + Drop, S: Saves + Drop>(
     alloc: Global,
     how: Prompted,
     input: R,
     output: W,
     errors: &mut Watched<E>,
+    saver: &mut S,
 ) -> u8 {
     let mut reader = Watched::new(input);
     let mut writer = Watched::new(output);
@@ -54,7 +97,15 @@ pub fn act_prompted<R: Read + Drop, W: Write + Drop, E: Write + Drop>(
         Notes::Refusals
     };
     let limits = how.script.limits;
-    match prompted(alloc, limits, notes, &mut reader, &mut writer, errors) {
+    match prompted(
+        alloc,
+        limits,
+        notes,
+        &mut reader,
+        &mut writer,
+        errors,
+        saver,
+    ) {
         Ok(count) => note(how.script, true, count, errors),
         Err(reason) => fail(ProgramFault::of_noted(reason), errors),
     }
@@ -74,23 +125,23 @@ pub enum Input<F: Drop> {
     Refused(u8),
 }
 
-/// From where the job reads that the words say, of which this file was named: from that, or from standard input if
-/// none was, or `-`. Words that say no job read nothing.
-pub fn input_of<'a, R: Files, E: Write + Drop>(
+/// From where the command reads: from the file that is named, or from standard input if none is, or `-`. If the words say
+/// no command, or one that reads nothing, nothing is opened.
+pub fn input_of<R: Files, E: Write + Drop>(
     files: &R,
     alloc: Global,
-    words: &'a [&'a str],
+    said: &Result<CommandLine, LineFault>,
     file: Option<&str>,
     errors: &mut Watched<E>,
 ) -> Input<R::File> {
-    let Ok(command) = line(alloc, words) else {
+    let Some(command) = reading(said) else {
         return Input::Standard {
             greets: false,
             prompts: None,
         };
     };
-    let greets = !is_quiet(&command);
-    let prompts = prompted_by(&command);
+    let greets = !is_quiet(command);
+    let prompts = prompted_by(command);
     match file {
         Some(path) if path != "-" => match opened(files, path) {
             Ok(file) => Input::File(file),
@@ -106,37 +157,140 @@ pub fn input_of<'a, R: Files, E: Write + Drop>(
     }
 }
 
-/// Does what the words say on this input, and answers the exit status. The replies are written, or compared if some are
-/// expected.
-pub fn act_by<'a, T: PoolRuntime + SystemTime, R: Read + Drop, W: Write + Drop, E: Write + Drop>(
+/// The command, if the words say one that reads.
+fn reading(said: &Result<CommandLine, LineFault>) -> Option<&CommandLine> {
+    match said {
+        Ok(CommandLine::Generate { .. }) => None,
+        Ok(command) => Some(command),
+        Err(_) => None,
+    }
+}
+
+/// Does what the words say on this input, and answers the exit status. The replies are written, or checked, or compared
+/// if some are expected.
+pub fn act_by<T: PoolRuntime + SystemTime, R: Read + Drop, W: Write + Drop, E: Write + Drop>(
     rt: &T,
     alloc: Global,
     looks: &mut Looker<'_>,
-    words: &'a [&'a str],
+    words: &[&str],
+    parsed: Parsed<'_>,
     input: R,
     expected: Expected,
     output: W,
     errors: &mut Watched<E>,
-) -> u8 {
+) -> u8
+    requires { IsRead (map (λ word. word.now) words.now) parsed.said }
+{
+    let Parsed { said, streams } = parsed;
+    if streams.checked {
+        return act_checked(
+            rt, alloc, looks, words, said, input, expected, output, errors,
+        );
+    }
     match expected {
-        Expected::Nothing => act_from(rt, alloc, looks, words, input, output, errors),
-        Expected::Replies(text) => act_compared(rt, alloc, looks, words, input, &text, errors),
+        Expected::Nothing => act_from(rt, alloc, looks, words, said, input, output, errors),
+        Expected::Replies(text) => act_compared(
+            rt,
+            alloc,
+            looks,
+            words,
+            said,
+            input,
+            &text,
+            streams.json,
+            errors,
+        ),
         Expected::Refused(status) => status,
     }
 }
 
 /// Does what the words say on this input, and answers the exit status.
-fn act_from<'a, T: PoolRuntime + SystemTime, R: Read + Drop, W: Write + Drop, E: Write + Drop>(
+fn act_from<T: PoolRuntime + SystemTime, R: Read + Drop, W: Write + Drop, E: Write + Drop>(
     rt: &T,
     alloc: Global,
     looks: &mut Looker<'_>,
-    words: &'a [&'a str],
+    words: &[&str],
+    said: Result<CommandLine, LineFault>,
     input: R,
     output: W,
     errors: &mut Watched<E>,
-) -> u8 {
+) -> u8
+    requires { IsRead (map (λ word. word.now) words.now) said }
+{
     let mut streams = Streams::new(input, output, errors);
-    act_on(rt, alloc, looks, words, &mut streams)
+    act_on(rt, alloc, looks, words, said, &mut streams)
+}
+
+/// Checks the journal that is read, and answers the exit status: 3 if the rules refuse a line, or answer it otherwise than
+/// the host was. The first such line is said.
+fn act_checked<T: PoolRuntime + SystemTime, R: Read + Drop, W: Write + Drop, E: Write + Drop>(
+    rt: &T,
+    alloc: Global,
+    looks: &mut Looker<'_>,
+    words: &[&str],
+    said: Result<CommandLine, LineFault>,
+    input: R,
+    expected: Expected,
+    output: W,
+    errors: &mut Watched<E>,
+) -> u8
+    requires { IsRead (map (λ word. word.now) words.now) said }
+{
+    let mut journal = Vec::new(alloc);
+    let mut reader = input;
+    if let Err(error) = reader.read_to_end(&mut journal) {
+        return refuse_reading(error.kind(), errors);
+    }
+    let mut streams = Streams::new(journal.as_slice(), Kept::new(alloc), errors);
+    let status = act_on(rt, alloc, looks, words, said, &mut streams);
+    if status == FAULT || status == NOT_UNDERSTOOD {
+        return status;
+    }
+    let Streams { writer, errors, .. } = streams;
+    let replies = writer.into_inner();
+    if !replies.is_whole {
+        return fail(ProgramFault::Memory, errors);
+    }
+    let answers = match &expected {
+        Expected::Replies(text) => Some(text.as_slice()),
+        _ => None,
+    };
+    match first_finding(&journal, &replies.text, answers) {
+        Some(finding) => match finding.text(alloc) {
+            Ok(text) => {
+                let _said = errors.write_bytes(text.as_bytes());
+                LINES_REFUSED
+            }
+            Err(_) => refuse_words(ErrorKind::OutOfMemory, errors),
+        },
+        None => tell_checked(alloc, &replies.text, output, errors),
+    }
+}
+
+/// Says that so many lines were answered as by the rules.
+fn tell_checked<W: Write + Drop, E: Write + Drop>(
+    alloc: Global,
+    replies: &[u8],
+    output: W,
+    errors: &mut Watched<E>,
+) -> u8 {
+    let count = replies.iter().filter(|byte| **byte == b'\n').count();
+    let Ok(text) = format!(in alloc; "check: {count} lines, each answered as by the rules\n") else {
+        return fail(ProgramFault::Memory, errors);
+    };
+    match Watched::new(output).write_bytes(text.as_bytes()) {
+        Ok(()) => DONE,
+        Err(_) => fail(ProgramFault::Write, errors),
+    }
+}
+
+/// Says that the journal can't be read.
+fn refuse_reading<E: Write + Drop>(kind: ErrorKind, errors: &mut Watched<E>) -> u8 {
+    if kind == ErrorKind::OutOfMemory {
+        fail(ProgramFault::Memory, errors)
+    } else {
+        fail(ProgramFault::Read, errors)
+    }
 }
 
 /// With what the replies are to be compared.
@@ -150,20 +304,16 @@ pub enum Expected {
     Refused(u8),
 }
 
-/// With what the replies are to be compared if the words say a replay and this file was named: with what is in it.
-pub fn expected_of<'a, R: Files, E: Write + Drop>(
+/// With what the replies are to be compared if the words say a command and this file was named: with what is in it.
+pub fn expected_of<R: Files, E: Write + Drop>(
     files: &R,
     alloc: Global,
-    words: &'a [&'a str],
     file: Option<&str>,
     errors: &mut Watched<E>,
 ) -> Expected {
     let Some(path) = file else {
         return Expected::Nothing;
     };
-    if line(alloc, words).is_err() {
-        return Expected::Nothing;
-    }
     let mut text = Vec::new(alloc);
     match read_into(files, path, &mut text) {
         Ok(()) => Expected::Replies(text),
@@ -180,23 +330,31 @@ fn read_into<R: Files>(files: &R, path: &str, text: &mut Vec<u8>) -> io::Result<
 
 /// Does what the words say on this input but for writing the replies: these are compared with the expected ones. The
 /// first line that differs is said, and the status is 3 if one does.
-pub fn act_compared<'a, T: PoolRuntime + SystemTime, R: Read + Drop, E: Write + Drop>(
+fn act_compared<T: PoolRuntime + SystemTime, R: Read + Drop, E: Write + Drop>(
     rt: &T,
     alloc: Global,
     looks: &mut Looker<'_>,
-    words: &'a [&'a str],
+    words: &[&str],
+    said: Result<CommandLine, LineFault>,
     input: R,
     expected: &[u8],
+    json: bool,
     errors: &mut Watched<E>,
-) -> u8 {
-    let mut streams = Streams::new(input, Vec::new(alloc), errors);
-    let status = act_on(rt, alloc, looks, words, &mut streams);
+) -> u8
+    requires { IsRead (map (λ word. word.now) words.now) said }
+{
+    let replies = Replies::new(json, Kept::new(alloc));
+    let mut streams = Streams::new(input, replies, errors);
+    let status = act_on(rt, alloc, looks, words, said, &mut streams);
     if status == FAULT || status == NOT_UNDERSTOOD {
         return status;
     }
     let Streams { writer, errors, .. } = streams;
-    let replies = writer.into_inner();
-    let Some(difference) = first_difference(expected, &replies) else {
+    let replies = writer.into_inner().into_inner();
+    if !replies.is_whole {
+        return fail(ProgramFault::Memory, errors);
+    }
+    let Some(difference) = first_difference(expected, &replies.text) else {
         return status;
     };
     match format!(in alloc; "scopectl: the replies differ from those expected at {difference}") {
@@ -211,7 +369,9 @@ pub fn act_compared<'a, T: PoolRuntime + SystemTime, R: Read + Drop, E: Write + 
 /// Whether the words want nothing said but what they ask for.
 fn is_quiet(command: &CommandLine) -> bool {
     match command {
-        CommandLine::Replay { script, .. } | CommandLine::Show { script, .. } => script.quiet,
+        CommandLine::Replay { script, .. }
+        | CommandLine::Show { script, .. }
+        | CommandLine::Page { script, .. } => script.quiet,
         CommandLine::Quote { .. } => false,
         CommandLine::Generate { .. } => true,
     }
@@ -233,12 +393,13 @@ fn refuse_file<E: Write + Drop>(
     errors: &mut Watched<E>,
 ) -> u8 {
     let why = match kind {
+        ErrorKind::OutOfMemory => return refuse_words(kind, errors),
         ErrorKind::NotFound => "no such file",
         ErrorKind::PermissionDenied => "permission denied",
         ErrorKind::IsADirectory => "is a directory",
         _ => "can't be opened",
     };
-    match format!(in alloc; "scopectl: read: {path}: {why}\n") {
+    match format!(in alloc; "scopectl: read\nhint: {path}: {why}\n") {
         Ok(text) => {
             let _said = errors.write_bytes(text.as_bytes());
             FAULT

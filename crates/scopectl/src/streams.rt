@@ -2,7 +2,8 @@
 ghost use Rattle.std.specs.Prelude.{◌≡◌, false};
 
 use scope_script::Watched;
-use std::io::{Read, Write};
+use std::alloc::Global;
+use std::io::{Read, Result, Write};
 
 /// The streams of a run.
 #[derive(Drop)]
@@ -26,5 +27,37 @@ impl<'a, R: Read + Drop, W: Write + Drop, E: Write + Drop> Streams<'a, R, W, E> 
             writer: Watched::new(output),
             errors,
         }
+    }
+}
+
+/// Replies that are kept in memory. If memory is refused for some, no more are kept, and they are not whole.
+#[derive(Drop)]
+pub struct Kept {
+    /// The replies so far.
+    pub text: Vec<u8>,
+    /// Whether they are all.
+    pub is_whole: bool,
+}
+
+impl Kept {
+    /// No reply was written yet.
+    pub fn new(alloc: Global) -> Kept {
+        Kept {
+            text: Vec::new(alloc),
+            is_whole: true,
+        }
+    }
+}
+
+impl Write for Kept {
+    fn write(&mut self, buf: &[u8]) -> Result<usize> {
+        if self.is_whole && self.text.extend_from_slice(buf).is_err() {
+            self.is_whole = false;
+        }
+        Ok(buf.len())
+    }
+
+    fn flush(&mut self) -> Result<()> {
+        Ok(())
     }
 }

@@ -2,12 +2,13 @@
 ghost use Rattle.std.specs.Prelude.{◌≡◌, map, IfOk};
 ghost use Rattle.std.specs.String.{string_bytes};
 ghost use Rattle.scopectl.specs.Acting.{Acts};
+ghost use Rattle.scopectl.specs.Program.{IsRead};
 ghost use Rattle.scopectl.specs.Runs.{IsSound, run};
 
 use crate::act::{act, refuse_words};
 use crate::looks::Looker;
 use crate::streams::Streams;
-use command_line::Job;
+use command_line::{CommandLine, LineFault};
 use job_runner::JobWork;
 use quote_gateway::LateJob;
 use realm_lock::{RealmName, Seed};
@@ -23,23 +24,25 @@ const KEPT: usize = 4;
 
 /// Does what the words say, and answers the exit status: `act` over threads if the words say a quote,
 /// and over none else. Of words that memory is refused for, it says so and does nothing.
-pub fn act_on<'a, T: PoolRuntime + SystemTime, R: Read + Drop, W: Write + Drop, E: Write + Drop>(
+pub fn act_on<T: PoolRuntime + SystemTime, R: Read + Drop, W: Write + Drop, E: Write + Drop>(
     rt: &T,
     alloc: Global,
     looks: &mut Looker<'_>,
-    words: &'a [&'a str],
+    words: &[&str],
+    said: Result<CommandLine, LineFault>,
     streams: &mut Streams<'_, R, W, E>,
 ) -> u8
-    requires { IsSound streams.old }
+    requires read { IsRead (map (λ word. word.now) words.now) said }
+    requires sound { IsSound streams.old }
     ensures { Acts (map (λ word. word.now) words.now) (run R.remaining W.contents E.contents streams.old streams.new) result }
 {
     let Ok(seed) = Seed::new(alloc) else {
         return refuse_words(ErrorKind::OutOfMemory, streams.errors);
     };
-    if needs_threads(words) {
-        act_with_pool::<Brand, T, R, W, E>(rt, alloc, seed, looks, words, streams)
+    if needs_threads(&said) {
+        act_with_pool::<Brand, T, R, W, E>(rt, alloc, seed, looks, words, said, streams)
     } else {
-        act_alone::<Brand, T, R, W, E>(rt, alloc, seed, looks, words, streams)
+        act_alone::<Brand, T, R, W, E>(rt, alloc, seed, looks, words, said, streams)
     }
 }
 
@@ -54,17 +57,13 @@ pub fn borrowed<'a>(alloc: Global, owned: &'a [String]) -> Result<Vec<&'a str>, 
     Ok(words)
 }
 
-/// Whether the words may say a job that runs on threads.
-fn needs_threads(words: &[&str]) -> bool {
-    match words.get(1) {
-        Some(word) => *word == Job::Quote.word(),
-        None => false,
-    }
+/// Whether the words say a job that runs on threads.
+fn needs_threads(said: &Result<CommandLine, LineFault>) -> bool {
+    matches!(said, Ok(CommandLine::Quote { .. }))
 }
 
 /// Does what the words say over no threads: each job's thread is refused.
 fn act_alone<
-    'a,
     N: RealmName + Send + Sync + 'static,
     T: PoolRuntime + SystemTime,
     R: Read + Drop,
@@ -75,20 +74,21 @@ fn act_alone<
     alloc: Global,
     seed: Seed,
     looks: &mut Looker<'_>,
-    words: &'a [&'a str],
+    words: &[&str],
+    said: Result<CommandLine, LineFault>,
     streams: &mut Streams<'_, R, W, E>,
 ) -> u8
     requires named { seed ≡ N.table }
+    requires read { IsRead (map (λ word. word.now) words.now) said }
     requires sound { IsSound streams.old }
     ensures { Acts (map (λ word. word.now) words.now) (run R.remaining W.contents E.contents streams.old streams.new) result }
 {
-    act::<N, Nobody, T, R, W, E>(rt, alloc, seed, Nobody, looks, words, streams)
+    act::<N, Nobody, T, R, W, E>(rt, alloc, seed, Nobody, looks, words, said, streams)
 }
 
 /// Does what the words say with a pool of threads, which is closed then. Where the pool's own thread is
 /// refused, so is each job's.
 fn act_with_pool<
-    'a,
     N: RealmName + Send + Sync + 'static,
     T: PoolRuntime + SystemTime,
     R: Read + Drop,
@@ -99,17 +99,19 @@ fn act_with_pool<
     alloc: Global,
     seed: Seed,
     looks: &mut Looker<'_>,
-    words: &'a [&'a str],
+    words: &[&str],
+    said: Result<CommandLine, LineFault>,
     streams: &mut Streams<'_, R, W, E>,
 ) -> u8
     requires named { seed ≡ N.table }
+    requires read { IsRead (map (λ word. word.now) words.now) said }
     requires sound { IsSound streams.old }
     ensures { Acts (map (λ word. word.now) words.now) (run R.remaining W.contents E.contents streams.old streams.new) result }
 {
     let Ok(pool) = ThreadPool::<N, JobWork<Due, N, LateJob<T>>>::open(rt, alloc, KEPT) else {
-        return act_alone::<N, T, R, W, E>(rt, alloc, seed, looks, words, streams);
+        return act_alone::<N, T, R, W, E>(rt, alloc, seed, looks, words, said, streams);
     };
-    let status = act_over::<N, T, R, W, E>(rt, alloc, seed, &pool, looks, words, streams);
+    let status = act_over::<N, T, R, W, E>(rt, alloc, seed, &pool, looks, words, said, streams);
     pool.close(rt);
     status
 }
@@ -117,7 +119,6 @@ fn act_with_pool<
 /// Does what the words say over the pool's threads. Where there is no room for a spawner of them, each job's
 /// thread is refused.
 fn act_over<
-    'a,
     N: RealmName + Send + Sync + 'static,
     T: PoolRuntime + SystemTime,
     R: Read + Drop,
@@ -129,17 +130,19 @@ fn act_over<
     seed: Seed,
     pool: &ThreadPool<N, JobWork<Due, N, LateJob<T>>>,
     looks: &mut Looker<'_>,
-    words: &'a [&'a str],
+    words: &[&str],
+    said: Result<CommandLine, LineFault>,
     streams: &mut Streams<'_, R, W, E>,
 ) -> u8
     requires named { seed ≡ N.table }
+    requires read { IsRead (map (λ word. word.now) words.now) said }
     requires sound { IsSound streams.old }
     ensures { Acts (map (λ word. word.now) words.now) (run R.remaining W.contents E.contents streams.old streams.new) result }
 {
     match pool.threads() {
         Ok(threads) => act::<N, OsThreads<N, JobWork<Due, N, LateJob<T>>>, T, R, W, E>(
-            rt, alloc, seed, threads, looks, words, streams,
+            rt, alloc, seed, threads, looks, words, said, streams,
         ),
-        Err(_) => act_alone::<N, T, R, W, E>(rt, alloc, seed, looks, words, streams),
+        Err(_) => act_alone::<N, T, R, W, E>(rt, alloc, seed, looks, words, said, streams),
     }
 }

@@ -7,3 +7,4 @@ pub mod Held
 pub mod Steps
 pub mod Beginnings
 pub mod Indexing
+pub mod Batches

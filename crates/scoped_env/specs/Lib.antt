@@ -2,6 +2,9 @@ pub mod LastBound
 pub mod Layers
 pub mod Keys
 pub mod Stacked
+pub mod Joined
+pub mod Listed
+pub mod Batches
 pub mod Shared
 pub mod Pairs
 pub mod EnvTable

@@ -8,4 +8,4 @@ use Rattle.scoped_env.specs.declared.shared.PairList.TheVariants.{Empty, Few, Ma
 abbrev pub pairs_of : PairList → List Binding
 pairs_of Empty = []
 pairs_of (Few pairs) = arc_slice_items pairs
-pairs_of (Many pairs) = arc_value pairs
+pairs_of (Many row) = arc_value row

@@ -130,9 +130,9 @@ impl Env {
     }
 
     /// The environment of a task that this one's actor forks now: all pairs of this one are its
-    /// inherited pairs, and its own stack is empty. The pairs here stay as they are. Called again
-    /// before they change, it copies none of them. It is refused for memory, or if std's count
-    /// of holders is full.
+    /// inherited pairs, and its own stack is empty. The pairs here stay as they are. It shares them all,
+    /// and takes time for those that were bound since the last call. It is refused for memory, or
+    /// if std's count of holders is full.
     pub fn inherit(&mut self) -> Result<Env, AllocError>
         ensures ok { IfOk result (λ env. env ≡ inheriting self.old) }
         ensures unchanged { self.new ≡ self.old }
@@ -156,7 +156,7 @@ impl Env {
                 Ok(Base::sharing(moment, scopes, tasks, binds))
             }
             Pairs::Inherited(inherited) => {
-                let binds = Vec::from_slice(self.alloc, inherited.as_slice())?;
+                let binds = inherited.to_vec(self.alloc)?;
                 Ok(Base::new(moment, scopes, tasks, binds))
             }
         }
@@ -166,7 +166,10 @@ impl Env {
     pub fn depth(&self) -> usize
         ensures { result ≡ length (all_pairs self.now) }
     {
-        self.inherited().len() + self.stack().len()
+        match &self.pairs {
+            Pairs::WithOwn(own) => own.depth(),
+            Pairs::Inherited(inherited) => inherited.len(),
+        }
     }
 
     /// How many own pairs there are. By this number a caller tells whether the bindings are those
@@ -184,16 +187,6 @@ impl Env {
         match &self.pairs {
             Pairs::WithOwn(own) => own.stack(),
             Pairs::Inherited(_) => &[],
-        }
-    }
-
-    /// The inherited pairs, the oldest first.
-    fn inherited(&self) -> &[Binding]
-        ensures { result.now ≡ self.now.inherited }
-    {
-        match &self.pairs {
-            Pairs::WithOwn(own) => own.inherited(),
-            Pairs::Inherited(inherited) => inherited.as_slice(),
         }
     }
 }

@@ -4,9 +4,12 @@
 //! since the realm began.
 #![tactic(auto)]
 
+mod batch;
 mod env;
 mod envs;
+mod frozen;
 mod keys;
+mod listed;
 mod own;
 mod shared;
 mod stack;

@@ -1,16 +1,16 @@
-ghost use Rattle.std.specs.Prelude.{◌≡◌, ◌++◌, IfOk, []};
+ghost use Rattle.std.specs.Prelude.{◌≡◌, ◌++◌, ◌<◌, ◌≤◌, ◌^◌, IfOk, OnOk, [], length};
 ghost use Rattle.std.specs.Arc.{arc_slice_items};
 ghost use Rattle.scope_rules.specs.Bindings.{bound_to};
+ghost use Rattle.scoped_env.specs.Joined.{joined};
 
-use crate::keys::{LatestValues, OrderedKey, last_value, latest_of};
-use crate::stack::FEW;
+use crate::batch::Batch;
+use crate::keys::last_value;
 use scope_rules::{Binding, Name, Value};
 use std::alloc::{AllocError, Global};
 use std::marker::Model;
 use std::sync::{Arc, ArcSlice};
 
-/// A list of pairs that several environments can hold at once, in any threads. One of more than
-/// sixteen has an index of its keys, which is made with it.
+/// A list of pairs that several environments can hold at once, in any threads. It never changes.
 #[derive(Drop)]
 pub struct SharedPairs {
     list: PairList,
@@ -21,10 +21,10 @@ pub struct SharedPairs {
 enum PairList {
     /// No pairs, which take no memory.
     Empty,
-    /// At most sixteen, which are looked through.
+    /// A few, which are looked through.
     Few(ArcSlice<Binding>),
-    /// More, which have an index.
-    Many(Arc<IndexedPairs, Global>),
+    /// More, in batches that other lists have too.
+    Many(Arc<BatchRow, Global>),
 }
 
 impl Model for SharedPairs {
@@ -37,47 +37,70 @@ impl Model for SharedPairs {
     ghost view = { λ s. pairs_of s.list };
 }
 
-/// Pairs that never change, and the value that each key has by them.
+/// Batches of pairs, the oldest first, and how many pairs they have.
 #[derive(Drop)]
-pub struct IndexedPairs {
-    pairs: ArcSlice<Binding>,
-    latest: LatestValues,
+pub struct BatchRow {
+    batches: Vec<Batch>,
+    count: u32,
 }
 
-impl Model for IndexedPairs {
-    ghost use Rattle.std.specs.Prelude.{List};
-    ghost use Rattle.std.specs.Arc.{arc_slice_items};
+impl Model for BatchRow {
+    ghost use Rattle.std.specs.Prelude.{◌≡◌, List, length};
     ghost use Rattle.scope_rules.specs.declared.types.events.Binding.{Binding};
-    ghost use Rattle.scoped_env.specs.Keys.{HasLatest};
+    ghost use Rattle.scoped_env.specs.Joined.{joined};
 
     ghost Value = { List Binding };
 
-    ghost view = { λ s. arc_slice_items s.pairs };
+    ghost view = { λ r. joined r.batches.items };
 
-    ghost invariant = { λ s. HasLatest s.latest (arc_slice_items s.pairs) };
+    ghost invariant = { λ r. r.count ≡ length (joined r.batches.items) };
 }
 
-impl IndexedPairs {
-    /// The pairs, with their index. It is refused for memory alone.
-    fn new(alloc: Global, pairs: ArcSlice<Binding>) -> Result<IndexedPairs, AllocError>
-        ensures { IfOk result (λ indexed. indexed ≡ arc_slice_items pairs) }
+impl BatchRow {
+    /// How many pairs there are.
+    fn len(&self) -> u32
+        ensures { result ≡ length self.now }
     {
-        let latest = latest_of(alloc, pairs.as_slice())?;
-        Ok(IndexedPairs { pairs, latest })
+        self.count
     }
 
-    /// The pairs, the oldest first.
-    fn as_slice(&self) -> &[Binding]
-        ensures { result.now ≡ self.now }
+    /// Adds these batches at the end of others. It is refused for memory, or if std's count of holders is
+    /// full.
+    fn push_to(&self, others: &mut Vec<Batch>) -> Result<(), AllocError>
+        ensures { OnOk result (joined others.new.items ≡ joined others.old.items ++ self.now) }
     {
-        self.pairs.as_slice()
+        share_all(&self.batches, others)
+    }
+
+    /// A copy of the pairs, the oldest first. It is refused for memory alone.
+    fn to_vec(&self, alloc: Global) -> Result<Vec<Binding>, AllocError>
+        ensures { IfOk result (λ pairs. pairs.items ≡ self.now) }
+    {
+        pairs_in(alloc, &self.batches)
+    }
+
+    /// The same pairs, with the batches from this place on as one. It is refused for memory, or if std's count
+    /// of holders is full.
+    fn joined_from(&self, alloc: Global, place: usize) -> Result<BatchRow, AllocError>
+        ensures { IfOk result (λ row. row ≡ self.now) }
+    {
+        let (first, last) = self.batches.split_at(place.min(self.batches.len()));
+        let mut batches = Vec::new(alloc);
+        share_all(first, &mut batches)?;
+        let pairs = ArcSlice::from_vec(pairs_in(alloc, last)?)?;
+        let batch = Batch::of(alloc, pairs)?;
+        batches.push(batch)?;
+        Ok(BatchRow {
+            batches,
+            count: self.count,
+        })
     }
 
     /// The value of the last pair with the key, if there is one.
     fn value_of(&self, key: &Name) -> Option<Value>
         ensures { result ≡ bound_to key.now self.now }
     {
-        self.latest.get(&OrderedKey { name: *key }).copied()
+        value_in(&self.batches, key)
     }
 }
 
@@ -91,16 +114,27 @@ impl SharedPairs {
         }
     }
 
-    /// These pairs, which several environments can hold from then on. It is refused for memory alone.
-    pub fn of(alloc: Global, pairs: ArcSlice<Binding>) -> Result<SharedPairs, AllocError>
-        ensures { IfOk result (λ shared. shared ≡ arc_slice_items pairs) }
+    /// These pairs, of which there are a few: a look-up goes through them all.
+    pub fn few(pairs: ArcSlice<Binding>) -> SharedPairs
+        ensures { result ≡ arc_slice_items pairs }
     {
-        let list = if pairs.as_slice().len() <= FEW {
-            PairList::Few(pairs)
-        } else {
-            PairList::Many(Arc::new(alloc, IndexedPairs::new(alloc, pairs)?)?)
+        SharedPairs {
+            list: PairList::Few(pairs),
+        }
+    }
+
+    /// The pairs of these batches, which have so many. It is refused for memory, and from 2^32 pairs on.
+    pub fn of(alloc: Global, batches: Vec<Batch>, count: usize) -> Result<SharedPairs, AllocError>
+        requires { count ≡ length (joined batches.items) }
+        ensures { IfOk result (λ shared. shared ≡ joined batches.items) }
+    {
+        let Ok(count) = u32::try_from(count) else {
+            return Err(AllocError);
         };
-        Ok(SharedPairs { list })
+        let row = BatchRow { batches, count };
+        Ok(SharedPairs {
+            list: PairList::Many(Arc::new(alloc, row)?),
+        })
     }
 
     /// The same list for one holder more. Nothing is copied, and no memory is taken: it is refused
@@ -111,19 +145,65 @@ impl SharedPairs {
         let list = match &self.list {
             PairList::Empty => PairList::Empty,
             PairList::Few(pairs) => PairList::Few(pairs.clone()?),
-            PairList::Many(pairs) => PairList::Many(Arc::try_clone(pairs)?),
+            PairList::Many(row) => PairList::Many(Arc::try_clone(row)?),
         };
         Ok(SharedPairs { list })
     }
 
-    /// The pairs, the oldest first.
-    pub fn as_slice(&self) -> &[Binding]
-        ensures { result.now ≡ self.now }
+    /// The same pairs, with those of the last batches in one if they are at most so many. It is refused for
+    /// memory, or if std's count of holders is full.
+    pub fn settled(&self, alloc: Global, most: usize) -> Result<SharedPairs, AllocError>
+        ensures { IfOk result (λ all. all ≡ self.now) }
+    {
+        let PairList::Many(row) = &self.list else {
+            return self.share();
+        };
+        let place = small_from(&row.batches, most);
+        if row.batches.len() < place + 2 {
+            return self.share();
+        }
+        let row = row.joined_from(alloc, place)?;
+        Ok(SharedPairs {
+            list: PairList::Many(Arc::new(alloc, row)?),
+        })
+    }
+
+    /// How many pairs there are.
+    pub fn len(&self) -> usize
+        ensures count { result ≡ length self.now }
+        ensures fits { result < 2 ^ 63 }
     {
         match &self.list {
-            PairList::Empty => &[],
-            PairList::Few(pairs) => pairs.as_slice(),
-            PairList::Many(pairs) => pairs.as_slice(),
+            PairList::Empty => 0,
+            PairList::Few(pairs) => pairs.as_slice().len(),
+            PairList::Many(row) => row.len() as usize,
+        }
+    }
+
+    /// Adds the pairs to the batches, in batches that they share. It is refused for memory, or if std's
+    /// count of holders is full.
+    pub fn push_to(&self, alloc: Global, batches: &mut Vec<Batch>) -> Result<(), AllocError>
+        ensures { OnOk result (joined batches.new.items ≡ joined batches.old.items ++ self.now) }
+    {
+        match &self.list {
+            PairList::Empty => Ok(()),
+            PairList::Few(pairs) => {
+                let batch = Batch::of(alloc, pairs.clone()?)?;
+                batches.push(batch)?;
+                Ok(())
+            }
+            PairList::Many(row) => row.push_to(batches),
+        }
+    }
+
+    /// A copy of the pairs, the oldest first. It is refused for memory alone.
+    pub fn to_vec(&self, alloc: Global) -> Result<Vec<Binding>, AllocError>
+        ensures { IfOk result (λ pairs. pairs.items ≡ self.now) }
+    {
+        match &self.list {
+            PairList::Empty => Ok(Vec::new(alloc)),
+            PairList::Few(pairs) => Vec::from_slice(alloc, pairs.as_slice()),
+            PairList::Many(row) => row.to_vec(alloc),
         }
     }
 
@@ -134,21 +214,62 @@ impl SharedPairs {
         match &self.list {
             PairList::Empty => None,
             PairList::Few(pairs) => last_value(pairs.as_slice(), key),
-            PairList::Many(pairs) => pairs.value_of(key),
+            PairList::Many(row) => row.value_of(key),
         }
     }
 }
 
-/// The pairs of `front`, then those of `back`, copied into one list.
-pub(crate) fn joined(
-    alloc: Global,
-    front: &[Binding],
-    back: &[Binding],
-) -> Result<ArcSlice<Binding>, AllocError>
-    ensures { IfOk result (λ all. arc_slice_items all ≡ front.now ++ back.now) }
+/// Adds the batches to others, for one holder more. It is refused for memory, or if std's count of
+/// holders is full.
+pub(crate) fn share_all(batches: &[Batch], others: &mut Vec<Batch>) -> Result<(), AllocError>
+    ensures { OnOk result (joined others.new.items ≡ joined others.old.items ++ joined batches.now) }
 {
-    let mut pairs = Vec::with_capacity(alloc, front.len() + back.len())?;
-    pairs.extend_from_slice(front)?;
-    pairs.extend_from_slice(back)?;
-    ArcSlice::from_vec(pairs)
+    for batch in batches {
+        let shared = batch.share()?;
+        others.push(shared)?;
+    }
+    Ok(())
+}
+
+/// A copy of the pairs of the batches, the oldest first. It is refused for memory alone.
+fn pairs_in(alloc: Global, batches: &[Batch]) -> Result<Vec<Binding>, AllocError>
+    ensures { IfOk result (λ pairs. pairs.items ≡ joined batches.now) }
+{
+    let mut pairs = Vec::new(alloc);
+    for batch in batches {
+        pairs.extend_from_slice(batch.as_slice())?;
+    }
+    Ok(pairs)
+}
+
+/// From which place on the batches have at most so many pairs together.
+fn small_from(batches: &[Batch], most: usize) -> usize
+    ensures { result ≤ length batches.now }
+{
+    let mut left = most;
+    let mut place = batches.len();
+    while place > 0 {
+        let count = batches[place - 1].as_slice().len();
+        if left < count {
+            return place;
+        }
+        left -= count;
+        place -= 1;
+    }
+    0
+}
+
+/// The value of the last pair with the key in the batches, if there is one.
+fn value_in(batches: &[Batch], key: &Name) -> Option<Value>
+    ensures { result ≡ bound_to key.now (joined batches.now) }
+{
+    let mut left = batches.len();
+    while left > 0 {
+        left -= 1;
+        let value = batches[left].value_of(key);
+        if value.is_some() {
+            return value;
+        }
+    }
+    None
 }

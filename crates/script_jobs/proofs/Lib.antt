@@ -1,5 +1,6 @@
 pub mod Growing
 mod ByBytes
+mod PassedTasks
 mod Runs
 mod Running
 mod RepliesFit

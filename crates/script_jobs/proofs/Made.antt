@@ -8,33 +8,33 @@ use Rattle.script_words.specs.Lines.{line_said}
 use Rattle.script_words.specs.Spelling.{HasWords, LineSaysTheCommand, words_of}
 use Rattle.script_words.specs.declared.commands.Command.TheVariants.{Do}
 use Rattle.script_words.specs.declared.commands.Line.TheVariants as line
-use Rattle.script_jobs.specs.Made.{IsScript, OneMore, ended, is_command_line}
+use Rattle.script_jobs.specs.Made.{IsScript, OneMore, ended, is_answered_line}
 
 flat_more : (xs : List (List ℕ)) (x : List ℕ) → flat_map ended (xs ++ x ∷ []) ≡ flat_map ended xs ++ ended x
 flat_more [] x = append-nil (ended x)
 flat_more (y ∷ ys) x = ap (λ r. ended y ++ r) (flat_more ys x) ∙ sym (append_assoc (ended y) (flat_map ended ys) (ended x))
 
-all_more : (xs : List (List ℕ)) (x : List ℕ) → list_all is_command_line xs ≡ true → is_command_line x ≡ true → list_all is_command_line (xs ++ x ∷ []) ≡ true
+all_more : (xs : List (List ℕ)) (x : List ℕ) → list_all is_answered_line xs ≡ true → is_answered_line x ≡ true → list_all is_answered_line (xs ++ x ∷ []) ≡ true
 all_more [] x all one = rw one refl
-all_more (y ∷ ys) x all one = go (is_command_line y) (all_more ys x) all
+all_more (y ∷ ys) x all one = go (is_answered_line y) (all_more ys x) all
   where
-    go : (b : Bool) → (list_all is_command_line ys ≡ true → is_command_line x ≡ true → list_all is_command_line (ys ++ x ∷ []) ≡ true) → (b && list_all is_command_line ys) ≡ true → (b && list_all is_command_line (ys ++ x ∷ [])) ≡ true
+    go : (b : Bool) → (list_all is_answered_line ys ≡ true → is_answered_line x ≡ true → list_all is_answered_line (ys ++ x ∷ []) ≡ true) → (b && list_all is_answered_line ys) ≡ true → (b && list_all is_answered_line (ys ++ x ∷ [])) ≡ true
     go true more all = more all one
     go false more all = all
 
 pub none_made : (text : List ℕ) → text ≡ [] → IsScript 0 text
-none_made text none = record { lines = []; many = refl; say = refl; is = none }
+none_made text none = record { lines = []; many = refl; answered = refl; is = none }
 
 pub one_made : (n : ℕ) (text more : List ℕ) → IsScript n text → OneMore text more → IsScript (n + 1) more
 one_made n text more made one = record {
   lines = made.lines ++ one.line ∷ [];
   many = omega (arith, length-append made.lines (one.line ∷ []), made.many);
-  say = all_more made.lines one.line made.say one.says;
+  answered = all_more made.lines one.line made.answered one.answered;
   is = one.is ∙ (ap (λ t. t ++ ended one.line) made.is ∙ sym (flat_more made.lines one.line));
 }
 
--- the line that stands in for a phrase that is no command
-pub fallback : LineSaysTheCommand → is_command_line (codes "tick 0") ≡ true
+-- the line that stands in for a phrase that is answered nothing
+pub fallback : LineSaysTheCommand → is_answered_line (codes "tick 0") ≡ true
 unfolding words_of HasWords digits
 fallback law =
     let said : line_said (codes "tick 0") ≡ line.Command (Do (Tick 0)) = law (Do (Tick 0)) (lit< tt) in

@@ -13,7 +13,7 @@ use Rattle.tree_dump.specs.Timed.{timed_dump_text}
 use Rattle.tree_dump.specs.TreeParts.{part_text}
 use Rattle.tree_dump.specs.declared.parts.TreePart.{TreePart}
 use Rattle.run_picture.specs.Picture.{drawn_text}
-use Rattle.run_picture.specs.Stamps.{open_times, start_times}
+use Rattle.run_picture.specs.Stamps.{fork_times, open_times, start_times}
 use Rattle.run_picture.specs.Trace.{trace_text}
 use Rattle.script_jobs.specs.Notes.{notes_text}
 use Rattle.script_jobs.specs.Times.{Stamps, stamps_of_script}
@@ -46,7 +46,7 @@ pub record ReplayedPartly (taken written said : Turn) (limits : Limits) (notes :
 -- the clock of a tree: without times there is none
 abbrev pub clock_by : History → Stamps → List ℕ → Clock
 clock_by h s [] = no_clock
-clock_by h s (t ∷ times) = record { now = s.last; started = start_times h s.events; opened = open_times h s.events }
+clock_by h s (t ∷ times) = record { now = Some s.last; forked = fork_times h s.events; started = start_times h s.events; opened = open_times h s.events }
 
 abbrev pub clock_in : History → Stamps → Clock
 clock_in h s = clock_by h s s.events

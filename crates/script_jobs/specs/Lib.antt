@@ -3,6 +3,7 @@ pub mod Comparing
 pub mod Begun
 pub mod Noting
 pub mod Jobs
+pub mod Passed
 pub mod Whys
 pub mod Notes
 pub mod Scripts
@@ -13,3 +14,4 @@ pub mod LineLaws
 pub mod Times
 pub mod Made
 pub mod Turns
+pub mod Paging

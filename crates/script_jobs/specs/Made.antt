@@ -1,35 +1,35 @@
--- What a script is that was made: lines that say a command each.
+-- What a script is that was made: lines that are answered, each.
 use Rattle.std.specs.Prelude.{◌≡◌, ℕ, ◌==◌, ◌&&◌, Bool, true, false, not, List, [], ◌∷◌, ◌++◌, length}
 use Rattle.std.specs.List.{flat_map, list_all, list_any}
 use Rattle.script_words.specs.declared.commands.Line.{Line}
 use Rattle.script_words.specs.declared.commands.Line.TheVariants.{Silent, BadWord, Command}
 use Rattle.script_words.specs.Lines.{line_said}
 
-abbrev pub says_command : Line → Bool
-says_command Silent = false
-says_command BadWord = false
-says_command (Command command) = true
+abbrev pub is_answered : Line → Bool
+is_answered Silent = false
+is_answered BadWord = true
+is_answered (Command command) = true
 
 abbrev pub is_feed : ℕ → Bool
 is_feed b = b == 10
 
--- the text is one line, and says a command
-abbrev pub is_command_line : List ℕ → Bool
-is_command_line line = not (list_any is_feed line) && says_command (line_said line)
+-- the text is one line, and is answered
+abbrev pub is_answered_line : List ℕ → Bool
+is_answered_line line = not (list_any is_feed line) && is_answered (line_said line)
 
 -- a line with its line feed
 abbrev pub ended : List ℕ → List ℕ
 ended line = line ++ 10 ∷ []
 
--- the text is so many lines, each of which says a command
+-- the text is so many lines, each of which is answered
 pub record IsScript (count : ℕ) (text : List ℕ) : Type 0 where
   pub lines : List (List ℕ)
   pub many : length lines ≡ count
-  pub say : list_all is_command_line lines ≡ true
+  pub answered : list_all is_answered_line lines ≡ true
   pub is : text ≡ flat_map ended lines
 
 -- and one line more
 pub record OneMore (text more : List ℕ) : Type 0 where
   pub line : List ℕ
-  pub says : is_command_line line ≡ true
+  pub answered : is_answered_line line ≡ true
   pub is : more ≡ text ++ ended line

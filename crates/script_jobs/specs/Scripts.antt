@@ -14,10 +14,10 @@ use Rattle.script_jobs.specs.declared.session.NotedScript.{NotedScript}
 
 -- the script under way as it is for its replies
 abbrev pub plain_of : {g : _} {f : _} {m : _} → NotedScript g f m → Session
-plain_of script = record { realm = realm_of script.book; tally = script.tally; begun = kept script.begun.first }
+plain_of script = record { realm = realm_of script.book.book; tally = script.tally; begun = kept script.begun.first }
 
 abbrev pub noting_of : {g : _} {f : _} {m : _} → NotedScript g f m → Noting
-noting_of script = record { realm = realm_of script.book; lines = script.lines.items; number = script.number }
+noting_of script = record { realm = realm_of script.book.book; lines = script.lines.items; number = script.number }
 
 -- the script under way as it is for the notes
 abbrev pub noted_of : {g : _} {f : _} {m : _} → NotedScript g f m → NoteSession

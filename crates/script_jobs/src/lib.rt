@@ -18,13 +18,17 @@
 #![tactic(auto)]
 
 mod begun;
+mod command_helps;
 mod comparing;
 mod counting;
 mod explained;
+mod explained_book;
 pub mod laws;
 mod making;
 mod notes;
 mod noting;
+mod paging;
+mod passed;
 mod phrases;
 mod prompting;
 mod random;
@@ -41,7 +45,8 @@ pub use explained::shown_noted;
 pub use making::script_by;
 pub use notes::Notes;
 pub use noting::{NotedFault, replayed_noted};
-pub use prompting::{PROMPT, PROMPT_HELP, prompted};
+pub use paging::paged;
+pub use prompting::{PROMPT, PROMPT_HELP, Saves, prompted};
 pub use replaying::replayed;
 pub use showing::{Rendering, View, shown};
 pub use times::{Times, times_of};

@@ -1,13 +1,14 @@
 //! A random script, line by line.
 ghost use Rattle.std.specs.Prelude.{◌≡◌, ◌++◌, true, IfOk, OnOk, string_bytes};
-ghost use Rattle.script_jobs.specs.Made.{IsScript, OneMore, ended, is_command_line};
+ghost use Rattle.script_jobs.specs.Made.{IsScript, OneMore, ended, is_answered_line};
 
 use crate::phrases::Phrases;
 use script_words::laws::line_says_the_command;
 use script_words::{Line, read_line};
 use std::alloc::{AllocError, Global};
 
-/// The script of this seed, of so many lines: each of them says a command.
+/// The script of this seed, of so many lines: each of them is answered. Most are commands that are accepted, since a book
+/// is told them as they are made; some are refused, or are no commands.
 ///
 /// # Errors
 /// If memory was refused.
@@ -22,12 +23,12 @@ pub fn script_by(alloc: Global, seed: u32, lines: u32) -> Result<String, AllocEr
     Ok(text)
 }
 
-/// Appends the next command, and a line feed.
+/// Appends the next line, and a line feed.
 fn push_next(phrases: &mut Phrases, text: &mut String) -> Result<(), AllocError>
     ensures { OnOk result (OneMore (string_bytes text.old) (string_bytes text.new)) }
 {
     let phrase = phrases.next()?;
-    if is_command_line(&phrase) {
+    if is_answered_line(&phrase) {
         push_line(text, &phrase)
     } else {
         line_says_the_command();
@@ -44,12 +45,12 @@ fn push_line(text: &mut String, line: &str) -> Result<(), AllocError>
     Ok(())
 }
 
-/// Whether the text is one line, and says a command.
-fn is_command_line(line: &str) -> bool
-    ensures { result ≡ is_command_line line.now }
+/// Whether the text is one line, and is answered.
+fn is_answered_line(line: &str) -> bool
+    ensures { result ≡ is_answered_line line.now }
 {
     let bytes = line.as_bytes();
-    !bytes.contains(&b'\n') && matches!(read_line(bytes), Line::Command(_))
+    !bytes.contains(&b'\n') && !matches!(read_line(bytes), Line::Silent)
 }
 
 #[cfg(test)]

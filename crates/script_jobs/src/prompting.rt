@@ -3,13 +3,19 @@ ghost use Rattle.std.specs.Prelude.{◌≡◌, ◌⊎◌, ◌++◌, ◌∷◌, �
 ghost use Rattle.script_jobs.specs.Prompting.{IsBeginning, Stands};
 
 use crate::Notes;
+use crate::command_helps::help_on;
 use crate::counting::Count;
 use crate::noting::{NOTED_PIECE, NotedFault, send};
 use crate::session::NotedScript;
+use crate::showing::aged_text;
+use crate::times::times_of;
 use scope_rules::Limits;
+use scope_rules::types::capacity::LEVEL_LIMIT;
 use scope_script::{ScriptFault, Watched, first_line};
+use script_words::{just_one, just_two, small};
 use std::alloc::{AllocError, Global};
 use std::io::{Read, Write};
+use tree_dump::TreePart;
 
 /// What stands in front of each line.
 pub const PROMPT: &str = "> ";
@@ -18,11 +24,23 @@ pub const PROMPT: &str = "> ";
 pub const PROMPT_HELP: &str =
     "Each line is a command of the script and is answered at once, such as: open 0 await, fork 0 1 a,
 start 1, ok 1 7, join 0 1, close 0 1, closed 0 1, tick 5, cancel 1. Lines for the prompt itself:
-  help  this text
-  tree  what is open now
-  undo  take back the last line of the script
-  quit  end the script, as Ctrl-D does
+  help          this text; help COMMAND, as help fork, says what the command does
+  tree          what is open now, with ages behind lines # at MILLIS; tree --awaited, tree --depth N and
+                tree --scope S show a part of it
+  undo          take back the last line of the script
+  save FILE     write the lines of the script into FILE, which replay reads
+  quit, exit    end the script, as Ctrl-D does
+The program keeps no history of lines; rlwrap gives it one.
 ";
+
+/// What the prompt says of other words behind `tree`.
+const PART_HELP: &str = "tree takes --awaited, --depth N or --scope S\n";
+
+/// Where a script that a person types goes by `save FILE`.
+pub trait Saves {
+    /// Writes the lines into the file of this name, which is made anew. Answers whether it could.
+    fn save(&mut self, name: &str, lines: &[u8]) -> bool;
+}
 
 /// A script that a person types: its lines that stand, and what they leave.
 #[derive(Drop)]
@@ -35,17 +53,18 @@ struct Talk {
 }
 
 /// Replays the lines that a person types, with notes. Each line is answered and noted before the next is read. The lines
-/// `help`, `tree`, `undo` and `quit` are for the prompt.
+/// `help`, `help COMMAND`, `tree`, `undo`, `save FILE`, `quit` and `exit` are for the prompt.
 ///
 /// # Errors
 /// As `replayed_noted` has them.
-pub fn prompted<R: Read + Drop, W: Write + Drop, E: Write + Drop>(
+pub fn prompted<R: Read + Drop, W: Write + Drop, E: Write + Drop, S: Saves + Drop>(
     alloc: Global,
     limits: Limits,
     wanted: Notes,
     reader: &mut Watched<R>,
     writer: &mut Watched<W>,
     errors: &mut Watched<E>,
+    saver: &mut S,
 ) -> Result<Count, NotedFault>
     requires reader { reader.old.failed ≡ false }
     requires writer { writer.old.failed ≡ false }
@@ -62,44 +81,72 @@ pub fn prompted<R: Read + Drop, W: Write + Drop, E: Write + Drop>(
     };
     let mut begun = Vec::new(alloc);
     let mut piece = [0; NOTED_PIECE];
-    talk.listen(&mut begun, &mut piece, reader, writer, errors)
+    talk.listen(&mut begun, &mut piece, reader, writer, errors, saver)
 }
 
 /// What a line at the prompt asks for.
 #[derive(Clone, Copy)]
-enum Asked {
+enum Asked<'a> {
     /// To end the script.
     Quit,
     /// For help.
     Help,
-    /// For what is open now.
-    Tree,
+    /// For help on a command.
+    HelpOn(&'a [u8]),
+    /// For what is open now, or a part of it; or the part is not understood.
+    Tree(Option<TreePart>),
     /// To take the last line back.
     Undo,
+    /// To write the lines that stand into a file of this name.
+    Save(&'a [u8]),
     /// That the script goes on by it.
     Line,
 }
 
 /// What the line asks for.
-fn asked_by(line: &[u8]) -> Asked {
+fn asked_by(line: &[u8]) -> Asked<'_> {
     match line {
-        b"quit" => Asked::Quit,
+        b"quit" | b"exit" => Asked::Quit,
         b"help" => Asked::Help,
-        b"tree" => Asked::Tree,
+        b"tree" => Asked::Tree(Some(TreePart::Whole)),
         b"undo" => Asked::Undo,
+        [b'h', b'e', b'l', b'p', b' ', word @ ..] => Asked::HelpOn(word),
+        [b't', b'r', b'e', b'e', b' ', words @ ..] => Asked::Tree(part_by(words)),
+        [b's', b'a', b'v', b'e', b' ', name @ ..] => Asked::Save(name),
         _ => Asked::Line,
+    }
+}
+
+/// The part of a tree that the options ask for, as `tree` has them on the command line.
+fn part_by(words: &[u8]) -> Option<TreePart> {
+    if let Some(b"--awaited") = just_one(words) {
+        return Some(TreePart::Awaited);
+    }
+    let (option, number) = just_two(words)?;
+    let number = small(number)?;
+    match option {
+        b"--depth" => Some(TreePart::Levels {
+            depth: number,
+            scope: None,
+        }),
+        b"--scope" => Some(TreePart::Levels {
+            depth: LEVEL_LIMIT,
+            scope: Some(number),
+        }),
+        _ => None,
     }
 }
 
 impl Talk {
     /// Reads until the person ends the script, with a prompt before each line.
-    fn listen<R: Read + Drop, W: Write + Drop, E: Write + Drop>(
+    fn listen<R: Read + Drop, W: Write + Drop, E: Write + Drop, S: Saves + Drop>(
         &mut self,
         begun: &mut Vec<u8>,
         piece: &mut [u8],
         reader: &mut Watched<R>,
         writer: &mut Watched<W>,
         errors: &mut Watched<E>,
+        saver: &mut S,
     ) -> Result<Count, NotedFault>
         requires stands { Stands self.old.limits self.old.script self.old.lines.items }
         requires some { 0 < length piece.old }
@@ -119,7 +166,7 @@ impl Talk {
             if count == 0 {
                 return Ok(self.script.count());
             }
-            match self.hear_all(begun, &piece[..count], writer, errors) {
+            match self.hear_all(begun, &piece[..count], writer, errors, saver) {
                 Ok(true) => {}
                 Ok(false) => return Ok(self.script.count()),
                 Err(fault) => return Err(fault),
@@ -129,12 +176,13 @@ impl Talk {
     }
 
     /// Hears the lines that the bytes end, and keeps in `begun` what they begin. Answers whether the person goes on.
-    fn hear_all<W: Write + Drop, E: Write + Drop>(
+    fn hear_all<W: Write + Drop, E: Write + Drop, S: Saves + Drop>(
         &mut self,
         begun: &mut Vec<u8>,
         bytes: &[u8],
         writer: &mut Watched<W>,
         errors: &mut Watched<E>,
+        saver: &mut S,
     ) -> Result<bool, NotedFault>
         requires stands { Stands self.old.limits self.old.script self.old.lines.items }
         requires writer { writer.old.failed ≡ false }
@@ -149,7 +197,7 @@ impl Talk {
             if begun.extend_from_slice(line).is_err() {
                 return Err(NotedFault::Run(ScriptFault::Memory));
             }
-            match self.hear(begun, writer, errors) {
+            match self.hear(begun, writer, errors, saver) {
                 Ok(true) => {}
                 Ok(false) => return Ok(false),
                 Err(fault) => return Err(fault),
@@ -164,11 +212,12 @@ impl Talk {
     }
 
     /// Hears a line. Answers whether the person goes on.
-    fn hear<W: Write + Drop, E: Write + Drop>(
+    fn hear<W: Write + Drop, E: Write + Drop, S: Saves + Drop>(
         &mut self,
         line: &[u8],
         writer: &mut Watched<W>,
         errors: &mut Watched<E>,
+        saver: &mut S,
     ) -> Result<bool, NotedFault>
         requires stands { Stands self.old.limits self.old.script self.old.lines.items }
         requires writer { writer.old.failed ≡ false }
@@ -180,23 +229,63 @@ impl Talk {
     {
         match asked_by(line) {
             Asked::Quit => Ok(false),
-            Asked::Help => said(PROMPT_HELP, errors),
-            Asked::Tree => self.show(errors),
-            Asked::Undo => match self.take_back() {
-                Ok(()) => Ok(true),
-                Err(_) => Err(NotedFault::Run(ScriptFault::Memory)),
-            },
+            Asked::Help => said(PROMPT_HELP.as_bytes(), errors),
+            Asked::HelpOn(word) => {
+                let text = help_on(word).unwrap_or(
+                    "no command begins so; help has an example of most\n",
+                );
+                said(text.as_bytes(), errors)
+            }
+            Asked::Tree(Some(part)) => self.show(part, errors),
+            Asked::Tree(None) => said(PART_HELP.as_bytes(), errors),
+            Asked::Undo => self.undo(errors),
+            Asked::Save(name) => {
+                let is_saved = match str::from_utf8(name) {
+                    Ok(name) => saver.save(name, &self.lines),
+                    Err(_) => false,
+                };
+                let text = if is_saved {
+                    "saved\n"
+                } else {
+                    "the file could not be written\n"
+                };
+                said(text.as_bytes(), errors)
+            }
             Asked::Line => self.answer(line, writer, errors),
         }
     }
 
-    /// Says what is open now.
-    fn show<E: Write + Drop>(&self, errors: &mut Watched<E>) -> Result<bool, NotedFault>
+    /// Says what is open now, with ages if there are readings of a clock.
+    fn show<E: Write + Drop>(
+        &self,
+        part: TreePart,
+        errors: &mut Watched<E>,
+    ) -> Result<bool, NotedFault>
         ensures notes { IsErrOf result NotedFault.Notes → errors.new.failed ≡ true }
         ensures read { IsErrOf result (NotedFault.Run ScriptFault.Read) → ⊥ }
         ensures write { IsErrOf result (NotedFault.Run ScriptFault.Write) → ⊥ }
     {
-        match self.script.tree() {
+        match self.tree(part) {
+            Ok(text) => said(text.as_bytes(), errors),
+            Err(_) => Err(NotedFault::Run(ScriptFault::Memory)),
+        }
+    }
+
+    /// What is open now, or the part of it, as the tree of the lines shows it.
+    fn tree(&self, part: TreePart) -> Result<String, AllocError> {
+        let times = times_of(self.alloc, &self.lines, self.limits)?;
+        let book = self.script.book();
+        aged_text(self.alloc, self.limits, book, &times, Some(part))
+    }
+
+    /// Takes back the last line that stands, and says it.
+    fn undo<E: Write + Drop>(&mut self, errors: &mut Watched<E>) -> Result<bool, NotedFault>
+        ensures stands { OnOk result (Stands self.new.limits self.new.script self.new.lines.items) }
+        ensures notes { IsErrOf result NotedFault.Notes → errors.new.failed ≡ true }
+        ensures read { IsErrOf result (NotedFault.Run ScriptFault.Read) → ⊥ }
+        ensures write { IsErrOf result (NotedFault.Run ScriptFault.Write) → ⊥ }
+    {
+        match self.take_back() {
             Ok(text) => said(&text, errors),
             Err(_) => Err(NotedFault::Run(ScriptFault::Memory)),
         }
@@ -248,30 +337,38 @@ impl Talk {
         self.lines.extend_from_slice(&whole)
     }
 
-    /// Takes back the last line that stands: the lines before it are taken anew, and no reply is written again.
-    fn take_back(&mut self) -> Result<(), AllocError>
+    /// Takes back the last line that stands: the lines before it are taken anew, and no reply is written again. Gives
+    /// what is to be said of it.
+    fn take_back(&mut self) -> Result<Vec<u8>, AllocError>
         ensures stands { OnOk result (Stands self.new.limits self.new.script self.new.lines.items) }
         ensures lines { OnOk result (IsBeginning self.new.lines.items self.old.lines.items) }
         ensures same { self.new.limits ≡ self.old.limits }
     {
         let kept = before_last(&self.lines);
+        let mut text = Vec::new(self.alloc);
+        if self.lines.is_empty() {
+            text.extend_from_slice(b"nothing is left to undo\n")?;
+        } else {
+            text.extend_from_slice(b"undone: ")?;
+            text.extend_from_slice(&self.lines[kept..])?;
+        }
         let mut script = NotedScript::new(self.alloc, self.limits);
         let mut replies = Vec::new(self.alloc);
         let mut notes = Vec::new(self.alloc);
         script.take(self.wanted, &self.lines[..kept], &mut replies, &mut notes)?;
         self.lines.truncate(kept);
         self.script = script;
-        Ok(())
+        Ok(text)
     }
 }
 
 /// Says the text.
-fn said<E: Write + Drop>(text: &str, errors: &mut Watched<E>) -> Result<bool, NotedFault>
+fn said<E: Write + Drop>(text: &[u8], errors: &mut Watched<E>) -> Result<bool, NotedFault>
     ensures notes { IsErrOf result NotedFault.Notes → errors.new.failed ≡ true }
     ensures read { IsErrOf result (NotedFault.Run ScriptFault.Read) → ⊥ }
     ensures write { IsErrOf result (NotedFault.Run ScriptFault.Write) → ⊥ }
 {
-    match errors.write_bytes(text.as_bytes()) {
+    match errors.write_bytes(text) {
         Ok(()) => Ok(true),
         Err(_) => Err(NotedFault::Notes),
     }

@@ -10,7 +10,6 @@ ghost use Rattle.scope_script.specs.Replying.{realm_after, reply_to};
 ghost use Rattle.scope_script.specs.Sessions.{bad_word_line, line_reply, realm_after_line};
 ghost use Rattle.scope_script.specs.Streams.{AppendsPart};
 ghost use Rattle.scope_script.specs.Tallies.{tally_after_line, with_bad_word, with_reply};
-ghost use Rattle.tree_dump.specs.TextTree.{tree_text};
 ghost use Rattle.script_jobs.specs.Begun.{no_line};
 ghost use Rattle.script_jobs.specs.Counts.{count_in};
 ghost use Rattle.script_jobs.specs.Noting.{lines_after, noting_after};
@@ -19,20 +18,20 @@ ghost use Rattle.script_jobs.specs.Scripts.{noted_of, noting_of, plain_of};
 
 use crate::begun::BegunLine;
 use crate::counting::{Count, count_in, no_refusals, one_more, with_bad_word, with_reply};
+use crate::explained_book::ExplainedBook;
 use crate::notes::{Notes, ShownNote};
-use crate::whys::{Why, command_why};
+use crate::whys::Why;
 use scope_book::BookState;
 use scope_rules::{AnyEnd, Limits, Refusal};
-use scope_script::{Command, Line, Reply, Tally, append_line, first_line, perform, read_line};
+use scope_script::{Command, Line, Reply, Tally, append_line, first_line, read_line};
 use std::alloc::{AllocError, Global};
-use tree_dump::tree_of;
 
 /// A script under way: the book that its commands are performed on, of each event since the base the number of the line
 /// whose command recorded it, the number of the next line, how many lines were refused, and the line that is begun.
 #[derive(Drop)]
 pub(crate) struct NotedScript {
     alloc: Global,
-    book: BookState<AnyEnd>,
+    book: ExplainedBook,
     lines: Vec<u64>,
     number: u64,
     tally: Tally,
@@ -48,7 +47,7 @@ impl NotedScript {
     {
         NotedScript {
             alloc,
-            book: BookState::over(alloc, limits, Vec::new(alloc)),
+            book: ExplainedBook::new(alloc, limits),
             lines: Vec::new(alloc),
             number: 1,
             tally: no_refusals(),
@@ -93,15 +92,15 @@ impl NotedScript {
         replies: &mut Vec<u8>,
         notes: &mut Vec<u8>,
     ) -> Result<(), AllocError>
-        ensures realm { OnOk result (realm_of self.new.book ≡ realm_after_line (realm_of self.old.book) (line_said self.old.begun.first)) }
-        ensures tally { OnOk result (self.new.tally ≡ tally_after_line self.old.tally (realm_of self.old.book) (line_said self.old.begun.first)) }
+        ensures realm { OnOk result (realm_of self.new.book.book ≡ realm_after_line (realm_of self.old.book.book) (line_said self.old.begun.first)) }
+        ensures tally { OnOk result (self.new.tally ≡ tally_after_line self.old.tally (realm_of self.old.book.book) (line_said self.old.begun.first)) }
         ensures noting { OnOk result (noting_of self.new ≡ noting_after (noting_of self.old) (line_said self.old.begun.first)) }
         ensures begun { OnOk result (self.new.begun ≡ no_line) }
-        ensures replies { OnOk result (replies.new.items ≡ replies.old.items ++ line_reply (realm_of self.old.book) (line_said self.old.begun.first)) }
+        ensures replies { OnOk result (replies.new.items ≡ replies.old.items ++ line_reply (realm_of self.old.book.book) (line_said self.old.begun.first)) }
         ensures notes { OnOk result (notes.new.items ≡ notes.old.items ++ line_note wanted (noting_of self.old) self.old.begun) }
         ensures err { OnErr result ((replies.new.items ≡ replies.old.items) × (notes.new.items ≡ notes.old.items)) }
     {
-        let _legal = self.book.limits();
+        let _legal = self.book.book().limits();
         let said = read_line(self.begun.first());
         self.answer_said(wanted, said, replies, notes)?;
         self.number = one_more(self.number);
@@ -118,13 +117,13 @@ impl NotedScript {
         replies: &mut Vec<u8>,
         notes: &mut Vec<u8>,
     ) -> Result<(), AllocError>
-        requires { Legal (limits_of self.old.book) (history_of self.old.book) }
-        ensures realm { OnOk result (realm_of self.new.book ≡ realm_after_line (realm_of self.old.book) said) }
-        ensures tally { OnOk result (self.new.tally ≡ tally_after_line self.old.tally (realm_of self.old.book) said) }
-        ensures lines { OnOk result (self.new.lines.items ≡ lines_after self.old.lines.items self.old.number (history_of self.old.book) (history_of self.new.book)) }
+        requires { Legal (limits_of self.old.book.book) (history_of self.old.book.book) }
+        ensures realm { OnOk result (realm_of self.new.book.book ≡ realm_after_line (realm_of self.old.book.book) said) }
+        ensures tally { OnOk result (self.new.tally ≡ tally_after_line self.old.tally (realm_of self.old.book.book) said) }
+        ensures lines { OnOk result (self.new.lines.items ≡ lines_after self.old.lines.items self.old.number (history_of self.old.book.book) (history_of self.new.book.book)) }
         ensures number { self.new.number ≡ self.old.number }
         ensures begun { self.new.begun ≡ self.old.begun }
-        ensures replies { OnOk result (replies.new.items ≡ replies.old.items ++ line_reply (realm_of self.old.book) said) }
+        ensures replies { OnOk result (replies.new.items ≡ replies.old.items ++ line_reply (realm_of self.old.book.book) said) }
         ensures notes { OnOk result (notes.new.items ≡ notes.old.items ++ said_note wanted (noting_of self.old) self.old.begun said) }
         ensures err { OnErr result ((replies.new.items ≡ replies.old.items) × (notes.new.items ≡ notes.old.items)) }
     {
@@ -166,19 +165,19 @@ impl NotedScript {
         replies: &mut Vec<u8>,
         notes: &mut Vec<u8>,
     ) -> Result<(), AllocError>
-        requires { Legal (limits_of self.old.book) (history_of self.old.book) }
-        ensures realm { OnOk result (realm_of self.new.book ≡ realm_after (realm_of self.old.book) command) }
-        ensures tally { OnOk result (self.new.tally ≡ with_reply self.old.tally (reply_to (realm_of self.old.book) command)) }
-        ensures lines { OnOk result (self.new.lines.items ≡ lines_after self.old.lines.items self.old.number (history_of self.old.book) (history_of self.new.book)) }
+        requires { Legal (limits_of self.old.book.book) (history_of self.old.book.book) }
+        ensures realm { OnOk result (realm_of self.new.book.book ≡ realm_after (realm_of self.old.book.book) command) }
+        ensures tally { OnOk result (self.new.tally ≡ with_reply self.old.tally (reply_to (realm_of self.old.book.book) command)) }
+        ensures lines { OnOk result (self.new.lines.items ≡ lines_after self.old.lines.items self.old.number (history_of self.old.book.book) (history_of self.new.book.book)) }
         ensures number { self.new.number ≡ self.old.number }
         ensures begun { self.new.begun ≡ self.old.begun }
-        ensures replies { OnOk result (replies.new.items ≡ replies.old.items ++ (reply_text (reply_to (realm_of self.old.book) command) ++ 10 ∷ [])) }
+        ensures replies { OnOk result (replies.new.items ≡ replies.old.items ++ (reply_text (reply_to (realm_of self.old.book.book) command) ++ 10 ∷ [])) }
         ensures notes { OnOk result (notes.new.items ≡ notes.old.items ++ done_note wanted (noting_of self.old) self.old.begun.first command) }
         ensures err { OnErr result ((replies.new.items ≡ replies.old.items) × (notes.new.items ≡ notes.old.items)) }
     {
-        let why = command_why(&self.book, &command);
-        let before = self.book.realm().event_count();
-        let reply = perform(&mut self.book, &command)?;
+        let why = self.book.why(&command);
+        let before = self.book.book().realm().event_count();
+        let reply = self.book.perform(&command)?;
         let note = self.note_of(wanted, &reply, why)?;
         self.record_line(before)?;
         self.tally = with_reply(self.tally, &reply);
@@ -203,10 +202,10 @@ impl NotedScript {
     /// The events have the line that is begun as the last one's, if there is one more than before, and those that were
     /// discarded have none.
     fn record_line(&mut self, before: usize) -> Result<(), AllocError>
-        ensures lines { OnOk result ((h : History) → before ≡ length h.events → self.new.lines.items ≡ lines_after self.old.lines.items self.old.number h (history_of self.old.book)) }
+        ensures lines { OnOk result ((h : History) → before ≡ length h.events → self.new.lines.items ≡ lines_after self.old.lines.items self.old.number h (history_of self.old.book.book)) }
         ensures same { (self.new.book ≡ self.old.book) × (self.new.number ≡ self.old.number) × (self.new.tally ≡ self.old.tally) × (self.new.begun ≡ self.old.begun) }
     {
-        let after = self.book.realm().event_count();
+        let after = self.book.book().realm().event_count();
         if after == before {
             return Ok(());
         }
@@ -227,7 +226,7 @@ impl NotedScript {
         replies: &mut Vec<u8>,
         notes: &mut Vec<u8>,
     ) -> Result<(), AllocError>
-        ensures realm { realm_of self.new.book ≡ realm_of self.old.book }
+        ensures realm { realm_of self.new.book.book ≡ realm_of self.old.book.book }
         ensures tally { OnOk result (self.new.tally ≡ end_tally (plain_of self.old)) }
         ensures replies { OnOk result (replies.new.items ≡ replies.old.items ++ end_reply (plain_of self.old)) }
         ensures notes { OnOk result (notes.new.items ≡ notes.old.items ++ end_note wanted (noted_of self.old)) }
@@ -239,18 +238,18 @@ impl NotedScript {
         self.answer_bad(wanted, Why::Cut, replies, notes)
     }
 
-    /// What is open now, as text.
-    pub(crate) fn tree(&self) -> Result<String, AllocError>
-        ensures { IfOk result (λ text. string_bytes text ≡ tree_text (history_of self.now.book)) }
+    /// The book that its commands were performed on.
+    pub(crate) fn book(&self) -> &BookState<AnyEnd>
+        ensures { result.now ≡ self.now.book.book }
     {
-        tree_of(self.alloc, self.book.realm())
+        self.book.book()
     }
 
     /// What there is to count of the script.
     pub(crate) fn count(&self) -> Count
-        ensures { result ≡ count_in self.now.tally (history_of self.now.book) }
+        ensures { result ≡ count_in self.now.tally (history_of self.now.book.book) }
     {
-        count_in(self.tally, self.book.realm())
+        count_in(self.tally, self.book.book().realm())
     }
 }
 

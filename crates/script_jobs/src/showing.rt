@@ -14,7 +14,7 @@ ghost use Rattle.script_jobs.specs.Times.{stamps_of, stamps_of_script};
 use crate::counting::{Count, count_of};
 use crate::times::{Times, times_of};
 use crate::whole::read_whole;
-use run_picture::{Drawn, open_times, picture_with, start_times, trace_of};
+use run_picture::{Drawn, fork_times, open_times, picture_with, start_times, trace_of};
 use scope_book::BookState;
 use scope_rules::{AnyEnd, Limits};
 use scope_script::{Mode, Ran, ScriptFault, Watched, run_tallied, run_text};
@@ -251,7 +251,7 @@ fn trace_text(alloc: Global, book: &BookState<AnyEnd>, times: &Times) -> Result<
 ///
 /// # Errors
 /// If memory was refused.
-fn aged_text(
+pub(crate) fn aged_text(
     alloc: Global,
     limits: Limits,
     book: &BookState<AnyEnd>,
@@ -264,10 +264,12 @@ fn aged_text(
         return aged_by(alloc, limits, book, &Ages::none(), part);
     }
     let events = book.realm().copied_events(alloc)?;
+    let forked = fork_times(alloc, book.realm(), &times.events)?;
     let started = start_times(alloc, book.realm(), &events, &times.events)?;
     let opened = open_times(alloc, book.realm(), &times.events)?;
     let ages = Ages {
-        last: times.last,
+        last: Some(times.last),
+        forked: &forked,
         started: &started,
         opened: &opened,
     };

@@ -1,14 +1,15 @@
 //! Why a line is refused.
 ghost use Rattle.std.specs.Prelude.{◌≡◌, Some};
-ghost use Rattle.scope_book.specs.Books.{realm_of};
+ghost use Rattle.scope_book.specs.Books.{history_of, realm_of};
+ghost use Rattle.script_jobs.specs.Passed.{Knows};
 ghost use Rattle.script_jobs.specs.Whys.{command_reason, command_why, why_if, why_text};
 
-use realm_state::RealmState;
+use crate::passed::{PassedTasks, RealmEvents};
 use refusal_reasons::{
-    Events, Reason, ShownFault, ShownReason, WordFault, event_reason, query_reason, retire_reason,
+    Reason, ShownFault, ShownReason, WordFault, event_reason, query_reason, retire_reason,
 };
 use scope_book::BookState;
-use scope_rules::{AnyEnd, ScopeId};
+use scope_rules::AnyEnd;
 use scope_script::Command;
 use std::fmt;
 
@@ -23,33 +24,6 @@ pub enum Why {
     Cut,
 }
 
-/// The events of a realm since its base.
-#[derive(Drop)]
-struct RealmEvents<'a> {
-    realm: &'a RealmState,
-}
-
-impl Events for RealmEvents<'_> {
-    ghost history = { λ e. e.realm.now.history };
-
-    fn count(&self) -> usize {
-        let _legal = self.realm.limits();
-        self.realm.event_count()
-    }
-
-    fn joined_place(&self, scope: ScopeId) -> Option<usize> {
-        self.realm.joined_place(scope)
-    }
-
-    fn begun_place(&self, scope: ScopeId) -> Option<usize> {
-        self.realm.begun_place(scope)
-    }
-
-    fn closed_place(&self, scope: ScopeId) -> Option<usize> {
-        self.realm.closed_place(scope)
-    }
-}
-
 /// That the reason is why, if there is one.
 fn why_if(reason: Result<(), Reason>) -> Option<Why>
     ensures { result ≡ why_if reason }
@@ -62,12 +36,17 @@ fn why_if(reason: Result<(), Reason>) -> Option<Why>
 
 /// What is in the way of the command on the book, if anything does.
 #[tactic(auto, unfolding(crate::specs::Whys::command_reason))]
-fn command_reason(book: &BookState<AnyEnd>, command: &Command) -> Result<(), Reason>
+fn command_reason(
+    book: &BookState<AnyEnd>,
+    passed: &PassedTasks,
+    command: &Command,
+) -> Result<(), Reason>
+    requires { Knows (history_of book.now) passed.now }
     ensures { result ≡ command_reason (realm_of book.now) command.now }
 {
     let limits = book.limits();
     let realm = book.realm();
-    let events = &RealmEvents { realm };
+    let events = &RealmEvents { realm, passed };
     match command {
         Command::Do(event) => event_reason(realm, events, &limits, event),
         Command::Retire { actor } => retire_reason(realm, events, &limits, *actor),
@@ -75,11 +54,16 @@ fn command_reason(book: &BookState<AnyEnd>, command: &Command) -> Result<(), Rea
     }
 }
 
-/// Why the book refuses the command, if it does.
-pub(crate) fn command_why(book: &BookState<AnyEnd>, command: &Command) -> Option<Why>
+/// Why the book refuses the command, if it does. So many of each scope's first tasks neither wait nor run.
+pub(crate) fn command_why(
+    book: &BookState<AnyEnd>,
+    passed: &PassedTasks,
+    command: &Command,
+) -> Option<Why>
+    requires { Knows (history_of book.now) passed.now }
     ensures { result ≡ command_why (realm_of book.now) command.now }
 {
-    why_if(command_reason(book, command))
+    why_if(command_reason(book, passed, command))
 }
 
 /// Why this line was refused, if of each event the line is known that recorded it.

@@ -1,9 +1,8 @@
-//! Commands on a book, and bytes that are written.
+//! Commands on a book.
 
-use crate::books::command_of;
 use scope_book::BookState;
 use scope_rules::{AnyEnd, Event, Limits, Refusal};
-use scope_script::{Command, Reply, Watched, perform, perform_all};
+use scope_script::{Command, Line, Reply, perform, perform_all, read_line};
 use std::process::Abort;
 use std::test::Fail;
 
@@ -11,7 +10,10 @@ use std::test::Fail;
 fn commands(rt: &impl AllocGlobal, text: &str) -> Result<Vec<Command>, Fail> {
     let mut all = Vec::new(rt.alloc());
     for line in text.split(" / ") {
-        all.push(command_of(line)?)?;
+        let Line::Command(command) = read_line(line.as_bytes()) else {
+            return Err("a command")?;
+        };
+        all.push(command)?;
     }
     Ok(all)
 }
@@ -34,14 +36,4 @@ fn commands_go_on_past_a_refusal(rt: HostRuntime) -> Result<(), Fail> {
     )?;
     let mut book: BookState<AnyEnd> = BookState::new(rt.alloc(), limits);
     check_list(&rt, &mut book, &all)
-}
-
-/// Bytes that are written at once.
-#[test]
-fn bytes_are_written(rt: HostRuntime) -> Result<(), Fail> {
-    let mut writer = Watched::new(Vec::new(rt.alloc()));
-    assert!(rt; writer.write_bytes(b"scope 1\n").is_ok());
-    assert!(rt; !writer.has_failed() && !writer.has_given_up());
-    assert!(rt; writer.into_inner().as_slice() == b"scope 1\n".as_slice());
-    Ok(())
 }

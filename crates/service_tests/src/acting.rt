@@ -372,7 +372,7 @@ fn failed<X: Acts<Shop>>(cx: &mut X) -> Result<bool, Refusal> {
 /// Whether a deadline ends the wait for the one permit, which is held; whether a body that failed gave it back; and what
 /// the next body answers.
 fn limits<X: Acts<Shop>>(cx: &mut X) -> Result<(Option<bool>, bool, Option<u32>), Refusal> {
-    let limiter = Limiter::new(1);
+    let limiter = Limiter::new(cx.alloc(), 1);
     let held = limited(cx, &limiter, |cx| waited_for(cx, &limiter))?;
     let failed: Result<Option<u32>, Refusal> = limited(
         cx,

@@ -9,6 +9,8 @@ mod cancels;
 #[cfg(test)]
 mod channels;
 #[cfg(test)]
+mod fairness;
+#[cfg(test)]
 mod handled;
 #[cfg(test)]
 mod hooked;

@@ -1,12 +1,11 @@
-//! One thread that plays all actors of a realm by the commands of a script: `Hands` are their tokens and
-//! tickets, and `driven` makes the call that a command means. Tests drive a realm by it, and so does `fault_injection`.
-//! `Throws` are numbers that look random, for both.
+//! What tests run works by: `Inline` runs each in the caller's thread, `RefuseNth` refuses one of them. `Throws` are numbers
+//! that look random.
 #![tactic(auto)]
 
-mod driving;
-mod hands;
+mod inline;
+mod refusing;
 mod throws;
 
-pub use driving::driven;
-pub use hands::Hands;
+pub use inline::{Inline, InlineHandle};
+pub use refusing::RefuseNth;
 pub use throws::Throws;

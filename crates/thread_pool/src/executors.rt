@@ -58,7 +58,7 @@ impl<N: RealmName> PoolHandle<N> {
 
     /// Waits until the work has ended, and gives its ticket. The tickets that come are compared, and
     /// one of another task would be dropped, which never happens.
-    fn wait<R: Wait>(self, rt: &R) -> Ticket
+    pub(crate) fn wait<R: Wait>(self, rt: &R) -> Ticket
         ensures { Returns N.table self.first.value result }
     {
         for _ in rt.forever() {

@@ -4,7 +4,6 @@
 
 mod executors;
 mod handoffs;
-mod inline;
 mod items;
 mod locks;
 mod makers;
@@ -15,10 +14,9 @@ mod state;
 mod teams;
 
 pub use executors::{OsThreads, PoolHandle};
-pub use inline::{Inline, InlineHandle};
 pub use items::WorkItem;
 pub use makers::PoolRuntime;
 pub use pools::ThreadPool;
-pub use refusing::{Nobody, RefuseNth};
+pub use refusing::Nobody;
 pub use spawning::{Ready, Recalls, Spawner, Spawns, Work};
 pub use teams::Team;

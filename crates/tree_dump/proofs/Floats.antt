@@ -12,7 +12,7 @@ use Rattle.serde_json.specs.Written.{has_float, items_have_float}
 use Rattle.tree_dump.specs.Ages.{Clock, scope_since, task_since}
 use Rattle.tree_dump.specs.Objects.{number_or_null, cause_or_null, scope_object, task_object}
 use Rattle.tree_dump.specs.Tree.{task_told, task_shown, tasks_shown, scope_shown, nested, levels, dump_data}
-use Rattle.tree_dump.specs.Timed.{last_reading, timed_dump_data}
+use Rattle.tree_dump.specs.Timed.{timed_dump_data}
 use Rattle.tree_dump.specs.declared.told.TaskTold.{TaskTold}
 
 number_whole : (n : Option ℕ) → has_float (number_or_null n) ≡ false
@@ -58,4 +58,4 @@ pub dump_whole : (h : History) → has_float (dump_data h) ≡ false
 dump_whole h = rw (nested_whole None h levels (outermost h 0)) refl
 
 pub timed_whole : (L : Limits) (c : Clock) (h : History) → has_float (timed_dump_data L c h) ≡ false
-timed_whole L c h = rw (number_whole (last_reading c)) (rw (nested_whole (Some c) h levels (outermost h 0)) refl)
+timed_whole L c h = rw (number_whole c.now) (rw (nested_whole (Some c) h levels (outermost h 0)) refl)

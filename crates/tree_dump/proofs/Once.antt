@@ -26,6 +26,7 @@ use Rattle.scope_rows.proofs.FirstUnclosed.{outermost_is}
 use Rattle.tree_dump.proofs.Shows.{opened_info, reached}
 use Rattle.tree_dump.specs.Ages.{Clock}
 use Rattle.tree_dump.specs.Once.{IsTreeOf, Line, OfScope, OfTask, TreeShowsEachOnce, is_of_scope, is_of_task, line_text}
+use Rattle.tree_dump.specs.TextLines.{moment_line}
 use Rattle.tree_dump.specs.TextTree.{nested, open_text, scope_line, scope_lines, task_line, task_lines, tasks_lines, tree_by}
 use Rattle.tree_dump.proofs.Insides.{OnChain, is_next, inner_parent, itself, only_one, outermost_parent, smaller, up}
 use Rattle.tree_dump.proofs.Listed.{count_listed, listed_holds, some_or_none, sum_both, sum_least, sum_most, sum_same, sum_some, unit}
@@ -395,15 +396,12 @@ unfolding tree_by
 tree_is L c h legal =
     let it = root_lines c h (outermost h 0) in
     record {
-      first = codes "moment " ++ decimal (moment h) ++ codes "\n" ++ it.0;
-      text = ap (λ l. codes "moment " ++ decimal (moment h) ++ codes "\n" ++ l) it.1 ∙ regroup (codes "moment ") (decimal (moment h)) (codes "\n") it.0 (flat_map (line_text c h) (tree_lines h));
+      first = moment_line (moment h) c.now ++ it.0;
+      text = ap (λ l. moment_line (moment h) c.now ++ l) it.1 ∙ sym (append_assoc (moment_line (moment h) c.now) it.0 (flat_map (line_text c h) (tree_lines h)));
       scopes = λ s o is. scopes_once L c h legal s o is;
       tasks = λ k f is. as_its_scope h k f is 16 0 (outermost h 0) ∙ scope_of_task k f is;
     }
   where
-    regroup : (a b d e x : List ℕ) → a ++ b ++ d ++ (e ++ x) ≡ (a ++ b ++ d ++ e) ++ x
-    regroup a b d e x = simp append_assoc
-
     scope_of_task : (k : ℕ) (f : Forking) → forking h k ≡ Some f → times f.scope (tree_lines h) ≡ cond (closed h f.scope) 0 1
     scope_of_task k f is = let it = forked_opened L h k f legal is in scopes_once L c h legal f.scope it.opened it.is
 

@@ -17,12 +17,13 @@ use Rattle.scope_log.proofs.Ranges.{filter_listed}
 use Rattle.scope_log.proofs.Staged.{same_stage, same_state, same_tasks_of, same_counts}
 use Rattle.scope_log.proofs.Displayed.{same_outermost, same_inner, same_label, same_info, outermost_new, inner_new}
 use Rattle.scope_script.proofs.Retiring.{leaves_alike}
-use Rattle.tree_dump.specs.Ages.{for_text, is_running, late_by, late_text, no_clock, reading_in, scope_age, since, task_age}
+use Rattle.tree_dump.specs.Ages.{for_text, late_by, late_text, no_clock, reading_in, scope_age, since, task_age}
 use Rattle.tree_dump.specs.Ages as ages
 use Rattle.scope_rules.specs.declared.types.answers.Stage.{Stage}
+use Rattle.scope_rules.specs.declared.types.answers.Stage.TheVariants.{Never, Waiting, Running, Finished}
 use Rattle.scope_rules.specs.declared.types.values.Label.{Label}
 use Rattle.scope_rules.specs.Tasks.{counts, stage, state}
-use Rattle.tree_dump.specs.TextLines.{scope_text, task_text}
+use Rattle.tree_dump.specs.TextLines.{moment_line, scope_text, task_text}
 use Rattle.tree_dump.specs.TextTree.{line, task_line, task_lines, tasks_lines, scope_lines, nested, aged_scope, open_text, scope_line, tree_by, tree_text}
 use Rattle.tree_dump.specs.RetiringText.{TreeStays}
 use Rattle.tree_dump.proofs.Walked.{info_scope}
@@ -47,14 +48,10 @@ no_reading before n = by (nat_lt before n)
     by false = refl
 
 no_age : (h : History) (k : ℕ) (st : Stage) → for_text (task_age no_clock h k st) ≡ []
-no_age h k st = by (is_running st) (reading_in [] h.base.tasks k) (no_reading h.base.tasks k)
-  where
-    empty : (b : Bool) → for_text (cond b None None) ≡ []
-    empty true = refl
-    empty false = refl
-
-    by : (b : Bool) (o : Option ℕ) → o ≡ None → for_text (cond b (option_map (since no_clock) o) None) ≡ []
-    by b o none = ap (λ p. for_text (cond b (option_map (since no_clock) p) None)) none ∙ empty b
+no_age h k Waiting = ap (λ o. for_text (option_and_then (since no_clock) o)) (no_reading h.base.tasks k)
+no_age h k Running = ap (λ o. for_text (option_and_then (since no_clock) o)) (no_reading h.base.tasks k)
+no_age h k Never = refl
+no_age h k Finished = refl
 
 abbrev untimed_line : History → ℕ → ℕ → List ℕ
 untimed_line h depth k = option_map_or (λ (l : Label). line depth (task_text k l.name (stage h k) (state h k) ++ [])) (label h k) []
@@ -64,11 +61,11 @@ unfolding task_line
 untimed h depth k = ap (λ t. option_map_or (λ (l : Label). line depth (task_text k l.name (stage h k) (state h k) ++ t)) (label h k) []) (no_age h k (stage h k))
 
 no_scope_age : (h : History) (s : ℕ) → scope_age no_clock h s ≡ None
-no_scope_age h s = ap (option_map (since no_clock)) (no_reading h.base.scopes s)
+no_scope_age h s = ap (option_and_then (since no_clock)) (no_reading h.base.scopes s)
 
-untimed_scope : (h : History) (depth : ℕ) (i : ScopeInfo) → scope_line no_clock h depth i ≡ line depth (scope_text i (counts h i.scope) ++ [])
+untimed_scope : (h : History) (depth : ℕ) (i : ScopeInfo) → scope_line no_clock h depth i ≡ line depth (scope_text i (counts h i.scope) None ++ [])
 unfolding aged_scope
-untimed_scope h depth i = ap (λ o. line depth (scope_text i (counts h i.scope) ++ (ages.open_text o ++ late_text (option_and_then (λ (age : ℕ). late_by no_clock i.joined i.deadline) o)))) (no_scope_age h i.scope)
+untimed_scope h depth i = ap (λ o. line depth (scope_text i (counts h i.scope) None ++ (ages.open_text o ++ late_text (option_and_then (λ (age : ℕ). late_by no_clock i.joined i.deadline) o)))) (no_scope_age h i.scope)
 
 module _ (r : Retirable) (es : List Event) (none : NamesNone r es) where
   -- a scope that lies somewhere was not let go
@@ -98,7 +95,7 @@ module _ (r : Retirable) (es : List Event) (none : NamesNone r es) where
 
     scope_alike : (depth : ℕ) (i : ScopeInfo) → IsScope r i.scope → scope_lines no_clock (unretired r es) (nested no_clock (unretired r es) n) depth i ≡ scope_lines no_clock (retired r es) (nested no_clock (retired r es) n) depth i
     scope_alike depth i new =
-        ap₂ (λ xs ys. xs ++ ys) (untimed_scope (unretired r es) depth i ∙ (ap (λ c. line depth (scope_text i c ++ [])) (same_counts r es none i.scope new) ∙ sym (untimed_scope (retired r es) depth i)))
+        ap₂ (λ xs ys. xs ++ ys) (untimed_scope (unretired r es) depth i ∙ (ap (λ c. line depth (scope_text i c None ++ [])) (same_counts r es none i.scope new) ∙ sym (untimed_scope (retired r es) depth i)))
         (ap₂ (λ xs ys. xs ++ ys) (tasks_alike (depth + 1) i.scope new)
         (ap (nested no_clock (unretired r es) n (depth + 1)) (same_inner r es i.scope new) ∙ inside (depth + 1) (inner (retired r es) i.scope) (λ t found. inner_new r es i.scope t found)))
 
@@ -124,7 +121,7 @@ module _ (r : Retirable) (es : List Event) (none : NamesNone r es) where
 
   pub text_alike : tree_text (unretired r es) ≡ tree_text (retired r es)
   unfolding tree_by
-  text_alike = ap₂ (λ m xs. codes "moment " ++ decimal m ++ codes "\n" ++ xs) (same_moment r es) open_alike
+  text_alike = ap₂ (λ m xs. moment_line m None ++ xs) (same_moment r es) open_alike
 
 pub tree_stays : TreeStays
 tree_stays L commands free =

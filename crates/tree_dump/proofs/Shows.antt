@@ -30,6 +30,7 @@ use Rattle.scope_rows.proofs.FirstUnclosed.{next_is, outermost_is}
 use Rattle.scope_rows.proofs.LevelLimit.{level_within}
 use Rattle.tree_dump.specs.Ages.{Clock}
 use Rattle.tree_dump.specs.Shows.{HasPart, TreeShowsEach}
+use Rattle.tree_dump.specs.TextLines.{moment_line}
 use Rattle.tree_dump.specs.TextTree.{scope_line, task_line, task_lines, tasks_lines, scope_lines, nested, open_text, tree_by}
 use Rattle.tree_dump.proofs.Walked.{info_scope}
 
@@ -168,10 +169,7 @@ module _ (L : Limits) (c : Clock) (h : History) (legal : Legal L h) where
   root_in : (s : ℕ) → outermost h 0 ≡ Some s → InText 15 0 s
   unfolding tree_by
   root_in s at =
-      (codes "moment " ++ decimal (moment h) ++ codes "\n", [], ap (λ o. codes "moment " ++ decimal (moment h) ++ codes "\n" ++ open_text c h o) at ∙ regroup (codes "moment ") (decimal (moment h)) (codes "\n") (nested c h 16 0 (Some s)))
-    where
-      regroup : (a b c d : List ℕ) → a ++ b ++ c ++ d ≡ (a ++ b ++ c) ++ (d ++ [])
-      regroup a b c d = simp append_assoc (ap (λ x. a ++ (b ++ (c ++ x))) (sym (append-nil d)))
+      (moment_line (moment h) c.now, [], ap (λ o. moment_line (moment h) c.now ++ open_text c h o) at ∙ ap (λ x. moment_line (moment h) c.now ++ x) (sym (append-nil (nested c h 16 0 (Some s)))))
       -- ---- the walk comes to each, whatever is said of it that goes on inwards from main's outermost scope
 
   module _ (IsIn : ℕ → ℕ → ℕ → Type 0)

@@ -159,7 +159,7 @@ pub awaited_shows : AwaitedShows
 awaited_shows L c h legal = (
   groups c h (scope_numbers h),
   record {
-    text = ap (with_sums h) (all_shown c h (opened_count h) (h.base.scopes + 1) (omega arith) (omega arith));
+    text = ap (with_sums c h) (all_shown c h (opened_count h) (h.base.scopes + 1) (omega arith) (omega arith));
     scopes = all_scopes c h (opened_count h) (h.base.scopes + 1) (omega arith) (omega arith);
     each = λ j g at. each_is c h (filter (is_awaiting h) (scope_numbers h)) j g at;
   },

@@ -186,7 +186,7 @@ module _ (L : Limits) (c : Clock) (h : History) (levels s : ℕ) (legal : Legal 
         whole = sym (lines_written c h 16 0 (Some s));
         scopes = λ t o is. lying L h legal s c live t o is;
         tasks = λ k f is. as_its_scope h k f is 16 0 (Some s) ∙ (let it = forked_opened L h k f legal is in lying L h legal s c live f.scope it.opened it.is);
-        shown = ap (with_sums h) (from ∙ some_levels);
+        shown = ap (with_sums c h) (from ∙ some_levels);
       }
 
 not_closed : (o : Option Opening) (b : Bool) → (is_some o && not b) ≡ true → b ≡ false

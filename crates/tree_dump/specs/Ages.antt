@@ -1,41 +1,45 @@
 -- How long tasks run and scopes are open, by a clock.
-use Rattle.std.specs.Prelude.{ℕ, ◌-◌, ◌/◌, ◌%◌, ◌&&◌, nat_lt, not, Bool, true, false, Option, None, Some, option_map, List, [], ◌++◌, slice_get, codes, if◌then◌else◌}
+use Rattle.std.specs.Prelude.{ℕ, ◌-◌, ◌/◌, ◌%◌, ◌&&◌, nat_le, nat_lt, not, Bool, true, false, Option, None, Some, option_map, List, [], ◌++◌, slice_get, codes, if◌then◌else◌}
 use Rattle.std.specs.Option.{option_and_then}
 use Rattle.std.specs.Fmt.{decimal}
 use Rattle.scope_rules.specs.declared.types.answers.Stage.{Stage}
-use Rattle.scope_rules.specs.declared.types.answers.Stage.TheVariants.{Running, Finished}
+use Rattle.scope_rules.specs.declared.types.answers.Stage.TheVariants.{Waiting, Running, Finished}
 use Rattle.scope_rules.specs.declared.types.infos.ScopeInfo.{ScopeInfo}
 use Rattle.scope_rules.specs.History.{History}
 use Rattle.tree_dump.specs.declared.ages.Ages.{Ages}
 
--- the last reading of a clock, and the readings as tasks started and as scopes were opened, by number since the base
+-- the last reading of a clock, if it was read, and the readings as tasks were forked and started and as scopes were opened,
+-- by number since the base
 pub record Clock : Type 0 where
-  pub now : ℕ
+  pub now : Option ℕ
+  pub forked : List ℕ
   pub started : List ℕ
   pub opened : List ℕ
 
 abbrev pub clock_of : Ages → Clock
-clock_of a = record { now = a.last; started = a.started.now; opened = a.opened.now }
+clock_of a = record { now = a.last; forked = a.forked.now; started = a.started.now; opened = a.opened.now }
 
 -- without readings
 abbrev pub no_clock : Clock
-no_clock = record { now = 0; started = []; opened = [] }
+no_clock = record { now = None; forked = []; started = []; opened = [] }
 
 -- the reading for the number, of those behind `before`
 abbrev pub reading_in : List ℕ → ℕ → ℕ → Option ℕ
 reading_in readings before number = if nat_lt before number then slice_get readings (number - before - 1) else None
 
--- how long it is since a reading: it is never negative
-abbrev pub since : Clock → ℕ → ℕ
-since c reading = c.now - reading
+-- how long it is since a reading, if the clock was read: it is never negative
+abbrev pub since : Clock → ℕ → Option ℕ
+since c reading = option_map (λ now. now - reading) c.now
 
-abbrev pub is_running : Stage → Bool
-is_running Running = true
-is_running _ = false
+-- the reading as task k started, if it runs, or as it was forked, if it waits, if that is known
+abbrev pub task_reading : Clock → History → ℕ → Stage → Option ℕ
+task_reading c h k Waiting = reading_in c.forked h.base.tasks k
+task_reading c h k Running = reading_in c.started h.base.tasks k
+task_reading c h k _ = None
 
--- how long task k runs, if it does and the reading as it started is known
+-- how long task k waits or runs, if it does and that reading is known
 abbrev pub task_age : Clock → History → ℕ → Stage → Option ℕ
-task_age c h k stage = if is_running stage then option_map (since c) (reading_in c.started h.base.tasks k) else None
+task_age c h k stage = option_and_then (since c) (task_reading c h k stage)
 
 -- the reading as scope s was opened, if it is known
 abbrev pub scope_since : Clock → History → ℕ → Option ℕ
@@ -43,7 +47,7 @@ scope_since c h s = reading_in c.opened h.base.scopes s
 
 -- how long scope s is open, if the reading as it was opened is known
 abbrev pub scope_age : Clock → History → ℕ → Option ℕ
-scope_age c h s = option_map (since c) (scope_since c h s)
+scope_age c h s = option_and_then (since c) (scope_since c h s)
 
 abbrev pub runs_or_ran : Stage → Bool
 runs_or_ran Running = true
@@ -56,15 +60,19 @@ task_since c h k stage = if runs_or_ran stage then reading_in c.started h.base.t
 
 -- how late it is by now, if the deadline is past, and the scope is not joined
 abbrev pub late_by : Clock → Bool → Option ℕ → Option ℕ
-late_by c joined deadline = option_and_then (λ d. if not joined && nat_lt d c.now then Some (c.now - d) else None) deadline
+late_by c joined deadline = option_and_then (λ now. option_and_then (λ d. if not joined && nat_lt d now then Some (now - d) else None) deadline) c.now
 
 -- the same, if the clock was read as the scope was opened
 abbrev pub scope_late : Clock → History → ScopeInfo → Option ℕ
 scope_late c h i = option_and_then (λ age. late_by c i.joined i.deadline) (scope_age c h i.scope)
 
--- milliseconds as seconds, with tenths
+-- in how long the deadline comes, if it is not past, and the scope is not joined
+abbrev pub due_in : Clock → Bool → Option ℕ → Option ℕ
+due_in c joined deadline = option_and_then (λ now. option_and_then (λ d. if not joined && nat_le now d then Some (d - now) else None) deadline) c.now
+
+-- milliseconds, from a second on as seconds with tenths
 unfoldable pub duration_text : ℕ → List ℕ
-duration_text ms = decimal (ms / 1000) ++ codes "." ++ decimal (ms / 100 % 10) ++ codes " s"
+duration_text ms = if nat_lt ms 1000 then decimal ms ++ codes " ms" else decimal (ms / 1000) ++ codes "." ++ decimal (ms / 100 % 10) ++ codes " s"
 
 abbrev pub for_text : Option ℕ → List ℕ
 for_text None = []

@@ -34,7 +34,7 @@ pub record IsGroup (h : History) (g : Group) : Type 0 where
 -- what is waited for is shown as these groups: their scopes are all those that are not closed and have a task that waits
 -- or runs, each once, in the order of their openings
 pub record IsAwaitedOf (c : Clock) (h : History) (groups : List Group) : Type 0 where
-  pub text : part_text c h part.Awaited ≡ with_sums h (flat_map (group_text c h) groups)
+  pub text : part_text c h part.Awaited ≡ with_sums c h (flat_map (group_text c h) groups)
   pub scopes : map (λ g. g.scope.scope) groups ≡ filter (is_awaiting h) (scope_numbers h)
   pub each : (j : ℕ) (g : Group) → slice_get groups j ≡ Some g → IsGroup h g
 

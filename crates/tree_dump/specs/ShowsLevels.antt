@@ -33,7 +33,7 @@ pub record ShowsLevels (c : Clock) (h : History) (levels s : ℕ) (place : Optio
   pub whole : nested c h LEVEL_LIMIT 0 (Some s) ≡ flat_map (line_text c h) lines
   pub scopes : (t : ℕ) (o : Opening) → opening h t ≡ Some o → count_by (is_of_scope t) lines ≡ cond (not (closed h t) && lies_in h s t) 1 0
   pub tasks : (k : ℕ) (f : Forking) → forking h k ≡ Some f → count_by (is_of_task k) lines ≡ cond (not (closed h f.scope) && lies_in h s f.scope) 1 0
-  pub shown : part_text c h (part.Levels levels place) ≡ with_sums h (flat_map (line_text c h) (filter (is_within h (level h s + levels)) lines))
+  pub shown : part_text c h (part.Levels levels place) ≡ with_sums c h (flat_map (line_text c h) (filter (is_within h (level h s + levels)) lines))
 
 -- so it is in a legal history, from a scope that stands
 abbrev pub LevelsShow : Type 0

@@ -15,7 +15,17 @@ use Rattle.scope_rules.specs.declared.types.events.Expiry.{Expiry}
 use Rattle.scope_rules.specs.declared.types.events.Expiry.TheVariants.{Fail, MoveOn}
 use Rattle.scope_rules.specs.declared.types.infos.ScopeInfo.{ScopeInfo}
 use Rattle.scope_rules.specs.declared.types.names.Name.{Name}
+use Rattle.tree_dump.specs.Ages.{duration_text}
 use Rattle.tree_dump.specs.Words.{scope_stage_word}
+
+-- the last reading of the clock, if it was read
+abbrev pub now_text : Option ℕ → List ℕ
+now_text None = []
+now_text (Some now) = codes ", now " ++ decimal now
+
+-- the first line: the moment, and that reading
+unfoldable pub moment_line : ℕ → Option ℕ → List ℕ
+moment_line moment now = codes "moment " ++ decimal moment ++ now_text now ++ codes "\n"
 
 -- two spaces for each level
 abbrev pub indent : ℕ → List ℕ
@@ -31,11 +41,19 @@ abbrev pub joined_text : Bool → List ℕ
 joined_text false = []
 joined_text true = codes ", joined"
 
--- the scope's own deadline, if it has one, and whether the join then moves on
-abbrev pub deadline_text : Option ℕ → Expiry → List ℕ
-deadline_text None expiry = []
-deadline_text (Some moment) Fail = codes ", deadline " ++ decimal moment
-deadline_text (Some moment) MoveOn = codes ", deadline " ++ decimal moment ++ codes " to move on"
+-- in how long it comes, if that is known
+unfoldable pub due_text : Option ℕ → List ℕ
+due_text None = []
+due_text (Some ms) = codes ", in " ++ duration_text ms
+
+-- the scope's own deadline, if it has one, whether the join then moves on, and in how long it comes
+abbrev pub expiry_text : Expiry → List ℕ
+expiry_text Fail = []
+expiry_text MoveOn = codes " to move on"
+
+abbrev pub deadline_text : Option ℕ → Expiry → Option ℕ → List ℕ
+deadline_text None expiry due = []
+deadline_text (Some moment) expiry due = codes ", deadline " ++ decimal moment ++ expiry_text expiry ++ due_text due
 
 abbrev pub shield_text : Bool → List ℕ
 shield_text false = []
@@ -59,9 +77,9 @@ awaits_text c = codes ", awaits " ++ decimal (c.waiting + c.running) ++ codes " 
 abbrev pub head_text : ScopeInfo → List ℕ
 head_text i = codes "scope " ++ decimal i.scope ++ codes " " ++ scope_stage_word i.stage ++ codes ", of " ++ owner_text i.owner ++ codes ", joins " ++ joiner_text i.policy
 
--- the line of a scope, by itself and by how many tasks it has at each stage
-abbrev pub scope_text : ScopeInfo → Counts → List ℕ
-scope_text i c = head_text i ++ joined_text i.joined ++ deadline_text i.deadline i.expiry ++ shield_text i.shield ++ cause_text i.cause ++ awaits_text c
+-- the line of a scope, by itself, by how many tasks it has at each stage, and by in how long its deadline comes
+abbrev pub scope_text : ScopeInfo → Counts → Option ℕ → List ℕ
+scope_text i c due = head_text i ++ joined_text i.joined ++ deadline_text i.deadline i.expiry due ++ shield_text i.shield ++ cause_text i.cause ++ awaits_text c
 
 -- how far a task has come, and what can be read of it once no more comes of it
 abbrev pub progress_text : Stage → State → List ℕ

@@ -2,27 +2,26 @@
 use Rattle.std.specs.Prelude.{ℕ, zero, suc, ◌+◌, List, [], ◌∷◌, ◌++◌, Option, None, Some, codes}
 use Rattle.std.specs.List.{flat_map}
 use Rattle.std.specs.Option.{option_and_then, option_map_or}
-use Rattle.std.specs.Fmt.{decimal}
 use Rattle.scope_rules.specs.declared.types.capacity.TheConstants.{LEVEL_LIMIT}
 use Rattle.scope_rules.specs.declared.types.answers.Counts.{Counts}
 use Rattle.scope_rules.specs.declared.types.infos.ScopeInfo.{ScopeInfo}
 use Rattle.scope_rules.specs.History.{History, moment}
 use Rattle.scope_rules.specs.Nests.{outermost, inner, tasks_of, label, info}
 use Rattle.scope_rules.specs.Tasks.{counts, stage, state}
-use Rattle.tree_dump.specs.Ages.{Clock, aged_text, for_text, no_clock, scope_age, scope_late, task_age}
-use Rattle.tree_dump.specs.TextLines.{indent, scope_text, task_text}
+use Rattle.tree_dump.specs.Ages.{Clock, aged_text, due_in, for_text, no_clock, scope_age, scope_late, task_age}
+use Rattle.tree_dump.specs.TextLines.{indent, moment_line, scope_text, task_text}
 
 -- a line at this depth
 abbrev pub line : ℕ → List ℕ → List ℕ
 line depth text = indent depth ++ text ++ 10 ∷ []
 
--- a scope, with how long it is open and how late it is
-unfoldable pub aged_scope : ScopeInfo → Counts → Option ℕ → Option ℕ → List ℕ
-aged_scope i c age late = scope_text i c ++ aged_text age late
+-- a scope, with in how long its deadline comes, how long it is open and how late it is
+unfoldable pub aged_scope : ScopeInfo → Counts → Option ℕ → Option ℕ → Option ℕ → List ℕ
+aged_scope i c due age late = scope_text i c due ++ aged_text age late
 
 -- the line of the scope of which there is this to say
 abbrev pub scope_line : Clock → History → ℕ → ScopeInfo → List ℕ
-scope_line c h depth i = line depth (aged_scope i (counts h i.scope) (scope_age c h i.scope) (scope_late c h i))
+scope_line c h depth i = line depth (aged_scope i (counts h i.scope) (due_in c i.joined i.deadline) (scope_age c h i.scope) (scope_late c h i))
 
 -- the line of task k, if it was forked since the base
 unfoldable pub task_line : Clock → History → ℕ → ℕ → List ℕ
@@ -52,7 +51,7 @@ open_text c h (Some s) = nested c h LEVEL_LIMIT 0 (Some s)
 
 -- the text of the history's tree, with ages by a clock
 unfoldable pub tree_by : Clock → History → List ℕ
-tree_by c h = codes "moment " ++ decimal (moment h) ++ codes "\n" ++ open_text c h (outermost h 0)
+tree_by c h = moment_line (moment h) c.now ++ open_text c h (outermost h 0)
 
 -- without them
 abbrev pub tree_text : History → List ℕ

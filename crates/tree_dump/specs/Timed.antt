@@ -1,5 +1,5 @@
 -- The second format of a dump: the first one with times, limits, and what counts against them.
-use Rattle.std.specs.Prelude.{ℕ, ◌||◌, nat_lt, Bool, length, List, Option, None, Some, codes, if◌then◌else◌}
+use Rattle.std.specs.Prelude.{ℕ, List, Some, codes}
 use Rattle.scope_rules.specs.declared.types.capacity.Limits.{Limits}
 use Rattle.scope_rules.specs.History.{History, forked_count, moment, opened_count}
 use Rattle.scope_rules.specs.Load.{load}
@@ -25,21 +25,13 @@ limits_data L = amounts L.load L.scopes L.tasks
 abbrev pub used_data : History → Data
 used_data h = amounts (load h) (opened_count h) (forked_count h)
 
--- whether the clock was read
-abbrev pub is_read : Clock → Bool
-is_read c = nat_lt 0 c.now || nat_lt 0 (length c.started) || nat_lt 0 (length c.opened)
-
--- the last reading, if the clock was read
-abbrev pub last_reading : Clock → Option ℕ
-last_reading c = if is_read c then Some c.now else None
-
 -- the tree with since when each scope is open and each task runs or ran, the last reading, the limits and what is used of them
 abbrev pub timed_dump_data : Limits → Clock → History → Data
 timed_dump_data L c h =
     object (member (codes "format") (number (unsigned 2))
     (member (codes "limits") (limits_data L)
     (member (codes "moment") (number (unsigned (moment h)))
-    (member (codes "now") (number_or_null (last_reading c))
+    (member (codes "now") (number_or_null c.now)
     (member (codes "root") (nested (Some c) h levels (outermost h 0))
     (member (codes "used") (used_data h) no_members))))))
 

@@ -16,6 +16,7 @@ use Rattle.tree_dump.specs.declared.parts.Sums.{Sums}
 use Rattle.tree_dump.specs.declared.parts.TreePart.{TreePart}
 use Rattle.tree_dump.specs.declared.parts.TreePart.TheVariants as part
 use Rattle.tree_dump.specs.Ages.{Clock}
+use Rattle.tree_dump.specs.TextLines.{moment_line}
 use Rattle.tree_dump.specs.TextTree.{nested, scope_line, task_line, tree_by}
 
 -- ---- all that is open
@@ -91,10 +92,10 @@ levels_from c h depth (Some s) = if stands h s then nested c h (min depth LEVEL_
 -- ---- parts
 
 -- the moment, a part, and the sums
-abbrev pub with_sums : History → List ℕ → List ℕ
-with_sums h text = codes "moment " ++ decimal (moment h) ++ codes "\n" ++ (text ++ sums_text (sums h))
+abbrev pub with_sums : Clock → History → List ℕ → List ℕ
+with_sums c h text = moment_line (moment h) c.now ++ (text ++ sums_text (sums h))
 
 abbrev pub part_text : Clock → History → TreePart → List ℕ
 part_text c h part.Whole = tree_by c h
-part_text c h part.Awaited = with_sums h (awaited c h)
-part_text c h (part.Levels depth scope) = with_sums h (levels_from c h depth scope)
+part_text c h part.Awaited = with_sums c h (awaited c h)
+part_text c h (part.Levels depth scope) = with_sums c h (levels_from c h depth scope)

@@ -1,6 +1,7 @@
 //! How long tasks run and scopes are open, by a clock.
 ghost use Rattle.std.specs.Prelude.{◌≡◌, Some, option_map};
-ghost use Rattle.tree_dump.specs.Ages.{aged_text, clock_of, duration_text, for_text, late_by, late_text, no_clock, open_text, reading_in, runs_or_ran, scope_age, scope_late, scope_since, since, task_age, task_since};
+ghost use Rattle.std.specs.Option.{option_and_then};
+ghost use Rattle.tree_dump.specs.Ages.{aged_text, clock_of, due_in, duration_text, for_text, late_by, late_text, no_clock, open_text, reading_in, runs_or_ran, scope_age, scope_late, scope_since, since, task_age, task_reading, task_since};
 
 use scope_checks::Readings;
 use scope_rules::types::infos::ScopeInfo;
@@ -10,8 +11,10 @@ use std::fmt;
 /// Readings of a clock, in milliseconds since the realm began. Without any no age is shown.
 #[derive(Clone, Copy)]
 pub struct Ages<'a> {
-    /// The last reading.
-    pub last: u32,
+    /// The last reading, if the clock was read.
+    pub last: Option<u32>,
+    /// By task since the last retirement, the reading as it was forked.
+    pub forked: &'a [u32],
     /// By task since the last retirement, the reading as it started.
     pub started: &'a [u32],
     /// By scope since the last retirement, the reading as it was opened.
@@ -24,7 +27,8 @@ impl<'a> Ages<'a> {
         ensures { clock_of result ≡ no_clock }
     {
         Ages {
-            last: 0,
+            last: None,
+            forked: &[],
             started: &[],
             opened: &[],
         }
@@ -42,17 +46,33 @@ fn reading_in(readings: &[u32], before: u32, number: u32) -> Option<u32>
     }
 }
 
-/// How long it is since a reading, if there is one.
+/// How long it is since a reading, if there is one, and the clock was read.
 fn since(ages: &Ages<'_>, reading: Option<u32>) -> Option<u32>
-    ensures { result ≡ option_map (since (clock_of ages.now)) reading }
+    ensures { result ≡ option_and_then (since (clock_of ages.now)) reading }
 {
-    match reading {
-        Some(reading) => Some(ages.last.saturating_sub(reading)),
-        None => None,
+    match (ages.last, reading) {
+        (Some(last), Some(reading)) => Some(last.saturating_sub(reading)),
+        _ => None,
     }
 }
 
-/// How long the task runs, in milliseconds, if it does and the reading as it started is known.
+/// The reading as the task started, if it runs, or as it was forked, if it waits, if that is known.
+fn task_reading<R: Readings>(
+    readings: &R,
+    ages: &Ages<'_>,
+    task: TaskId,
+    stage: Stage,
+) -> Option<u32>
+    ensures { result ≡ task_reading (clock_of ages.now) (R.history readings.now) task stage }
+{
+    match stage {
+        Stage::Waiting => reading_in(ages.forked, readings.retired_tasks(), task),
+        Stage::Running => reading_in(ages.started, readings.retired_tasks(), task),
+        _ => None,
+    }
+}
+
+/// How long the task waits or runs, in milliseconds, if it does and the reading as that began is known.
 pub(crate) fn task_age<R: Readings>(
     readings: &R,
     ages: &Ages<'_>,
@@ -61,13 +81,7 @@ pub(crate) fn task_age<R: Readings>(
 ) -> Option<u32>
     ensures { result ≡ task_age (clock_of ages.now) (R.history readings.now) task stage }
 {
-    match stage {
-        Stage::Running => since(
-            ages,
-            reading_in(ages.started, readings.retired_tasks(), task),
-        ),
-        _ => None,
-    }
+    since(ages, task_reading(readings, ages, task, stage))
 }
 
 /// How long the scope is open, in milliseconds, if the reading as it was opened is known.
@@ -123,7 +137,7 @@ pub(crate) fn task_since<R: Readings>(
 fn late_by(ages: &Ages<'_>, joined: bool, deadline: Option<u64>) -> Option<u64>
     ensures { result ≡ late_by (clock_of ages.now) joined deadline }
 {
-    let now = u64::from(ages.last);
+    let now = u64::from(ages.last?);
     match deadline {
         Some(deadline) if !joined && deadline < now => Some(now - deadline),
         _ => None,
@@ -141,20 +155,35 @@ pub(crate) fn scope_late<R: Readings>(readings: &R, ages: &Ages<'_>, info: Scope
     }
 }
 
-/// Milliseconds as seconds, with tenths.
+/// In how long the deadline of the scope comes, in milliseconds, if it is not past, and the scope is not joined.
+pub(crate) fn due_in(ages: &Ages<'_>, joined: bool, deadline: Option<u64>) -> Option<u64>
+    ensures { result ≡ due_in (clock_of ages.now) joined deadline }
+{
+    let now = u64::from(ages.last?);
+    match deadline {
+        Some(deadline) if !joined && now <= deadline => Some(deadline - now),
+        _ => None,
+    }
+}
+
+/// Milliseconds, from a second on as seconds with tenths.
 #[derive(Clone, Copy)]
-struct ShownDuration(u64);
+pub(crate) struct ShownDuration(pub(crate) u64);
 
 impl fmt::Display for ShownDuration {
     ghost output = { λ d. Some (duration_text d.0) };
 
     #[tactic(auto, unfolding(crate::specs::Ages::duration_text))]
     fn fmt<W: fmt::Write>(&self, f: &mut fmt::Formatter<W>) -> fmt::Result {
-        write!(f, "{}.{} s", self.0 / 1000, self.0 / 100 % 10)
+        if self.0 < 1000 {
+            write!(f, "{} ms", self.0)
+        } else {
+            write!(f, "{}.{} s", self.0 / 1000, self.0 / 100 % 10)
+        }
     }
 }
 
-/// How long a task runs.
+/// How long a task waits or runs.
 #[derive(Clone, Copy)]
 pub(crate) struct ShownFor(pub(crate) Option<u32>);
 

@@ -33,8 +33,8 @@
 //! of its tasks, indented by two spaces a level:
 //!
 //! ```text
-//! moment N
-//! scope S STAGE, of OWNER, joins JOINER[, joined][, deadline N[ to move on]][, shielded]
+//! moment N[, now T]
+//! scope S STAGE, of OWNER, joins JOINER[, joined][, deadline N[ to move on][, in AGE]][, shielded]
 //!     [, cancelled by CAUSE scope P], awaits N of M[, open for AGE][, late by AGE]
 //!   task K NAME: PROGRESS[ for AGE]
 //! ```
@@ -45,9 +45,10 @@
 //! its tasks that wait or run. PROGRESS is `waiting` or `running`; or else `finished` or `never started`, and behind
 //! a comma what can be read of the task: `success`, `failed` or `unavailable`.
 //!
-//! AGE is in seconds with tenths, as `3.2 s`: the last reading of a clock less the reading as the scope was opened, or as
-//! the task started, if it runs. A scope that is not joined is late by the last reading less its deadline, if that is
-//! past. Only `tree_with` shows ages, if it is handed such readings.
+//! AGE is in milliseconds, as `9 ms`, or from a second on in seconds with tenths, as `3.2 s`. T is the last reading of a
+//! clock, in milliseconds. An age is T less the reading as the scope was opened, or as the task started, if it runs, or was
+//! forked, if it waits. A deadline of a scope that is not joined comes in as long as it is later than T, or else the scope is
+//! late by as long as it is past. Only `tree_with` shows ages, if it is handed such readings.
 //!
 //! The first scope is main's outermost one. Under a scope stand its tasks, in fork order; under a task its own
 //! outermost scope; and behind a scope's tasks, as deep as they, the next scope that its owner opened and has not

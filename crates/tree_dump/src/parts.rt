@@ -8,7 +8,7 @@ ghost use Rattle.tree_dump.specs.Ages.{clock_of};
 ghost use Rattle.tree_dump.specs.TreeParts.{added, awaited, awaited_lines, awaited_scope, awaited_sums, awaited_task, ended_sums, levels_from, part_text, stands, sums, sums_text, waits, with_counts, with_scope};
 
 use crate::ages::Ages;
-use crate::text_walk::{append_scope, append_scope_line, append_task_line, tree_with};
+use crate::text_walk::{append_scope, append_scope_line, append_task_line, begun, tree_with};
 use crate::told::info_at;
 use scope_checks::Readings;
 use scope_rules::types::capacity::LEVEL_LIMIT;
@@ -283,13 +283,13 @@ pub fn tree_part<R: Readings>(
     match part {
         TreePart::Whole => tree_with(alloc, readings, ages),
         TreePart::Awaited => {
-            let mut text = format!(in alloc; "moment {}\n", readings.moment())?;
+            let mut text = begun(alloc, readings, ages)?;
             append_awaited(readings, ages, &mut text)?;
             append_sums(readings, &mut text)?;
             Ok(text)
         }
         TreePart::Levels { depth, scope } => {
-            let mut text = format!(in alloc; "moment {}\n", readings.moment())?;
+            let mut text = begun(alloc, readings, ages)?;
             append_levels(readings, ages, &mut text, depth, scope)?;
             append_sums(readings, &mut text)?;
             Ok(text)

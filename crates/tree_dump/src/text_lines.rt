@@ -1,9 +1,9 @@
 //! The lines of a tree, without their indents.
 ghost use Rattle.std.specs.Prelude.{◌≡◌, ◌+◌, ◌<◌, ◌^◌, Some};
 ghost use Rattle.tree_dump.specs.TextTree.{aged_scope};
-ghost use Rattle.tree_dump.specs.TextLines.{awaits_text, cause_text, deadline_text, head_text, indent, joined_text, kind_text, owner_text, progress_text, scope_text, shield_text, task_text};
+ghost use Rattle.tree_dump.specs.TextLines.{awaits_text, cause_text, deadline_text, due_text, expiry_text, head_text, indent, joined_text, kind_text, moment_line, now_text, owner_text, progress_text, scope_text, shield_text, task_text};
 
-use crate::ages::ShownAged;
+use crate::ages::{ShownAged, ShownDuration};
 use crate::words::scope_stage_word;
 use scope_log::ShownJoiner;
 use scope_rules::types::infos::ScopeInfo;
@@ -40,22 +40,82 @@ impl fmt::Display for ShownOwner {
     }
 }
 
-/// The scope's own deadline, and what the join does then, if that is not the usual.
+/// The last reading of the clock, if it was read.
+#[derive(Clone, Copy)]
+struct ShownNow(Option<u32>);
+
+impl fmt::Display for ShownNow {
+    ghost output = { λ n. Some (now_text n.0) };
+
+    fn fmt<W: fmt::Write>(&self, f: &mut fmt::Formatter<W>) -> fmt::Result {
+        match self.0 {
+            None => Ok(()),
+            Some(now) => write!(f, ", now {now}"),
+        }
+    }
+}
+
+/// The first line: the moment, and the last reading of the clock, if it was read.
+#[derive(Clone, Copy)]
+pub(crate) struct ShownMoment {
+    pub(crate) moment: u64,
+    pub(crate) now: Option<u32>,
+}
+
+impl fmt::Display for ShownMoment {
+    ghost output = { λ m. Some (moment_line m.moment m.now) };
+
+    #[tactic(auto, unfolding(crate::specs::TextLines::moment_line))]
+    fn fmt<W: fmt::Write>(&self, f: &mut fmt::Formatter<W>) -> fmt::Result {
+        let now = ShownNow(self.now);
+        write!(f, "moment {}{now}\n", self.moment)
+    }
+}
+
+/// In how long a deadline comes, if that is known.
+#[derive(Clone, Copy)]
+struct ShownDue(Option<u64>);
+
+impl fmt::Display for ShownDue {
+    ghost output = { λ d. Some (due_text d.0) };
+
+    #[tactic(auto, unfolding(crate::specs::TextLines::due_text))]
+    fn fmt<W: fmt::Write>(&self, f: &mut fmt::Formatter<W>) -> fmt::Result {
+        match self.0 {
+            None => Ok(()),
+            Some(millis) => write!(f, ", in {}", ShownDuration(millis)),
+        }
+    }
+}
+
+/// The scope's own deadline, what the join does then, if that is not the usual, and in how long it comes.
 #[derive(Clone, Copy)]
 struct ShownDeadline {
     deadline: Option<u64>,
     expiry: Expiry,
+    due: Option<u64>,
 }
 
 impl fmt::Display for ShownDeadline {
-    ghost output = { λ d. Some (deadline_text d.deadline d.expiry) };
+    ghost output = { λ d. Some (deadline_text d.deadline d.expiry d.due) };
 
     fn fmt<W: fmt::Write>(&self, f: &mut fmt::Formatter<W>) -> fmt::Result {
-        match (self.deadline, self.expiry) {
-            (None, _) => Ok(()),
-            (Some(moment), Expiry::Fail) => write!(f, ", deadline {moment}"),
-            (Some(moment), Expiry::MoveOn) => write!(f, ", deadline {moment} to move on"),
-        }
+        let Some(moment) = self.deadline else {
+            return Ok(());
+        };
+        let expiry = expiry_text(self.expiry);
+        let due = ShownDue(self.due);
+        write!(f, ", deadline {moment}{expiry}{due}")
+    }
+}
+
+/// What the join does by the deadline, if that is not the usual.
+fn expiry_text(expiry: Expiry) -> &'static str
+    ensures { result.now ≡ expiry_text expiry }
+{
+    match expiry {
+        Expiry::Fail => "",
+        Expiry::MoveOn => " to move on",
     }
 }
 
@@ -116,10 +176,11 @@ impl fmt::Display for ShownHead {
 struct ShownScope {
     info: ScopeInfo,
     counts: Counts,
+    due: Option<u64>,
 }
 
 impl fmt::Display for ShownScope {
-    ghost output = { λ s. Some (scope_text s.info s.counts) };
+    ghost output = { λ s. Some (scope_text s.info s.counts s.due) };
 
     fn fmt<W: fmt::Write>(&self, f: &mut fmt::Formatter<W>) -> fmt::Result {
         let head = ShownHead(self.info);
@@ -127,6 +188,7 @@ impl fmt::Display for ShownScope {
         let deadline = ShownDeadline {
             deadline: self.info.deadline,
             expiry: self.info.expiry,
+            due: self.due,
         };
         let shield = shield_text(self.info.shield);
         let cause = ShownCause(self.info.cause);
@@ -135,23 +197,26 @@ impl fmt::Display for ShownScope {
     }
 }
 
-/// The line of a scope, with how long it is open and how late it is, in milliseconds, if that is known.
+/// The line of a scope, with in how long its deadline comes, how long it is open and how late it is, in milliseconds, if
+/// that is known.
 #[derive(Clone, Copy)]
 pub(crate) struct AgedScope {
     pub(crate) info: ScopeInfo,
     pub(crate) counts: Counts,
+    pub(crate) due: Option<u64>,
     pub(crate) age: Option<u32>,
     pub(crate) late: Option<u64>,
 }
 
 impl fmt::Display for AgedScope {
-    ghost output = { λ s. Some (aged_scope s.info s.counts s.age s.late) };
+    ghost output = { λ s. Some (aged_scope s.info s.counts s.due s.age s.late) };
 
     #[tactic(auto, unfolding(crate::specs::TextTree::aged_scope))]
     fn fmt<W: fmt::Write>(&self, f: &mut fmt::Formatter<W>) -> fmt::Result {
         let scope = ShownScope {
             info: self.info,
             counts: self.counts,
+            due: self.due,
         };
         let aged = ShownAged {
             age: self.age,

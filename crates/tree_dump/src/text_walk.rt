@@ -3,10 +3,12 @@ ghost use Rattle.std.specs.Prelude.{◌≡◌, ◌≤◌, ◌+◌, ◌++◌, IfO
 ghost use Rattle.scope_checks.specs.Passes.{Passes};
 ghost use Rattle.scope_rules.specs.Checks.{scope_check};
 ghost use Rattle.tree_dump.specs.Ages.{clock_of};
+ghost use Rattle.scope_rules.specs.History.{moment};
+ghost use Rattle.tree_dump.specs.TextLines.{moment_line};
 ghost use Rattle.tree_dump.specs.TextTree.{nested, scope_line, task_line, tree_by, tree_text};
 
-use crate::ages::{Ages, ShownFor, scope_age, scope_late, task_age};
-use crate::text_lines::{AgedScope, Indent, ShownTask};
+use crate::ages::{Ages, ShownFor, due_in, scope_age, scope_late, task_age};
+use crate::text_lines::{AgedScope, Indent, ShownMoment, ShownTask};
 use crate::told::info_at;
 use scope_checks::Readings;
 use scope_rules::types::capacity::LEVEL_LIMIT;
@@ -30,6 +32,7 @@ pub(crate) fn append_scope_line<R: Readings>(
     let shown = AgedScope {
         info,
         counts,
+        due: due_in(ages, info.joined, info.deadline),
         age: scope_age(readings, ages, info.scope),
         late: scope_late(readings, ages, info),
     };
@@ -106,6 +109,21 @@ pub(crate) fn append_scope<R: Readings>(
     )
 }
 
+/// The line with the moment, and with the last reading of the clock, if it was read. It is refused for memory alone.
+pub(crate) fn begun<R: Readings>(
+    alloc: Global,
+    readings: &R,
+    ages: &Ages<'_>,
+) -> Result<String, AllocError>
+    ensures { IfOk result (λ text. string_bytes text ≡ moment_line (moment (R.history readings.now)) (clock_of ages.now).now) }
+{
+    let line = ShownMoment {
+        moment: readings.moment(),
+        now: ages.last,
+    };
+    format!(in alloc; "{line}")
+}
+
 /// The tree of what was read, as text, without ages. It is refused for memory alone.
 pub fn tree_of<R: Readings>(alloc: Global, readings: &R) -> Result<String, AllocError>
     ensures { IfOk result (λ text. string_bytes text ≡ tree_text (R.history readings.now)) }
@@ -113,9 +131,9 @@ pub fn tree_of<R: Readings>(alloc: Global, readings: &R) -> Result<String, Alloc
     tree_with(alloc, readings, &Ages::none())
 }
 
-/// The tree of what was read, as text, with ages: how long each task runs, how long each scope is open, and how late
-/// that is by its deadline. An age is the last reading less the reading of that task's start, or of that scope's
-/// opening. It is refused for memory alone.
+/// The tree of what was read, as text, with ages: how long each task waits or runs, how long each scope is open, and in how
+/// long its deadline comes, or how late it is by that. An age is the last reading less the reading of that task's fork or
+/// start, or of that scope's opening. It is refused for memory alone.
 #[tactic(auto, unfolding(crate::specs::TextTree::tree_by))]
 pub fn tree_with<R: Readings>(
     alloc: Global,
@@ -124,7 +142,7 @@ pub fn tree_with<R: Readings>(
 ) -> Result<String, AllocError>
     ensures { IfOk result (λ text. string_bytes text ≡ tree_by (clock_of ages.now) (R.history readings.now)) }
 {
-    let mut text = format!(in alloc; "moment {}\n", readings.moment())?;
+    let mut text = begun(alloc, readings, ages)?;
     match readings.outermost(MAIN) {
         None => text.push_str("nothing is open\n")?,
         root => append_scope(readings, ages, &mut text, LEVEL_LIMIT, 0, root)?,

@@ -3,7 +3,7 @@ ghost use Rattle.std.specs.Prelude.{◌≡◌, IfOk, OnOk, string_bytes};
 ghost use Rattle.scope_rules.specs.History.{forked_count, opened_count};
 ghost use Rattle.serde_json.specs.Events.{SendsValue};
 ghost use Rattle.tree_dump.specs.Ages.{clock_of};
-ghost use Rattle.tree_dump.specs.Timed.{amounts, is_read, last_reading, timed_dump_data, timed_dump_text};
+ghost use Rattle.tree_dump.specs.Timed.{amounts, timed_dump_data, timed_dump_text};
 
 use crate::ages::Ages;
 use crate::members::{send_number, send_time};
@@ -45,21 +45,13 @@ fn forked<R: Readings>(readings: &R) -> u32
     readings.tasks() - readings.retired_tasks()
 }
 
-/// Whether the clock was read.
-fn is_read(ages: &Ages<'_>) -> bool
-    ensures { result ≡ is_read (clock_of ages.now) }
-{
-    ages.last > 0 || !ages.started.is_empty() || !ages.opened.is_empty()
-}
-
 /// The last reading, in milliseconds, if the clock was read.
 fn last_reading(ages: &Ages<'_>) -> Option<u64>
-    ensures { result ≡ last_reading (clock_of ages.now) }
+    ensures { result ≡ ages.now.last }
 {
-    if is_read(ages) {
-        Some(u64::from(ages.last))
-    } else {
-        None
+    match ages.last {
+        Some(reading) => Some(u64::from(reading)),
+        None => None,
     }
 }
 

@@ -5,14 +5,15 @@ ghost use Rattle.balkreyn.specs.Channels.{HandsBack, Receives, Sends};
 ghost use Rattle.balkreyn.specs.Looking.{SleptLast};
 
 use crate::act::contexts::Acts;
+use crate::act::turns::{Turn, Waiting};
 use crate::act::waits::{Looks, awaited};
 use scope_rules::Refusal;
 use std::alloc::{AllocError, AllocFailed, Global};
 use std::collections::VecDeque;
 use std::sync::{Mutex, Wait};
 
-/// A queue between jobs, which holds so many values at most and gives them in the order in which they were sent (Trio, a
-/// memory channel). Jobs share it in an `Arc`.
+/// A queue between jobs, which holds so many values at most and gives them in the order in which they were sent. Who waits
+/// to send or to receive is served in the order of asking (Trio, a memory channel). Jobs share it in an `Arc`.
 ///
 /// A job that sends numbers, and then closes the channel:
 ///
@@ -41,6 +42,8 @@ struct Queue<T> {
     values: VecDeque<T>,
     room: usize,
     is_closed: bool,
+    senders: Waiting,
+    receivers: Waiting,
 }
 
 /// What a send answers.
@@ -109,6 +112,8 @@ impl<T> Channel<T> {
             values: VecDeque::with_capacity(alloc, room)?,
             room,
             is_closed: false,
+            senders: Waiting::new(alloc),
+            receivers: Waiting::new(alloc),
         };
         Ok(Channel {
             queue: Mutex::new(queue),
@@ -120,15 +125,15 @@ impl<T> Channel<T> {
         self.queue.lock(rt).is_closed = true;
     }
 
-    /// Puts the value behind the others, if there is room.
-    fn put<R: Wait>(&self, rt: &R, value: T) -> Put<T>
+    /// Puts the value behind the others, if there is room and nobody asked before.
+    fn put<R: Wait>(&self, rt: &R, turn: &Turn, value: T) -> Put<T>
         ensures { HandsBack value result }
     {
         let mut queue = self.queue.lock(rt);
         if queue.is_closed {
             return Put::Closed(value);
         }
-        if queue.values.len() >= queue.room {
+        if queue.values.len() >= queue.room || !queue.senders.is_first(turn) {
             return Put::Full(value);
         }
         match queue.values.push_back(value) {
@@ -137,14 +142,36 @@ impl<T> Channel<T> {
         }
     }
 
-    /// The first of the values; none if the channel is closed and empty.
-    fn take<R: Wait>(&self, rt: &R) -> Option<Option<T>> {
+    /// The first of the values, if nobody asked before; none if the channel is closed and empty.
+    fn take<R: Wait>(&self, rt: &R, turn: &Turn) -> Option<Option<T>> {
         let mut queue = self.queue.lock(rt);
-        match queue.values.pop_front() {
-            Some(value) => Some(Some(value)),
-            None if queue.is_closed => Some(None),
-            None => None,
+        if queue.values.is_empty() {
+            return if queue.is_closed { Some(None) } else { None };
         }
+        if !queue.receivers.is_first(turn) {
+            return None;
+        }
+        Some(queue.values.pop_front())
+    }
+
+    /// A place behind those who wait to send.
+    fn ask_to_send<R: Wait>(&self, rt: &R) -> Turn {
+        self.queue.lock(rt).senders.ask()
+    }
+
+    /// A place behind those who wait for a value.
+    fn ask_to_receive<R: Wait>(&self, rt: &R) -> Turn {
+        self.queue.lock(rt).receivers.ask()
+    }
+
+    /// Leaves the line of those who wait to send.
+    fn leave_senders<R: Wait>(&self, rt: &R, turn: Turn) {
+        self.queue.lock(rt).senders.leave(turn);
+    }
+
+    /// Leaves the line of those who wait for a value.
+    fn leave_receivers<R: Wait>(&self, rt: &R, turn: Turn) {
+        self.queue.lock(rt).receivers.leave(turn);
     }
 }
 
@@ -152,11 +179,12 @@ impl<T> Channel<T> {
 #[derive(Drop)]
 struct Receiving<'a, T> {
     channel: &'a Channel<T>,
+    turn: &'a Turn,
 }
 
 impl<T> Looks<Option<T>> for Receiving<'_, T> {
     fn look<R: Wait>(&mut self, rt: &R) -> Option<Option<T>> {
-        self.channel.take(rt)
+        self.channel.take(rt, self.turn)
     }
 }
 
@@ -170,9 +198,14 @@ pub fn receive<T: Drop, W, X: Acts<W>>(
 ) -> Result<Received<T>, Refusal>
     ensures { Receives X.token (λ old new slept. Sleeps X.reads X.reading X.time X.token X.seat 1 old new slept) cx.old cx.new result }
 {
-    let mut receiving = Receiving { channel };
-    let taken: Option<Option<T>> = awaited(cx, 1, &mut receiving)?;
-    match taken {
+    let turn = channel.ask_to_receive(cx);
+    let mut receiving = Receiving {
+        channel,
+        turn: &turn,
+    };
+    let taken: Result<Option<Option<T>>, Refusal> = awaited(cx, 1, &mut receiving);
+    channel.leave_receivers(cx, turn);
+    match taken? {
         Some(Some(value)) => Ok(Received::Value(value)),
         Some(None) => Ok(Received::Closed),
         None => Ok(Received::Cancelled),
@@ -190,7 +223,10 @@ pub fn send<T: Drop, W, X: Acts<W>>(
 ) -> Result<Sent<T>, Refusal>
     ensures { MatchResult result (Sends X.token (λ old new slept. Sleeps X.reads X.reading X.time X.token X.seat 1 old new slept) value cx.old cx.new) (λ refusal. SleptLast X.token (λ old new slept. Sleeps X.reads X.reading X.time X.token X.seat 1 old new slept) cx.old cx.new (Err refusal)) }
 {
-    match offer(cx, channel, value) {
+    let turn = channel.ask_to_send(cx);
+    let offered = offer(cx, channel, &turn, value);
+    channel.leave_senders(cx, turn);
+    match offered {
         Ok(sent) => Ok(sent),
         Err((refusal, _value)) => Err(refusal),
     }
@@ -200,12 +236,13 @@ pub fn send<T: Drop, W, X: Acts<W>>(
 fn offer<T, W, X: Acts<W>>(
     cx: &mut X,
     channel: &Channel<T>,
+    turn: &Turn,
     mut value: T,
 ) -> Result<Sent<T>, (Refusal, T)>
     ensures { MatchResult result (Sends X.token (λ old new slept. Sleeps X.reads X.reading X.time X.token X.seat 1 old new slept) value cx.old cx.new) (λ failed. SleptLast X.token (λ old new slept. Sleeps X.reads X.reading X.time X.token X.seat 1 old new slept) cx.old cx.new (Err failed.0)) }
 {
     for _ in 0..u64::MAX {
-        value = match channel.put(cx, value) {
+        value = match channel.put(cx, turn, value) {
             Put::Done => return Ok(Sent::Done),
             Put::Closed(back) => return Ok(Sent::Closed(back)),
             Put::Full(back) => back,

@@ -3,11 +3,14 @@ ghost use Rattle.balkreyn.specs.Acting.{Sleeps};
 ghost use Rattle.balkreyn.specs.Looking.{RunsLimited};
 
 use crate::act::contexts::Acts;
+use crate::act::turns::{Turn, Waiting};
 use crate::act::waits::{Looks, awaited};
 use scope_rules::Refusal;
+use std::alloc::Global;
 use std::sync::{Mutex, Wait};
 
-/// So many permits, each held by one at a time (Trio, `CapacityLimiter`). Jobs share it in an `Arc`.
+/// So many permits, each held by one at a time, and given in the order of asking (Trio, `CapacityLimiter`). Jobs share it in
+/// an `Arc`.
 ///
 /// A wait for a permit, which a deadline ends:
 ///
@@ -22,38 +25,58 @@ use std::sync::{Mutex, Wait};
 /// ```
 #[derive(Drop)]
 pub struct Limiter {
-    free: Mutex<u32>,
+    permits: Mutex<Permits>,
+}
+
+/// How many permits are free, and who waits for one.
+#[derive(Drop)]
+struct Permits {
+    free: u32,
+    waiting: Waiting,
 }
 
 /// One of them, held. It is not `Drop`: to lose one does not compile.
 struct Permit {
-    number: u32,
+    left: u32,
 }
 
 impl Limiter {
     /// A limiter with so many permits.
-    pub fn new(permits: u32) -> Limiter {
+    pub fn new(alloc: Global, permits: u32) -> Limiter {
+        let permits = Permits {
+            free: permits,
+            waiting: Waiting::new(alloc),
+        };
         Limiter {
-            free: Mutex::new(permits),
+            permits: Mutex::new(permits),
         }
     }
 
-    /// A permit, if one is free.
-    fn taken<R: Wait>(&self, rt: &R) -> Option<Permit> {
-        let mut free = self.free.lock(rt);
-        let number = *free;
-        if number == 0 {
+    /// A place behind those who wait.
+    fn ask<R: Wait>(&self, rt: &R) -> Turn {
+        self.permits.lock(rt).waiting.ask()
+    }
+
+    /// Leaves the line of those who wait.
+    fn leave<R: Wait>(&self, rt: &R, turn: Turn) {
+        self.permits.lock(rt).waiting.leave(turn);
+    }
+
+    /// A permit, if one is free and nobody asked before.
+    fn taken<R: Wait>(&self, rt: &R, turn: &Turn) -> Option<Permit> {
+        let mut permits = self.permits.lock(rt);
+        if permits.free == 0 || !permits.waiting.is_first(turn) {
             return None;
         }
-        *free = number - 1;
-        Some(Permit { number })
+        permits.free -= 1;
+        Some(Permit { left: permits.free })
     }
 
     /// Gives the permit back.
     fn give_back<R: Wait>(&self, rt: &R, permit: Permit) {
-        let Permit { number: _number } = permit;
-        let mut free = self.free.lock(rt);
-        *free = free.saturating_add(1);
+        let Permit { left: _left } = permit;
+        let mut permits = self.permits.lock(rt);
+        permits.free = permits.free.saturating_add(1);
     }
 }
 
@@ -61,16 +84,17 @@ impl Limiter {
 #[derive(Drop)]
 struct Asking<'a> {
     limiter: &'a Limiter,
+    turn: &'a Turn,
 }
 
 impl Looks<Permit> for Asking<'_> {
     fn look<R: Wait>(&mut self, rt: &R) -> Option<Permit> {
-        self.limiter.taken(rt)
+        self.limiter.taken(rt, self.turn)
     }
 }
 
-/// Runs the body with a permit of the limiter, and gives that back on each way out. It looks each millisecond until one is
-/// free. If a cancel or a deadline comes first, the body is not called, and there is no value.
+/// Runs the body with a permit of the limiter, and gives that back on each way out. Permits are given in the order of asking;
+/// who waits looks each millisecond. If a cancel or a deadline comes first, the body is not called, and there is no value.
 ///
 /// # Errors
 /// What the body failed with; or what `E` makes of the refusal of the wait.
@@ -82,8 +106,14 @@ pub fn limited<W, X: Acts<W>, T: Drop, E: From<Refusal> + Drop, F: FnOnce(&mut X
     requires { F.IsAlwaysCallable body }
     ensures { RunsLimited X.token (λ old new slept. Sleeps X.reads X.reading X.time X.token X.seat 1 old new slept) E.from_gives F.FnOnce body cx.old cx.new result }
 {
-    let mut asking = Asking { limiter };
-    let permit: Permit = match awaited(cx, 1, &mut asking)? {
+    let turn = limiter.ask(cx);
+    let mut asking = Asking {
+        limiter,
+        turn: &turn,
+    };
+    let waited: Result<Option<Permit>, Refusal> = awaited(cx, 1, &mut asking);
+    limiter.leave(cx, turn);
+    let permit = match waited? {
         Some(permit) => permit,
         None => return Ok(None),
     };

@@ -2,6 +2,8 @@
 ghost use Rattle.std.specs.Prelude.{◌≡◌};
 
 use super::parts::{Part, SIGN, limits_of, part_of};
+use crate::driving::driven;
+use crate::hands::Hands;
 use crate::said::Said;
 use realm_lock::{Realm, RealmName, Seed};
 use scope_rules::types::values::MAIN;
@@ -9,7 +11,6 @@ use scope_rules::{AnyEnd, Refusal, ScopeId};
 use scope_script::{Command, Reply};
 use std::alloc::Global;
 use std::sync::Wait;
-use test_driver::{Hands, driven};
 
 /// Plays the script, and writes what it is answered: false where a call counted or told otherwise than it should. None
 /// where memory is refused, or the limits are in no form.

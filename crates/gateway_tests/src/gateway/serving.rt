@@ -13,7 +13,8 @@ use std::rt::Clock as SystemTime;
 use std::sync::atomic::{AtomicU64, Ordering};
 use std::sync::{Arc, Wait};
 use std::test::Fail;
-use thread_pool::{Inline, Nobody, PoolRuntime, RefuseNth, Spawns, ThreadPool};
+use test_driver::{Inline, RefuseNth};
+use thread_pool::{Nobody, PoolRuntime, Spawns, ThreadPool};
 
 /// The deadline of a request, and what its clock reads, in milliseconds: with none it is the system's.
 #[derive(Clone, Copy)]

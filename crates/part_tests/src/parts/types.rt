@@ -1,83 +1,8 @@
-//! The types by themselves, against values from outside.
+//! Which ends fit a label. What scripts can say of names, refusals and limits, `crates/scopectl/rows` does.
 
 use super::name;
-use scope_rules::{AnyEnd, Catalog, Due, End, Fault, Label, Limits, Name, Refusal, Value};
-use std::alloc::{AllocError, Global};
+use scope_rules::{AnyEnd, Catalog, Due, End, Fault, Label, Name, Value};
 use std::test::Fail;
-
-#[test]
-fn names_by_their_alphabet(rt: HostRuntime) {
-    for (text, is_name) in [
-        ("a", true),
-        ("a-b_c.d0", true),
-        ("abcdefghijklmnopqrstuvwx", true),
-        ("abcdefghijklmnopqrstuvwxy", false),
-        ("", false),
-        ("A", false),
-        ("0a", false),
-        ("-", false),
-        ("aB", false),
-        ("a b", false),
-    ] {
-        assert!(rt;
-            Name::new(text.as_bytes()).is_some() == is_name,
-            "at {text}"
-        );
-    }
-}
-
-/// Each refusal with its line of reply.
-const REFUSALS: [(Refusal, &str); 20] = [
-    (Refusal::NoScope, "refused 1 no-scope"),
-    (Refusal::NotOwner, "refused 2 not-owner"),
-    (Refusal::Closed, "refused 3 closed"),
-    (Refusal::AlreadyJoined, "refused 4 already-joined"),
-    (Refusal::NotJoined, "refused 5 not-joined"),
-    (Refusal::Structure, "refused 6 structure"),
-    (Refusal::NoTask, "refused 7 no-task"),
-    (Refusal::WrongStage, "refused 8 wrong-stage"),
-    (Refusal::ClockBack, "refused 9 clock-back"),
-    (Refusal::TooMany, "refused 10 too-many"),
-    (Refusal::NotReady, "refused 11 not-ready"),
-    (Refusal::NotBound, "refused 12 not-bound"),
-    (Refusal::Unavailable, "refused 13 unavailable"),
-    (Refusal::NotSuccess, "refused 14 not-success"),
-    (Refusal::NotFailed, "refused 15 not-failed"),
-    (Refusal::Rejected, "refused 16 rejected"),
-    (Refusal::Memory, "refused 17 memory"),
-    (Refusal::BadWord, "refused 18 bad-word"),
-    (Refusal::TooDeep, "refused 19 too-deep"),
-    (Refusal::Retired, "refused 20 retired"),
-];
-
-/// Whether the refusal is written so.
-fn is_line(alloc: Global, refusal: Refusal, line: &str) -> Result<bool, AllocError> {
-    Ok(format!(in alloc; "{refusal}")?.as_str() == line)
-}
-
-#[test]
-fn refusals_by_number_and_word(rt: HostRuntime) -> Result<(), Fail> {
-    for (refusal, line) in REFUSALS {
-        assert!(rt; is_line(rt.alloc(), refusal, line)?, "{line}");
-    }
-    Ok(())
-}
-
-#[test]
-fn limits_from_one_to_the_greatest(rt: HostRuntime) {
-    for (scopes, tasks, load, allowed) in [
-        (1, 1, 1, true),
-        (4096, 65536, 1048576, true),
-        (0, 1, 1, false),
-        (1, 0, 1, false),
-        (1, 1, 0, false),
-        (4097, 1, 1, false),
-        (1, 65537, 1, false),
-        (1, 1, 1048577, false),
-    ] {
-        assert!(rt; Limits::new(scopes, tasks, load).is_some() == allowed);
-    }
-}
 
 /// The fault with this name.
 fn fault(text: &[u8]) -> Result<End, Fail> {

@@ -1,15 +1,12 @@
 //! Works that their owner takes back and runs itself.
-ghost use Rattle.std.specs.Prelude.{◌≡◌};
-
+use super::plays::Found;
 use super::works::Kind::{Counts, Plain};
-use super::works::{PoolWork, Shared, fork, join, shared};
+use super::works::{PoolWork, Shared, fork, join};
 use scope_rules::ScopeId;
-use share_ledger::{RealmName, Seed};
+use share_ledger::RealmName;
 use std::alloc::{AllocError, Global};
-use std::marker::Brand;
 use std::sync::Wait;
-use std::test::Fail;
-use thread_pool::{OsThreads, PoolRuntime, Recalls, ThreadPool};
+use thread_pool::{OsThreads, Recalls, ThreadPool};
 
 /// The scope of all tasks of a ledger.
 const SCOPE: ScopeId = 1;
@@ -23,15 +20,12 @@ const ROUNDS: u32 = 10_000;
 /// The place of these works.
 const PLACE: u32 = 0;
 
-/// How many works the owner ran itself, and whether each ended as it was to.
-type Found = (u32, bool);
-
 /// Runs a work of the scope here that no thread has taken, if there is one. How many were run.
 fn run_here<N: RealmName, R: Wait>(
     rt: &R,
     threads: &OsThreads<N, PoolWork<N>>,
     scope: ScopeId,
-) -> u32 {
+) -> u64 {
     let Some(share) = threads.share() else {
         return 0;
     };
@@ -45,7 +39,7 @@ fn run_here<N: RealmName, R: Wait>(
 }
 
 /// Forks the works, and after each takes one back; none of another scope is given back. Then it joins all.
-fn owner_helps<N: RealmName, R: Wait>(
+pub fn owner_helps<N: RealmName, R: Wait>(
     rt: &R,
     alloc: Global,
     pool: &ThreadPool<N, PoolWork<N>>,
@@ -53,7 +47,7 @@ fn owner_helps<N: RealmName, R: Wait>(
 ) -> Result<Found, AllocError> {
     let mut threads = pool.threads()?;
     let mut handles = Vec::new(alloc);
-    let mut helped = 0u32;
+    let mut helped = 0u64;
     let mut is_right = true;
     for _ in 0..FORKS {
         let Some((0, handle)) = fork(rt, &mut threads, board, Plain(7), PLACE) else {
@@ -84,7 +78,7 @@ fn owner_takes_three<N: RealmName, R: Wait>(
         };
         handles.push(handle)?;
     }
-    let mut helped = 0u32;
+    let mut helped = 0u64;
     for _ in 0..4u32 {
         helped = helped.saturating_add(run_here(rt, threads, SCOPE));
     }
@@ -99,7 +93,7 @@ fn owner_takes_three<N: RealmName, R: Wait>(
 }
 
 /// Goes on until the owner ran all three itself, on a pool of which some threads rest.
-fn owner_takes_all<N: RealmName, R: Wait>(
+pub fn owner_takes_all<N: RealmName, R: Wait>(
     rt: &R,
     alloc: Global,
     pool: &ThreadPool<N, PoolWork<N>>,
@@ -113,40 +107,4 @@ fn owner_takes_all<N: RealmName, R: Wait>(
         }
     }
     Ok((0, false))
-}
-
-/// What its owner does with a pool: the one or the other.
-fn on_a_pool<N, R>(rt: &R, alloc: Global, seed: Seed, is_in_turn: bool) -> Result<Found, AllocError>
-where
-    N: RealmName + Send + Sync + 'static,
-    R: PoolRuntime,
-    requires { seed ≡ N.table }
-{
-    let board: Shared<N> = shared(alloc, seed)?;
-    let pool = ThreadPool::open(rt, alloc, 4)?;
-    let found = if is_in_turn {
-        owner_takes_all(rt, alloc, &pool, &board)
-    } else {
-        owner_helps(rt, alloc, &pool, &board)
-    };
-    pool.close(rt);
-    found
-}
-
-/// What is given back is the last that was forked, and then the one before it, until none is left.
-#[test]
-fn works_are_taken_back_last_first(rt: HostRuntime) -> Result<(), Fail> {
-    let seed = Seed::new(rt.alloc())?;
-    let (helped, is_right) = on_a_pool::<Brand, _>(&rt, rt.alloc(), seed, true)?;
-    assert!(rt; is_right && helped == 3, "{helped}");
-    Ok(())
-}
-
-/// Each work is run once, by a thread or by its owner, who runs some: a thread that was called comes later.
-#[test]
-fn an_owner_runs_works_that_no_thread_has_taken(rt: HostRuntime) -> Result<(), Fail> {
-    let seed = Seed::new(rt.alloc())?;
-    let (helped, is_right) = on_a_pool::<Brand, _>(&rt, rt.alloc(), seed, false)?;
-    assert!(rt; is_right && helped > 0, "{helped}");
-    Ok(())
 }

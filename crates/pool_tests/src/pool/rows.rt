@@ -11,7 +11,8 @@ use std::marker::Brand;
 use std::rt::{Clock, Files};
 use std::sync::Wait;
 use std::test::Fail;
-use thread_pool::{Inline, Nobody, OsThreads, PoolHandle, PoolRuntime, RefuseNth, ThreadPool};
+use test_driver::{Inline, RefuseNth};
+use thread_pool::{Nobody, OsThreads, PoolHandle, PoolRuntime, ThreadPool};
 
 /// How often a work on a pool looks for another, which there is.
 const OFTEN: u32 = 1_000_000_000;
@@ -213,56 +214,6 @@ fn a_refused_growth_refuses_one_work(rt: HostRuntime) -> Result<(), Fail> {
         assert!(rt; played.is_right && played.refused.len() <= 1);
     }
     assert!(rt; comes_to(&rt, threads));
-    Ok(())
-}
-
-/// Works that wait for one another, so many at once, three times, on a pool of which so many threads may
-/// rest.
-fn gathered<N, R>(
-    rt: &R,
-    alloc: Global,
-    seed: Seed,
-    count: u32,
-    keep: usize,
-) -> Result<Played, AllocError>
-where
-    N: RealmName + Send + Sync + 'static,
-    R: PoolRuntime,
-    requires { seed ≡ N.table }
-{
-    let board: Shared<N> = shared(alloc, seed)?;
-    let pool = ThreadPool::open(rt, alloc, keep)?;
-    let played = gather(rt, alloc, &pool, &board, count);
-    pool.close(rt);
-    played
-}
-
-/// The same on the pool, which is closed afterwards.
-pub fn gather<N: RealmName, R: Wait>(
-    rt: &R,
-    alloc: Global,
-    pool: &ThreadPool<N, PoolWork<N>>,
-    board: &Shared<N>,
-    count: u32,
-) -> Result<Played, AllocError> {
-    let mut threads = pool.threads()?;
-    let mut played = Played::new(alloc);
-    for place in 0..3 {
-        played.gather(rt, &mut threads, board, place, count)?;
-    }
-    Ok(played)
-}
-
-/// However many works wait for one another, all end: none waits in the queue for another to end.
-#[test]
-fn works_that_wait_for_all_others_end(rt: HostRuntime) -> Result<(), Fail> {
-    for count in [2, 8, 64, 500] {
-        for keep in [0, 5, 1_000] {
-            let seed = Seed::new(rt.alloc())?;
-            let played = gathered::<Brand, _>(&rt, rt.alloc(), seed, count, keep)?;
-            assert!(rt; played.is_right_but_for(0), "{count} with {keep}");
-        }
-    }
     Ok(())
 }
 

@@ -16,7 +16,8 @@ use std::sync::Wait;
 use std::test::Fail;
 use std::thread;
 use std::time::Duration;
-use thread_pool::{Inline, Nobody, PoolRuntime, RefuseNth, Spawns, ThreadPool};
+use test_driver::{Inline, RefuseNth};
+use thread_pool::{Nobody, PoolRuntime, Spawns, ThreadPool};
 
 /// The row in a realm of its own, over the spawner.
 fn in_a_realm<N, S, R>(rt: &R, alloc: Global, seed: Seed, spawner: S, row: Row) -> Result<(), Fail>

@@ -7,6 +7,6 @@ use Rattle.balkreyn_c.proofs.acting.act.Goals as goal
 
 pub returns : goal.returns
 returns c =
-    let P : Realm → Type 0 = λ old. Tells old c.in-Some-event.event c.perform.result c.perform.new.self in
-    let tells : P c.in-Some.realm.value = subst P c.deref_mut.ensures.value c.perform.ensures in
-    rw c.in-Some-event.is (tried c.args.book.now.place.held _ c.in-Some.realm.value c.perform.new.self c.in-Some-event.event c.perform.result _ c.in-Some.ensures.realm tells (to_z-of_z {w = w64} (record { sfits = c.told-answer.type_inv }) ∙ c.told-answer.ensures) c.put-2.ensures)
+    let P : Realm → Type 0 = λ old. Tells old c.in-Some.event c.perform.result c.perform.new.self in
+    let tells : P c.in-Ok.realm.value = subst P c.deref_mut.ensures.value c.perform.ensures in
+    rw c.in-Some.is (tried c.args.book.now.place.held _ c.in-Ok.realm.value c.perform.new.self c.in-Some.event c.perform.result _ c.in-Ok.ensures.realm tells (to_z-of_z {w = w64} (record { sfits = c.told-answer.type_inv }) ∙ c.told-answer.ensures) c.put-2.ensures.holds)

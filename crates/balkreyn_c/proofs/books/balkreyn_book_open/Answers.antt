@@ -1,7 +1,8 @@
-use Rattle.std.proofs.Common.{Some, refl, ap, ◌∙◌, inl}
+use Rattle.std.proofs.Common.{sym, ◌∙◌}
+use Rattle.balkreyn_c.proofs.Opened.{holds_none, opened}
 use Rattle.balkreyn_c.proofs.books.balkreyn_book_open.Goals as goal
 
 pub returns-in-Ok : goal.returns-in-Ok
 returns-in-Ok c =
-    let limits = c.in-Some-new.ensures in
-    rw c.in_default.ensures.realm (inl (record { limits = c.in-Some-new.limits; scopes_are = limits.scopes; tasks_are = limits.tasks; load_is = limits.load; number = refl; holds = c.put-in-Ok.ensures ∙ ap Some (c.in-Ok.ensures.ok ∙ c.new-2.ensures) }))
+    let book = c.args.book.now in
+    opened book.place.held _ c.args.scopes c.args.tasks c.args.load c.in-Ok.realm.value (holds_none book.place.held book.word book.fits (sym c.swapped-found.ensures.was ∙ c.if-found-ne-EMPTY.false)) c.in-Ok.ensures c.put.ensures.holds

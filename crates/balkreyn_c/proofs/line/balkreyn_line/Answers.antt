@@ -11,5 +11,5 @@ returns c =
     let did = c.do_line-answer in
     let back = to_z-of_z {w = w64} {z = did.result} (record { sfits = did.type_inv }) in
     let P : Realm → Type 0 = λ old. DoesLine old (line_said c.args.line.now) did.result did.new.realm c.args.reply.now did.new.reply in
-    let Q : ℤ → Type 0 = λ n. DoesLine c.in-Some.realm.value (line_said c.args.line.now) n did.new.realm c.args.reply.now did.new.reply in
-    took c.args.book.now.place.held _ c.in-Some.realm.value did.new.realm c.args.line.now _ c.args.reply.now did.new.reply c.in-Some.ensures.realm (subst Q (sym back) (subst P c.deref_mut.ensures.value did.ensures)) c.put.ensures
+    let Q : ℤ → Type 0 = λ n. DoesLine c.in-Ok.realm.value (line_said c.args.line.now) n did.new.realm c.args.reply.now did.new.reply in
+    took c.args.book.now.place.held _ c.in-Ok.realm.value did.new.realm c.args.line.now _ c.args.reply.now did.new.reply c.in-Ok.ensures.realm (subst Q (sym back) (subst P c.deref_mut.ensures.value did.ensures)) c.put.ensures.holds

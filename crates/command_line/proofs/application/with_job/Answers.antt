@@ -8,4 +8,4 @@ same_top program a b same = ap (λ (app : App). with_subcommand program app.top)
 
 pub returns : goal.returns
 returns c =
-    IfOk-weaker c.subcommand.result _ _ (λ m h. h.shape c.in_ok-command.ensures.local ∙ same_top (app_of c.args.program) _ _ c.in_ok-command.ensures.app) c.subcommand.ensures
+    IfOk-weaker c.subcommand.result _ _ (λ m h. h.shape c.in_ok-command.ensures.local ∙ same_top (app_of c.args.bare) _ _ c.in_ok-command.ensures.app) c.subcommand.ensures

@@ -1,21 +1,41 @@
-use Rattle.std.proofs.Common.{◌≡◌, ◌∙◌, false, ap, sym}
-use Rattle.command_line.specs.Delays.{undelayed}
-use Rattle.command_line.specs.HelpWord.{has_help_word, turned}
-use Rattle.command_line.proofs.Hinting.{texts}
-use Rattle.command_line.proofs.HelpWords.{turned-plain}
+use Rattle.std.proofs.Common.{◌∙◌, inl, inr, map}
+use Rattle.std.proofs.lemmas.Result.{IfErr-weaker, IfOk-weaker}
+use Rattle.clap.proofs.WalkLemmas.{both}
+use Rattle.clap.specs.Simple.{subcommand_rows_of}
+use Rattle.command_line.proofs.Parsed.{answers_entered, answers_of, refused_of, says_entered, simple}
 use Rattle.command_line.proofs.lines.line.Goals as goal
 
-pub command-requires : goal.command-requires
-command-requires c = record {
-  read = ap texts c.deref-then-has_help_word-2.ensures.value ∙ (c.in_ok-read.ensures ∙ ap turned (ap texts c.deref-then-has_help_word.ensures.value ∙ c.in_ok-delayed.ensures.words));
-  texts = ap texts c.deref-then-has_help_word-3.ensures.value ∙ c.in_ok-delayed.ensures.texts;
-}
+pub returns-in-Ok-clause-said : goal.returns-in-Ok-clause-said
+returns-in-Ok-clause-said c =
+    let words = map (λ word. word.now) c.args.words.now in
+    let app_is = c.in_ok-application.ensures in
+    let plain = simple words _ app_is in
+    let says = says_entered words _ app_is (c.in-Ok.ensures.kinds plain) (subcommand_rows_of c.in-Ok.matches) (c.in-Ok.ensures.matches (both _ _ plain).0).1 in
+    IfOk-weaker c.entered.result _ _ (λ line is. says ∙ is) c.entered.ensures.said
 
-pub command-requires-2 : goal.command-requires-2
-command-requires-2 c =
-    let plain : has_help_word (undelayed (texts c.args.words.now)) ≡ false =
-    ap has_help_word (sym (ap texts c.deref.ensures.value ∙ c.in_ok-delayed.ensures.words)) ∙ (sym c.has_help_word.ensures ∙ c.if-has_help_word.false) in
-    record {
-      read = ap texts c.deref-2.ensures.value ∙ (c.in_ok-delayed.ensures.words ∙ sym (turned-plain (undelayed (texts c.args.words.now)) plain));
-      texts = ap texts c.deref-3.ensures.value ∙ c.in_ok-delayed.ensures.texts;
-    }
+pub returns-in-Ok-clause-refused : goal.returns-in-Ok-clause-refused
+returns-in-Ok-clause-refused c =
+    let words = map (λ word. word.now) c.args.words.now in
+    let app_is = c.in_ok-application.ensures in
+    let plain = simple words _ app_is in
+    let says = says_entered words _ app_is (c.in-Ok.ensures.kinds plain) (subcommand_rows_of c.in-Ok.matches) (c.in-Ok.ensures.matches (both _ _ plain).0).1 in
+    IfErr-weaker c.entered.result _ _ (λ fault refused. elim refused [ inl memory ↦ inl memory | inr none ↦ inr (says ∙ none) ]) c.entered.ensures.refused
+
+pub returns-in-Ok-clause-answers : goal.returns-in-Ok-clause-answers
+returns-in-Ok-clause-answers c =
+    let words = map (λ word. word.now) c.args.words.now in
+    let app_is = c.in_ok-application.ensures in
+    let plain = simple words _ app_is in
+    IfErr-weaker c.entered.result _ _ (λ fault told. answers_entered words _ app_is (c.in-Ok.ensures.kinds plain) (subcommand_rows_of c.in-Ok.matches) (c.in-Ok.ensures.matches (both _ _ plain).0).1 fault told) c.entered.ensures.told
+
+pub returns-in-Err-clause-refused : goal.returns-in-Err-clause-refused
+returns-in-Err-clause-refused c =
+    let words = map (λ word. word.now) c.args.words.now in
+    let app_is = c.in_ok-application.ensures in
+    refused_of words _ app_is c.of_parse.result _ c.of_parse.ensures (c.in-Err.ensures.kinds (simple words _ app_is))
+
+pub returns-in-Err-clause-answers : goal.returns-in-Err-clause-answers
+returns-in-Err-clause-answers c =
+    let words = map (λ word. word.now) c.args.words.now in
+    let app_is = c.in_ok-application.ensures in
+    answers_of words _ app_is c.of_parse.result _ c.of_parse.ensures (c.in-Err.ensures.kinds (simple words _ app_is))

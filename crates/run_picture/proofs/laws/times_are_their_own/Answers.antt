@@ -1,6 +1,9 @@
 -- Each reading is that of its own event.
-use Rattle.run_picture.proofs.Stamped.{each_start, each_open}
+use Rattle.run_picture.proofs.Stamped.{each_fork, each_start, each_open}
 use Rattle.run_picture.proofs.laws.times_are_their_own.Goals as goal
+
+pub returns-clause-forks : goal.returns-clause-forks
+returns-clause-forks c = each_fork
 
 pub returns-clause-starts : goal.returns-clause-starts
 returns-clause-starts c = each_start

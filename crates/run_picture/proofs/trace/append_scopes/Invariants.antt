@@ -2,10 +2,10 @@
 use Rattle.std.proofs.Common.{◌≡◌, ◌++◌, ◌+◌, string_bytes}
 use Rattle.std.specs.List.{range_with_len}
 use Rattle.run_picture.specs.Parts.{all, written}
-use Rattle.run_picture.specs.Trace.{record_text, scope_slice}
+use Rattle.run_picture.specs.Trace.{record_text, scope_records}
 use Rattle.run_picture.proofs.trace.append_scopes.Given as goal
 
 abbrev pub invariant-loop-index : goal.invariant-loop-index
 invariant-loop-index g l =
     let h = g.R.Readings.history l.readings in
-    string_bytes l.text ≡ string_bytes l.fn.text ++ written record_text (all (scope_slice h l.times) (range_with_len (h.base.scopes + 1) l.index))
+    string_bytes l.text ≡ string_bytes l.fn.text ++ written record_text (all (scope_records h l.traced.times.now) (range_with_len (h.base.scopes + 1) l.index))

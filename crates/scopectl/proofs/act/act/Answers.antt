@@ -1,45 +1,53 @@
-use Rattle.std.proofs.Common.{inl, inr, refl, subst, map}
-use Rattle.command_line.specs.CommandLine.{Says}
+use Rattle.std.proofs.Common.{inl, inr, refl}
 use Rattle.command_line.specs.declared.lines.CommandLine.TheVariants as line
-use Rattle.command_line.specs.Faults.{Answers}
 use Rattle.scopectl.specs.declared.fault.ProgramFault.TheVariants.{Memory, Write}
+use Rattle.scopectl.proofs.Acted.{words_ask, words_say, words_say_none}
 use Rattle.scopectl.proofs.Jobs.{names_alone, names_weaker, well_ended}
 use Rattle.scopectl.proofs.act.act.Goals as goal
 
 pub returns-in-Ok-Replay-clause-done : goal.returns-in-Ok-Replay-clause-done
-returns-in-Ok-Replay-clause-done g c = λ e f. inr (record { command = _; says = subst (Says (map (λ word. word.now) c.args.words.now)) c.in-Ok-Replay.field-0-is c.in-Ok-Replay.ensures.said; did = c.replay.ensures.done e })
+returns-in-Ok-Replay-clause-done g c = λ e f. inr (record { command = _; says = words_say _ c.args.said c.requires.read _ _ c.in-Ok-Replay.is c.in-Ok-Replay.field-0-is; did = c.replay.ensures.done e })
 
 pub returns-in-Ok-Replay-clause-fault : goal.returns-in-Ok-Replay-clause-fault
-returns-in-Ok-Replay-clause-fault g c = λ e. inr (inr (record { command = _; said = subst (Says (map (λ word. word.now) c.args.words.now)) c.in-Ok-Replay.field-0-is c.in-Ok-Replay.ensures.said; did = c.replay.ensures.fault e }))
+returns-in-Ok-Replay-clause-fault g c = λ e. inr (inr (record { command = _; said = words_say _ c.args.said c.requires.read _ _ c.in-Ok-Replay.is c.in-Ok-Replay.field-0-is; did = c.replay.ensures.fault e }))
 
 pub returns-in-Ok-Replay-clause-named : goal.returns-in-Ok-Replay-clause-named
 returns-in-Ok-Replay-clause-named g c = λ e. elim (c.replay.ensures.named e) [
   | inl plain ↦ inl (names_weaker _ _ _ _ _ _ _ _ (λ f none. absurd none) plain)
-  | inr after ↦ inr (record { command = _; says = subst (Says (map (λ word. word.now) c.args.words.now)) c.in-Ok-Replay.field-0-is c.in-Ok-Replay.ensures.said; names = after })
+  | inr after ↦ inr (record { command = _; says = words_say _ c.args.said c.requires.read _ _ c.in-Ok-Replay.is c.in-Ok-Replay.field-0-is; names = after })
 ]
 
 pub returns-in-Ok-Show-clause-done : goal.returns-in-Ok-Show-clause-done
-returns-in-Ok-Show-clause-done g c = λ e f. inr (record { command = _; says = subst (Says (map (λ word. word.now) c.args.words.now)) c.in-Ok-Show.field-0-is c.in-Ok-Show.ensures.said; did = c.show.ensures.done e })
+returns-in-Ok-Show-clause-done g c = λ e f. inr (record { command = _; says = words_say _ c.args.said c.requires.read _ _ c.in-Ok-Show.is c.in-Ok-Show.field-0-is; did = c.show.ensures.done e })
 
 pub returns-in-Ok-Show-clause-fault : goal.returns-in-Ok-Show-clause-fault
-returns-in-Ok-Show-clause-fault g c = λ e. inr (inr (record { command = _; said = subst (Says (map (λ word. word.now) c.args.words.now)) c.in-Ok-Show.field-0-is c.in-Ok-Show.ensures.said; did = c.show.ensures.fault e }))
+returns-in-Ok-Show-clause-fault g c = λ e. inr (inr (record { command = _; said = words_say _ c.args.said c.requires.read _ _ c.in-Ok-Show.is c.in-Ok-Show.field-0-is; did = c.show.ensures.fault e }))
 
 pub returns-in-Ok-Show-clause-named : goal.returns-in-Ok-Show-clause-named
 returns-in-Ok-Show-clause-named g c = λ e. elim (c.show.ensures.named e) [
   | inl plain ↦ inl (names_weaker _ _ _ _ _ _ _ _ (λ f none. absurd none) plain)
-  | inr after ↦ inr (record { command = _; says = subst (Says (map (λ word. word.now) c.args.words.now)) c.in-Ok-Show.field-0-is c.in-Ok-Show.ensures.said; names = after })
+  | inr after ↦ inr (record { command = _; says = words_say _ c.args.said c.requires.read _ _ c.in-Ok-Show.is c.in-Ok-Show.field-0-is; names = after })
 ]
+
+pub returns-in-Ok-Page-clause-done : goal.returns-in-Ok-Page-clause-done
+returns-in-Ok-Page-clause-done g c = λ e f. inr (record { command = _; says = words_say _ c.args.said c.requires.read _ _ c.in-Ok-Page.is c.in-Ok-Page.field-0-is; did = c.page.ensures.done e })
+
+pub returns-in-Ok-Page-clause-fault : goal.returns-in-Ok-Page-clause-fault
+returns-in-Ok-Page-clause-fault g c = λ e. inr (inr (record { command = _; said = words_say _ c.args.said c.requires.read _ _ c.in-Ok-Page.is c.in-Ok-Page.field-0-is; did = c.page.ensures.fault e }))
+
+pub returns-in-Ok-Page-clause-named : goal.returns-in-Ok-Page-clause-named
+returns-in-Ok-Page-clause-named g c = λ e. inl (names_weaker _ _ _ _ _ _ _ _ (λ f none. absurd none) (c.page.ensures.named e))
 
 pub returns-in-Ok-Quote-clause-done : goal.returns-in-Ok-Quote-clause-done
 returns-in-Ok-Quote-clause-done g c =
-    λ e f. (let none = well_ended _ c.quote.ensures.status e in inr (record { command = _; says = subst (Says (map (λ word. word.now) c.args.words.now)) c.in-Ok-Quote.field-0-is c.in-Ok-Quote.ensures.said; did = record { did = c.quote.ensures.done none; noted = c.quote.ensures.silent none; status = none } }))
+    λ e f. (let none = well_ended _ c.quote.ensures.status e in inr (record { command = _; says = words_say _ c.args.said c.requires.read _ _ c.in-Ok-Quote.is c.in-Ok-Quote.field-0-is; did = record { did = c.quote.ensures.done none; noted = c.quote.ensures.silent none; status = none } }))
 
 pub returns-in-Ok-Quote-clause-fault : goal.returns-in-Ok-Quote-clause-fault
-returns-in-Ok-Quote-clause-fault g c = λ e. inr (inr (record { command = _; said = subst (Says (map (λ word. word.now) c.args.words.now)) c.in-Ok-Quote.field-0-is c.in-Ok-Quote.ensures.said; did = c.quote.ensures.fault e }))
+returns-in-Ok-Quote-clause-fault g c = λ e. inr (inr (record { command = _; said = words_say _ c.args.said c.requires.read _ _ c.in-Ok-Quote.is c.in-Ok-Quote.field-0-is; did = c.quote.ensures.fault e }))
 
 pub returns-in-Ok-Quote-clause-named : goal.returns-in-Ok-Quote-clause-named
 returns-in-Ok-Quote-clause-named g c =
-    λ e. inl (names_weaker _ _ _ _ _ _ _ _ (λ f it. (record { command = line.Quote c.in-Ok-Quote.deadline c.in-Ok-Quote.after c.in-Ok-Quote.tree_after; said = subst (Says (map (λ word. word.now) c.args.words.now)) c.in-Ok-Quote.field-0-is c.in-Ok-Quote.ensures.said; is = it })) (c.quote.ensures.named e))
+    λ e. inl (names_weaker _ _ _ _ _ _ _ _ (λ f it. (record { command = line.Quote c.in-Ok-Quote.deadline c.in-Ok-Quote.after c.in-Ok-Quote.tree_after; said = words_say _ c.args.said c.requires.read _ _ c.in-Ok-Quote.is c.in-Ok-Quote.field-0-is; is = it })) (c.quote.ensures.named e))
 
 pub returns-in-Err-Help-clause-done : goal.returns-in-Err-Help-clause-done
 returns-in-Err-Help-clause-done g c = λ e f. (let none = well_ended _ c.tell.ensures.status e in inl (
@@ -48,7 +56,7 @@ returns-in-Err-Help-clause-done g c = λ e f. (let none = well_ended _ c.tell.en
   c.tell.ensures.silent none,
   record {
     text = _;
-    asked = inl (inl (subst (Answers (map (λ word. word.now) c.args.words.now)) c.in-Err-Help.field-0-is c.in-Err-Help.ensures.answers, c.help_of.ensures));
+    asked = inl (inl (words_ask _ c.args.said c.requires.read _ _ c.in-Err-Help.is c.in-Err-Help.field-0-is, c.help_of.ensures));
     wrote = c.tell.ensures.done none;
   },
 ))
@@ -58,7 +66,7 @@ returns-in-Err-Help-clause-fault g c = λ e. inr (inl (
   refl,
   record {
     text = _;
-    asked = inl (inl (subst (Answers (map (λ word. word.now) c.args.words.now)) c.in-Err-Help.field-0-is c.in-Err-Help.ensures.answers, c.help_of.ensures));
+    asked = inl (inl (words_ask _ c.args.said c.requires.read _ _ c.in-Err-Help.is c.in-Err-Help.field-0-is, c.help_of.ensures));
     wrote = c.tell.ensures.fault e;
     writer = c.tell.ensures.failed e;
   },
@@ -74,10 +82,7 @@ returns-in-Err-Version-clause-named g c =
 
 pub returns-in-Err-Usage-clause-not_understood : goal.returns-in-Err-Usage-clause-not_understood
 returns-in-Err-Usage-clause-not_understood g c = λ e. (
-  (
-    elim c.in-Err-Usage.ensures.refused [ inl memory ↦ absurd (cc) | inr none ↦ none ],
-    subst (Answers (map (λ word. word.now) c.args.words.now)) c.in-Err-Usage.field-0-is c.in-Err-Usage.ensures.answers,
-  ),
+  words_say_none _ c.args.said c.requires.read _ _ c.in-Err-Usage.is c.in-Err-Usage.field-0-is,
   refl,
   refl,
   c.refuse_line.ensures.said,
@@ -90,7 +95,7 @@ returns-in-Ok-Generate-clause-done g c = λ e f. (let none = well_ended _ c.gene
   c.generate.ensures.silent none,
   record {
     text = made.0;
-    asked = inr (record { seed = _; lines = _; said = subst (Says (map (λ word. word.now) c.args.words.now)) c.in-Ok-Generate.field-0-is c.in-Ok-Generate.ensures.said; is = made.1 });
+    asked = inr (record { seed = _; lines = _; said = words_say _ c.args.said c.requires.read _ _ c.in-Ok-Generate.is c.in-Ok-Generate.field-0-is; is = made.1 });
     wrote = made.2;
   },
 ))
@@ -102,7 +107,7 @@ returns-in-Ok-Generate-clause-fault g c = λ e. elim (c.generate.ensures.fault e
     refl,
     record {
       text = made.0;
-      asked = inr (record { seed = _; lines = _; said = subst (Says (map (λ word. word.now) c.args.words.now)) c.in-Ok-Generate.field-0-is c.in-Ok-Generate.ensures.said; is = made.1 });
+      asked = inr (record { seed = _; lines = _; said = words_say _ c.args.said c.requires.read _ _ c.in-Ok-Generate.is c.in-Ok-Generate.field-0-is; is = made.1 });
       wrote = made.2;
       writer = made.3;
     },

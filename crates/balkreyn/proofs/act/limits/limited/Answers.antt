@@ -8,8 +8,8 @@ returns-in-None g c = let it = rw c.in-None.is at c.in_ok-permit.ensures.answer 
 -- the body succeeded
 pub returns-in-Ok : goal.returns-in-Ok
 returns-in-Ok g c = inl (record {
-  begun = c.awaited.new.cx;
-  waited = c.awaited.ensures.sees;
+  begun = c.awaited-waited.new.cx;
+  waited = c.awaited-waited.ensures.sees;
   found = c.body-found.result;
   ran = record { lent = _; given = refl; back = _; left = refl; met = c.body-found.ensures };
   answers = search rules;
@@ -18,8 +18,8 @@ returns-in-Ok g c = inl (record {
 -- and here it failed
 pub returns-in-Err : goal.returns-in-Err
 returns-in-Err g c = inl (record {
-  begun = c.awaited.new.cx;
-  waited = c.awaited.ensures.sees;
+  begun = c.awaited-waited.new.cx;
+  waited = c.awaited-waited.ensures.sees;
   found = c.body-found.result;
   ran = record { lent = _; given = refl; back = _; left = refl; met = c.body-found.ensures };
   answers = search rules;

@@ -9,7 +9,7 @@ use Rattle.serde_json.specs.Events.{SendsValue}
 use Rattle.tree_dump.specs.Ages.{clock_of}
 use Rattle.tree_dump.specs.Objects.{number_or_null}
 use Rattle.tree_dump.specs.Sent.{SendsMember}
-use Rattle.tree_dump.specs.Timed.{amounts, last_reading, limits_data, used_data}
+use Rattle.tree_dump.specs.Timed.{amounts, limits_data, used_data}
 use Rattle.tree_dump.specs.Tree.{levels, nested}
 use Rattle.tree_dump.proofs.Sent.{member_as}
 use Rattle.tree_dump.proofs.timed.TimedTreeSerialize.serialize.Goals as goal
@@ -25,7 +25,7 @@ returns g c =
     subst (λ d. SendsValue d (w c.key.new.self) (w c.send_amounts.new.out)) (ap (λ n. amounts n tree.limits.scopes tree.limits.tasks) c.from.ensures) c.in_ok-send_amounts.ensures in
     let moment_is : SendsMember (codes "moment") (number (unsigned (moment h))) (w c.send_amounts.new.out) (w c.send_time.new.out) =
     member_as (codes "moment") _ _ _ _ (ap (λ n. number (unsigned n)) c.moment.ensures) c.in_ok-send_time.ensures in
-    let now_is : SendsMember (codes "now") (number_or_null (last_reading clock)) (w c.send_time.new.out) (w c.send_time-2.new.out) =
+    let now_is : SendsMember (codes "now") (number_or_null clock.now) (w c.send_time.new.out) (w c.send_time-2.new.out) =
     member_as (codes "now") _ _ _ _ (ap number_or_null c.last_reading.ensures) c.in_ok-send_time-2.ensures in
     let root : SendsValue (nested (Some clock) h levels (outermost h 0)) (w c.key-2.new.self) (w c.send_scope.new.out) =
     subst (λ p. SendsValue (nested (Some clock) h levels p) (w c.key-2.new.self) (w c.send_scope.new.out)) c.outermost.ensures c.in_ok-send_scope.ensures in

@@ -1,0 +1,62 @@
+-- `seen` opens the reference, and lends its word to one step of the machine.
+use Rattle.std.proofs.Common.{◌≡◌, ℕ, ◌^◌, List, [], ◌∷◌, refl, lit<, w64}
+use Rattle.std.proofs.raw_atomic.Walks.{proved, leaves}
+use Rattle.std.proofs.raw_atomic.Calls.{fm, seq_cst, found, finds, loads}
+use base.Fraction.{full_share}
+use base.Logic.{SProp, emp, via}
+use base.Fml.{Fml, ftrue, fsep, feq, flft}
+use mir.Syntax.{named}
+use mir.Val.{Val, vint, vptr}
+use contract.Monad.{fact, fact_i}
+use contract.Running.{tables}
+use types.Kit.{‵, raw, ◌⊛◌, mean, at_ret, ◌$◌, ◌∵◌, !, qed, by, move, keep, split, join, fsplit, fsplit3, fjoin, fjoin3, feq_i, feq_l, flt_i, use0, use1, done}
+use types.Run.{enter, lit, addr, stop, no_more, and_then, of_opd, first, blocks, exec, Calls-last, returns}
+use types.ByLocal.{alloc_all, pass_all, free_all, look_at, get, through, sets, lands_last, env}
+use types.Part.{agg}
+use denote.Builtin.{u64}
+use denote.RawPtr.{block_ptr}
+use denote.Ref.{mut_vals, mut_Tells}
+use denote.RattleType.{owns}
+use denote.Signature.{types_at, plain}
+use denote.Steps.{nothing, opens, closes, tied, ties}
+use denote.Triple.Walked.{Stays, walk_of, stay_ref, Goes-ref}
+use Rattle.std.specs.Sync.RawAtomic.{word}
+use Rattle.balkreyn_c.proofs.Words.{owned_asks}
+use Rattle.balkreyn_c.specs.contracts.word.seen.{ended, clauses}
+use Rattle.balkreyn_c.specs.contracts.word.seen.Key.{name as #self}
+use Rattle.balkreyn_c.proofs.word.seen.Statement.{statement}
+use Rattle.balkreyn_c.proofs.word.seen.Code as code
+
+abbrev stayed : Stays ended.signature.params ended.kept
+stayed = (stay_ref (0 ∷ []) tt (plain (λ _. u64)), tt)
+
+pub seen_spec : {M : Type 1} → statement M
+seen_spec 𝓤 𝓛 𝓜 𝓡 wired =
+    let 𝓣 = tables 𝓤 𝓛.H 𝓜 𝓡 𝓡.env in let c = clauses 𝓛 𝓜.mem 𝓡.returns in let fn = code.function in
+    proved 𝓛 ended stayed c 𝓜 𝓡 (Goes-ref 𝓛 1 0 tt (plain (λ _. u64)), tt)
+    #self fn (code.unfolded 𝓤 𝓛.H 𝓜 𝓡 wired)
+    (λ κs. (mut_vals, tt)) (λ κs. (mut_Tells (named 0) κs.0 u64, tt)) (λ κs qs bounds a gh are.
+    let b : ℕ = a.0.ref_ptr.0 in let o : ℕ = a.0.ref_ptr.1 in let was : ℕ = a.0.now in
+    let y : (walk_of 𝓛 ended stayed c).Ghost = ((κs, qs, bounds, a, (vptr b o ∷ [], tt)), gh) in
+    let Post : Val → SProp 𝓤 = (walk_of 𝓛 ended stayed c).post y in
+    let out : ℕ → Fml = λ n. fsep (feq ℕ n was) (word b o was) in
+    qed 𝓛 (((‵ (flft κs.0 qs.0) ⊛ ‵ ftrue) ⊛ ‵ (owns (types_at ended.signature.params κs) a y.0.4)) ∷ ‵ ftrue ∷ []) ∵
+    split ! $ split ! $ move ! (2 ∷ []) $ fsplit ! $ fsplit3 ! $ keep ! (1 ∷ 2 ∷ 4 ∷ []) $
+    enter ! 𝓣.C 𝓣.Λ fn (vptr b o ∷ []) Post $ alloc_all ! (λ l. pass_all ! refl ((tt, tt), tt) $
+    opens ! tt u64 b o (λ us. tied ! full_share u64.mir us b o $
+    -- [the word; that its number is small; the open borrow, in three entries; the token]
+    first ! $ blocks ! $ sets ! (addr ! (through ! refl (stop !))) refl (tt, tt) $
+    sets ! (agg ! (and_then ! (lit ! tt) (no_more !))) refl (tt, (record { fits = lit< tt }, tt)) $
+    use1 𝓛 (raw (𝓣.C _ (vptr b o ∷ seq_cst ∷ []) (λ u. mean 𝓛 (found out u))))
+    (via 𝓤 _ (owned_asks 𝓛 b o was (λ n. n) out (qed 𝓛 (‵ (word b o was) ∷ []) ∵ feq_i ! ℕ was was refl $ fjoin ! $ done !))
+    (loads 𝓛 𝓜 𝓡 (code.calls-std::sync::atomic::raw::load 𝓡.env wired) (block_ptr b o) out)) $
+    Calls-last ! (fm 𝓛 𝓜 𝓡) (found out) (and_then ! (get ! refl) (and_then ! (get ! refl) (no_more !))) (λ u. finds ! out (λ n fits.
+    lands_last ! refl (tt, record { fits = fits }) $ exec ! 𝓣.C 𝓣.Λ (env fn.locals l) code.Mir.t-2 (at_ret _ Post) $
+    sets ! (of_opd ! (get ! refl)) refl (tt, record { fits = fits }) $
+    fsplit ! $ feq_l ! (λ same.
+    ties ! full_share u64.mir (vint w64 was ∷ []) b o $ closes ! tt u64 was (vint w64 was ∷ []) b o $
+    feq_i ! (List Val) (vptr b o ∷ []) (vptr b o ∷ []) refl $ fjoin3 ! $
+    nothing ! $ move ! (1 ∷ 0 ∷ []) $ fjoin ! $ nothing ! $ move ! (2 ∷ 0 ∷ []) $ join ! $
+    use0 𝓛 (raw (fact 𝓤 (was ≡ was))) (fact_i 𝓤 (was ≡ was) (emp 𝓤) refl) $ use0 𝓛 (raw (fact 𝓤 (n ≡ was))) (fact_i 𝓤 (n ≡ was) (emp 𝓤) same) $ join ! $
+    flt_i ! n (2 ^ 64) fits $ feq_i ! (List Val) (vint w64 n ∷ []) (vint w64 n ∷ []) refl $ fjoin ! $
+    returns ! (look_at ! 0 refl) $ free_all ! refl $ keep ! (2 ∷ 3 ∷ 0 ∷ 1 ∷ []) $ by ! (leaves 𝓛 ended stayed c y (vint w64 n) n (was, tt) (tt, tt))))))))

@@ -1,0 +1,70 @@
+-- An end that also tells what it changed.
+use Rattle.std.specs.Prelude.{◌≡◌, ◌⊎◌, ℕ, ℤ, Bool, true, false, List, length, Option, None, Some, Result, Ok, Err}
+use Rattle.std.specs.Option.{option_map_or}
+use Rattle.scope_rules.specs.declared.types.events.Event.{Event}
+use Rattle.scope_rules.specs.declared.types.refusals.Refusal.{Refusal}
+use Rattle.scope_rules.specs.History.{History}
+use Rattle.scope_rules.specs.Replies.{Realm}
+use Rattle.scope_rules.specs.Scopes.{forked_in}
+use Rattle.scope_rules.specs.Tasks.{settled}
+use Rattle.scope_checks.specs.declared.event_replies.EventReply.{EventReply}
+use Rattle.scope_checks.specs.Entering.{Tells}
+use Rattle.scope_index.specs.CancelsOf.{IsCancelOrderOf}
+use Rattle.scope_index.specs.Coming.{IsNextDeadline, NoDeadlineComes}
+use Rattle.balkreyn_c.specs.declared.endings.News.{News}
+use Rattle.balkreyn_c.specs.Acting.{Answers, Refuses}
+use Rattle.balkreyn_c.specs.Numbers.{number_of, told_number}
+
+-- so many scopes are cancelled
+pub record HasCancelled (h : History) (count : ℕ) : Type 0 where
+  pub list : List ℕ
+  pub order : IsCancelOrderOf h list
+  pub counted : count ≡ length list
+
+-- a deadline comes next, and it is this one
+pub record HasNext (h : History) (comes : Bool) (deadline : ℕ) : Type 0 where
+  pub comes_is : comes ≡ true
+  pub next : IsNextDeadline h deadline
+
+-- none comes next
+pub record HasNone (h : History) (comes : Bool) (deadline : ℕ) : Type 0 where
+  pub comes_is : comes ≡ false
+  pub none : NoDeadlineComes h
+  pub nothing : deadline ≡ 0
+
+-- the news of the history, as they are told of the task
+pub record IsNewsOf (h : History) (task : ℕ) (news : News) : Type 0 where
+  pub scope : news.scope ≡ option_map_or (λ s. s) (forked_in h task) 0
+  pub quiet : news.quiet ≡ option_map_or (settled h) (forked_in h task) true
+  pub cancelled : HasCancelled h news.cancelled
+  pub deadline : HasNext h news.comes news.deadline ⊎ HasNone h news.comes news.deadline
+
+-- they are told if the end is recorded
+abbrev pub NewsAfter : Result EventReply Refusal → History → ℕ → News → News → Type 0
+NewsAfter (Ok reply) h task was now = IsNewsOf h task now
+NewsAfter (Err r) h task was now = now ≡ was
+
+-- the end is tried, and the news are told
+pub record Ends (old : Realm) (e : Event) (task : ℕ) (answer : ℤ) (new : Realm) (was now : News) : Type 0 where
+  pub reply : Result EventReply Refusal
+  pub tells : Tells old e reply new
+  pub number : answer ≡ number_of told_number reply
+  pub news : NewsAfter reply new.history task was now
+
+pub record EndsNone (answer : ℤ) (new : Option Realm) (was now : News) : Type 0 where
+  pub answers : Answers answer new
+  pub kept : now ≡ was
+
+pub record EndsBad (old : Realm) (answer : ℤ) (new : Option Realm) (was now : News) : Type 0 where
+  pub refuses : Refuses old answer new
+  pub kept : now ≡ was
+
+pub record EndsIn (old : Realm) (e : Event) (task : ℕ) (answer : ℤ) (new : Option Realm) (was now : News) : Type 0 where
+  pub realm : Realm
+  pub holds : new ≡ Some realm
+  pub ends : Ends old e task answer realm was now
+
+abbrev pub EndsTold : Option Realm → Option Event → ℕ → ℤ → Option Realm → News → News → Type 0
+EndsTold None e task answer new was now = EndsNone answer new was now
+EndsTold (Some old) None task answer new was now = EndsBad old answer new was now
+EndsTold (Some old) (Some e) task answer new was now = EndsIn old e task answer new was now

@@ -1,5 +1,0 @@
-use Rattle.std.proofs.Common.{length}
-use Rattle.command_line.proofs.taken.+text_at.Given as goal
-
-abbrev pub decreases-text_at : goal.decreases-text_at
-decreases-text_at l = length l.words.now

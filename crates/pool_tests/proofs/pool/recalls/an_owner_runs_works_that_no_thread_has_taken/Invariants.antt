@@ -1,5 +1,0 @@
--- The name is that of the seed's table.
-use Rattle.pool_tests.proofs.pool.recalls.an_owner_runs_works_that_no_thread_has_taken.Given as goal
-
-abbrev pub ghosts-on_a_pool : goal.ghosts-on_a_pool
-ghosts-on_a_pool g a = record { table = a.seed }

@@ -1,0 +1,12 @@
+-- The marks so far.
+use Rattle.std.proofs.Common.{◌≡◌, ◌++◌, string_bytes}
+use Rattle.std.specs.List.{range_with_len}
+use Rattle.run_picture.specs.Axis.{axis_mark, mark_in}
+use Rattle.run_picture.specs.Parts.{all, written}
+use Rattle.run_picture.specs.Sheet.{sheet_of}
+use Rattle.run_picture.proofs.axis.append_marks.Given as goal
+
+abbrev pub invariant-loop-index : goal.invariant-loop-index
+invariant-loop-index g l =
+    let h = g.R.Readings.history l.readings in
+    string_bytes l.text ≡ string_bytes l.fn.text ++ written axis_mark (all (mark_in h (sheet_of l.chart.drawn)) (range_with_len 0 l.index))

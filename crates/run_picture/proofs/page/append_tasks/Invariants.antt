@@ -1,0 +1,8 @@
+-- Those so far.
+use Rattle.std.proofs.Common.{◌≡◌, ◌++◌, string_bytes}
+use Rattle.run_picture.specs.Digits.{each_text}
+use Rattle.run_picture.specs.Page.{task_text}
+use Rattle.run_picture.proofs.page.append_tasks.Given as goal
+
+abbrev pub invariant-loop-index : goal.invariant-loop-index
+invariant-loop-index l = string_bytes l.text ≡ string_bytes l.fn.text ++ each_text (task_text l.rows l.names l.values) l.index
