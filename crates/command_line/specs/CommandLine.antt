@@ -29,7 +29,7 @@ use Rattle.command_line.specs.declared.settings.Flag.TheVariants.{Strict, Explai
 use Rattle.command_line.specs.declared.settings.Setting.{Setting}
 use Rattle.command_line.specs.declared.lines.Job.{Job}
 use Rattle.command_line.specs.declared.lines.Job.TheVariants.{Replay, Check, Dump, Tree, Timeline, TraceEvents, Page, Quote, Generate}
-use Rattle.command_line.specs.declared.settings.Setting.TheVariants.{Deadline, After, TreeAfter, Seed, Lines, Width, Rows, From, To, Scope, Depth, Format, Expect, Journal, Color, File, Notes, Answers}
+use Rattle.command_line.specs.declared.settings.Setting.TheVariants.{Deadline, After, TreeAfter, Seed, Lines, Width, Rows, From, To, Since, Until, Scope, Depth, Format, Expect, Journal, Page as page_file, Color, File, Notes, Answers}
 
 -- ---- commands
 
@@ -69,13 +69,15 @@ format_by rows = option_map format_said (number_by Format rows)
 
 -- what of a run is drawn
 abbrev pub picture_by : List Row → Option PictureOptions
-picture_by rows = option_and_then (λ width. option_and_then (λ rows_shown. option_and_then (λ from. option_and_then (λ to. option_map (λ scope. record {
+picture_by rows = option_and_then (λ width. option_and_then (λ rows_shown. option_and_then (λ from. option_and_then (λ to. option_and_then (λ since. option_and_then (λ until. option_map (λ scope. record {
   width = width;
   rows = rows_shown;
   from = from;
   to = to;
+  since = since;
+  until = until;
   scope = scope;
-}) (number_by Scope rows)) (number_by To rows)) (number_by From rows)) (number_by Rows rows)) (number_by Width rows)
+}) (number_by Scope rows)) (number_by Until rows)) (number_by Since rows)) (number_by To rows)) (number_by From rows)) (number_by Rows rows)) (number_by Width rows)
 
 -- what of a tree is shown: what is waited for alone can't be a part of the tree
 abbrev pub tree_said : (awaited : Bool) (depth scope : Option ℕ) → Option TreeOptions
@@ -119,6 +121,7 @@ pub record StreamsSaid : Type 0 where
   pub file : Option (List ℕ)
   pub expected : Option (List ℕ)
   pub journal : Option (List ℕ)
+  pub page : Option (List ℕ)
   pub json : Bool
   pub checked : Bool
   pub color : ColorChoice
@@ -143,10 +146,11 @@ is_hyphen text = option_map_or (λ t. bytes_eq t (codes "-")) text false
 
 -- only the file that is read may be standard input
 abbrev pub streams_by : Job → List Row → Option StreamsSaid
-streams_by job rows = option_and_then (λ color. if is_hyphen (given_in rows (expected_of job)) || is_hyphen (given_in rows Journal) then None else Some (record {
+streams_by job rows = option_and_then (λ color. if is_hyphen (given_in rows (expected_of job)) || (is_hyphen (given_in rows Journal) || is_hyphen (given_in rows page_file)) then None else Some (record {
   file = given_in rows (file_of job);
   expected = given_in rows (expected_of job);
   journal = given_in rows Journal;
+  page = given_in rows page_file;
   json = has_in rows Json;
   checked = is_check job;
   color = color;
@@ -185,6 +189,7 @@ streams_of options = record {
   file = option_map (λ path. path.now) options.file;
   expected = option_map (λ path. path.now) options.expected;
   journal = option_map (λ path. path.now) options.journal;
+  page = option_map (λ path. path.now) options.page;
   json = options.json;
   checked = options.checked;
   color = options.color;

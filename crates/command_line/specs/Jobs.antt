@@ -4,7 +4,7 @@ use Rattle.std.specs.Str.{bytes_eq}
 use Rattle.command_line.specs.declared.settings.Flag.{Flag}
 use Rattle.command_line.specs.declared.settings.Flag.TheVariants.{Strict, Explain, Trace, Quiet, Lenient, Awaited, Json}
 use Rattle.command_line.specs.declared.settings.Setting.{Setting}
-use Rattle.command_line.specs.declared.settings.Setting.TheVariants.{Scopes, Tasks, Load, Deadline, After, TreeAfter, Seed, Lines, Width, Rows, From, To, Scope, Depth, Format, Expect, Journal, Color, File, Notes, Answers}
+use Rattle.command_line.specs.declared.settings.Setting.TheVariants.{Scopes, Tasks, Load, Deadline, After, TreeAfter, Seed, Lines, Width, Rows, From, To, Since, Until, Scope, Depth, Format, Expect, Journal, Page as page_file, Color, File, Notes, Answers}
 use Rattle.command_line.specs.declared.lines.Job.{Job}
 use Rattle.command_line.specs.declared.lines.Job.TheVariants.{Replay, Check, Dump, Tree, Timeline, TraceEvents, Page, Quote, Generate}
 
@@ -42,10 +42,10 @@ settings_of Replay = Scopes ∷ Tasks ∷ Load ∷ Expect ∷ Color ∷ File ∷
 settings_of Check = Color ∷ Notes ∷ Answers ∷ []
 settings_of Dump = Scopes ∷ Tasks ∷ Load ∷ Format ∷ Color ∷ File ∷ []
 settings_of Tree = Scopes ∷ Tasks ∷ Load ∷ Depth ∷ Scope ∷ Color ∷ File ∷ []
-settings_of Timeline = Scopes ∷ Tasks ∷ Load ∷ Width ∷ Rows ∷ From ∷ To ∷ Scope ∷ Color ∷ File ∷ []
+settings_of Timeline = Scopes ∷ Tasks ∷ Load ∷ Width ∷ Rows ∷ From ∷ To ∷ Since ∷ Until ∷ Scope ∷ Color ∷ File ∷ []
 settings_of TraceEvents = Scopes ∷ Tasks ∷ Load ∷ Color ∷ File ∷ []
 settings_of Page = Scopes ∷ Tasks ∷ Load ∷ Color ∷ File ∷ []
-settings_of Quote = Deadline ∷ After ∷ TreeAfter ∷ Journal ∷ Color ∷ File ∷ []
+settings_of Quote = Deadline ∷ After ∷ TreeAfter ∷ Journal ∷ page_file ∷ Color ∷ File ∷ []
 settings_of Generate = Seed ∷ Lines ∷ Color ∷ []
 
 -- the options without a text that a job has: each that runs a script may be strict and quiet, and all but a page can be

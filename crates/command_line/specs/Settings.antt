@@ -14,8 +14,8 @@ use Rattle.command_line.specs.declared.settings.Delay.{Delay}
 use Rattle.command_line.specs.declared.settings.Flag.{Flag}
 use Rattle.command_line.specs.declared.settings.Flag.TheVariants.{Strict, Explain, Trace, Quiet, Lenient, Awaited, Json}
 use Rattle.command_line.specs.declared.settings.Setting.{Setting}
-use Rattle.command_line.specs.declared.settings.Setting.TheVariants.{Scopes, Tasks, Load, Deadline, After, TreeAfter, Seed, Lines, Width, Rows, From, To, Scope, Depth, Format, Expect, Journal, Color, File, Notes, Answers}
-use Rattle.command_line.specs.declared.settings.TheConstants.{DAY_MILLIS, SEED_LIMIT, LINES_LIMIT, FORMAT_LIMIT, ROWS_LIMIT, SCOPE_NUMBER_LIMIT, WIDTH_LIMIT}
+use Rattle.command_line.specs.declared.settings.Setting.TheVariants.{Scopes, Tasks, Load, Deadline, After, TreeAfter, Seed, Lines, Width, Rows, From, To, Since, Until, Scope, Depth, Format, Expect, Journal, Page, Color, File, Notes, Answers}
+use Rattle.command_line.specs.declared.settings.TheConstants.{DAY_MILLIS, SEED_LIMIT, LINES_LIMIT, FORMAT_LIMIT, ROWS_LIMIT, MOMENT_LIMIT, SCOPE_NUMBER_LIMIT, WIDTH_LIMIT}
 
 -- an option's name, without its hyphens; a file that stands alone has one too, by which a parse knows it
 abbrev pub name_of : Setting → List ℕ
@@ -31,11 +31,14 @@ name_of Width = codes "width"
 name_of Rows = codes "rows"
 name_of From = codes "from"
 name_of To = codes "to"
+name_of Since = codes "since"
+name_of Until = codes "until"
 name_of Scope = codes "scope"
 name_of Depth = codes "depth"
 name_of Format = codes "format"
 name_of Expect = codes "expect"
 name_of Journal = codes "journal"
+name_of Page = codes "page"
 name_of Color = codes "color"
 name_of File = codes "FILE"
 name_of Notes = codes "JOURNAL"
@@ -77,6 +80,8 @@ greatest_of Width = WIDTH_LIMIT
 greatest_of Rows = ROWS_LIMIT
 greatest_of From = LOAD_LIMIT
 greatest_of To = LOAD_LIMIT
+greatest_of Since = MOMENT_LIMIT
+greatest_of Until = MOMENT_LIMIT
 greatest_of Scope = SCOPE_NUMBER_LIMIT
 greatest_of Depth = LEVEL_LIMIT
 greatest_of Format = FORMAT_LIMIT

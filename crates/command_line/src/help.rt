@@ -220,6 +220,9 @@ Usage: scopectl timeline [OPTIONS] [FILE]
                     69632 [default: 300]
       --from <N>    Begin at event N; the first event is 1
       --to <N>      End at event N
+      --since <MS>  Begin at the first event at MS milliseconds or later
+      --until <MS>  End at the last event by MS milliseconds; without lines
+                    # at MS in the script there are no times
       --scope <S>   Draw scope S alone, with what is inside it
 ",
     "
@@ -288,7 +291,9 @@ Options:
                          a deadline; repeat it for other offers
       --tree-after <MS>  After MS milliseconds, write the tree of the plan's
                          realm to standard error, if the plan is still served
-      --journal <FILE>   Write the journal of the run to FILE, as a script
+      --journal <FILE>   Write the journal of the run to FILE, as a script, while
+                         it grows
+      --page <FILE>      Write the page of the run to FILE, once it has ended
       --color <WHEN>     Color the output: auto, always or never [default: auto]
   -h, --help             Print help
 

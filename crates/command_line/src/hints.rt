@@ -23,7 +23,7 @@ const GENERATE_INPUT: &str = "hint: generate reads no FILE: scopectl generate [O
 
 /// Which options a quote has, and which it has not.
 const QUOTE_OPTIONS: &str =
-    "hint: quote has no limits to set; its options are --deadline, --after, --tree-after, --journal and --color";
+    "hint: quote has no limits to set; its options are --deadline, --after, --tree-after, --journal, --page and --color";
 
 /// An option stands there once more.
 const OPTION_ONCE: &str = "hint: this option stands once at most";

@@ -9,16 +9,16 @@
 //! scopectl tree [--scopes N] [--tasks N] [--load N] [--strict] [--quiet] [--explain] [--lenient] [--awaited]
 //!     [--depth N] [--scope S] [FILE]
 //! scopectl timeline [--scopes N] [--tasks N] [--load N] [--strict] [--quiet] [--explain] [--lenient] [--width PX]
-//!     [--rows N] [--from N] [--to N] [--scope S] [FILE]
+//!     [--rows N] [--from N] [--to N] [--since MS] [--until MS] [--scope S] [FILE]
 //! scopectl trace [--scopes N] [--tasks N] [--load N] [--strict] [--quiet] [--explain] [--lenient] [FILE]
-//! scopectl quote [--deadline MS] [--after NAME=MS].. [--tree-after MS] [--journal FILE] [FILE]
+//! scopectl quote [--deadline MS] [--after NAME=MS].. [--tree-after MS] [--journal FILE] [--page FILE] [FILE]
 //! scopectl generate [--seed N] [--lines N]
 //! scopectl help [COMMAND]
 //! scopectl version
 //! ```
 //!
 //! An N is a number in decimal with no needless zero in front, from 1 to its limit; an MS is such a number of
-//! milliseconds, up to a day's. The text NAME=MS is split at its first `=`, and NAME is a name as an offer of
+//! milliseconds, up to a day's, or up to 4294967295 behind `--since` and `--until`. The text NAME=MS is split at its first `=`, and NAME is a name as an offer of
 //! a plan has one. Each option but `--after` stands once at most, as `--scopes N` or `--scopes=N`. Each job has
 //! `--color WHEN` too, where WHEN is `auto`, `always` or `never`. Behind `--` stand files alone.
 //!

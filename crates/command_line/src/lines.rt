@@ -168,6 +168,8 @@ impl Job {
                 Setting::Rows,
                 Setting::From,
                 Setting::To,
+                Setting::Since,
+                Setting::Until,
                 Setting::Scope,
                 Setting::Color,
                 Setting::File,
@@ -184,6 +186,7 @@ impl Job {
                 Setting::After,
                 Setting::TreeAfter,
                 Setting::Journal,
+                Setting::Page,
                 Setting::Color,
                 Setting::File,
             ],
@@ -373,13 +376,15 @@ fn streams<'a>(
     let color = color_choice(alloc, settings::text_of(options, Setting::Color.name()))?;
     let expected = settings::text_of(options, job.expected().name());
     let journal = settings::text_of(options, Setting::Journal.name());
-    if is_hyphen(expected) || is_hyphen(journal) {
+    let page = settings::text_of(options, Setting::Page.name());
+    if is_hyphen(expected) || is_hyphen(journal) || is_hyphen(page) {
         return Err(settings::refused_words(alloc, NO_FILE));
     }
     Ok(StreamOptions {
         file: settings::text_of(options, job.file().name()),
         expected,
         journal,
+        page,
         json: settings::is_set(options, Flag::Json),
         checked: job.is_check(),
         color,

@@ -28,6 +28,9 @@ pub const WIDTH_LIMIT: u32 = 100_000;
 /// How many rows a picture has at most: one for each scope and task.
 pub const ROWS_LIMIT: u32 = 69_632;
 
+/// The greatest moment of a reading, in milliseconds since the realm began.
+pub const MOMENT_LIMIT: u32 = 4_294_967_295;
+
 /// The greatest number that a scope can have: numbers go on when a realm is compacted.
 pub const SCOPE_NUMBER_LIMIT: u32 = 4_294_967_295;
 
@@ -65,6 +68,10 @@ pub enum Setting {
     From,
     /// The number of the last event that is shown, from 1.
     To,
+    /// From which moment on events are shown.
+    Since,
+    /// Until which moment events are shown.
+    Until,
     /// Which scope alone is shown.
     Scope,
     /// How many levels of scopes are shown.
@@ -75,6 +82,8 @@ pub enum Setting {
     Expect,
     /// The file to which a plan's journal goes.
     Journal,
+    /// The file to which a plan's page goes.
+    Page,
     /// When output has colors.
     Color,
     /// The file that is read, which stands alone.
@@ -118,11 +127,14 @@ impl Setting {
             Setting::Rows => ("rows", ROWS_LIMIT),
             Setting::From => ("from", LOAD_LIMIT),
             Setting::To => ("to", LOAD_LIMIT),
+            Setting::Since => ("since", MOMENT_LIMIT),
+            Setting::Until => ("until", MOMENT_LIMIT),
             Setting::Scope => ("scope", SCOPE_NUMBER_LIMIT),
             Setting::Depth => ("depth", LEVEL_LIMIT),
             Setting::Format => ("format", FORMAT_LIMIT),
             Setting::Expect => ("expect", 0),
             Setting::Journal => ("journal", 0),
+            Setting::Page => ("page", 0),
             Setting::Color => ("color", 0),
             Setting::File => ("FILE", 0),
             Setting::Notes => ("JOURNAL", 0),
@@ -133,12 +145,12 @@ impl Setting {
     /// How help and errors write what the option says.
     pub fn value_name(self) -> &'static str {
         match self {
-            Setting::Deadline | Setting::TreeAfter => "MS",
+            Setting::Deadline | Setting::TreeAfter | Setting::Since | Setting::Until => "MS",
             Setting::After => "NAME=MS",
             Setting::Width => "PX",
             Setting::Scope => "S",
             Setting::Color => "WHEN",
-            Setting::Expect | Setting::Journal | Setting::File => "FILE",
+            Setting::Expect | Setting::Journal | Setting::Page | Setting::File => "FILE",
             Setting::Notes => "JOURNAL",
             Setting::Answers => "ANSWERS",
             _ => "N",
@@ -217,6 +229,10 @@ pub struct PictureOptions {
     pub from: Option<u32>,
     /// The number of the last one.
     pub to: Option<u32>,
+    /// From which moment on events are drawn, in milliseconds.
+    pub since: Option<u32>,
+    /// Until which moment events are drawn.
+    pub until: Option<u32>,
     /// The one scope that is drawn, with what lies in it.
     pub scope: Option<ScopeId>,
 }
@@ -255,6 +271,8 @@ pub struct StreamOptions<'a> {
     pub expected: Option<&'a str>,
     /// The file to which a plan's journal goes, if it is to be kept.
     pub journal: Option<&'a str>,
+    /// The file to which a plan's page goes, if one is wanted.
+    pub page: Option<&'a str>,
     /// Whether replies are JSON.
     pub json: bool,
     /// Whether a journal is checked: its replies are not written.
@@ -269,6 +287,7 @@ impl StreamOptions<'_> {
         file: None,
         expected: None,
         journal: None,
+        page: None,
         json: false,
         checked: false,
         color: ColorChoice::Auto,
@@ -419,12 +438,16 @@ pub fn picture(alloc: Global, matches: &ArgMatches<'_>) -> Result<PictureOptions
     let rows = number_if_given(alloc, matches, Setting::Rows)?;
     let from = number_if_given(alloc, matches, Setting::From)?;
     let to = number_if_given(alloc, matches, Setting::To)?;
+    let since = number_if_given(alloc, matches, Setting::Since)?;
+    let until = number_if_given(alloc, matches, Setting::Until)?;
     let scope = number_if_given(alloc, matches, Setting::Scope)?;
     Ok(PictureOptions {
         width,
         rows,
         from,
         to,
+        since,
+        until,
         scope,
     })
 }

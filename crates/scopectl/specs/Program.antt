@@ -31,6 +31,7 @@ use Rattle.command_line.specs.declared.settings.PictureOptions.{PictureOptions}
 use Rattle.command_line.specs.declared.settings.TreeOptions.{TreeOptions}
 use Rattle.command_line.specs.declared.settings.TreeOptions.TheVariants as tree
 use Rattle.run_picture.specs.View.{whole}
+use Rattle.script_jobs.specs.declared.between.Between.{Between}
 use Rattle.run_picture.specs.declared.view.View.{View as Seen}
 use Rattle.scope_rules.specs.declared.types.capacity.TheConstants.{LEVEL_LIMIT}
 use Rattle.tree_dump.specs.declared.parts.TreePart.{TreePart}
@@ -140,12 +141,16 @@ seen_of p = record {
   scope = p.scope;
 }
 
+-- between which moments
+abbrev pub between_of : PictureOptions → Between
+between_of p = record { since = p.since; until = p.until }
+
 -- the view that the words ask for
 abbrev pub view_of : ViewOptions → View
 view_of (asked.Dump asked_format.First) = view.Dump
 view_of (asked.Dump asked_format.Second) = view.TimedDump
 view_of (asked.Tree tree) = view.Tree (tree_part tree)
-view_of (asked.Timeline picture) = view.Timeline (seen_of picture)
+view_of (asked.Timeline picture) = view.Timeline (seen_of picture) (between_of picture)
 view_of asked.TraceEvents = view.TraceEvents
 
 -- the text is the view of the realm of these limits that the script leaves

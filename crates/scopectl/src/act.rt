@@ -4,7 +4,7 @@ ghost use Rattle.std.specs.Io.KnownBytes.{Appends};
 ghost use Rattle.scope_script.specs.Streams.{AppendsPart};
 ghost use Rattle.scopectl.specs.Acting.{DidAll, DidNothing, DidSome};
 ghost use Rattle.scopectl.specs.Naming.{Names, NamesAfter, NamesAfterNotes, NamesAlone, NamesAny, NamesOf, NamesOfPlan};
-ghost use Rattle.scopectl.specs.Program.{DidJob, DidPart, DidReplay, DidWhole, IsRead, WroteScriptPartly, lines_or, notes_wanted, place_or, seen_of, tree_part, view_of};
+ghost use Rattle.scopectl.specs.Program.{DidJob, DidPart, DidReplay, DidWhole, IsRead, WroteScriptPartly, between_of, lines_or, notes_wanted, place_or, seen_of, tree_part, view_of};
 ghost use Rattle.scopectl.specs.Runs.{IsSound, run};
 ghost use Rattle.script_jobs.specs.Made.{IsScript};
 ghost use Rattle.scopectl.specs.Saying.{IsSaid, Noted, SaidSome, count_text, is_silent, status_of, three_if_some};
@@ -26,7 +26,7 @@ use scope_rules::Due;
 use scope_rules::types::capacity::LEVEL_LIMIT;
 use scope_script::Watched;
 use script_jobs::{
-    Count, Notes, Rendering, View, paged, replayed, replayed_noted, script_by, shown, shown_noted,
+    Between, Count, Notes, Rendering, View, paged, replayed, replayed_noted, script_by, shown, shown_noted,
 };
 use std::alloc::Global;
 use std::io::{ErrorKind, Read, Write};
@@ -408,7 +408,9 @@ fn view_of(view: ViewOptions) -> View
         ViewOptions::Dump(DumpFormat::First) => View::Dump,
         ViewOptions::Dump(DumpFormat::Second) => View::TimedDump,
         ViewOptions::Tree(tree) => View::Tree(tree_part(tree)),
-        ViewOptions::Timeline(picture) => View::Timeline(seen_of(picture)),
+        ViewOptions::Timeline(picture) => {
+            View::Timeline(seen_of(picture), between_of(picture))
+        }
         ViewOptions::TraceEvents => View::TraceEvents,
     }
 }
@@ -438,6 +440,16 @@ fn seen_of(picture: PictureOptions) -> Seen
         from: place_or(picture.from, whole.from),
         to: place_or(picture.to, whole.to),
         scope: picture.scope,
+    }
+}
+
+/// Between which moments the words ask for it.
+fn between_of(picture: PictureOptions) -> Between
+    ensures { result ≡ between_of picture }
+{
+    Between {
+        since: picture.since,
+        until: picture.until,
     }
 }
 

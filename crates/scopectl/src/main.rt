@@ -20,7 +20,7 @@ ghost use Rattle.scopectl.specs.Program.{IsRead};
 use colours::Coloured;
 use command_line::{ColorChoice, CommandLine, ViewOptions};
 use json::Replies;
-use looks::Looker;
+use looks::{Looker, Wanted};
 use opening::{
     Expected, GREETING, Input, PROMPT_GREETING, Parsed, Saver, act_by, act_prompted, expected_of,
     input_of, read_words,
@@ -113,7 +113,11 @@ fn run<'a, T: PoolRuntime + SystemTime>(rt: &T, host: &HostRuntime, words: &'a [
         broken: &broken,
     };
     let replies = Replies::new(parsed.streams.json, output);
-    let mut looker = Looker::new(*host, parsed.streams.journal);
+    let wanted = Wanted {
+        journal: parsed.streams.journal,
+        page: parsed.streams.page,
+    };
+    let mut looker = Looker::new(*host, wanted);
     let status = run_on(rt, host, words, parsed, &mut looker, replies, &mut errors);
     looker.status(status, &mut errors)
 }

@@ -158,7 +158,7 @@ fn answer_to<
         return Err(ProgramFault::Memory);
     };
     match deadline {
-        None => asked::<N, S, T>(rt, alloc, seed, spawner, looks, tree_after, plan, jobs),
+        None => asked::<N, S, T>(rt, alloc, seed, spawner, looks, tree_after, plan, jobs, clock),
         Some(deadline) => match clock {
             Some(clock) => {
                 asked_by::<N, S, T>(
@@ -242,6 +242,7 @@ fn asked<
     tree_after: Option<u32>,
     plan: &Plan,
     jobs: Vec<NamedJob<Due, LateJob<T>>>,
+    clock: Option<SystemClock<T>>,
 ) -> Result<Answer, ProgramFault>
     requires named { seed ≡ N.table }
     requires labelled { labels_in jobs.items ≡ labels_of plan.now }
@@ -252,7 +253,7 @@ fn asked<
         Ok(ctx) => ctx,
         Err(fault) => return Err(ProgramFault::of_service(fault)),
     };
-    let is_seen = begin_look(rt, &ctx, looks, tree_after);
+    let is_seen = begin_look(rt, &ctx, looks, clock, tree_after);
     let found = serve_in::<N, LateJob<T>, S, T>(rt, alloc, &mut ctx, plan, jobs);
     looks.end(rt);
     let (_token, _spawner) = ctx.leave(rt);
@@ -287,7 +288,7 @@ fn asked_by<
         Ok(ctx) => ctx,
         Err(fault) => return Err(ProgramFault::of_service(fault)),
     };
-    let is_seen = begin_look(rt, &ctx, looks, tree_after);
+    let is_seen = begin_look(rt, &ctx, looks, Some(clock), tree_after);
     let found = serve_in_by::<N, LateJob<T>, S, SystemClock<T>, T>(
         rt, alloc, &mut ctx, plan, jobs, by, &mut clock,
     );
@@ -296,16 +297,21 @@ fn asked_by<
     answer_seen(is_seen, found)
 }
 
-/// Has the realm of the context looked at. Answers whether there was memory for a share of it.
-fn begin_look<N: RealmName + Send + Sync + 'static, S: Spawner<N>, T: PoolRuntime>(
+/// Has the realm of the context looked at, by the plan's clock. Answers whether there was memory for a share of it.
+fn begin_look<
+    N: RealmName + Send + Sync + 'static,
+    S: Spawner<N>,
+    T: PoolRuntime + SystemTime,
+>(
     rt: &T,
     ctx: &TaskCtx<Due, S, N>,
     looks: &mut Looker<'_>,
+    clock: Option<SystemClock<T>>,
     tree_after: Option<u32>,
 ) -> bool {
     match ctx.realm() {
         Ok(realm) => {
-            looks.begin(rt, realm, tree_after);
+            looks.begin(rt, realm, clock, tree_after);
             true
         }
         Err(_) => false,

@@ -66,13 +66,6 @@ pub script_notes : (wanted : Notes) (L : Limits) (script : List ℕ) → bytes_n
 unfolding notes_text whole_from
 script_notes wanted L script = ap (λ (s : NoteSession). whole_from wanted s script) (begins L) ∙ by_lines wanted (noting_begins L) [] script
 
--- the notes on a whole script that is taken at once, and then ends
-pub noted_whole : (wanted : Notes) (L : Limits) (s u : NoteSession) (script a b c : List ℕ) → s ≡ notes_begin L → u ≡ noted_bytes s script → a ≡ [] → b ≡ a ++ bytes_note wanted s script → c ≡ b ++ end_note wanted u → c ≡ notes_text wanted L script
-noted_whole wanted L s u script a b c begun goes none more ends =
-    ends ∙ (ap (λ x. x ++ end_note wanted u) (more ∙ ap (λ x. x ++ bytes_note wanted s script) none)
-    ∙ (ap (λ v. bytes_note wanted s script ++ end_note wanted v) goes
-    ∙ (ap (λ (t : NoteSession). bytes_note wanted t script ++ end_note wanted (noted_bytes t script)) begun ∙ script_notes wanted L script)))
-
 -- ---- bytes that are put together
 
 pub noted_append : (s : NoteSession) (xs ys : List ℕ) → noted_bytes s (xs ++ ys) ≡ noted_bytes (noted_bytes s xs) ys

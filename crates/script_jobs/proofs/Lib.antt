@@ -1,5 +1,6 @@
 pub mod Growing
 mod ByBytes
+mod PieceByPiece
 mod PassedTasks
 mod Runs
 mod Running

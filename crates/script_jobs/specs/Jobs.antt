@@ -4,6 +4,7 @@ use Rattle.std.specs.Io.KnownBytes.{Appends, Consumes, IsAtEnd}
 use Rattle.scope_rules.specs.declared.types.capacity.Limits.{Limits}
 use Rattle.scope_script.specs.Sessions.{replies_of, realm_of_script}
 use Rattle.scope_script.specs.Streams.{AppendsPart}
+use Rattle.script_jobs.specs.Between.{seen_between}
 use Rattle.script_jobs.specs.Counts.{count_of_script}
 use Rattle.script_jobs.specs.declared.counting.Count.{Count}
 use Rattle.scope_rules.specs.History.{History}
@@ -61,7 +62,7 @@ abbrev pub shown_text : View → Limits → History → Stamps → List ℕ
 shown_text Dump L h s = dump_text h ++ 10 ∷ []
 shown_text TimedDump L h s = aged_text None L (clock_in h s) h
 shown_text (Tree part) L h s = aged_text (Some part) L (clock_in h s) h
-shown_text (Timeline seen) L h s = drawn_text h (record { view = seen; lines = []; times = s.events })
+shown_text (Timeline seen between) L h s = drawn_text h (record { view = seen_between between s.events seen; lines = []; times = s.events })
 shown_text TraceEvents L h s = trace_text h s.events
 
 -- all bytes were read, and the text is the view of the realm that they leave, which refused so many lines, by the

@@ -1,6 +1,7 @@
 pub mod Counts
 pub mod Comparing
 pub mod Begun
+pub mod Between
 pub mod Noting
 pub mod Jobs
 pub mod Passed

@@ -1,18 +1,20 @@
 //! What a script leaves, as it is shown, with notes on its lines.
-ghost use Rattle.std.specs.Prelude.{◌≡◌, ◌⊎◌, [], false, true, IfOk, OnErr, IsErrOf, string_bytes};
+ghost use Rattle.std.specs.Prelude.{◌≡◌, ◌⊎◌, [], false, true, IfOk, OnOk, OnErr, IsErrOf, string_bytes};
 ghost use Rattle.std.specs.Io.KnownBytes.{Appends};
 ghost use Rattle.script_jobs.specs.Jobs.{NotedPartly, ShowedNoted};
-ghost use Rattle.script_jobs.specs.Notes.{notes_text};
+ghost use Rattle.scope_script.specs.Streams.{AppendsPart};
+ghost use Rattle.script_jobs.specs.Notes.{bytes_note, end_note, noted_bytes, notes_text};
+ghost use Rattle.script_jobs.specs.Scripts.{noted_of};
 ghost use Rattle.script_jobs.specs.Turns.{turn};
 
 use crate::Notes;
-use crate::noting::NotedFault;
+use crate::noting::{NOTED_PIECE, NotedFault};
 use crate::session::NotedScript;
 use crate::showing::{Rendering, View, shown_of_script};
 use crate::whole::read_whole;
 use scope_rules::Limits;
 use scope_script::{ScriptFault, Watched};
-use std::alloc::{AllocError, Global};
+use std::alloc::Global;
 use std::io::{Read, Write};
 
 /// What `shown` does, with notes on the script's lines, which go to `errors` before anything is shown. The script is
@@ -46,12 +48,9 @@ pub fn shown_noted<R: Read + Drop, W: Write + Drop, E: Write + Drop>(
         Ok(script) => script,
         Err(fault) => return Err(NotedFault::Run(fault)),
     };
-    let Ok(notes) = notes_on(alloc, limits, wanted, &script) else {
-        return Err(NotedFault::Run(ScriptFault::Memory));
-    };
-    match errors.write_bytes(&notes) {
+    match write_notes(alloc, limits, wanted, &script, errors) {
         Ok(()) => {}
-        Err(_) => return Err(NotedFault::Notes),
+        Err(fault) => return Err(fault),
     }
     match shown_of_script(alloc, limits, view, &script, writer) {
         Ok(shown) => Ok(shown),
@@ -59,22 +58,92 @@ pub fn shown_noted<R: Read + Drop, W: Write + Drop, E: Write + Drop>(
     }
 }
 
-/// The notes on the lines of the script.
+/// Writes the notes on the lines of the script, those of a piece at a time: it takes no memory for the others.
 ///
 /// # Errors
-/// If memory was refused.
-fn notes_on(
+/// `Notes` if the writer failed, `Run` if memory was refused. A beginning of the notes was written then.
+fn write_notes<E: Write + Drop>(
     alloc: Global,
     limits: Limits,
     wanted: Notes,
     script: &[u8],
-) -> Result<Vec<u8>, AllocError>
-    ensures { IfOk result (λ notes. notes.items ≡ notes_text wanted limits script.now) }
+    errors: &mut Watched<E>,
+) -> Result<(), NotedFault>
+    ensures said { OnOk result (Appends (E.contents errors.old.inner) (E.contents errors.new.inner) (notes_text wanted limits script.now)) }
+    ensures sound { OnOk result (errors.new.failed ≡ errors.old.failed) }
+    ensures part { OnErr result (AppendsPart (E.contents errors.old.inner) (E.contents errors.new.inner) (notes_text wanted limits script.now)) }
+    ensures notes { IsErrOf result NotedFault.Notes → errors.new.failed ≡ true }
+    ensures notes_failed { errors.old.failed ≡ false → errors.new.failed ≡ true → (IsErrOf result NotedFault.Notes) }
+    ensures others { (IsErrOf result (NotedFault.Run ScriptFault.Read) → ⊥) × (IsErrOf result (NotedFault.Run ScriptFault.Write) → ⊥) }
 {
     let mut noted = NotedScript::new(alloc, limits);
+    let mut rest = script;
+    while !rest.is_empty() {
+        let (piece, others) = rest.split_at(rest.len().min(NOTED_PIECE));
+        match write_piece(alloc, &mut noted, wanted, piece, errors) {
+            Ok(()) => rest = others,
+            Err(fault) => return Err(fault),
+        }
+    }
+    write_end(alloc, &mut noted, wanted, errors)
+}
+
+/// Takes a piece of the script, and writes the notes on it.
+fn write_piece<E: Write + Drop>(
+    alloc: Global,
+    noted: &mut NotedScript,
+    wanted: Notes,
+    piece: &[u8],
+    errors: &mut Watched<E>,
+) -> Result<(), NotedFault>
+    ensures noted { OnOk result (noted_of noted.new ≡ noted_bytes (noted_of noted.old) piece.now) }
+    ensures said { OnOk result (Appends (E.contents errors.old.inner) (E.contents errors.new.inner) (bytes_note wanted (noted_of noted.old) piece.now)) }
+    ensures sound { OnOk result (errors.new.failed ≡ errors.old.failed) }
+    ensures part { OnErr result (AppendsPart (E.contents errors.old.inner) (E.contents errors.new.inner) (bytes_note wanted (noted_of noted.old) piece.now)) }
+    ensures notes { IsErrOf result NotedFault.Notes → errors.new.failed ≡ true }
+    ensures notes_failed { errors.old.failed ≡ false → errors.new.failed ≡ true → (IsErrOf result NotedFault.Notes) }
+    ensures others { (IsErrOf result (NotedFault.Run ScriptFault.Read) → ⊥) × (IsErrOf result (NotedFault.Run ScriptFault.Write) → ⊥) }
+{
     let mut replies = Vec::new(alloc);
     let mut notes = Vec::new(alloc);
-    noted.take(wanted, script, &mut replies, &mut notes)?;
-    noted.end(wanted, &mut replies, &mut notes)?;
-    Ok(notes)
+    match noted.take(wanted, piece, &mut replies, &mut notes) {
+        Ok(()) => written(&notes, errors),
+        Err(_) => Err(NotedFault::Run(ScriptFault::Memory)),
+    }
+}
+
+/// Ends the script, and writes the note on that.
+fn write_end<E: Write + Drop>(
+    alloc: Global,
+    noted: &mut NotedScript,
+    wanted: Notes,
+    errors: &mut Watched<E>,
+) -> Result<(), NotedFault>
+    ensures said { OnOk result (Appends (E.contents errors.old.inner) (E.contents errors.new.inner) (end_note wanted (noted_of noted.old))) }
+    ensures sound { OnOk result (errors.new.failed ≡ errors.old.failed) }
+    ensures part { OnErr result (AppendsPart (E.contents errors.old.inner) (E.contents errors.new.inner) (end_note wanted (noted_of noted.old))) }
+    ensures notes { IsErrOf result NotedFault.Notes → errors.new.failed ≡ true }
+    ensures notes_failed { errors.old.failed ≡ false → errors.new.failed ≡ true → (IsErrOf result NotedFault.Notes) }
+    ensures others { (IsErrOf result (NotedFault.Run ScriptFault.Read) → ⊥) × (IsErrOf result (NotedFault.Run ScriptFault.Write) → ⊥) }
+{
+    let mut replies = Vec::new(alloc);
+    let mut notes = Vec::new(alloc);
+    match noted.end(wanted, &mut replies, &mut notes) {
+        Ok(()) => written(&notes, errors),
+        Err(_) => Err(NotedFault::Run(ScriptFault::Memory)),
+    }
+}
+
+/// Writes the notes.
+fn written<E: Write + Drop>(notes: &[u8], errors: &mut Watched<E>) -> Result<(), NotedFault>
+    ensures said { OnOk result (Appends (E.contents errors.old.inner) (E.contents errors.new.inner) notes.now) }
+    ensures sound { OnOk result (errors.new.failed ≡ errors.old.failed) }
+    ensures part { OnErr result (AppendsPart (E.contents errors.old.inner) (E.contents errors.new.inner) notes.now) }
+    ensures fault { (fault : NotedFault) → IsErrOf result fault → fault ≡ NotedFault.Notes }
+    ensures failed { IsErrOf result NotedFault.Notes → errors.new.failed ≡ true }
+{
+    match errors.write_bytes(notes) {
+        Ok(()) => Ok(()),
+        Err(_) => Err(NotedFault::Notes),
+    }
 }

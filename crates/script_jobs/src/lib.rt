@@ -18,6 +18,7 @@
 #![tactic(auto)]
 
 mod begun;
+mod between;
 mod command_helps;
 mod comparing;
 mod counting;
@@ -39,6 +40,7 @@ mod times;
 mod whole;
 mod whys;
 
+pub use between::Between;
 pub use comparing::{Difference, first_difference};
 pub use counting::Count;
 pub use explained::shown_noted;

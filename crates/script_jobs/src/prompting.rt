@@ -1,6 +1,6 @@
 //! A replay at a terminal: each line is answered and explained at once.
 ghost use Rattle.std.specs.Prelude.{◌≡◌, ◌⊎◌, ◌++◌, ◌∷◌, ◌≤◌, ◌<◌, [], false, true, length, OnOk, IsErrOf};
-ghost use Rattle.script_jobs.specs.Prompting.{IsBeginning, Stands};
+ghost use Rattle.script_jobs.specs.Prompting.{IsBeginning, Stands, StandsUnless};
 
 use crate::Notes;
 use crate::command_helps::help_on;
@@ -42,7 +42,8 @@ pub trait Saves {
     fn save(&mut self, name: &str, lines: &[u8]) -> bool;
 }
 
-/// A script that a person types: its lines that stand, and what they leave.
+/// A script that a person types: its lines that stand, and what they leave. A line that was taken back is still in the
+/// script until something is asked of it.
 #[derive(Drop)]
 struct Talk {
     alloc: Global,
@@ -50,6 +51,7 @@ struct Talk {
     wanted: Notes,
     script: NotedScript,
     lines: Vec<u8>,
+    is_stale: bool,
 }
 
 /// Replays the lines that a person types, with notes. Each line is answered and noted before the next is read. The lines
@@ -78,6 +80,7 @@ pub fn prompted<R: Read + Drop, W: Write + Drop, E: Write + Drop, S: Saves + Dro
         wanted,
         script: NotedScript::new(alloc, limits),
         lines: Vec::new(alloc),
+        is_stale: false,
     };
     let mut begun = Vec::new(alloc);
     let mut piece = [0; NOTED_PIECE];
@@ -148,7 +151,7 @@ impl Talk {
         errors: &mut Watched<E>,
         saver: &mut S,
     ) -> Result<Count, NotedFault>
-        requires stands { Stands self.old.limits self.old.script self.old.lines.items }
+        requires stands { StandsUnless self.old.is_stale self.old.limits self.old.script self.old.lines.items }
         requires some { 0 < length piece.old }
         requires reader { reader.old.failed ≡ false }
         requires writer { writer.old.failed ≡ false }
@@ -164,11 +167,11 @@ impl Talk {
                 return Err(NotedFault::Run(ScriptFault::Read));
             };
             if count == 0 {
-                return Ok(self.script.count());
+                return self.count();
             }
             match self.hear_all(begun, &piece[..count], writer, errors, saver) {
                 Ok(true) => {}
-                Ok(false) => return Ok(self.script.count()),
+                Ok(false) => return self.count(),
                 Err(fault) => return Err(fault),
             }
         }
@@ -184,9 +187,9 @@ impl Talk {
         errors: &mut Watched<E>,
         saver: &mut S,
     ) -> Result<bool, NotedFault>
-        requires stands { Stands self.old.limits self.old.script self.old.lines.items }
+        requires stands { StandsUnless self.old.is_stale self.old.limits self.old.script self.old.lines.items }
         requires writer { writer.old.failed ≡ false }
-        ensures stands { OnOk result (Stands self.new.limits self.new.script self.new.lines.items) }
+        ensures stands { OnOk result (StandsUnless self.new.is_stale self.new.limits self.new.script self.new.lines.items) }
         ensures sent { OnOk result (writer.new.failed ≡ false) }
         ensures write { IsErrOf result (NotedFault.Run ScriptFault.Write) → writer.new.failed ≡ true }
         ensures notes { IsErrOf result NotedFault.Notes → errors.new.failed ≡ true }
@@ -219,9 +222,9 @@ impl Talk {
         errors: &mut Watched<E>,
         saver: &mut S,
     ) -> Result<bool, NotedFault>
-        requires stands { Stands self.old.limits self.old.script self.old.lines.items }
+        requires stands { StandsUnless self.old.is_stale self.old.limits self.old.script self.old.lines.items }
         requires writer { writer.old.failed ≡ false }
-        ensures stands { OnOk result (Stands self.new.limits self.new.script self.new.lines.items) }
+        ensures stands { OnOk result (StandsUnless self.new.is_stale self.new.limits self.new.script self.new.lines.items) }
         ensures sent { OnOk result (writer.new.failed ≡ false) }
         ensures write { IsErrOf result (NotedFault.Run ScriptFault.Write) → writer.new.failed ≡ true }
         ensures notes { IsErrOf result NotedFault.Notes → errors.new.failed ≡ true }
@@ -255,12 +258,25 @@ impl Talk {
         }
     }
 
+    /// What there is to count of the lines that stand.
+    fn count(&mut self) -> Result<Count, NotedFault>
+        requires { StandsUnless self.old.is_stale self.old.limits self.old.script self.old.lines.items }
+        ensures { (fault : NotedFault) → IsErrOf result fault → fault ≡ NotedFault.Run ScriptFault.Memory }
+    {
+        match self.refresh() {
+            Ok(()) => Ok(self.script.count()),
+            Err(_) => Err(NotedFault::Run(ScriptFault::Memory)),
+        }
+    }
+
     /// Says what is open now, with ages if there are readings of a clock.
     fn show<E: Write + Drop>(
-        &self,
+        &mut self,
         part: TreePart,
         errors: &mut Watched<E>,
     ) -> Result<bool, NotedFault>
+        requires stands { StandsUnless self.old.is_stale self.old.limits self.old.script self.old.lines.items }
+        ensures stands { OnOk result (StandsUnless self.new.is_stale self.new.limits self.new.script self.new.lines.items) }
         ensures notes { IsErrOf result NotedFault.Notes → errors.new.failed ≡ true }
         ensures read { IsErrOf result (NotedFault.Run ScriptFault.Read) → ⊥ }
         ensures write { IsErrOf result (NotedFault.Run ScriptFault.Write) → ⊥ }
@@ -272,7 +288,11 @@ impl Talk {
     }
 
     /// What is open now, or the part of it, as the tree of the lines shows it.
-    fn tree(&self, part: TreePart) -> Result<String, AllocError> {
+    fn tree(&mut self, part: TreePart) -> Result<String, AllocError>
+        requires { StandsUnless self.old.is_stale self.old.limits self.old.script self.old.lines.items }
+        ensures { OnOk result (StandsUnless self.new.is_stale self.new.limits self.new.script self.new.lines.items) }
+    {
+        self.refresh()?;
         let times = times_of(self.alloc, &self.lines, self.limits)?;
         let book = self.script.book();
         aged_text(self.alloc, self.limits, book, &times, Some(part))
@@ -280,7 +300,7 @@ impl Talk {
 
     /// Takes back the last line that stands, and says it.
     fn undo<E: Write + Drop>(&mut self, errors: &mut Watched<E>) -> Result<bool, NotedFault>
-        ensures stands { OnOk result (Stands self.new.limits self.new.script self.new.lines.items) }
+        ensures stands { OnOk result (StandsUnless self.new.is_stale self.new.limits self.new.script self.new.lines.items) }
         ensures notes { IsErrOf result NotedFault.Notes → errors.new.failed ≡ true }
         ensures read { IsErrOf result (NotedFault.Run ScriptFault.Read) → ⊥ }
         ensures write { IsErrOf result (NotedFault.Run ScriptFault.Write) → ⊥ }
@@ -298,9 +318,9 @@ impl Talk {
         writer: &mut Watched<W>,
         errors: &mut Watched<E>,
     ) -> Result<bool, NotedFault>
-        requires stands { Stands self.old.limits self.old.script self.old.lines.items }
+        requires stands { StandsUnless self.old.is_stale self.old.limits self.old.script self.old.lines.items }
         requires writer { writer.old.failed ≡ false }
-        ensures stands { OnOk result (Stands self.new.limits self.new.script self.new.lines.items) }
+        ensures stands { OnOk result (StandsUnless self.new.is_stale self.new.limits self.new.script self.new.lines.items) }
         ensures sent { OnOk result (writer.new.failed ≡ false) }
         ensures write { IsErrOf result (NotedFault.Run ScriptFault.Write) → writer.new.failed ≡ true }
         ensures notes { IsErrOf result NotedFault.Notes → errors.new.failed ≡ true }
@@ -325,11 +345,12 @@ impl Talk {
         replies: &mut Vec<u8>,
         notes: &mut Vec<u8>,
     ) -> Result<(), AllocError>
-        requires { Stands self.old.limits self.old.script self.old.lines.items }
+        requires { StandsUnless self.old.is_stale self.old.limits self.old.script self.old.lines.items }
         ensures stands { OnOk result (Stands self.new.limits self.new.script self.new.lines.items) }
         ensures lines { OnOk result (self.new.lines.items ≡ self.old.lines.items ++ (line.now ++ 10 ∷ [])) }
         ensures same { self.new.limits ≡ self.old.limits }
     {
+        self.refresh()?;
         let mut whole = Vec::new(self.alloc);
         whole.extend_from_slice(line)?;
         whole.push(b'\n')?;
@@ -337,10 +358,10 @@ impl Talk {
         self.lines.extend_from_slice(&whole)
     }
 
-    /// Takes back the last line that stands: the lines before it are taken anew, and no reply is written again. Gives
-    /// what is to be said of it.
+    /// Takes back the last line that stands, in time by its length: what the lines before it leave is had again once it
+    /// is asked for. Gives what is to be said of it.
     fn take_back(&mut self) -> Result<Vec<u8>, AllocError>
-        ensures stands { OnOk result (Stands self.new.limits self.new.script self.new.lines.items) }
+        ensures stands { OnOk result (StandsUnless self.new.is_stale self.new.limits self.new.script self.new.lines.items) }
         ensures lines { OnOk result (IsBeginning self.new.lines.items self.old.lines.items) }
         ensures same { self.new.limits ≡ self.old.limits }
     {
@@ -352,13 +373,28 @@ impl Talk {
             text.extend_from_slice(b"undone: ")?;
             text.extend_from_slice(&self.lines[kept..])?;
         }
+        self.lines.truncate(kept);
+        self.is_stale = true;
+        Ok(text)
+    }
+
+    /// The script is that of the lines that stand: they are taken anew if one was taken back, and no reply is written
+    /// again.
+    fn refresh(&mut self) -> Result<(), AllocError>
+        requires { StandsUnless self.old.is_stale self.old.limits self.old.script self.old.lines.items }
+        ensures stands { OnOk result (Stands self.new.limits self.new.script self.new.lines.items) }
+        ensures same { (self.new.limits ≡ self.old.limits) × (self.new.lines ≡ self.old.lines) }
+    {
+        if !self.is_stale {
+            return Ok(());
+        }
         let mut script = NotedScript::new(self.alloc, self.limits);
         let mut replies = Vec::new(self.alloc);
         let mut notes = Vec::new(self.alloc);
-        script.take(self.wanted, &self.lines[..kept], &mut replies, &mut notes)?;
-        self.lines.truncate(kept);
+        script.take(self.wanted, &self.lines, &mut replies, &mut notes)?;
         self.script = script;
-        Ok(text)
+        self.is_stale = false;
+        Ok(())
     }
 }
 

@@ -11,6 +11,7 @@ ghost use Rattle.run_picture.specs.Picture.{drawn_text};
 ghost use Rattle.run_picture.specs.Trace.{trace_text};
 ghost use Rattle.script_jobs.specs.Times.{stamps_of, stamps_of_script};
 
+use crate::between::Between;
 use crate::counting::{Count, count_of};
 use crate::times::{Times, times_of};
 use crate::whole::read_whole;
@@ -31,8 +32,8 @@ pub enum View {
     TimedDump,
     /// The same tree, or a part of it, as text for a terminal.
     Tree(TreePart),
-    /// A picture of the run, or of a part of it, as SVG.
-    Timeline(run_picture::View),
+    /// A picture of the run, or of a part of it between two moments, as SVG.
+    Timeline(run_picture::View, Between),
     /// The run as Chrome trace events, as JSON.
     TraceEvents,
 }
@@ -71,7 +72,7 @@ pub fn shown<R: Read + Drop, W: Write + Drop>(
 {
     match view {
         View::Dump => dumped(alloc, limits, reader, writer),
-        View::TimedDump | View::Tree(_) | View::Timeline(_) | View::TraceEvents => {
+        View::TimedDump | View::Tree(_) | View::Timeline(..) | View::TraceEvents => {
             shown_by_times(alloc, limits, view, reader, writer)
         }
     }
@@ -205,7 +206,9 @@ fn text_of(
         View::Dump => dump_line(alloc, book),
         View::TimedDump => aged_text(alloc, limits, book, times, None),
         View::Tree(part) => aged_text(alloc, limits, book, times, Some(part)),
-        View::Timeline(seen) => timeline(alloc, book, times, seen),
+        View::Timeline(seen, between) => {
+            timeline(alloc, book, times, between.narrowed(seen, &times.events))
+        }
         View::TraceEvents => trace_text(alloc, book, times),
     }
 }

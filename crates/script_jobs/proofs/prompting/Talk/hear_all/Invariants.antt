@@ -1,6 +1,6 @@
 -- The lines so far stand.
 use Rattle.std.proofs.Common.{◌≡◌, false, length}
-use Rattle.script_jobs.specs.Prompting.{Stands}
+use Rattle.script_jobs.specs.Prompting.{StandsUnless}
 use Rattle.script_jobs.proofs.prompting.Talk.hear_all.Given as goal
 
 abbrev pub decreases-loop-line : goal.decreases-loop-line
@@ -8,6 +8,6 @@ decreases-loop-line g l = length l.rest
 
 abbrev pub invariant-loop-line : goal.invariant-loop-line
 invariant-loop-line g l = record {
-  stands : Stands l.self.limits l.self.script l.self.lines.items;
+  stands : StandsUnless l.self.is_stale l.self.limits l.self.script l.self.lines.items;
   writes : l.writer.failed ≡ false;
 }

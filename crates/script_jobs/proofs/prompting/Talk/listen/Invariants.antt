@@ -1,6 +1,6 @@
 -- The lines so far stand, and no stream has failed.
 use Rattle.std.proofs.Common.{◌≡◌, ◌-◌, ◌<◌, false, length}
-use Rattle.script_jobs.specs.Prompting.{Stands}
+use Rattle.script_jobs.specs.Prompting.{StandsUnless}
 use Rattle.script_jobs.proofs.prompting.Talk.listen.Given as goal
 
 abbrev pub decreases-reading : goal.decreases-reading
@@ -8,7 +8,7 @@ decreases-reading g l = 18446744073709551615 - l.reader.reads
 
 abbrev pub invariant-reading : goal.invariant-reading
 invariant-reading g l = record {
-  stands : Stands l.self.limits l.self.script l.self.lines.items;
+  stands : StandsUnless l.self.is_stale l.self.limits l.self.script l.self.lines.items;
   room : 0 < length l.piece;
   reads : l.reader.failed ≡ false;
   writes : l.writer.failed ≡ false;
