@@ -26,7 +26,8 @@ use scope_rules::Due;
 use scope_rules::types::capacity::LEVEL_LIMIT;
 use scope_script::Watched;
 use script_jobs::{
-    Between, Count, Notes, Rendering, View, paged, replayed, replayed_noted, script_by, shown, shown_noted,
+    Between, Count, Notes, Rendering, View, paged, replayed, replayed_noted, script_by, shown,
+    shown_noted,
 };
 use std::alloc::Global;
 use std::io::{ErrorKind, Read, Write};
@@ -408,9 +409,7 @@ fn view_of(view: ViewOptions) -> View
         ViewOptions::Dump(DumpFormat::First) => View::Dump,
         ViewOptions::Dump(DumpFormat::Second) => View::TimedDump,
         ViewOptions::Tree(tree) => View::Tree(tree_part(tree)),
-        ViewOptions::Timeline(picture) => {
-            View::Timeline(seen_of(picture), between_of(picture))
-        }
+        ViewOptions::Timeline(picture) => { View::Timeline(seen_of(picture), between_of(picture)) }
         ViewOptions::TraceEvents => View::TraceEvents,
     }
 }

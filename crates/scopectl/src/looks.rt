@@ -269,7 +269,14 @@ fn look_until<N: RealmName, T: Wait + SystemTime + Copy>(
         let is_done = done.load(Ordering::SeqCst);
         let now = clock.now();
         let is_shown = tree_at.is_some_and(|at| at <= now);
-        let noted = note_news(rt, host.alloc(), realm, &mut grown, now, is_done || is_shown);
+        let noted = note_news(
+            rt,
+            host.alloc(),
+            realm,
+            &mut grown,
+            now,
+            is_done || is_shown,
+        );
         if noted.is_err() {
             return Err(LookFault::Unmade(ProgramFault::Memory));
         }

@@ -158,7 +158,9 @@ fn answer_to<
         return Err(ProgramFault::Memory);
     };
     match deadline {
-        None => asked::<N, S, T>(rt, alloc, seed, spawner, looks, tree_after, plan, jobs, clock),
+        None => asked::<N, S, T>(
+            rt, alloc, seed, spawner, looks, tree_after, plan, jobs, clock,
+        ),
         Some(deadline) => match clock {
             Some(clock) => {
                 asked_by::<N, S, T>(
@@ -298,11 +300,7 @@ fn asked_by<
 }
 
 /// Has the realm of the context looked at, by the plan's clock. Answers whether there was memory for a share of it.
-fn begin_look<
-    N: RealmName + Send + Sync + 'static,
-    S: Spawner<N>,
-    T: PoolRuntime + SystemTime,
->(
+fn begin_look<N: RealmName + Send + Sync + 'static, S: Spawner<N>, T: PoolRuntime + SystemTime>(
     rt: &T,
     ctx: &TaskCtx<Due, S, N>,
     looks: &mut Looker<'_>,

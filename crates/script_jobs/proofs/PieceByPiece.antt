@@ -47,7 +47,7 @@ module _ (wanted : Notes) (L : Limits) where
     noted_part piece others cut told =
         let part : AppendsPart e g (bytes_note wanted (notes_begin L) (so_far.done ++ piece)) = subst (AppendsPart e g) (more piece) (part_after e f g _ _ so_far.told told) in
         let whole : bytes_note wanted (notes_begin L) script ≡ bytes_note wanted (notes_begin L) (so_far.done ++ piece) ++ bytes_note wanted (noted_bytes (notes_begin L) (so_far.done ++ piece)) others =
-            ap (bytes_note wanted (notes_begin L)) (split piece others cut) ∙ sym (note_append wanted (notes_begin L) (so_far.done ++ piece) others) in
+        ap (bytes_note wanted (notes_begin L)) (split piece others cut) ∙ sym (note_append wanted (notes_begin L) (so_far.done ++ piece) others) in
         part_of_part e g _ _ _ (sym (script_notes wanted L script)) (part_of_part e g _ _ _ whole part)
 
     all_done : rest ≡ [] → script ≡ so_far.done

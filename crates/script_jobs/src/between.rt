@@ -43,7 +43,9 @@ fn from_by(since: Option<u32>, times: &[u32], from: u32) -> u32
 {
     match since {
         None => from,
-        Some(moment) => from.max(count_before(times, u64::from(moment)).min(u32::MAX as usize) as u32),
+        Some(moment) => from.max(
+            count_before(times, u64::from(moment)).min(u32::MAX as usize) as u32,
+        ),
     }
 }
 
