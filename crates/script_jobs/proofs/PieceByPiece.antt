@@ -1,6 +1,7 @@
 -- Notes that are written piece by piece are those on the whole script.
-use Rattle.std.proofs.Common.{◌≡◌, ℕ, Option, List, [], ◌++◌, refl, ap, sym, ◌∙◌, subst, append_assoc, append-nil}
+use Rattle.std.proofs.Common.{◌≡◌, ℕ, ◌==◌, Bool, true, Option, List, [], ◌∷◌, ◌++◌, length, refl, ap, sym, ◌∙◌, subst, append_assoc, append-nil, arith}
 use Rattle.std.specs.Io.KnownBytes.{Appends}
+use Rattle.std.proofs.lemmas.Bool.{eqb-true}
 use Rattle.std.proofs.KnownBytes.{Appends-trans, Appends-nil}
 use Rattle.scope_rules.specs.declared.types.capacity.Limits.{Limits}
 use Rattle.scope_script.specs.Streams.{AppendsPart}
@@ -65,3 +66,8 @@ module _ (wanted : Notes) (L : Limits) where
     -- it stops at the end
     pub noted_last_part : rest ≡ [] → AppendsPart f g (end_note wanted now) → AppendsPart e g (notes_text wanted L script)
     noted_last_part none told = subst (AppendsPart e g) (all_told none) (part_after e f g _ _ so_far.told told)
+
+-- a rest that is empty
+pub none_left : (rest : List ℕ) (none : Bool) → none ≡ (length rest == 0) → none ≡ true → rest ≡ []
+none_left [] none is empty = refl
+none_left (b ∷ rest) none is empty = absurd (let no : length (b ∷ rest) ≡ 0 = eqb-true _ _ (sym is ∙ empty) in omega arith)

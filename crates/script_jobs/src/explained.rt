@@ -2,8 +2,9 @@
 ghost use Rattle.std.specs.Prelude.{◌≡◌, ◌⊎◌, [], false, true, IfOk, OnOk, OnErr, IsErrOf, string_bytes};
 ghost use Rattle.std.specs.Io.KnownBytes.{Appends};
 ghost use Rattle.script_jobs.specs.Jobs.{NotedPartly, ShowedNoted};
+ghost use Rattle.scope_rules.specs.declared.types.capacity.Limits.{Limits};
 ghost use Rattle.scope_script.specs.Streams.{AppendsPart};
-ghost use Rattle.script_jobs.specs.Notes.{bytes_note, end_note, noted_bytes, notes_text};
+ghost use Rattle.script_jobs.specs.Notes.{bytes_note, end_note, noted_bytes, notes_begin, notes_text};
 ghost use Rattle.script_jobs.specs.Scripts.{noted_of};
 ghost use Rattle.script_jobs.specs.Turns.{turn};
 
@@ -77,15 +78,33 @@ fn write_notes<E: Write + Drop>(
     ensures others { (IsErrOf result (NotedFault.Run ScriptFault.Read) → ⊥) × (IsErrOf result (NotedFault.Run ScriptFault.Write) → ⊥) }
 {
     let mut noted = NotedScript::new(alloc, limits);
+    write_pieces(alloc, &mut noted, wanted, script, errors)
+}
+
+/// Takes the script, which is whole, and writes the notes on it.
+fn write_pieces<E: Write + Drop>(
+    alloc: Global,
+    noted: &mut NotedScript,
+    wanted: Notes,
+    script: &[u8],
+    errors: &mut Watched<E>,
+) -> Result<(), NotedFault>
+    ensures said { (L : Limits) → noted_of noted.old ≡ notes_begin L → OnOk result (Appends (E.contents errors.old.inner) (E.contents errors.new.inner) (notes_text wanted L script.now)) }
+    ensures sound { OnOk result (errors.new.failed ≡ errors.old.failed) }
+    ensures part { (L : Limits) → noted_of noted.old ≡ notes_begin L → OnErr result (AppendsPart (E.contents errors.old.inner) (E.contents errors.new.inner) (notes_text wanted L script.now)) }
+    ensures notes { IsErrOf result NotedFault.Notes → errors.new.failed ≡ true }
+    ensures notes_failed { errors.old.failed ≡ false → errors.new.failed ≡ true → (IsErrOf result NotedFault.Notes) }
+    ensures others { (IsErrOf result (NotedFault.Run ScriptFault.Read) → ⊥) × (IsErrOf result (NotedFault.Run ScriptFault.Write) → ⊥) }
+{
     let mut rest = script;
     while !rest.is_empty() {
         let (piece, others) = rest.split_at(rest.len().min(NOTED_PIECE));
-        match write_piece(alloc, &mut noted, wanted, piece, errors) {
+        match write_piece(alloc, noted, wanted, piece, errors) {
             Ok(()) => rest = others,
             Err(fault) => return Err(fault),
         }
     }
-    write_end(alloc, &mut noted, wanted, errors)
+    write_end(alloc, noted, wanted, errors)
 }
 
 /// Takes a piece of the script, and writes the notes on it.
