@@ -20,7 +20,7 @@ class Run:
     """What there is since the last retirement: scopes and tasks by number, and the marks of events."""
 
     def __init__(self, program, lines):
-        self.scopes, self.tasks, self.marks, self.events, self.stacks, self.deadline = {}, {}, [], 0, {0: []}, {}
+        self.scopes, self.tasks, self.marks, self.ticks, self.events, self.stacks = {}, {}, [], [], 0, {0: []}
         commands = [line for line in lines if line.strip() and not line.startswith("#")]
         # Behind each line each scope is asked for its cause, and at the end each task for its state.
         replies = says(program, ["replay", "--quiet"], commands).splitlines()
@@ -49,7 +49,7 @@ class Run:
         if told[0] in ("refused", "already") or word in ("state", "stage", "result", "fault", "cause", "until", "counts", "get"):
             return
         if word == "retire":
-            self.scopes, self.tasks, self.marks, self.events = {}, {}, [], 0
+            self.scopes, self.tasks, self.marks, self.ticks, self.events = {}, {}, [], [], 0
             return
         self.events += 1
         at, numbers = self.events, [int(it) for it in words[1:3] if it.isdigit()]
@@ -68,6 +68,8 @@ class Run:
             self.tasks[numbers[0]].update(ended=at, value=words[2])
         elif word == "reject":
             self.tasks[numbers[0]].update(never=at, rejected=at)
+        elif word == "tick":
+            self.ticks.append(("tick", f"{words[1]} ms"))
         elif word == "move":
             self.marks.append((at, "moved", f"scope {numbers[0]} has " + ("no deadline" if words[2] == "never" else f"the deadline {words[2]} ms")))
         elif word == "join":
@@ -133,23 +135,34 @@ def picture_of(run):
         if it["never"]:
             marks.append((it["never"], "never", f"task {number} never starts"))
     arrows = [("arrow", it["from"], number) for number, it in run.scopes.items() if "cancelled" in it]
-    return Counter(labels + bars + [(kind, f"event {at}: {mark}") for at, kind, mark in marks] + arrows)
+    return Counter(labels + bars + [(kind, f"event {at}: {mark}") for at, kind, mark in marks] + run.ticks + arrows)
 
 
 def trace_of(run):
-    """The slices, marks and arrows that a trace of the run has, but for their times."""
-    said = [("X", "waits", number, it["scope"], "started" if "started" in it else "rejected" if "rejected" in it else "waiting")
-            for number, it in run.tasks.items() if it["forked"] != it["never"]]  # fmt: skip
-    said += [("X", it["name"], number, it["scope"], read_of(it)[1]) for number, it in run.tasks.items() if "started" in it]
-    said += [("i", "never starts", number, it["scope"], None) for number, it in run.tasks.items() if it["forked"] == it["never"]]
+    """The slices, marks and arrows that a trace of the run has, an event a millisecond."""
+    said = []
+
+    def put(phase, name, thread, of=None, state=None, begin=0, end=0):
+        length = (run.events if end is None else end - 1) * 1000 - (begin - 1) * 1000 if phase == "X" else None
+        said.append((phase, name, thread, of, state, (begin - 1) * 1000, length))
+
+    for number, it in run.tasks.items():
+        if it["forked"] == it["never"]:
+            put("i", "never starts", number, it["scope"], None, it["never"])
+            continue
+        waits = "started" if "started" in it else "rejected" if "rejected" in it else "waiting"
+        put("X", "waits", number, it["scope"], waits, it["forked"], it.get("started", it["never"]))
+        if "started" in it:
+            put("X", it["name"], number, it["scope"], read_of(it)[1], it["started"], it.get("ended"))
     for number, it in run.scopes.items():
-        said.append(("X", f"scope {number} {it['words']}", it["owner"], None, "closed" if "closed" in it else "open"))
+        put("X", f"scope {number} {it['words']}", it["owner"], None, "closed" if "closed" in it else "open", it["opened"], it.get("closed"))
         if "closing" in it:
-            said.append(("i", f"closing {number}", it["owner"], None, None))
+            put("i", f"closing {number}", it["owner"], begin=it["closing"])
         if "cancelled" in it:
-            said.append(("i", f"cancel {number}", it["owner"], it["from"], it["kind"]))
+            put("i", f"cancel {number}", it["owner"], it["from"], it["kind"], it["cancelled"])
             if it["from"] != number:
-                said += [("s", number, run.scopes[it["from"]]["owner"], None, None), ("f", number, it["owner"], None, None)]
+                put("s", number, run.scopes[it["from"]]["owner"], begin=it["cancelled"])
+                put("f", number, it["owner"], begin=it["cancelled"])
     return Counter(said)
 
 
@@ -158,19 +171,18 @@ def in_picture(text):
     text = text.split("<g transform='translate(8 ")[0]
     labels = re.findall("<text class='(?:scope|task)' [^>]*>(.*?)<title>", text)
     rows = {int(y) - 4: int(number) for y, number in re.findall("<text class='scope' x='\\d+' y='(\\d+)'>scope (\\d+)", text)}
-    marks = re.findall("<(?:path class=|use href=)'#?(\\w+)' [^>]*><title>(?!\\d+ ms)(.*?) ?</title>", text)
+    marks = re.findall("<(?:path class=|use href=)'#?(\\w+)' [^>]*><title>(.*?) ?</title>", text)
     return Counter(labels + marks + [("arrow", rows[int(a)], rows[int(b)]) for a, b in re.findall("<path class='reach' d='M\\d+ (\\d+)V(\\d+)'/>", text)])
 
 
 def in_trace(text):
-    """The slices, marks and arrows of a trace, but for their times."""
+    """The slices, marks and arrows of a trace."""
     has = Counter()
     for it in json.loads(text):
         args = it.get("args", {})
-        if it["ph"] in "sf":
-            has[it["ph"], it["id"], it["tid"], None, None] += 1
-        elif it["ph"] != "M":
-            has[it["ph"], it["name"], it["tid"], args.get("scope", args.get("from")), args.get("is", args.get("by"))] += 1
+        if it["ph"] != "M":
+            of, state = args.get("scope", args.get("from")), args.get("is", args.get("by"))
+            has[it["ph"], it.get("id", it["name"]), it["tid"], of, state, it["ts"], it.get("dur")] += 1
     return has
 
 
