@@ -1,11 +1,13 @@
 /* Stands before the system's allocator, put there by the loader (LD_PRELOAD), and refuses requests for memory, as
    the word REFUSE says: `N` the N-th request alone, `N-M` that one and all up to the M-th, `N+` that one and all
-   behind it, `/N` one in N, by numbers that look random. They are counted from the program's beginning, over all its
-   threads. Each refusal writes a byte to the descriptor 9. */
+   behind it, `/N` one in N, by numbers that look random; `in-turn` plays the program over and over, as turns.h says.
+   They are counted from the program's beginning, over all its threads. Each refusal writes a byte to the descriptor 9. */
+#define _GNU_SOURCE
 #include <errno.h>
 #include <limits.h>
 #include <stdatomic.h>
 #include <stdlib.h>
+#include <string.h>
 #include <unistd.h>
 
 extern void *__libc_malloc(size_t size);
@@ -16,13 +18,19 @@ static long last;
 static int at_random;
 static atomic_long requests;
 
-__attribute__((constructor)) static void read_orders(void)
+#include "turns.h"
+
+__attribute__((constructor)) static void read_orders(int count, char **words)
 {
     const char *orders = getenv("REFUSE");
     char *rest = NULL;
 
     if (orders == NULL)
         return;
+    if (strcmp(orders, "in-turn") == 0) {
+        in_turn(count, words);
+        return;
+    }
     at_random = *orders == '/';
     first = strtol(orders + at_random, &rest, 10);
     last = *rest == '+' ? LONG_MAX : *rest == '-' ? strtol(rest + 1, NULL, 10) : first;

@@ -30,19 +30,17 @@ so_many() {
 # ends STATUS SAID WORDS..: the program ends with the status, and what it says on standard error begins
 # with SAID, or is nothing where that is empty. Streams are as the caller gives them.
 ends() {
-    local wanted=$1 said=$2 status=0 errors
+    local wanted=$1 said=$2 status=0 errors=''
     shift 2
     "$program" "$@" 2>"$room/errors" || status=$?
-    errors=$(<"$room/errors")
+    [[ ! -s $room/errors ]] || errors=$(<"$room/errors")
     ((status == wanted)) || complain "$* ended with $status, not $wanted${errors:+, and said: $errors}"
     [[ $errors == "$said"* && (-n $said || -z $errors) ]] || complain "$* said '$errors', not '$said'"
 }
 
 # notes REPLIES: what is said on standard error where a script has these replies: how many lines were refused
 notes() {
-    local refused bad_words
-    refused=$(grep -c '^refused ' "$1" || true) bad_words=$(grep -c '^refused 18 ' "$1" || true)
-    ((refused == 0)) || echo "scopectl: lines refused: $refused, not a command: $bad_words"
+    awk '$1 == "refused" { all++; bad += $2 == 18 } END { if (all) print "scopectl: lines refused: " all ", not a command: " bad + 0 }' "$1"
 }
 
 # plays PAGE: each command that the page shows behind a `$` says what stands below it, up to a line that isn't indented;
