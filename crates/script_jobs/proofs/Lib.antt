@@ -1,6 +1,7 @@
 pub mod Growing
 mod ByBytes
 mod PieceByPiece
+mod Counted
 mod PassedTasks
 mod Runs
 mod Running

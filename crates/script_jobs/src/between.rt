@@ -68,7 +68,7 @@ fn count_before(times: &[u32], moment: u64) -> usize
 {
     let mut rest = times;
     let mut count = 0;
-    while let [time, others @ ..] = rest {
+    while let Some((time, others)) = rest.split_first() {
         if moment <= u64::from(*time) {
             return count;
         }
