@@ -203,11 +203,6 @@ impl<'scope, 'env> Scope<'scope, 'env> {
                 }
                 told => {
                     let outcome = Outcome::of_pair(&told?)?;
-                    match self.has_threads() {
-                        true => inner.times.event(self.shared.now()),
-                        // It waited for nothing, so that its time is not worth a look at the clock.
-                        false => inner.times.next(),
-                    }
                     inner.note(|notes, book| notes.join(self.actor, scope, outcome, book));
                     self.shared.settle(&mut inner);
                     return Ok(outcome);
