@@ -195,7 +195,7 @@ impl<'scope, 'env> Scope<'scope, 'env> {
             threads.close();
         }
         let mut has_spun = false;
-        let mut inner = self.shared.lock();
+        let mut inner = if self.has_threads() { self.shared.lock() } else { self.shared.lock_again() };
         loop {
             match inner.book.join(self.actor, scope) {
                 Err(Code::NOT_READY) => {

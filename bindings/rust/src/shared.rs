@@ -244,6 +244,14 @@ impl Shared {
         inner
     }
 
+    /// The same right behind another call of the caller's, whose moment will do: it reads no clock without a deadline.
+    pub(crate) fn lock_again(&self) -> Held<'_> {
+        self.pass_outside();
+        let mut inner = self.quietly();
+        self.pass_again(&mut inner);
+        inner
+    }
+
     /// Has a deadline that is due outside of this realm pass, as it may cancel what is inside. The lock is free.
     fn pass_outside(&self) {
         if let Some(outside) = &self.outside {
@@ -257,6 +265,13 @@ impl Shared {
     pub(crate) fn is_due(&self) -> bool {
         let next = self.next.load(Ordering::Relaxed);
         (next != NEVER && self.now() >= next) || self.outside.as_ref().is_some_and(|outside| outside.shared.is_due())
+    }
+
+    /// As `pass_deadlines`, if there are any.
+    fn pass_again(&self, inner: &mut Inner) {
+        if self.next.load(Ordering::Relaxed) != NEVER {
+            self.pass_deadlines(inner);
+        }
     }
 
     /// Reads the clock, and tells the book the moment where a deadline is due.
@@ -419,7 +434,7 @@ impl Shared {
             self.note_next(inner);
         }
         self.settle(inner);
-        self.pass_deadlines(inner);
+        self.pass_again(inner);
         Ok(bell)
     }
 
@@ -462,7 +477,7 @@ impl Shared {
         });
         self.note_next(&mut inner);
         self.settle(&mut inner);
-        self.pass_deadlines(&mut inner);
+        self.pass_again(&mut inner);
         drop(inner);
         self.ring_all();
         Ok(())
