@@ -67,7 +67,7 @@ static void look(worker *self)
     case 2: heard(self, balkreyn_around(&book, any(self, 100))); break;
     case 3: heard(self, balkreyn_is_cancelled(&book, any(self, 100))); break;
     case 4: heard(self, balkreyn_nth_cancelled(&book, 0)); break;
-    case 5: (void)(any(self, 100) || heard(self, balkreyn_dump(&book, text, sizeof text))); break;
+    case 5: (void)(any(self, 100) || heard(self, any(self, 2) ? balkreyn_dump(&book, text, sizeof text) : balkreyn_timed_journal(&book, 0, text, sizeof text))); break;
     default: heard(self, balkreyn_line(&book, line, sizeof line - 1, text, sizeof text)); break;
     }
 }
@@ -83,7 +83,7 @@ static void *run(void *given)
         case 1: any(self, 8) ? fork_one(self) : fork_some(self); break;
         case 2: heard(self, balkreyn_start(&book, 1 + any(self, 1 + 2 * i))); break;
         case 3: heard(self, balkreyn_finish_told(&book, 1 + any(self, 1 + 2 * i), 1, &news)); break;
-        case 4: heard(self, balkreyn_tick(&book, i)); break;
+        case 4: heard(self, any(self, 2) ? balkreyn_tick(&book, i) : balkreyn_note(&book, i)); break;
         case 8:
             if (any(self, 200) == 0 && heard(self, balkreyn_book_close(&book)) == BALKREYN_DONE)
                 while (balkreyn_book_open(&book, 1, BALKREYN_TASK_LIMIT, BALKREYN_LOAD_LIMIT) == BALKREYN_BUSY)

@@ -172,6 +172,22 @@ static void shows(balkreyn_book *book)
     CHECK(balkreyn_dump(book, text, 0) > 0 && text[0] == 't');
 }
 
+/* Events have the times that were noted, and a retirement takes them away. */
+static void has_times(balkreyn_book *book)
+{
+    uint8_t text[512];
+
+    CHECK(balkreyn_note(book, 70) == BALKREYN_DONE && balkreyn_note(book, 69) == BALKREYN_CLOCK_BACK);
+    CHECK(balkreyn_start(book, 6) == BALKREYN_DONE && balkreyn_note(book, 90) == BALKREYN_DONE);
+    CHECK(balkreyn_note(book, 100) == BALKREYN_DONE && balkreyn_note(book, 90) == BALKREYN_DONE);
+    CHECK(balkreyn_bind(book, 6, TEXT("key"), 1) == BALKREYN_DONE);
+    CHECK(is_text(balkreyn_timed_journal(book, 120, text, sizeof text), text,
+                  "tick 50\n# at 70\nopen 0 any\nfork 0 1 ask\n# at 90\nstart 1\nbind 1 key 1\n# at 120\n"));
+    CHECK(balkreyn_unbind(book, 6) == BALKREYN_DONE && balkreyn_note(book, 120) == BALKREYN_DONE);
+    CHECK(is_text(balkreyn_journal(book, text, sizeof text), text,
+                  "tick 50\nopen 0 any\nfork 0 1 ask\nstart 1\nbind 1 key 1\nunbind 1\n"));
+}
+
 /* The same realm by lines. */
 static void goes_by_lines(balkreyn_book *book)
 {
@@ -180,7 +196,6 @@ static void goes_by_lines(balkreyn_book *book)
 #define LINE(line) balkreyn_line(book, TEXT(line), reply, sizeof reply)
     CHECK(LINE("") == 0 && LINE("# a comment") == 0);
     CHECK(is_text(LINE("what"), reply, "refused 18 bad-word\n"));
-    CHECK(is_text(LINE("start 6"), reply, "started\n"));
     CHECK(is_text(LINE("start 6"), reply, "refused 8 wrong-stage\n"));
     CHECK(is_text(LINE("open 6 until:ok:2 shield"), reply, "scope 5\n"));
     CHECK(is_text(LINE("fork 6 5 sub"), reply, "task 7 thread\n"));
@@ -200,6 +215,8 @@ static void goes_by_lines(balkreyn_book *book)
     CHECK(is_text(LINE("close 0 4"), reply, "closing\n"));
     CHECK(is_text(LINE("closed 0 4"), reply, "closed\n"));
     CHECK(is_text(LINE("retire 0"), reply, "retired 5 7\n"));
+    CHECK(balkreyn_note(book, 7) == BALKREYN_DONE); /* times begin anew */
+    CHECK(is_text(balkreyn_timed_journal(book, 7, reply, sizeof reply), reply, "tick 60\n# at 7\n"));
 #undef LINE
 }
 
@@ -272,6 +289,7 @@ int main(void)
     one_fails(&book);
     time_passes(&book);
     shows(&book);
+    has_times(&book);
     goes_by_lines(&book);
     hears(&book);
     closes(&book);

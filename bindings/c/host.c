@@ -8,6 +8,7 @@
 
 #include <stdio.h>
 #include <stdlib.h>
+#include <string.h>
 
 #define CHECK(condition)                                                                     \
     do {                                                                                     \
@@ -89,9 +90,9 @@ int main(int count, char **words)
         if (count > 2) {
             char name[4096];
             uint8_t none;
-            int64_t length = balkreyn_journal(&realm.book, &none, 0);
-            uint8_t *text = malloc((size_t)length);
-            CHECK(text != NULL && balkreyn_journal(&realm.book, text, (size_t)length) == length);
+            int64_t length = bh_journal(&realm, &none, 0);
+            uint8_t *text = malloc((size_t)length + 8);
+            CHECK(text != NULL && (length = bh_journal(&realm, text, (size_t)length + 8)) > 0 && memcmp(text, "# at ", 5) == 0);
             CHECK(snprintf(name, sizeof name, "%s/%u", words[2], number) < (int)sizeof name);
             FILE *file = fopen(name, "w");
             CHECK(file != NULL && fwrite(text, 1, (size_t)length, file) == (size_t)length && fclose(file) == 0);

@@ -111,6 +111,9 @@ static bool run(void)
     strcat(all, "\n");
     line(&book, "join 0 2", all, 2);
     CHECK(balkreyn_join(&book, MAIN, 2) == BALKREYN_ALREADY_JOINED);
+    DO(balkreyn_note(&book, 5), BALKREYN_DONE);
+    int64_t timed = balkreyn_timed_journal(&book, 9, told, sizeof told);
+    CHECK(timed > 0 || timed == BALKREYN_MEMORY);
     int64_t dump = balkreyn_dump(&book, told, sizeof told);
     CHECK(dump > 0 || dump == BALKREYN_MEMORY);
     int64_t journal = balkreyn_journal(&book, told, sizeof told);

@@ -50,7 +50,7 @@ extern "C" {
 #endif
 
 /* The number of this interface. balkreyn_abi() answers that of the library: call nothing else where they differ. */
-#define BALKREYN_ABI 2u
+#define BALKREYN_ABI 3u
 /* The release, of which the packages for pkg-config, CMake, Rust and Python are too. */
 #define BALKREYN_VERSION "0.2.0"
 
@@ -102,7 +102,7 @@ typedef struct balkreyn_news {
 #define BALKREYN_STRUCTURE (-6)      /* scopes or bindings would not nest */
 #define BALKREYN_NO_TASK (-7)        /* no task has that number */
 #define BALKREYN_WRONG_STAGE (-8)    /* the task, or the scope, is not at the stage that the call wants */
-#define BALKREYN_CLOCK_BACK (-9)     /* the moment is before the present one */
+#define BALKREYN_CLOCK_BACK (-9)     /* the moment is before the present one, or the reading before the last one */
 #define BALKREYN_TOO_MANY (-10)      /* a limit of scopes, tasks or load is met */
 #define BALKREYN_NOT_READY (-11)     /* a task of the scope has not ended */
 #define BALKREYN_NOT_BOUND (-12)     /* nothing is bound that the call asks for */
@@ -273,6 +273,14 @@ BALKREYN_CALL int64_t balkreyn_end_close(balkreyn_book *book, uint32_t actor, ui
 BALKREYN_CALL int64_t balkreyn_retire(balkreyn_book *book, uint32_t actor);
 
 /*
+ * Notes when events came, for balkreyn_timed_journal: each that has no time yet came at this reading of the host's
+ * clock, in milliseconds. A host calls it behind each command, or only once its clock moves on, with the reading of
+ * before. Times go with a retirement, and nothing that the realm answers depends on them. BALKREYN_CLOCK_BACK: it is
+ * before the last time. BALKREYN_MEMORY: eight bytes an event.
+ */
+BALKREYN_CALL int64_t balkreyn_note(balkreyn_book *book, uint64_t now);
+
+/*
  * ---- queries
  *
  * They change nothing. Each answers what is said, a refusal, BALKREYN_NO_REALM, or else BALKREYN_BAD_ARGUMENT where
@@ -355,6 +363,12 @@ BALKREYN_CALL int64_t balkreyn_dump(balkreyn_book *book, uint8_t *text, size_t r
 
 /* What happened since the last retirement, as a script: lines that balkreyn_line takes, each with its line feed. */
 BALKREYN_CALL int64_t balkreyn_journal(balkreyn_book *book, uint8_t *text, size_t room);
+
+/*
+ * The same with the times that were noted: before an event whose time is another than the last a comment `# at N`, and
+ * behind all of them one with this reading.
+ */
+BALKREYN_CALL int64_t balkreyn_timed_journal(balkreyn_book *book, uint64_t now, uint8_t *text, size_t room);
 
 /*
  * Performs a line of a script, which comes without its line feed, and answers the length of the line of its reply,

@@ -38,6 +38,7 @@ struct bh_realm {
     pthread_mutex_t lock;
     pthread_cond_t bell; /* a task ended, a scope was cancelled, or a deadline was set */
     struct timespec began;
+    uint64_t at; /* the clock's last reading: events that are not noted yet came then */
     balkreyn_book book;
     bh_actor main;
 };
@@ -90,11 +91,13 @@ static inline uint64_t bh_now(const bh_realm *realm)
     return (uint64_t)(now.tv_sec - realm->began.tv_sec) * 1000u + (uint64_t)((now.tv_nsec - realm->began.tv_nsec) / 1000000);
 }
 
-/* With the lock held: passes the deadlines that are due, and wakes who waits for what they cancel. */
+/* With the lock held: reads the clock, passes the deadlines that are due, and wakes who waits for what they cancel. */
 static inline void bh_pass(bh_realm *realm)
 {
     uint64_t next, now = bh_now(realm);
 
+    if (now != realm->at && balkreyn_note(&realm->book, realm->at) == BALKREYN_DONE)
+        realm->at = now;
     if (balkreyn_next_deadline(&realm->book, &next) == 1 && next <= now && balkreyn_tick(&realm->book, now) == BALKREYN_DONE)
         pthread_cond_broadcast(&realm->bell);
 }
@@ -227,6 +230,15 @@ static inline int64_t bh_sleep(bh_actor *actor, uint64_t milliseconds)
         bh_wait(realm, end);
     pthread_mutex_unlock(&realm->lock);
     return cause;
+}
+
+/* The journal with times, a script for scopectl: its length, and it is written if there is room for all of it. */
+static inline int64_t bh_journal(bh_realm *realm, uint8_t *text, size_t room)
+{
+    balkreyn_book *book = bh_lock(realm);
+    int64_t answer = balkreyn_note(book, realm->at);
+
+    return bh_unlock(realm, answer < 0 ? answer : balkreyn_timed_journal(book, realm->at, text, room));
 }
 
 /* Cancels the scope and what lies in it, up to shields: BALKREYN_DONE or BALKREYN_ALREADY. Any thread of the realm may. */

@@ -171,8 +171,8 @@ class Scope(ScopeCore[R], Generic[R]):
         return str(self.realm.book.dump())
 
     def journal(self) -> str:
-        """What happened since the outermost scope began: a script for `scopectl replay`."""
-        return str(self.realm.book.journal())
+        """What happened since the outermost scope began: a script for `scopectl replay`, with times."""
+        return str(self.realm.journal())
 
     async def __aexit__(
         self, kind: Optional[Type[BaseException]], error: Optional[BaseException], trace: Optional[TracebackType]

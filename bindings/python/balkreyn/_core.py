@@ -64,6 +64,7 @@ class Realm:
         self.scopes: Dict[int, ScopeCore[Any]] = {}
         self.next: Optional[int] = None
         self._told, self._has_deadlines = 0, False
+        self._at = 0
 
     def hear_cancel(self, scope: ScopeCore[Any]) -> None:
         """The scope is cancelled now: whoever waits or runs in it is to hear of it."""
@@ -86,9 +87,18 @@ class Realm:
         return self.next is not None and self.now() >= self.next
 
     def pass_deadlines(self) -> None:
-        """Passes the deadlines that are due."""
-        if self.next is not None and self.now() >= self.next:
+        """Reads the clock, and passes the deadlines that are due. What was recorded before came at the last reading."""
+        now = self.now()
+        if now != self._at and self.book.note(self._at):
+            self._at = now
+        if self.next is not None and now >= self.next:
             self.tick()
+
+    def journal(self) -> str:
+        """What happened since the realm began, as a script with lines `# at N` where the time moves on."""
+        self.pass_deadlines()
+        self.book.note(self._at)
+        return self.book.timed_journal(self._at)
 
     def tick(self) -> None:
         """Tells the book the time. A tick that the limit of load refuses is tried again by whoever waits."""

@@ -10,7 +10,7 @@ from typing import Any, Callable, Optional, Tuple
 
 from ._words import Refused
 
-INTERFACE = 2
+INTERFACE = 3
 _NOT_READY, _NOT_SUCCESS, _MEMORY = -11, -14, -17
 _u32, _i64, _u64, _size, _text, _at = (
     ctypes.c_uint32,
@@ -67,7 +67,8 @@ _state, _stage, _cause = _take("state", _u32), _take("stage", _u32), _take("caus
 _result = _take("result", _u32, _u32, _at, _text, _size)
 _until = _take("until", _u32, _at)
 _nth_cancelled, _next_deadline = _take("nth_cancelled", _size), _take("next_deadline", _at)
-_dump, _journal, _outcome_line = _take("dump", _text, _size), _take("journal", _text, _size), _take("outcome_line", _u32, _text, _size)
+_note, _timed_journal = _take("note", _u64), _take("timed_journal", _u64, _text, _size)
+_dump, _outcome_line = _take("dump", _text, _size), _take("outcome_line", _u32, _text, _size)
 
 
 def _refuse(answer: int) -> int:
@@ -202,8 +203,11 @@ class Book:
     def dump(self) -> str:
         return self._read(_dump)
 
-    def journal(self) -> str:
-        return self._read(_journal)
+    def note(self, moment: int) -> bool:
+        return _note(self._place, moment) == 0
+
+    def timed_journal(self, moment: int) -> str:
+        return self._read(_timed_journal, moment)
 
     def outcome_line(self, scope: int) -> str:
         return self._read(_outcome_line, scope).rstrip("\n")

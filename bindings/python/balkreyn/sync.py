@@ -219,9 +219,9 @@ class Scope(ScopeCore[R], Generic[R]):
             return self.realm.book.dump()
 
     def journal(self) -> str:
-        """What happened since the outermost scope began: a script for `scopectl replay`. Any thread may ask."""
+        """What happened since the outermost scope began: a script for `scopectl replay`, with times. Any thread may ask."""
         with self.realm.lock:
-            return self.realm.book.journal()
+            return self.realm.journal()
 
     @interrupts.protected
     def __exit__(self, kind: Optional[Type[BaseException]], error: Optional[BaseException], trace: Optional[TracebackType]) -> bool:

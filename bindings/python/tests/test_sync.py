@@ -344,6 +344,18 @@ class Blocks(unittest.TestCase):
             s.fork(lambda label: label, label=3)
             self.assertEqual(s.join(), [1, 3])
 
+    def test_a_journal_has_its_times(self):
+        with scope(AWAIT) as s:
+            time.sleep(0.03)
+            s.fork(int)
+            s.join()
+            time.sleep(0.03)
+            lines = s.journal().splitlines()
+        times = [(int(line[5:]), lines[place + 1 : place + 2]) for place, line in enumerate(lines) if line.startswith("# at ")]
+        self.assertEqual([at for at, _ in times], sorted({at for at, _ in times}))
+        self.assertTrue(times[0][1] == ["open 0 await"] and times[1][0] >= times[0][0] + 30 and times[1][1] == ["fork 0 1 int"])
+        self.assertTrue(times[-1][0] >= times[1][0] + 30 and times[-1][1] == [])
+
     def test_a_fork_without_a_thread_is_rejected(self):
         with scope(AWAIT) as s:
             with unittest.mock.patch("balkreyn.sync.run", side_effect=RuntimeError("can't start new thread")):

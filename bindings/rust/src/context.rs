@@ -79,7 +79,6 @@ impl Drop for Unbinding<'_> {
         let answer = surely(inner.book.unbind(cx.actor));
         debug_assert!(answer.is_ok(), "bindings nest: {answer:?}");
         if answer.is_ok() {
-            inner.times.event(cx.shared.now());
             inner.note(|notes, _| notes.line(format_args!("unbind {}", cx.actor), "unbound"));
         }
         cx.bindings.set(cx.bindings.get() - 1);
@@ -515,7 +514,6 @@ impl Context {
             Value::Text(text) => inner.book.bind_text(self.actor, key, text),
         };
         bound.inspect_err(|_| inner.refund(BIND_COSTS))?;
-        inner.times.event(self.shared.now());
         inner.note(|notes, _| notes.line(format_args!("bind {} {key} {}", self.actor, value.word()), "bound"));
         Ok(())
     }

@@ -11,9 +11,9 @@ use balkreyn_sys::{
     ABI, Counts, News, balkreyn_abi, balkreyn_begin_close, balkreyn_bind, balkreyn_bind_text, balkreyn_binding,
     balkreyn_book_close, balkreyn_book_open, balkreyn_cancel, balkreyn_cause, balkreyn_counts_of, balkreyn_dump,
     balkreyn_end_close, balkreyn_fail_told, balkreyn_finish_told, balkreyn_fork, balkreyn_join, balkreyn_journal,
-    balkreyn_move, balkreyn_move_never, balkreyn_next_deadline, balkreyn_nth_cancelled, balkreyn_open,
+    balkreyn_move, balkreyn_move_never, balkreyn_next_deadline, balkreyn_note, balkreyn_nth_cancelled, balkreyn_open,
     balkreyn_outcome, balkreyn_outcome_line, balkreyn_reject, balkreyn_result, balkreyn_retire, balkreyn_stage,
-    balkreyn_start, balkreyn_state, balkreyn_tick, balkreyn_unbind, balkreyn_until,
+    balkreyn_start, balkreyn_state, balkreyn_tick, balkreyn_timed_journal, balkreyn_unbind, balkreyn_until,
 };
 
 /// The kind of a fork's answer that says that the task gets no thread.
@@ -134,6 +134,9 @@ impl Book {
     command!(
         /// Lets the past go.
         retire, balkreyn_retire, actor: u32);
+    command!(
+        /// The events since the last note came at this moment.
+        note, balkreyn_note, now: u64);
 
     /// Forks a task: its number, and whether it gets a thread.
     pub fn fork(&mut self, actor: u32, scope: u32, name: &str) -> Result<(u32, bool), Code> {
@@ -258,6 +261,12 @@ impl Book {
     pub fn journal(&mut self) -> Result<String, Code> {
         // SAFETY: as `dump`.
         self.text(|book, text, room| unsafe { balkreyn_journal(book, text, room) })
+    }
+
+    /// The same with the moments that were noted, and behind it this one.
+    pub fn timed_journal(&mut self, now: u64) -> Result<String, Code> {
+        // SAFETY: as `dump`.
+        self.text(|book, text, room| unsafe { balkreyn_timed_journal(book, now, text, room) })
     }
 
     /// A text of any length: asked for its length first, then for itself.

@@ -75,8 +75,30 @@ impl Labels {
         }
     }
 
+    /// The journal with a label behind each line that opens or forks what has one.
+    pub fn remarked(&self, journal: &str) -> String {
+        let count_of = |word| journal.lines().filter(|line| line.starts_with(word)).count() as u32;
+        // How many were numbered before the journal began.
+        let first_scope = self.scopes.saturating_sub(count_of("open "));
+        let first_task = self.tasks.saturating_sub(count_of("fork "));
+        let (mut scope, mut task) = (0, 0);
+        let mut text = String::with_capacity(journal.len());
+        for line in journal.lines() {
+            text.push_str(line);
+            text.push('\n');
+            if line.starts_with("open ") {
+                scope += 1;
+                self.remark(&mut text, "scope", scope, self.of_scope(first_scope + scope));
+            } else if line.starts_with("fork ") {
+                task += 1;
+                self.remark(&mut text, "task", task, self.of_task(first_task + task));
+            }
+        }
+        text
+    }
+
     /// Writes a label into a script, as a remark.
-    pub fn remark(&self, text: &mut String, kind: &str, number: u32, label: Option<&str>) {
+    fn remark(&self, text: &mut String, kind: &str, number: u32, label: Option<&str>) {
         if let Some(label) = label {
             let mut room = REMARK_ROOM;
             let fits = label.chars().map(|one| if one.is_control() { ' ' } else { one }).take_while(|one| {

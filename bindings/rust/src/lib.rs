@@ -80,7 +80,6 @@ mod server;
 mod shared;
 mod task;
 mod threads;
-mod times;
 mod value;
 mod waiting;
 

@@ -162,9 +162,7 @@ impl Look {
     /// # Errors
     /// [`Refusal::Memory`].
     pub fn journal(&self) -> Result<String, Refusal> {
-        let mut inner = self.shared.lock();
-        let journal = inner.book.journal()?;
-        Ok(inner.times.written(&journal, &inner.labels))
+        Ok(self.shared.lock().journal()?)
     }
 
     /// A look at each realm that is open now inside a scope of this one

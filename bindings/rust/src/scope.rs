@@ -195,7 +195,7 @@ impl<'scope, 'env> Scope<'scope, 'env> {
             threads.close();
         }
         let mut has_spun = false;
-        let mut inner = self.shared.lock();
+        let mut inner = if self.has_threads() { self.shared.lock() } else { self.shared.lock_again() };
         loop {
             match inner.book.join(self.actor, scope) {
                 Err(Code::NOT_READY) => {
@@ -203,11 +203,6 @@ impl<'scope, 'env> Scope<'scope, 'env> {
                 }
                 told => {
                     let outcome = Outcome::of_pair(&told?)?;
-                    match self.has_threads() {
-                        true => inner.times.event(self.shared.now()),
-                        // It waited for nothing, so that its time is not worth a look at the clock.
-                        false => inner.times.next(),
-                    }
                     inner.note(|notes, book| notes.join(self.actor, scope, outcome, book));
                     self.shared.settle(&mut inner);
                     return Ok(outcome);

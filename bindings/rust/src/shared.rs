@@ -12,7 +12,6 @@ use crate::pool::Pool;
 use crate::realm::Limits;
 use crate::refusal::{Code, Refusal};
 use crate::task::swallow;
-use crate::times::Times;
 use crate::waiting::{Bell, Waiting, Wake, locked};
 use std::alloc::{Layout, handle_alloc_error};
 use std::any::Any;
@@ -69,7 +68,8 @@ pub(crate) struct Inner {
     paid: u32,
     /// What was asked and answered, if the realm notes it.
     pub(crate) notes: Option<Box<Notes>>,
-    pub(crate) times: Times,
+    /// The clock's last reading: the events that are not noted yet came then.
+    at: u64,
     pub(crate) labels: Labels,
     /// What each local binding of this realm holds, by the number to which its key is bound.
     pub(crate) locals: BTreeMap<i64, Arc<dyn Any + Send + Sync>>,
@@ -91,10 +91,22 @@ impl Inner {
         if self.book.retire(MAIN).is_ok() {
             self.told = 0;
             self.paid = BIND_COSTS * bindings;
-            self.times.forget();
             self.labels.forget();
             self.note(|notes, _| notes.retire());
         }
+    }
+
+    /// The clock reads this moment, so what was recorded before came at its last reading.
+    pub(crate) fn come_to(&mut self, now: u64) {
+        if now != self.at && self.book.note(self.at).is_ok() {
+            self.at = now;
+        }
+    }
+
+    /// The journal with the moments of its lines and with the labels.
+    pub(crate) fn journal(&mut self) -> Result<String, Code> {
+        self.book.note(self.at)?;
+        Ok(self.labels.remarked(&self.book.timed_journal(self.at)?))
     }
 
     /// The realms that are open inside scopes of this one.
@@ -199,7 +211,7 @@ impl Shared {
             told: 0,
             paid: 0,
             notes: None,
-            times: Times::default(),
+            at: 0,
             labels: Labels::default(),
             locals: BTreeMap::new(),
             due: Vec::new(),
@@ -232,6 +244,14 @@ impl Shared {
         inner
     }
 
+    /// The same right behind another call of the caller's, whose moment will do: it reads no clock without a deadline.
+    pub(crate) fn lock_again(&self) -> Held<'_> {
+        self.pass_outside();
+        let mut inner = self.quietly();
+        self.pass_again(&mut inner);
+        inner
+    }
+
     /// Has a deadline that is due outside of this realm pass, as it may cancel what is inside. The lock is free.
     fn pass_outside(&self) {
         if let Some(outside) = &self.outside {
@@ -247,18 +267,21 @@ impl Shared {
         (next != NEVER && self.now() >= next) || self.outside.as_ref().is_some_and(|outside| outside.shared.is_due())
     }
 
-    /// Tells the book the moment where a deadline is due.
-    fn pass_deadlines(&self, inner: &mut Inner) {
-        let next = self.next.load(Ordering::Relaxed);
-        if next == NEVER {
-            return;
+    /// As `pass_deadlines`, if there are any.
+    fn pass_again(&self, inner: &mut Inner) {
+        if self.next.load(Ordering::Relaxed) != NEVER {
+            self.pass_deadlines(inner);
         }
+    }
+
+    /// Reads the clock, and tells the book the moment where a deadline is due.
+    fn pass_deadlines(&self, inner: &mut Inner) {
         let now = self.now();
-        if now >= next {
+        inner.come_to(now);
+        if now >= self.next.load(Ordering::Relaxed) {
             // Each deadline was paid for when it was set, so no limit refuses its passing.
             let answer = surely(inner.book.tick(now));
             debug_assert!(answer.is_ok(), "the clock goes forwards: {answer:?}");
-            inner.times.event(now);
             inner.note(|notes, _| notes.line(format_args!("tick {now}"), format_args!("moment {now}")));
             self.settle(inner);
         }
@@ -343,6 +366,8 @@ impl Shared {
             let limit = limit.map(|limit| limit.saturating_duration_since(Instant::now()));
             inner.guard = inner.guard.take().map(|guard| waiting.wait(&self.inner, guard, limit, has_spun));
             if !self.is_due() {
+                let now = self.now();
+                inner.come_to(now);
                 return inner;
             }
         }
@@ -398,7 +423,6 @@ impl Shared {
         let answer = opened.inspect_err(|_| inner.refund(OPEN_COSTS))?;
         let scope = answer as u32;
         let bell = inner.new_bell(Bell::new(scope, actor, outer));
-        inner.times.event(self.now());
         inner.note(|notes, _| notes.open(actor, options.words(deadline), scope));
         inner.labels.scopes = scope;
         if let Some(name) = &options.name {
@@ -410,7 +434,7 @@ impl Shared {
             self.note_next(inner);
         }
         self.settle(inner);
-        self.pass_deadlines(inner);
+        self.pass_again(inner);
         Ok(bell)
     }
 
@@ -423,7 +447,6 @@ impl Shared {
         let word = Labels::word(name);
         let forked = inner.book.fork(actor, scope, &word);
         let (task, has_thread) = forked.inspect_err(|_| inner.refund(FORK_COSTS))?;
-        inner.times.event(self.now());
         inner.note(|notes, _| notes.fork(actor, scope, &word, task, has_thread));
         inner.labels.tasks = task;
         if *word != *name {
@@ -448,14 +471,13 @@ impl Shared {
             None => inner.book.move_never(scope),
         };
         moved.inspect_err(|_| inner.refund(MOVE_COSTS))?;
-        inner.times.event(self.now());
         inner.note(|notes, _| match moment {
             Some(moment) => notes.line(format_args!("move {scope} {moment}"), "moved"),
             None => notes.line(format_args!("move {scope} never"), "moved"),
         });
         self.note_next(&mut inner);
         self.settle(&mut inner);
-        self.pass_deadlines(&mut inner);
+        self.pass_again(&mut inner);
         drop(inner);
         self.ring_all();
         Ok(())
@@ -471,9 +493,6 @@ impl Shared {
         debug_assert!(answer.is_ok(), "the owner closes its innermost scope: {answer:?}");
         if let Ok(done) = answer {
             let words = if done == 0 { "closing" } else { "already" };
-            if done == 0 {
-                inner.times.event(self.now());
-            }
             inner.note(|notes, _| notes.line(format_args!("close {actor} {scope}"), words));
         }
         self.settle(inner);
@@ -499,8 +518,6 @@ impl Shared {
             Err(code) => (Err(Refusal::from(code)), ""),
         };
         if answer.is_ok() {
-            // The time is that of the begin of the close, or of the last end of a job.
-            inner.times.next();
             inner.note(|notes, _| notes.line(format_args!("closed {actor} {scope}"), words));
         }
         self.tell(inner, || Happening::Closed { scope: ScopeId(scope) });
@@ -516,7 +533,6 @@ impl Shared {
         let answer = surely(inner.book.start(task));
         debug_assert!(answer.is_ok(), "each task begins once: {answer:?}");
         if answer.is_ok() {
-            inner.times.event(self.now());
             inner.note(|notes, _| notes.line(format_args!("start {task}"), "started"));
         }
         self.tell(inner, || Happening::Started { task: TaskId(task) });
@@ -536,7 +552,6 @@ impl Shared {
         });
         debug_assert!(answer.is_ok(), "each task ends once: {answer:?}");
         if answer.is_ok() {
-            inner.times.event(self.now());
             inner.note(|notes, _| match end {
                 End::Reject => notes.line(format_args!("reject {task}"), "rejected"),
                 End::Finish(value) => notes.line(format_args!("ok {task} {value}"), "finished"),
@@ -568,9 +583,6 @@ impl Cancels for Shared {
         let mut inner = self.lock();
         let Ok(answer) = surely(inner.book.cancel(scope)) else { return false };
         let (is_first, words) = if answer == 0 { (true, "cancelled") } else { (false, "already") };
-        if is_first {
-            inner.times.event(self.now());
-        }
         inner.note(|notes, _| notes.line(format_args!("cancel {scope}"), words));
         self.settle(&mut inner);
         is_first

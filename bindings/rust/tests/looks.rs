@@ -72,7 +72,8 @@ fn a_journal_has_its_times() {
                 assert_eq!(at("bind 0 kept 1"), None);
                 let (opened, forked) = (at("open 0 await").unwrap(), at("fork 0 1 getuser").unwrap());
                 assert!(opened >= 20 && forked >= opened + 30, "{journal}");
-                assert!(at("join 0 1").unwrap() >= forked);
+                let (joined, looked) = (at("join 0 1").unwrap(), lines.last().unwrap().strip_prefix("# at ").unwrap());
+                assert!(forked <= joined && joined <= looked.parse().unwrap(), "{journal}");
                 let labels = ["open 0 await\n# scope 1 is A page\n", "fork 0 1 getuser\n# task 1 is getUser\n"];
                 assert!(labels.iter().all(|label| journal.contains(label)), "{journal}");
             })

@@ -9,8 +9,8 @@ use Rattle.std.proofs.BoxSteps.Form.{Bx}
 use Rattle.std_heap.specs.contracts.Global as Heap
 use Rattle.std_heap.specs.contracts.GlobalAllocator.TheImpl.{ghosts, dict}
 use Rattle.std_heap.proofs.Global.TheLaws as heap
-use Rattle.realm_state.specs.contracts.realm.RealmState as State
-use Rattle.realm_state.proofs.realm.RealmState.TheLaws as kept
+use Rattle.balkreyn_c.specs.contracts.timed.TimedRealm as State
+use Rattle.balkreyn_c.proofs.timed.TimedRealm.TheLaws as kept
 use Rattle.balkreyn_c.specs.contracts.place.parts.Parts as Parts
 use Rattle.balkreyn_c.specs.contracts.place.Place as Place
 

@@ -28,10 +28,13 @@ use Rattle.scope_script.specs.Sessions.{line_reply, realm_after_line}
 use Rattle.balkreyn_c.specs.Asking.{text_in}
 use Rattle.balkreyn_c.specs.declared.line.Performed.{Performed}
 use Rattle.balkreyn_c.specs.declared.line.Performed.TheVariants as performed
+use Rattle.balkreyn_c.specs.declared.timed.TimedRealm.{TimedRealm}
 use Rattle.balkreyn_c.specs.Doors.{DidPerform, DoesLine, Lines, Stopped, not_done}
 use Rattle.balkreyn_c.specs.Joining.{AnswersBare}
 use Rattle.balkreyn_c.specs.Numbers.{untold, refused as refused_number}
 use Rattle.balkreyn_c.specs.Texts.{WritesReply, reply_line}
+use Rattle.balkreyn_c.specs.Timed.{times_left, with_realm}
+use Rattle.balkreyn_c.proofs.Acted.{left_realm, left_times}
 
 -- a refusal is want of memory, or it is a reply
 abbrev OtherThanMemory : Refusal → Type 0
@@ -196,5 +199,7 @@ performed_untold old new c was is = inr (inl (record { number = refl; kept = ref
 pub line_stopped : (old new : Realm) (c : Command) (answer : ℤ) (was : List ℕ) → Stopped old c new → answer ≡ refused_number Memory → DoesLine old (command c) answer new was was
 line_stopped old new c answer was is number = inr (inr (record { wants = is.wants; number = number; kept = refl; realm = is.kept }))
 
-pub took : (held new : Option Realm) (old realm : Realm) (line : List ℕ) (answer : ℤ) (was now : List ℕ) → held ≡ Some old → DoesLine old (line_said line) answer realm was now → new ≡ Some realm → Lines held line answer new was now
-took held new old realm line answer was now there does holds = rw there (record { realm = realm; holds = holds; does = does })
+pub took : (held new : Option TimedRealm) (old was left : TimedRealm) (realm : Realm) (line : List ℕ) (answer : ℤ) (before after : List ℕ) → held ≡ Some old → DoesLine old.realm (line_said line) answer realm before after → was ≡ with_realm old realm → left.realm ≡ was.realm → left.times.items ≡ times_left was.realm.history was.times.items → new ≡ Some left → Lines held line answer new before after
+took held new old was left realm line answer before after there does same kept times holds =
+    let P : Realm → Type 0 = λ r. DoesLine old.realm (line_said line) answer r before after in
+    rw there (record { timed = left; holds = holds; does = subst P (sym (left_realm old was left realm same kept)) does; times = left_times old was left realm same kept times })

@@ -4,8 +4,10 @@ use Rattle.std.proofs.lemmas.Int.{ints}
 use Rattle.std.proofs.lemmas.List.{length-set, get_or-set_same, get_or-set_other, drop-set-lt, drop-drop}
 use Rattle.scope_rules.specs.declared.types.events.Event.{Event}
 use Rattle.scope_rules.specs.Replies.{Realm}
+use Rattle.balkreyn_c.specs.declared.timed.TimedRealm.{TimedRealm}
 use Rattle.balkreyn_c.specs.Acting.{Performs}
 use Rattle.balkreyn_c.specs.Batches.{ActsMany, Batched, Repeats, TriesAt, answer_at}
+use Rattle.balkreyn_c.specs.Timed.{with_realm}
 
 -- a write behind the first n answers leaves what they say
 repeats_kept : (old : Realm) (e : Event) (xs : List ℤ) (n i : ℕ) (v : ℤ) (new : Realm) → n ≤ i → Repeats old e xs n new → Repeats old e (set xs i v) n new
@@ -73,5 +75,5 @@ pub whole : (old new : Realm) (e : Event) (was now : List ℤ) (i : ℕ) (answer
 whole old new e was now i answer number full gone = record { made = i; tried = i; number = number ∙ ap pos (gone.room ∙ sym full); repeats = gone.repeats; went = gone.went; ended = inl (record { all = refl; full = full }); others = gone.others }
 
 -- the batch was tried in the realm of the book
-pub acted : (held new : Option Realm) (old realm : Realm) (e : Event) (answer : ℤ) (was now : List ℤ) → held ≡ Some old → Batched old e answer realm was now → new ≡ Some realm → ActsMany held (Some e) answer new was now
+pub acted : (held new : Option TimedRealm) (old : TimedRealm) (realm : Realm) (e : Event) (answer : ℤ) (was now : List ℤ) → held ≡ Some old → Batched old.realm e answer realm was now → new ≡ Some (with_realm old realm) → ActsMany held (Some e) answer new was now
 acted held new old realm e answer was now there batched holds = rw there (record { realm = realm; holds = holds; batched = batched })

@@ -5,7 +5,9 @@ use Rattle.scope_rules.specs.declared.types.refusals.Refusal.{Refusal}
 use Rattle.scope_rules.specs.Replies.{Realm}
 use Rattle.scope_checks.specs.declared.event_replies.EventReply.{EventReply}
 use Rattle.scope_checks.specs.Entering.{Tells}
+use Rattle.balkreyn_c.specs.declared.timed.TimedRealm.{TimedRealm}
 use Rattle.balkreyn_c.specs.Numbers.{no_realm, bad_argument, number_of, told_number}
+use Rattle.balkreyn_c.specs.Timed.{with_realm}
 
 -- the event is tried: the number is that of what it is told, or of the refusal, and the realm is what that leaves
 pub record Performs (old : Realm) (e : Event) (answer : ℤ) (new : Realm) : Type 0 where
@@ -14,23 +16,23 @@ pub record Performs (old : Realm) (e : Event) (answer : ℤ) (new : Realm) : Typ
   pub number : answer ≡ number_of told_number reply
 
 -- a book that holds none answers that, whatever it is asked, and still holds none
-pub record Answers (answer : ℤ) (new : Option Realm) : Type 0 where
+pub record Answers (answer : ℤ) (new : Option TimedRealm) : Type 0 where
   pub number : answer ≡ no_realm
   pub none : new ≡ None
 
 -- the arguments are in no form
-pub record Refuses (old : Realm) (answer : ℤ) (new : Option Realm) : Type 0 where
+pub record Refuses (old : TimedRealm) (answer : ℤ) (new : Option TimedRealm) : Type 0 where
   pub number : answer ≡ bad_argument
   pub kept : new ≡ Some old
 
--- the event is tried in the realm
-pub record Tries (old : Realm) (e : Event) (answer : ℤ) (new : Option Realm) : Type 0 where
+-- the event is tried in the realm, and the times stay
+pub record Tries (old : TimedRealm) (e : Event) (answer : ℤ) (new : Option TimedRealm) : Type 0 where
   pub realm : Realm
-  pub holds : new ≡ Some realm
-  pub performs : Performs old e answer realm
+  pub holds : new ≡ Some (with_realm old realm)
+  pub performs : Performs old.realm e answer realm
 
 -- the command of the event, if its arguments make one
-abbrev pub Acts : Option Realm → Option Event → ℤ → Option Realm → Type 0
+abbrev pub Acts : Option TimedRealm → Option Event → ℤ → Option TimedRealm → Type 0
 Acts None e answer new = Answers answer new
 Acts (Some old) None answer new = Refuses old answer new
 Acts (Some old) (Some e) answer new = Tries old e answer new

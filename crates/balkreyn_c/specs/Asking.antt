@@ -8,18 +8,18 @@ use Rattle.scope_rules.specs.declared.types.values.Value.{Value}
 use Rattle.scope_rules.specs.declared.types.values.Value.TheVariants.{Num, Text}
 use Rattle.scope_rules.specs.History.{History}
 use Rattle.scope_rules.specs.Names.{text_of}
-use Rattle.scope_rules.specs.Replies.{Realm}
+use Rattle.balkreyn_c.specs.declared.timed.TimedRealm.{TimedRealm}
 use Rattle.balkreyn_c.specs.Numbers.{no_realm}
 
 -- the number that the history gives, or that there is no realm
-abbrev pub asked : Option Realm → (History → ℤ) → ℤ
+abbrev pub asked : Option TimedRealm → (History → ℤ) → ℤ
 asked None tell = no_realm
-asked (Some realm) tell = tell realm.history
+asked (Some timed) tell = tell timed.realm.history
 
 -- what the history makes of what stood there, or that
-abbrev pub written : {A : Type 0} → Option Realm → (History → A → A) → A → A
+abbrev pub written : {A : Type 0} → Option TimedRealm → (History → A → A) → A → A
 written None write old = old
-written (Some realm) write old = write realm.history old
+written (Some timed) write old = write timed.realm.history old
 
 -- a buffer, with the items at its head if there is room for them all
 abbrev pub placed : {A : Type 0} → List A → List A → List A

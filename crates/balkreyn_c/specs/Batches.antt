@@ -2,7 +2,9 @@
 use Rattle.std.specs.Prelude.{◌≡◌, ◌⊎◌, ◌<◌, ◌+◌, ℕ, zero, suc, ℤ, pos, ◌<ℤ◌, ◌≤ℤ◌, List, length, drop, slice_index_or, slice_set, Option, None, Some}
 use Rattle.scope_rules.specs.declared.types.events.Event.{Event}
 use Rattle.scope_rules.specs.Replies.{Realm}
+use Rattle.balkreyn_c.specs.declared.timed.TimedRealm.{TimedRealm}
 use Rattle.balkreyn_c.specs.Acting.{Answers, Refuses, Performs}
+use Rattle.balkreyn_c.specs.Timed.{with_realm}
 
 -- the answer at the place
 abbrev pub answer_at : List ℤ → ℕ → ℤ
@@ -34,20 +36,20 @@ pub record Batched (old : Realm) (e : Event) (answer : ℤ) (new : Realm) (was n
   pub ended : IsWhole tried made (length was) ⊎ IsStopped tried made (length was) now
   pub others : drop tried now ≡ drop tried was
 
-pub record NoBatch (answer : ℤ) (new : Option Realm) (was now : List ℤ) : Type 0 where
+pub record NoBatch (answer : ℤ) (new : Option TimedRealm) (was now : List ℤ) : Type 0 where
   pub answers : Answers answer new
   pub kept : now ≡ was
 
-pub record BadBatch (old : Realm) (answer : ℤ) (new : Option Realm) (was now : List ℤ) : Type 0 where
+pub record BadBatch (old : TimedRealm) (answer : ℤ) (new : Option TimedRealm) (was now : List ℤ) : Type 0 where
   pub refuses : Refuses old answer new
   pub kept : now ≡ was
 
-pub record TriesBatch (old : Realm) (e : Event) (answer : ℤ) (new : Option Realm) (was now : List ℤ) : Type 0 where
+pub record TriesBatch (old : TimedRealm) (e : Event) (answer : ℤ) (new : Option TimedRealm) (was now : List ℤ) : Type 0 where
   pub realm : Realm
-  pub holds : new ≡ Some realm
-  pub batched : Batched old e answer realm was now
+  pub holds : new ≡ Some (with_realm old realm)
+  pub batched : Batched old.realm e answer realm was now
 
-abbrev pub ActsMany : Option Realm → Option Event → ℤ → Option Realm → List ℤ → List ℤ → Type 0
+abbrev pub ActsMany : Option TimedRealm → Option Event → ℤ → Option TimedRealm → List ℤ → List ℤ → Type 0
 ActsMany None e answer new was now = NoBatch answer new was now
 ActsMany (Some old) None answer new was now = BadBatch old answer new was now
 ActsMany (Some old) (Some e) answer new was now = TriesBatch old e answer new was now

@@ -1,42 +1,46 @@
 -- What it is to open a realm in a book, and to close it.
-use Rattle.std.specs.Prelude.{◌≡◌, ◌⊎◌, ℕ, ℤ, pos, Option, None, Some}
+use Rattle.std.specs.Prelude.{◌≡◌, ◌⊎◌, ℕ, ℤ, pos, [], Option, None, Some}
 use Rattle.scope_rules.specs.declared.types.capacity.Limits.{Limits}
 use Rattle.scope_rules.specs.declared.types.refusals.Refusal.TheVariants.{Memory}
 use Rattle.scope_rules.specs.Capacity.{IsAllowed}
 use Rattle.scope_rules.specs.Origin.{the_start}
-use Rattle.scope_rules.specs.Replies.{Realm, starting}
+use Rattle.scope_rules.specs.Replies.{starting}
+use Rattle.balkreyn_c.specs.declared.timed.TimedRealm.{TimedRealm}
 use Rattle.balkreyn_c.specs.Numbers.{no_realm, has_realm, bad_argument, refused}
 
--- the book holds a fresh realm of these limits
-pub record IsFresh (scopes tasks load : ℕ) (answer : ℤ) (new : Option Realm) : Type 0 where
+-- the book holds a fresh realm of these limits, of which no time is noted
+pub record IsFresh (scopes tasks load : ℕ) (answer : ℤ) (new : Option TimedRealm) : Type 0 where
   pub limits : Limits
+  pub timed : TimedRealm
   pub scopes_are : limits.scopes ≡ scopes
   pub tasks_are : limits.tasks ≡ tasks
   pub load_is : limits.load ≡ load
   pub number : answer ≡ pos 0
-  pub holds : new ≡ Some (starting limits the_start)
+  pub realm : timed.realm ≡ starting limits the_start
+  pub times : timed.times.items ≡ []
+  pub holds : new ≡ Some timed
 
 -- a limit is not allowed
-pub record IsRefused (scopes tasks load : ℕ) (answer : ℤ) (new : Option Realm) : Type 0 where
+pub record IsRefused (scopes tasks load : ℕ) (answer : ℤ) (new : Option TimedRealm) : Type 0 where
   pub bad : IsAllowed scopes tasks load → ⊥
   pub number : answer ≡ bad_argument
   pub none : new ≡ None
 
 -- the limits are allowed, and memory was refused
-pub record WantsMemory (scopes tasks load : ℕ) (answer : ℤ) (new : Option Realm) : Type 0 where
+pub record WantsMemory (scopes tasks load : ℕ) (answer : ℤ) (new : Option TimedRealm) : Type 0 where
   pub allowed : IsAllowed scopes tasks load
   pub number : answer ≡ refused Memory
   pub none : new ≡ None
 
-pub record HasOne (old : Realm) (answer : ℤ) (new : Option Realm) : Type 0 where
+pub record HasOne (old : TimedRealm) (answer : ℤ) (new : Option TimedRealm) : Type 0 where
   pub number : answer ≡ has_realm
   pub kept : new ≡ Some old
 
-abbrev pub OpensBook : Option Realm → ℕ → ℕ → ℕ → ℤ → Option Realm → Type 0
+abbrev pub OpensBook : Option TimedRealm → ℕ → ℕ → ℕ → ℤ → Option TimedRealm → Type 0
 OpensBook None scopes tasks load answer new = IsFresh scopes tasks load answer new ⊎ (IsRefused scopes tasks load answer new ⊎ WantsMemory scopes tasks load answer new)
 OpensBook (Some old) scopes tasks load answer new = HasOne old answer new
 
 -- whether there was one to be closed
-abbrev pub closing_number : Option Realm → ℤ
+abbrev pub closing_number : Option TimedRealm → ℤ
 closing_number None = no_realm
-closing_number (Some realm) = pos 0
+closing_number (Some timed) = pos 0

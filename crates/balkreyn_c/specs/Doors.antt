@@ -15,8 +15,10 @@ use Rattle.scope_script.specs.Replying.{Performs, realm_after}
 use Rattle.scope_script.specs.Sessions.{line_reply, realm_after_line}
 use Rattle.balkreyn_c.specs.declared.line.Performed.{Performed}
 use Rattle.balkreyn_c.specs.declared.line.Performed.TheVariants as performed
+use Rattle.balkreyn_c.specs.declared.timed.TimedRealm.{TimedRealm}
 use Rattle.balkreyn_c.specs.Asking.{text_in}
 use Rattle.balkreyn_c.specs.Numbers.{no_realm, refused, untold}
+use Rattle.balkreyn_c.specs.Timed.{times_left}
 
 -- what came of a command that was refused so
 abbrev pub not_done : Refusal → Performed
@@ -67,16 +69,17 @@ pub record IsStopped (old : Realm) (said : Line) (answer : ℤ) (new : Realm) (w
 abbrev pub DoesLine : Realm → Line → ℤ → Realm → List ℕ → List ℕ → Type 0
 DoesLine old said answer new was now = Replies old said answer new was now ⊎ (IsUntold old said answer new was now ⊎ IsStopped old said answer new was now)
 
-pub record NoLine (answer : ℤ) (new : Option Realm) (was now : List ℕ) : Type 0 where
+pub record NoLine (answer : ℤ) (new : Option TimedRealm) (was now : List ℕ) : Type 0 where
   pub number : answer ≡ no_realm
   pub none : new ≡ None
   pub kept : now ≡ was
 
-pub record TakesLine (old : Realm) (line : List ℕ) (answer : ℤ) (new : Option Realm) (was now : List ℕ) : Type 0 where
-  pub realm : Realm
-  pub holds : new ≡ Some realm
-  pub does : DoesLine old (line_said line) answer realm was now
+pub record TakesLine (old : TimedRealm) (line : List ℕ) (answer : ℤ) (new : Option TimedRealm) (was now : List ℕ) : Type 0 where
+  pub timed : TimedRealm
+  pub holds : new ≡ Some timed
+  pub does : DoesLine old.realm (line_said line) answer timed.realm was now
+  pub times : timed.times.items ≡ times_left timed.realm.history old.times.items
 
-abbrev pub Lines : Option Realm → List ℕ → ℤ → Option Realm → List ℕ → List ℕ → Type 0
+abbrev pub Lines : Option TimedRealm → List ℕ → ℤ → Option TimedRealm → List ℕ → List ℕ → Type 0
 Lines None line answer new was now = NoLine answer new was now
 Lines (Some old) line answer new was now = TakesLine old line answer new was now

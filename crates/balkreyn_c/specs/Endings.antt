@@ -12,8 +12,10 @@ use Rattle.scope_checks.specs.Entering.{Tells}
 use Rattle.scope_index.specs.CancelsOf.{IsCancelOrderOf}
 use Rattle.scope_index.specs.Coming.{IsNextDeadline, NoDeadlineComes}
 use Rattle.balkreyn_c.specs.declared.endings.News.{News}
+use Rattle.balkreyn_c.specs.declared.timed.TimedRealm.{TimedRealm}
 use Rattle.balkreyn_c.specs.Acting.{Answers, Refuses}
 use Rattle.balkreyn_c.specs.Numbers.{number_of, told_number}
+use Rattle.balkreyn_c.specs.Timed.{with_realm}
 
 -- so many scopes are cancelled
 pub record HasCancelled (h : History) (count : ℕ) : Type 0 where
@@ -51,20 +53,20 @@ pub record Ends (old : Realm) (e : Event) (task : ℕ) (answer : ℤ) (new : Rea
   pub number : answer ≡ number_of told_number reply
   pub news : NewsAfter reply new.history task was now
 
-pub record EndsNone (answer : ℤ) (new : Option Realm) (was now : News) : Type 0 where
+pub record EndsNone (answer : ℤ) (new : Option TimedRealm) (was now : News) : Type 0 where
   pub answers : Answers answer new
   pub kept : now ≡ was
 
-pub record EndsBad (old : Realm) (answer : ℤ) (new : Option Realm) (was now : News) : Type 0 where
+pub record EndsBad (old : TimedRealm) (answer : ℤ) (new : Option TimedRealm) (was now : News) : Type 0 where
   pub refuses : Refuses old answer new
   pub kept : now ≡ was
 
-pub record EndsIn (old : Realm) (e : Event) (task : ℕ) (answer : ℤ) (new : Option Realm) (was now : News) : Type 0 where
+pub record EndsIn (old : TimedRealm) (e : Event) (task : ℕ) (answer : ℤ) (new : Option TimedRealm) (was now : News) : Type 0 where
   pub realm : Realm
-  pub holds : new ≡ Some realm
-  pub ends : Ends old e task answer realm was now
+  pub holds : new ≡ Some (with_realm old realm)
+  pub ends : Ends old.realm e task answer realm was now
 
-abbrev pub EndsTold : Option Realm → Option Event → ℕ → ℤ → Option Realm → News → News → Type 0
+abbrev pub EndsTold : Option TimedRealm → Option Event → ℕ → ℤ → Option TimedRealm → News → News → Type 0
 EndsTold None e task answer new was now = EndsNone answer new was now
 EndsTold (Some old) None task answer new was now = EndsBad old answer new was now
 EndsTold (Some old) (Some e) task answer new was now = EndsIn old e task answer new was now

@@ -1,4 +1,5 @@
 pub mod Owning
+pub mod Timed
 pub mod Numbers
 pub mod Resting
 pub mod Acting
@@ -12,4 +13,5 @@ pub mod Joining
 pub mod Books
 pub mod Wanting
 pub mod Texts
+pub mod Timing
 pub mod Doors

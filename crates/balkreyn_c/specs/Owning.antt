@@ -1,4 +1,4 @@
--- What a place owns: nothing, or what a box of a realm owns.
+-- What a place owns: nothing, or what a box of a realm with its times owns.
 use base.Fml.{Fml, ftrue}
 use base.Stored.{Coded}
 use Rattle.std.specs.Coded.{coded_option}
@@ -7,14 +7,14 @@ use Rattle.std.specs.Prelude.{Option, None, Some}
 use Rattle.std.specs.Box.Ownership.{box_owns}
 use Rattle.std.specs.Global.{Global}
 use Rattle.std_heap.specs.contracts.GlobalAllocator.TheImpl.{ghosts}
-use Rattle.realm_state.specs.contracts.realm.RealmState.{the_row}
+use Rattle.balkreyn_c.specs.contracts.timed.TimedRealm.{the_row}
 
-abbrev pub Realm : Type 0
-Realm = the_row.Denot
+abbrev pub Timed : Type 0
+Timed = the_row.Denot
 
-abbrev pub place_owns : Global → Ptr → Option Realm → Fml
+abbrev pub place_owns : Global → Ptr → Option Timed → Fml
 place_owns alloc at None = ftrue
-place_owns alloc at (Some realm) = box_owns (ghosts.dealloc_token alloc) the_row at realm
+place_owns alloc at (Some timed) = box_owns (ghosts.dealloc_token alloc) the_row at timed
 
-abbrev pub place_coded : Coded (Option Realm)
+abbrev pub place_coded : Coded (Option Timed)
 place_coded = coded_option the_row.coded

@@ -5,10 +5,11 @@ use Rattle.scope_rules.specs.declared.types.refusals.Refusal.{Refusal}
 use Rattle.scope_rules.specs.declared.types.refusals.Refusal.TheVariants.{Memory}
 use Rattle.scope_rules.specs.History.{History}
 use Rattle.scope_rules.specs.Outcomes.{outcome}
-use Rattle.scope_rules.specs.Replies.{Realm, AnswersValue, outcome_check}
+use Rattle.scope_rules.specs.Replies.{AnswersValue, outcome_check}
 use Rattle.script_words.specs.declared.reply.Reply.{Reply}
 use Rattle.script_words.specs.declared.reply.Reply.TheVariants as reply
 use Rattle.script_words.specs.ReplyText.{reply_text}
+use Rattle.balkreyn_c.specs.declared.timed.TimedRealm.{TimedRealm}
 use Rattle.balkreyn_c.specs.Asking.{text_in}
 use Rattle.balkreyn_c.specs.Numbers.{no_realm, number_of, refused, untold}
 
@@ -34,10 +35,10 @@ WritesReply text answer old new = Writes text answer old new ⊎ Silent untold a
 abbrev pub WritesOrNot : List ℕ → ℤ → List ℕ → List ℕ → Type 0
 WritesOrNot text answer old new = Writes text answer old new ⊎ Silent (refused Memory) answer old new
 
--- the same of the text of the history
-abbrev pub Shows : Option Realm → (History → List ℕ) → ℤ → List ℕ → List ℕ → Type 0
+-- the same of a text of the realm
+abbrev pub Shows : Option TimedRealm → (TimedRealm → List ℕ) → ℤ → List ℕ → List ℕ → Type 0
 Shows None text answer old new = Silent no_realm answer old new
-Shows (Some realm) text answer old new = WritesOrNot (text realm.history) answer old new
+Shows (Some timed) text answer old new = WritesOrNot (text timed) answer old new
 
 abbrev pub outcome_line : Outcome → List ℕ
 outcome_line o = reply_line (reply.Outcome o)
@@ -53,6 +54,6 @@ pub record TellsLine (h : History) (scope : ℕ) (answer : ℤ) (old new : List 
   pub number : answer ≡ number_of (λ o. pos (length (outcome_line o))) reply
   pub text : new ≡ outcome_line_in reply old
 
-abbrev pub OutcomeLine : Option Realm → ℕ → ℤ → List ℕ → List ℕ → Type 0
+abbrev pub OutcomeLine : Option TimedRealm → ℕ → ℤ → List ℕ → List ℕ → Type 0
 OutcomeLine None scope answer old new = Silent no_realm answer old new
-OutcomeLine (Some realm) scope answer old new = TellsLine realm.history scope answer old new
+OutcomeLine (Some timed) scope answer old new = TellsLine timed.realm.history scope answer old new

@@ -3,10 +3,10 @@ use Rattle.std.specs.Prelude.{◌≡◌, ◌⊎◌, ℕ, ℤ, pos, List, slice_g
 use Rattle.scope_rules.specs.declared.types.answers.Counts.{Counts}
 use Rattle.scope_rules.specs.declared.types.refusals.Refusal.{Refusal}
 use Rattle.scope_rules.specs.History.{History}
-use Rattle.scope_rules.specs.Replies.{Realm}
 use Rattle.scope_index.specs.Coming.{IsNextDeadline, NoDeadlineComes}
 use Rattle.scope_index.specs.CancelsOf.{IsCancelOrderOf}
 use Rattle.balkreyn_c.specs.declared.queries.TaskCounts.{TaskCounts}
+use Rattle.balkreyn_c.specs.declared.timed.TimedRealm.{TimedRealm}
 use Rattle.balkreyn_c.specs.Numbers.{no_realm, some_number}
 
 abbrev pub counts_written : Result Counts Refusal → TaskCounts → TaskCounts
@@ -36,9 +36,9 @@ pub record NoneAsked (answer : ℤ) (old new : ℕ) : Type 0 where
   pub number : answer ≡ no_realm
   pub kept : new ≡ old
 
-abbrev pub NextDeadline : Option Realm → ℤ → ℕ → ℕ → Type 0
+abbrev pub NextDeadline : Option TimedRealm → ℤ → ℕ → ℕ → Type 0
 NextDeadline None answer old new = NoneAsked answer old new
-NextDeadline (Some realm) answer old new = Comes realm.history answer new ⊎ NoneComes realm.history answer old new
+NextDeadline (Some timed) answer old new = Comes timed.realm.history answer new ⊎ NoneComes timed.realm.history answer old new
 
 -- the n-th of the cancelled scopes in order of their cancellation
 pub record IsNth (h : History) (n : ℕ) (answer : ℤ) : Type 0 where
@@ -46,6 +46,6 @@ pub record IsNth (h : History) (n : ℕ) (answer : ℤ) : Type 0 where
   pub order : IsCancelOrderOf h list
   pub number : answer ≡ some_number (slice_get list n)
 
-abbrev pub NthCancelled : Option Realm → ℕ → ℤ → Type 0
+abbrev pub NthCancelled : Option TimedRealm → ℕ → ℤ → Type 0
 NthCancelled None n answer = answer ≡ no_realm
-NthCancelled (Some realm) n answer = IsNth realm.history n answer
+NthCancelled (Some timed) n answer = IsNth timed.realm.history n answer

@@ -13,15 +13,15 @@ use std::alloc::Global;
 pub fn act(alloc: Global, book: &mut Book, event: Option<Event>) -> i64
     ensures { Acts book.old.place.held event result book.new.place.held }
 {
-    let mut realm = match taken(alloc, &mut book.word, &mut book.place) {
-        Ok(realm) => realm,
+    let mut timed = match taken(alloc, &mut book.word, &mut book.place) {
+        Ok(timed) => timed,
         Err(number) => return number,
     };
     let Some(event) = event else {
-        put(&mut book.word, &mut book.place, realm);
+        put(&mut book.word, &mut book.place, timed);
         return BAD_ARGUMENT;
     };
-    let answer = told(realm.perform(&event, false, None));
-    put(&mut book.word, &mut book.place, realm);
+    let answer = told(timed.realm.perform(&event, false, None));
+    put(&mut book.word, &mut book.place, timed);
     answer
 }

@@ -21,12 +21,12 @@ pub extern "C" fn balkreyn_around(alloc: Global, book: &mut Book, actor: u32) ->
     ensures answer { result ≡ asked book.old.place.held (λ h. number_of some_number (around_reply h actor)) }
     ensures kept { book.new.place.held ≡ book.old.place.held }
 {
-    let realm = match taken(alloc, &mut book.word, &mut book.place) {
-        Ok(realm) => realm,
+    let timed = match taken(alloc, &mut book.word, &mut book.place) {
+        Ok(timed) => timed,
         Err(number) => return number,
     };
-    let answer = some_answer(around(&realm, actor));
-    put(&mut book.word, &mut book.place, realm);
+    let answer = some_answer(around(&timed.realm, actor));
+    put(&mut book.word, &mut book.place, timed);
     answer
 }
 
@@ -36,12 +36,12 @@ pub extern "C" fn balkreyn_is_cancelled(alloc: Global, book: &mut Book, actor: u
     ensures answer { result ≡ asked book.old.place.held (λ h. number_of cause_number (mark_reply h actor)) }
     ensures kept { book.new.place.held ≡ book.old.place.held }
 {
-    let realm = match taken(alloc, &mut book.word, &mut book.place) {
-        Ok(realm) => realm,
+    let timed = match taken(alloc, &mut book.word, &mut book.place) {
+        Ok(timed) => timed,
         Err(number) => return number,
     };
-    let answer = cause(mark(&realm, actor));
-    put(&mut book.word, &mut book.place, realm);
+    let answer = cause(mark(&timed.realm, actor));
+    put(&mut book.word, &mut book.place, timed);
     answer
 }
 

@@ -40,16 +40,16 @@ pub extern "C" fn balkreyn_fork_many(
 fn act_many(alloc: Global, book: &mut Book, event: Option<Event>, answers: &mut [i64]) -> i64
     ensures { ActsMany book.old.place.held event result book.new.place.held answers.old answers.new }
 {
-    let mut realm = match taken(alloc, &mut book.word, &mut book.place) {
-        Ok(realm) => realm,
+    let mut timed = match taken(alloc, &mut book.word, &mut book.place) {
+        Ok(timed) => timed,
         Err(number) => return number,
     };
     let Some(event) = event else {
-        put(&mut book.word, &mut book.place, realm);
+        put(&mut book.word, &mut book.place, timed);
         return BAD_ARGUMENT;
     };
-    let answer = repeat(&mut realm, &event, answers);
-    put(&mut book.word, &mut book.place, realm);
+    let answer = repeat(&mut timed.realm, &event, answers);
+    put(&mut book.word, &mut book.place, timed);
     answer
 }
 

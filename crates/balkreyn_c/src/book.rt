@@ -6,8 +6,8 @@ ghost use Rattle.balkreyn_c.specs.Numbers.{no_realm};
 
 use crate::numbers::{BUSY, NO_REALM};
 use crate::place::Place;
+use crate::timed::TimedRealm;
 use crate::word::{rest, swapped};
-use realm_state::RealmState;
 use std::alloc::Global;
 use std::mem;
 
@@ -33,9 +33,9 @@ pub fn taken(
     alloc: Global,
     word: &mut u64,
     place: &mut Place,
-) -> Result<Box<RealmState, Global>, i64>
+) -> Result<Box<TimedRealm, Global>, i64>
     requires { word.old ≡ resting (is_some place.old.held) }
-    ensures realm { MatchResult result (λ realm. place.old.held ≡ Some realm.value) (λ number. (number ≡ no_realm) × (place.old.held ≡ None) × (word.new ≡ 0)) }
+    ensures realm { MatchResult result (λ timed. place.old.held ≡ Some timed.value) (λ number. (number ≡ no_realm) × (place.old.held ≡ None) × (word.new ≡ 0)) }
     ensures left { place.new.held ≡ None }
 {
     let found = swapped(word, WORKING);
@@ -57,11 +57,11 @@ pub fn nothing(found: u64) -> i64
 }
 
 /// Puts the realm into the book, which holds none. The call is over.
-pub fn put(word: &mut u64, place: &mut Place, realm: Box<RealmState, Global>)
+pub fn put(word: &mut u64, place: &mut Place, timed: Box<TimedRealm, Global>)
     requires { place.old.held ≡ None }
-    ensures holds { place.new.held ≡ Some realm.value }
+    ensures holds { place.new.held ≡ Some timed.value }
     ensures word { word.new ≡ 1 }
 {
-    let _nothing = mem::replace(place, Place::of_box(realm));
+    let _nothing = mem::replace(place, Place::of_box(timed));
     rest(word, FULL);
 }

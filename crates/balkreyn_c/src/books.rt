@@ -5,17 +5,17 @@ ghost use Rattle.balkreyn_c.specs.Books.{IsFresh, IsRefused, OpensBook, WantsMem
 
 use crate::book::{Book, EMPTY, FULL, WORKING, put, taken};
 use crate::numbers::{BAD_ARGUMENT, BUSY, DONE, HAS_REALM, refused};
+use crate::timed::TimedRealm;
 use crate::word::{rest, swapped};
-use realm_state::RealmState;
 use scope_rules::{Limits, Refusal};
 use std::alloc::Global;
 
 /// The number of the interface, which a change of the header's prototypes or numbers raises.
 #[unsafe(no_mangle)]
 pub extern "C" fn balkreyn_abi() -> u32
-    ensures { result ≡ 2 }
+    ensures { result ≡ 3 }
 {
-    2
+    3
 }
 
 /// Opens a fresh realm of these limits in the book, which holds none.
@@ -38,8 +38,8 @@ pub extern "C" fn balkreyn_book_open(
         return BUSY;
     }
     match fresh(alloc, scopes, tasks, load) {
-        Ok(realm) => {
-            put(&mut book.word, &mut book.place, realm);
+        Ok(timed) => {
+            put(&mut book.word, &mut book.place, timed);
             DONE
         }
         Err(number) => {
@@ -50,14 +50,14 @@ pub extern "C" fn balkreyn_book_open(
 }
 
 /// A fresh realm of these limits, or what the call answers.
-fn fresh(alloc: Global, scopes: u32, tasks: u32, load: u32) -> Result<Box<RealmState, Global>, i64>
-    ensures { MatchResult result (λ realm. IsFresh scopes tasks load (pos 0) (Some realm.value)) (λ number. IsRefused scopes tasks load number None ⊎ WantsMemory scopes tasks load number None) }
+fn fresh(alloc: Global, scopes: u32, tasks: u32, load: u32) -> Result<Box<TimedRealm, Global>, i64>
+    ensures { MatchResult result (λ timed. IsFresh scopes tasks load (pos 0) (Some timed.value)) (λ number. IsRefused scopes tasks load number None ⊎ WantsMemory scopes tasks load number None) }
 {
     let Some(limits) = Limits::new(scopes, tasks, load) else {
         return Err(BAD_ARGUMENT);
     };
-    match Box::new(alloc, RealmState::new(alloc, limits)) {
-        Ok(realm) => Ok(realm),
+    match Box::new(alloc, TimedRealm::new(alloc, limits)) {
+        Ok(timed) => Ok(timed),
         Err(_) => Err(refused(Refusal::Memory)),
     }
 }
@@ -69,7 +69,7 @@ pub extern "C" fn balkreyn_book_close(alloc: Global, book: &mut Book) -> i64
     ensures none { book.new.place.held ≡ None }
 {
     match taken(alloc, &mut book.word, &mut book.place) {
-        Ok(_realm) => {
+        Ok(_timed) => {
             rest(&mut book.word, EMPTY);
             DONE
         }

@@ -76,16 +76,16 @@ fn end_told(
 ) -> i64
     ensures { EndsTold book.old.place.held event task result book.new.place.held news.old news.new }
 {
-    let mut realm = match taken(alloc, &mut book.word, &mut book.place) {
-        Ok(realm) => realm,
+    let mut timed = match taken(alloc, &mut book.word, &mut book.place) {
+        Ok(timed) => timed,
         Err(number) => return number,
     };
     let Some(event) = event else {
-        put(&mut book.word, &mut book.place, realm);
+        put(&mut book.word, &mut book.place, timed);
         return BAD_ARGUMENT;
     };
-    let answer = end(&mut realm, &event, task, news);
-    put(&mut book.word, &mut book.place, realm);
+    let answer = end(&mut timed.realm, &event, task, news);
+    put(&mut book.word, &mut book.place, timed);
     answer
 }
 

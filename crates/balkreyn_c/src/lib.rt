@@ -20,4 +20,6 @@ mod place;
 mod queries;
 mod shows;
 mod text;
+mod timed;
+mod times;
 mod word;

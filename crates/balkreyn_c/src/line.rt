@@ -39,12 +39,13 @@ pub extern "C" fn balkreyn_line(
 ) -> i64
     ensures { Lines book.old.place.held line.now result book.new.place.held reply.old reply.new }
 {
-    let mut realm = match taken(alloc, &mut book.word, &mut book.place) {
-        Ok(realm) => realm,
+    let mut timed = match taken(alloc, &mut book.word, &mut book.place) {
+        Ok(timed) => timed,
         Err(number) => return number,
     };
-    let answer = do_line(alloc, &mut realm, line, reply);
-    put(&mut book.word, &mut book.place, realm);
+    let answer = do_line(alloc, &mut timed.realm, line, reply);
+    timed.let_go();
+    put(&mut book.word, &mut book.place, timed);
     answer
 }
 

@@ -30,12 +30,12 @@ pub extern "C" fn balkreyn_outcome_tasks(
     ensures list { ListsOutcome book.old.place.held scope result tasks.old tasks.new }
     ensures kept { book.new.place.held ≡ book.old.place.held }
 {
-    let realm = match taken(alloc, &mut book.word, &mut book.place) {
-        Ok(realm) => realm,
+    let timed = match taken(alloc, &mut book.word, &mut book.place) {
+        Ok(timed) => timed,
         Err(number) => return number,
     };
-    let answer = write_list(queries::outcome(&*realm, alloc, scope), tasks);
-    put(&mut book.word, &mut book.place, realm);
+    let answer = write_list(queries::outcome(&timed.realm, alloc, scope), tasks);
+    put(&mut book.word, &mut book.place, timed);
     answer
 }
 

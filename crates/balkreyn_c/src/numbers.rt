@@ -102,6 +102,16 @@ pub fn retired(answer: Result<Base, Refusal>) -> i64
     }
 }
 
+/// A note of a time.
+pub fn noted(answer: Result<(), Refusal>) -> i64
+    ensures { result ≡ number_of (λ done. pos 0) answer }
+{
+    match answer {
+        Ok(()) => DONE,
+        Err(refusal) => refused(refusal),
+    }
+}
+
 /// What can be read of a task.
 pub fn state_code(state: State) -> u32
     ensures { result ≡ state_code state }

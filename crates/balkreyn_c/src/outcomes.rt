@@ -50,12 +50,12 @@ fn outcome_check(realm: &RealmState, scope: ScopeId) -> Result<(), Refusal>
 pub extern "C" fn balkreyn_join(alloc: Global, book: &mut Book, actor: u32, scope: u32) -> i64
     ensures { Joins book.old.place.held actor scope result book.new.place.held }
 {
-    let mut realm = match taken(alloc, &mut book.word, &mut book.place) {
-        Ok(realm) => realm,
+    let mut timed = match taken(alloc, &mut book.word, &mut book.place) {
+        Ok(timed) => timed,
         Err(number) => return number,
     };
-    let answer = outcome_number(join_in(&mut realm, actor, scope));
-    put(&mut book.word, &mut book.place, realm);
+    let answer = outcome_number(join_in(&mut timed.realm, actor, scope));
+    put(&mut book.word, &mut book.place, timed);
     answer
 }
 
@@ -65,12 +65,12 @@ pub extern "C" fn balkreyn_outcome(alloc: Global, book: &mut Book, scope: u32) -
     ensures answer { TellsOutcome book.old.place.held scope result }
     ensures kept { book.new.place.held ≡ book.old.place.held }
 {
-    let realm = match taken(alloc, &mut book.word, &mut book.place) {
-        Ok(realm) => realm,
+    let timed = match taken(alloc, &mut book.word, &mut book.place) {
+        Ok(timed) => timed,
         Err(number) => return number,
     };
-    let answer = outcome_number(outcome_in(&realm, scope));
-    put(&mut book.word, &mut book.place, realm);
+    let answer = outcome_number(outcome_in(&timed.realm, scope));
+    put(&mut book.word, &mut book.place, timed);
     answer
 }
 
@@ -79,11 +79,12 @@ pub extern "C" fn balkreyn_outcome(alloc: Global, book: &mut Book, scope: u32) -
 pub extern "C" fn balkreyn_retire(alloc: Global, book: &mut Book, actor: u32) -> i64
     ensures { LetsGo book.old.place.held actor result book.new.place.held }
 {
-    let mut realm = match taken(alloc, &mut book.word, &mut book.place) {
-        Ok(realm) => realm,
+    let mut timed = match taken(alloc, &mut book.word, &mut book.place) {
+        Ok(timed) => timed,
         Err(number) => return number,
     };
-    let answer = retired(realm.retire(actor));
-    put(&mut book.word, &mut book.place, realm);
+    let answer = retired(timed.realm.retire(actor));
+    timed.let_go();
+    put(&mut book.word, &mut book.place, timed);
     answer
 }

@@ -1,22 +1,22 @@
 //! The memory behind a book: a box whose pointer C may keep, typed as bytes.
 
 ghost use Rattle.std.specs.Prelude.{◌≡◌, Option, None, Some, IsNone, IsSome};
-ghost use Rattle.balkreyn_c.specs.Owning.{Realm, place_coded, place_owns};
+ghost use Rattle.balkreyn_c.specs.Owning.{Timed, place_coded, place_owns};
 
 mod parts;
 
+use crate::timed::TimedRealm;
 use parts::Parts;
-use realm_state::RealmState;
 use std::alloc::Global;
 use std::marker::Model;
 use std::ptr;
 
-/// Where a realm lies, or nothing. What the pointer points to is the realm's alone.
+/// Where a realm with its times lies, or nothing. What the pointer points to is theirs alone.
 #[repr(C)]
 pub struct Place {
     at: *mut u8,
     alloc: Global,
-    pub ghost held: { Option Realm } by { place_coded },
+    pub ghost held: { Option Timed } by { place_coded },
 }
 
 impl Model for Place {
@@ -35,7 +35,7 @@ impl Place {
     }
 
     /// The same pointer, typed as bytes.
-    fn of_parts(parts: Parts<RealmState, Global>) -> Place
+    fn of_parts(parts: Parts<TimedRealm, Global>) -> Place
         ensures { result.held ≡ Some parts.value }
     {
         let Parts { ptr, alloc } = parts;
@@ -44,24 +44,24 @@ impl Place {
     }
 
     /// The pointer as it was.
-    fn into_parts(self) -> Parts<RealmState, Global>
+    fn into_parts(self) -> Parts<TimedRealm, Global>
         requires { IsSome self.held }
         ensures { self.held ≡ Some result.value }
     {
         let Place { at, alloc } = self;
-        let ptr = at as *mut RealmState;
+        let ptr = at as *mut TimedRealm;
         Parts { ptr, alloc }
     }
 
     /// Where the box keeps it.
-    pub fn of_box(realm: Box<RealmState, Global>) -> Place
-        ensures { result.held ≡ Some realm.value }
+    pub fn of_box(timed: Box<TimedRealm, Global>) -> Place
+        ensures { result.held ≡ Some timed.value }
     {
-        Place::of_parts(Parts::of(realm))
+        Place::of_parts(Parts::of(timed))
     }
 
     /// The box, which is there.
-    pub fn into_box(self) -> Box<RealmState, Global>
+    pub fn into_box(self) -> Box<TimedRealm, Global>
         requires { IsSome self.held }
         ensures { self.held ≡ Some result.value }
     {

@@ -38,12 +38,12 @@ pub extern "C" fn balkreyn_state(alloc: Global, book: &mut Book, task: u32) -> i
     ensures answer { result ≡ asked book.old.place.held (λ h. number_of state_number (answering (task_check h task) (state h task))) }
     ensures kept { book.new.place.held ≡ book.old.place.held }
 {
-    let realm = match taken(alloc, &mut book.word, &mut book.place) {
-        Ok(realm) => realm,
+    let timed = match taken(alloc, &mut book.word, &mut book.place) {
+        Ok(timed) => timed,
         Err(number) => return number,
     };
-    let answer = state(queries::state(&*realm, task));
-    put(&mut book.word, &mut book.place, realm);
+    let answer = state(queries::state(&timed.realm, task));
+    put(&mut book.word, &mut book.place, timed);
     answer
 }
 
@@ -53,12 +53,12 @@ pub extern "C" fn balkreyn_stage(alloc: Global, book: &mut Book, task: u32) -> i
     ensures answer { result ≡ asked book.old.place.held (λ h. number_of stage_number (answering (task_check h task) (stage h task))) }
     ensures kept { book.new.place.held ≡ book.old.place.held }
 {
-    let realm = match taken(alloc, &mut book.word, &mut book.place) {
-        Ok(realm) => realm,
+    let timed = match taken(alloc, &mut book.word, &mut book.place) {
+        Ok(timed) => timed,
         Err(number) => return number,
     };
-    let answer = stage(queries::stage(&*realm, task));
-    put(&mut book.word, &mut book.place, realm);
+    let answer = stage(queries::stage(&timed.realm, task));
+    put(&mut book.word, &mut book.place, timed);
     answer
 }
 
@@ -77,12 +77,12 @@ pub extern "C" fn balkreyn_result(
     ensures text { text.new ≡ written book.old.place.held (λ h. value_text_in (result_reply h actor task)) text.old }
     ensures kept { book.new.place.held ≡ book.old.place.held }
 {
-    let realm = match taken(alloc, &mut book.word, &mut book.place) {
-        Ok(realm) => realm,
+    let timed = match taken(alloc, &mut book.word, &mut book.place) {
+        Ok(timed) => timed,
         Err(number) => return number,
     };
-    let answer = write_value(queries::result(&*realm, actor, task), number, text);
-    put(&mut book.word, &mut book.place, realm);
+    let answer = write_value(queries::result(&timed.realm, actor, task), number, text);
+    put(&mut book.word, &mut book.place, timed);
     answer
 }
 
@@ -99,12 +99,12 @@ pub extern "C" fn balkreyn_fault(
     ensures text { text.new ≡ written book.old.place.held (λ h. fault_text_in (fault_reply h actor task)) text.old }
     ensures kept { book.new.place.held ≡ book.old.place.held }
 {
-    let realm = match taken(alloc, &mut book.word, &mut book.place) {
-        Ok(realm) => realm,
+    let timed = match taken(alloc, &mut book.word, &mut book.place) {
+        Ok(timed) => timed,
         Err(number) => return number,
     };
-    let answer = write_fault(queries::fault(&*realm, actor, task), text);
-    put(&mut book.word, &mut book.place, realm);
+    let answer = write_fault(queries::fault(&timed.realm, actor, task), text);
+    put(&mut book.word, &mut book.place, timed);
     answer
 }
 
@@ -114,12 +114,12 @@ pub extern "C" fn balkreyn_cause(alloc: Global, book: &mut Book, scope: u32) -> 
     ensures answer { result ≡ asked book.old.place.held (λ h. number_of cause_number (answering (scope_check h scope) (cause h scope))) }
     ensures kept { book.new.place.held ≡ book.old.place.held }
 {
-    let realm = match taken(alloc, &mut book.word, &mut book.place) {
-        Ok(realm) => realm,
+    let timed = match taken(alloc, &mut book.word, &mut book.place) {
+        Ok(timed) => timed,
         Err(number) => return number,
     };
-    let answer = cause(queries::cause(&*realm, scope));
-    put(&mut book.word, &mut book.place, realm);
+    let answer = cause(queries::cause(&timed.realm, scope));
+    put(&mut book.word, &mut book.place, timed);
     answer
 }
 
@@ -135,12 +135,12 @@ pub extern "C" fn balkreyn_until(
     ensures moment { moment.new ≡ written book.old.place.held (λ h. until_written (answering (until_check h scope) (effective h scope))) moment.old }
     ensures kept { book.new.place.held ≡ book.old.place.held }
 {
-    let realm = match taken(alloc, &mut book.word, &mut book.place) {
-        Ok(realm) => realm,
+    let timed = match taken(alloc, &mut book.word, &mut book.place) {
+        Ok(timed) => timed,
         Err(number) => return number,
     };
-    let answer = write_until(queries::effective_deadline(&*realm, scope), moment);
-    put(&mut book.word, &mut book.place, realm);
+    let answer = write_until(queries::effective_deadline(&timed.realm, scope), moment);
+    put(&mut book.word, &mut book.place, timed);
     answer
 }
 
@@ -156,12 +156,12 @@ pub extern "C" fn balkreyn_counts_of(
     ensures counts { into.new ≡ written book.old.place.held (λ h. counts_written (answering (scope_check h scope) (counts h scope))) into.old }
     ensures kept { book.new.place.held ≡ book.old.place.held }
 {
-    let realm = match taken(alloc, &mut book.word, &mut book.place) {
-        Ok(realm) => realm,
+    let timed = match taken(alloc, &mut book.word, &mut book.place) {
+        Ok(timed) => timed,
         Err(number) => return number,
     };
-    let answer = write_counts(queries::counts(&*realm, scope), into);
-    put(&mut book.word, &mut book.place, realm);
+    let answer = write_counts(queries::counts(&timed.realm, scope), into);
+    put(&mut book.word, &mut book.place, timed);
     answer
 }
 
@@ -180,15 +180,15 @@ pub extern "C" fn balkreyn_binding(
     ensures text { text.new ≡ written book.old.place.held (λ h old. option_map_or (λ name. value_text_in (binding_reply h actor name) old) (name_said key.now) old) text.old }
     ensures kept { book.new.place.held ≡ book.old.place.held }
 {
-    let realm = match taken(alloc, &mut book.word, &mut book.place) {
-        Ok(realm) => realm,
+    let timed = match taken(alloc, &mut book.word, &mut book.place) {
+        Ok(timed) => timed,
         Err(number) => return number,
     };
     let answer = match name(key) {
-        Some(key) => write_value(queries::binding(&*realm, actor, &key), number, text),
+        Some(key) => write_value(queries::binding(&timed.realm, actor, &key), number, text),
         None => BAD_ARGUMENT
     };
-    put(&mut book.word, &mut book.place, realm);
+    put(&mut book.word, &mut book.place, timed);
     answer
 }
 
@@ -199,12 +199,12 @@ pub extern "C" fn balkreyn_moment(alloc: Global, book: &mut Book, at: &mut u64) 
     ensures moment { at.new ≡ written book.old.place.held (λ h old. moment h) at.old }
     ensures kept { book.new.place.held ≡ book.old.place.held }
 {
-    let realm = match taken(alloc, &mut book.word, &mut book.place) {
-        Ok(realm) => realm,
+    let timed = match taken(alloc, &mut book.word, &mut book.place) {
+        Ok(timed) => timed,
         Err(number) => return number,
     };
-    let answer = write_moment(realm.moment(), at);
-    put(&mut book.word, &mut book.place, realm);
+    let answer = write_moment(timed.realm.moment(), at);
+    put(&mut book.word, &mut book.place, timed);
     answer
 }
 
@@ -214,12 +214,12 @@ pub extern "C" fn balkreyn_next_deadline(alloc: Global, book: &mut Book, moment:
     ensures answer { NextDeadline book.old.place.held result moment.old moment.new }
     ensures kept { book.new.place.held ≡ book.old.place.held }
 {
-    let realm = match taken(alloc, &mut book.word, &mut book.place) {
-        Ok(realm) => realm,
+    let timed = match taken(alloc, &mut book.word, &mut book.place) {
+        Ok(timed) => timed,
         Err(number) => return number,
     };
-    let answer = write_next(realm.next_deadline(), moment);
-    put(&mut book.word, &mut book.place, realm);
+    let answer = write_next(timed.realm.next_deadline(), moment);
+    put(&mut book.word, &mut book.place, timed);
     answer
 }
 
@@ -229,12 +229,12 @@ pub extern "C" fn balkreyn_nth_cancelled(alloc: Global, book: &mut Book, n: usiz
     ensures answer { NthCancelled book.old.place.held n result }
     ensures kept { book.new.place.held ≡ book.old.place.held }
 {
-    let mut realm = match taken(alloc, &mut book.word, &mut book.place) {
-        Ok(realm) => realm,
+    let mut timed = match taken(alloc, &mut book.word, &mut book.place) {
+        Ok(timed) => timed,
         Err(number) => return number,
     };
-    let answer = some(realm.cancelled_since(n).get(0));
-    put(&mut book.word, &mut book.place, realm);
+    let answer = some(timed.realm.cancelled_since(n).get(0));
+    put(&mut book.word, &mut book.place, timed);
     answer
 }
 
@@ -244,12 +244,12 @@ pub extern "C" fn balkreyn_task_at(alloc: Global, book: &mut Book, scope: u32, i
     ensures answer { result ≡ asked book.old.place.held (λ h. number_of some_number (task_at_reply h scope index)) }
     ensures kept { book.new.place.held ≡ book.old.place.held }
 {
-    let realm = match taken(alloc, &mut book.word, &mut book.place) {
-        Ok(realm) => realm,
+    let timed = match taken(alloc, &mut book.word, &mut book.place) {
+        Ok(timed) => timed,
         Err(number) => return number,
     };
-    let answer = some_answer(queries::task_at(&*realm, scope, index));
-    put(&mut book.word, &mut book.place, realm);
+    let answer = some_answer(queries::task_at(&timed.realm, scope, index));
+    put(&mut book.word, &mut book.place, timed);
     answer
 }
 
@@ -259,12 +259,12 @@ pub extern "C" fn balkreyn_scopes(alloc: Global, book: &mut Book) -> i64
     ensures answer { result ≡ asked book.old.place.held (λ h. pos (scopes h)) }
     ensures kept { book.new.place.held ≡ book.old.place.held }
 {
-    let realm = match taken(alloc, &mut book.word, &mut book.place) {
-        Ok(realm) => realm,
+    let timed = match taken(alloc, &mut book.word, &mut book.place) {
+        Ok(timed) => timed,
         Err(number) => return number,
     };
-    let answer = i64::from(realm.scopes());
-    put(&mut book.word, &mut book.place, realm);
+    let answer = i64::from(timed.realm.scopes());
+    put(&mut book.word, &mut book.place, timed);
     answer
 }
 
@@ -274,12 +274,12 @@ pub extern "C" fn balkreyn_tasks(alloc: Global, book: &mut Book) -> i64
     ensures answer { result ≡ asked book.old.place.held (λ h. pos (tasks h)) }
     ensures kept { book.new.place.held ≡ book.old.place.held }
 {
-    let realm = match taken(alloc, &mut book.word, &mut book.place) {
-        Ok(realm) => realm,
+    let timed = match taken(alloc, &mut book.word, &mut book.place) {
+        Ok(timed) => timed,
         Err(number) => return number,
     };
-    let answer = i64::from(realm.tasks());
-    put(&mut book.word, &mut book.place, realm);
+    let answer = i64::from(timed.realm.tasks());
+    put(&mut book.word, &mut book.place, timed);
     answer
 }
 

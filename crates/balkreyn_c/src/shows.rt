@@ -17,30 +17,30 @@ use tree_dump::dump_of;
 /// The tree of the scopes that are not closed, as JSON without blanks.
 #[unsafe(no_mangle)]
 pub extern "C" fn balkreyn_dump(alloc: Global, book: &mut Book, text: &mut [u8]) -> i64
-    ensures text { Shows book.old.place.held dump_text result text.old text.new }
+    ensures text { Shows book.old.place.held (λ timed. dump_text timed.realm.history) result text.old text.new }
     ensures kept { book.new.place.held ≡ book.old.place.held }
 {
-    let realm = match taken(alloc, &mut book.word, &mut book.place) {
-        Ok(realm) => realm,
+    let timed = match taken(alloc, &mut book.word, &mut book.place) {
+        Ok(timed) => timed,
         Err(number) => return number,
     };
-    let answer = write_dump(alloc, &realm, text);
-    put(&mut book.word, &mut book.place, realm);
+    let answer = write_dump(alloc, &timed.realm, text);
+    put(&mut book.word, &mut book.place, timed);
     answer
 }
 
 /// What happened since the last retirement, as a script.
 #[unsafe(no_mangle)]
 pub extern "C" fn balkreyn_journal(alloc: Global, book: &mut Book, text: &mut [u8]) -> i64
-    ensures text { Shows book.old.place.held script_text result text.old text.new }
+    ensures text { Shows book.old.place.held (λ timed. script_text timed.realm.history) result text.old text.new }
     ensures kept { book.new.place.held ≡ book.old.place.held }
 {
-    let realm = match taken(alloc, &mut book.word, &mut book.place) {
-        Ok(realm) => realm,
+    let timed = match taken(alloc, &mut book.word, &mut book.place) {
+        Ok(timed) => timed,
         Err(number) => return number,
     };
-    let answer = write_journal(alloc, &realm, text);
-    put(&mut book.word, &mut book.place, realm);
+    let answer = write_journal(alloc, &timed.realm, text);
+    put(&mut book.word, &mut book.place, timed);
     answer
 }
 

@@ -59,12 +59,12 @@ pub extern "C" fn balkreyn_outcome_line(
     ensures line { OutcomeLine book.old.place.held scope result text.old text.new }
     ensures kept { book.new.place.held ≡ book.old.place.held }
 {
-    let realm = match taken(alloc, &mut book.word, &mut book.place) {
-        Ok(realm) => realm,
+    let timed = match taken(alloc, &mut book.word, &mut book.place) {
+        Ok(timed) => timed,
         Err(number) => return number,
     };
-    let answer = write_outcome(alloc, &realm, scope, text);
-    put(&mut book.word, &mut book.place, realm);
+    let answer = write_outcome(alloc, &timed.realm, scope, text);
+    put(&mut book.word, &mut book.place, timed);
     answer
 }
 

@@ -4,7 +4,7 @@
 #![no_std]
 
 /// The number of this interface: [`balkreyn_abi`] answers that of the library.
-pub const ABI: u32 = 2;
+pub const ABI: u32 = 3;
 
 #[repr(C)]
 struct Place {
@@ -114,6 +114,7 @@ unsafe extern "C" {
     pub fn balkreyn_begin_close(book: *mut Book, actor: u32, scope: u32) -> i64;
     pub fn balkreyn_end_close(book: *mut Book, actor: u32, scope: u32) -> i64;
     pub fn balkreyn_retire(book: *mut Book, actor: u32) -> i64;
+    pub fn balkreyn_note(book: *mut Book, now: u64) -> i64;
     pub fn balkreyn_state(book: *mut Book, task: u32) -> i64;
     pub fn balkreyn_stage(book: *mut Book, task: u32) -> i64;
     pub fn balkreyn_result(book: *mut Book, actor: u32, task: u32, number: *mut i64, text: *mut u8, room: usize)
@@ -144,5 +145,6 @@ unsafe extern "C" {
     pub fn balkreyn_outcome_line(book: *mut Book, scope: u32, text: *mut u8, room: usize) -> i64;
     pub fn balkreyn_dump(book: *mut Book, text: *mut u8, room: usize) -> i64;
     pub fn balkreyn_journal(book: *mut Book, text: *mut u8, room: usize) -> i64;
+    pub fn balkreyn_timed_journal(book: *mut Book, now: u64, text: *mut u8, room: usize) -> i64;
     pub fn balkreyn_line(book: *mut Book, line: *const u8, line_length: usize, reply: *mut u8, room: usize) -> i64;
 }

@@ -1,4 +1,4 @@
--- A place may go to another thread: what it owns is the realm alone, which may.
+-- A place may go to another thread: what it owns is the realm with its times alone, which may.
 use mir.Raw.{raw}
 use base.Shift.{Keyless}
 use denote.Memory.{lone}
@@ -11,14 +11,14 @@ use Rattle.std.specs.Global.{Global}
 use Rattle.std.proofs.Crossing as heap
 use Rattle.std_alloc.proofs.SendSync.{quiet, lies}
 use Rattle.std_heap.proofs.Global.TheSendSync as handle
-use Rattle.balkreyn_c.specs.Owning.{Realm, place_owns}
-use Rattle.realm_state.specs.contracts.realm.RealmState as State
-use Rattle.realm_state.proofs.realm.RealmState.TheSendSync.{the_send as kept}
+use Rattle.balkreyn_c.specs.Owning.{Timed, place_owns}
+use Rattle.balkreyn_c.specs.contracts.timed.TimedRealm as State
+use Rattle.balkreyn_c.proofs.timed.TimedRealm.TheSendSync.{the_send as kept}
 use Rattle.balkreyn_c.specs.contracts.place.Place.{the_row, the_type}
 
-keyless : (alloc : Global) (at : Ptr) (held : Option Realm) → Keyless (place_owns alloc at held)
+keyless : (alloc : Global) (at : Ptr) (held : Option Timed) → Keyless (place_owns alloc at held)
 keyless alloc at None = tt
-keyless alloc at (Some realm) = (lies State.the_row kept at realm, heap.frees.frees alloc (raw (lone State.the_row.mir)) at)
+keyless alloc at (Some timed) = (lies State.the_row kept at timed, heap.frees.frees alloc (raw (lone State.the_row.mir)) at)
 
 pub send : IsSend the_row
 send =

@@ -24,7 +24,7 @@ use denote.Triple.Table.{entered}
 use denote.Triple.Walked.{says, Stays, stay_dropped, walk_of, ends_at, Goes-dropped, walk_Meets}
 use Rattle.std.proofs.Common.{Option}
 use Rattle.std.specs.Prelude.{IsSome}
-use Rattle.balkreyn_c.specs.Owning.{Realm}
+use Rattle.balkreyn_c.specs.Owning.{Timed}
 use Rattle.balkreyn_c.specs.contracts.place.Place as Place
 use contract.Monad.{fact}
 use denote.Steps.{heard}
@@ -53,7 +53,7 @@ module _ {M : Type 1} {𝓤 : Ura M} (𝓛 : Logic 𝓤) (at_mem : Memory → SP
       let t = there p.held some in
       let v : D E = record { ptr = p.at; alloc = p.alloc; value = t.0 } in
       let made : To.Denot = record { ptr = v.ptr; alloc = v.alloc; value = v.value } in
-      fsplit ! $ move ! (1 ∷ []) $ drop ! $ rewrite ! 0 (λ (held : Option Realm). ‵ (Place.the_row.own_val (record p { held = held }) z.0.4.0)) t.1 refl $ use1 𝓛 (‵ ((B E).own_val v z.0.4.0)) (id⊢ 𝓤 _) $
+      fsplit ! $ move ! (1 ∷ []) $ drop ! $ rewrite ! 0 (λ (held : Option Timed). ‵ (Place.the_row.own_val (record p { held = held }) z.0.4.0)) t.1 refl $ use1 𝓛 (‵ ((B E).own_val v z.0.4.0)) (id⊢ 𝓤 _) $
       box_out E ! v z.0.4.0 (λ b o hv e ws fa. box_in E ! v b o v.value e refl $ use1 𝓛 (‵ (To.own_val made (word E hv b o ∷ []))) (id⊢ 𝓤 _) $
       let w = word E hv b o in
       let Γ : List (Item 𝓤) = ‵ (To.own_val made (w ∷ [])) ∷ [] in
