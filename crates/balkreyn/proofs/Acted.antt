@@ -1,19 +1,26 @@
 -- What was done by a context that knows the realm's time.
-use Rattle.std.specs.Prelude.{◌≡◌, ℕ, Option, None, Some, Result, Ok, Err, MatchResult, is_some, true, false}
+use Rattle.std.specs.Prelude.{◌≡◌, ℕ, Option, None, Some, IfSome, Result, Ok, Err, MatchResult, is_some, true, false}
 use Rattle.std.specs.Borrow.{MutBor}
 use Rattle.std.specs.Fn.{CalledWithState, Mut}
 use Rattle.std.proofs.Common.{inl, refl, subst, sym, true≢false}
 use Rattle.cancel_marks.specs.declared.marks.Mark.{Mark}
 use Rattle.scope_rules.specs.declared.types.refusals.Refusal.{Refusal}
 use Rattle.share_ledger.specs.Values.{OwnerValue}
-use Rattle.realm_lock.specs.Waits.{HasPassed, Stopped, Waited}
-use Rattle.balkreyn.specs.Acting.{EndsTries, Slept}
+use Rattle.realm_core.specs.Calls.{history_seen}
+use Rattle.realm_lock.specs.Waits.{HasCome, HasPassed, Stopped, Waited}
+use Rattle.balkreyn.specs.Acting.{EndsTries, Heard, Slept}
 
 -- if no mark was shown, the moment has passed
 pub slept : {K : Type 0} (reads : K → K → ℕ → Type 0) (reading : K → Option ℕ) (old new : OwnerValue) (start last : K) (given until : ℕ) → given ≡ until → (result : Result (Option Mark) Refusal) → MatchResult result (λ _. Waited reads old start new last) (Stopped reads old new start last) → (result ≡ Ok None → HasPassed (Some given) (reading last)) → Slept reads reading old new start last until result
 slept reads reading old new start last given until same (Ok None) waits passed = (waits, subst (λ u. HasPassed (Some u) (reading last)) same (passed refl))
 slept reads reading old new start last given until same (Ok (Some mark)) waits passed = waits
 slept reads reading old new start last given until same (Err refusal) waits passed = waits
+
+-- if no mark was shown, each deadline that had come was passed
+pub heard : {K : Type 0} (reads : K → K → ℕ → Type 0) (reading : K → Option ℕ) (old new : OwnerValue) (start last : K) (result : Result (Option Mark) Refusal) → MatchResult result (λ _. Waited reads old start new last) (Stopped reads old new start last) → (result ≡ Ok None → IfSome (reading last) (λ now. HasCome (history_seen new) now → ⊥)) → Heard reads reading old new start last result
+heard reads reading old new start last (Ok None) waits passed = (waits, passed refl)
+heard reads reading old new start last (Ok (Some mark)) waits passed = waits
+heard reads reading old new start last (Err refusal) waits passed = waits
 
 -- ---- tries
 

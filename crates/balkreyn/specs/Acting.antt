@@ -1,5 +1,5 @@
 -- What is done by a context that knows the realm's time: each wait reads a copy of its clock.
-use Rattle.std.specs.Prelude.{◌≡◌, ◌⊎◌, ℕ, ◌+◌, ◌-◌, ◌*◌, ◌^◌, ◌≤◌, min, Option, None, Some, Result, Ok, Err, IsErrAnd}
+use Rattle.std.specs.Prelude.{◌≡◌, ◌⊎◌, ℕ, ◌+◌, ◌-◌, ◌*◌, ◌^◌, ◌≤◌, min, Option, None, Some, IfSome, Result, Ok, Err, IsErrAnd}
 use Rattle.std.specs.Borrow.{MutBor}
 use Rattle.std.specs.Fn.{CalledWithState, Mut, Once}
 use Rattle.cancel_marks.specs.declared.marks.Mark.{Mark}
@@ -13,9 +13,9 @@ use Rattle.scope_rules.specs.declared.types.refusals.Refusal.{Refusal}
 use Rattle.scope_rules.specs.declared.types.values.Value.{Value}
 use Rattle.share_ledger.specs.declared.steps.RealmStep.TheVariants.{Happened}
 use Rattle.share_ledger.specs.Values.{OwnerValue}
-use Rattle.realm_core.specs.Calls.{DoesOrMemory}
+use Rattle.realm_core.specs.Calls.{DoesOrMemory, history_seen}
 use Rattle.realm_core.specs.declared.joins.Joined.{Joined}
-use Rattle.realm_lock.specs.Waits.{HasPassed, JoinsBy, Stopped, Waited, shown_in}
+use Rattle.realm_lock.specs.Waits.{HasCome, HasPassed, JoinsBy, Stopped, Waited, shown_in}
 use Rattle.job_runner.specs.Marks.{Shows}
 use Rattle.scope_rules.specs.declared.types.answers.Verdict.{Verdict}
 use Rattle.balkreyn.specs.Bodies.{ClosesFrom}
@@ -52,6 +52,23 @@ pub record SleepsFor {K : Type 0} (reads : K → K → ℕ → Type 0) (reading 
 -- the same of a context with a clock, a token and a seat
 abbrev pub Sleeps : {K X : Type 0} → (K → K → ℕ → Type 0) → (K → Option ℕ) → (X → K) → (X → OwnerValue) → (X → Option Seen) → (millis : ℕ) → X → X → Result (Option Mark) Refusal → Type 0
 Sleeps reads reading time token seat millis old new result = SleepsFor reads reading (time old) (token old) (token new) (seat old) (seat new) millis result
+
+-- what a wait for a ring did and answered: it waited, and where there is no mark, each deadline that had come was passed; or
+-- a tick was refused
+abbrev pub Heard : {K : Type 0} → (K → K → ℕ → Type 0) → (K → Option ℕ) → (old new : OwnerValue) (start last : K) → Result (Option Mark) Refusal → Type 0
+Heard reads reading old new start last (Ok None) = Waited reads old start new last × IfSome (reading last) (λ now. HasCome (history_seen new) now → ⊥)
+Heard reads reading old new start last (Ok (Some mark)) = Waited reads old start new last
+Heard reads reading old new start last (Err refusal) = Stopped reads old new start last refusal
+
+-- a wait for a ring by a copy of this clock; a mark is what the seat shows
+pub record WaitsRung {K : Type 0} (reads : K → K → ℕ → Type 0) (reading : K → Option ℕ) (start : K) (old new : OwnerValue) (seat seat_new : Option Seen) (result : Result (Option Mark) Refusal) : Type 0 where
+  pub last : K
+  pub heard : Heard reads reading old new start last result
+  pub shows : Shows seat seat_new (shown_in result)
+
+-- the pause between two looks of a context: a wait for a ring, or a sleep of so many milliseconds
+abbrev pub Pauses : {K X : Type 0} → (K → K → ℕ → Type 0) → (K → Option ℕ) → (X → K) → (X → OwnerValue) → (X → Option Seen) → (millis : ℕ) → X → X → Result (Option Mark) Refusal → Type 0
+Pauses reads reading time token seat millis old new result = WaitsRung reads reading (time old) (token old) (token new) (seat old) (seat new) result ⊎ Sleeps reads reading time token seat millis old new result
 
 -- what a close by a copy of the context's clock did, and answered, as that stood then
 abbrev pub ClosesNow : {X K : Type 0} → (X → OwnerValue) → (X → X → ℕ → Result Verdict Refusal → Type 0) → (K → K → ℕ → Type 0) → (X → K) → X → X → ℕ → Result Verdict Refusal → Type 0

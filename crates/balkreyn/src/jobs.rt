@@ -3,13 +3,12 @@ ghost use Rattle.std.specs.Prelude.{◌≡◌, IfOk, pos};
 ghost use Rattle.scope_rules.specs.declared.types.values.Value.TheVariants as value;
 
 use crate::errors::ServiceError;
-use crate::places::Place;
+use crate::places::JobShare;
 use job_runner::{Answers, Job, TaskCtx};
 use realm_lock::RealmName;
 use scope_rules::{AnyEnd, End, Fault, Name, Refusal, Value};
-use std::alloc::Global;
 use std::marker::Model;
-use std::sync::{Arc, Wait};
+use std::sync::Wait;
 use thread_pool::Spawner;
 
 /// What a job fails with that has errors of its own type. The rules know its task by a fault, which the error gives.
@@ -117,7 +116,7 @@ pub trait TypedJob<S: Spawner<N>, N: RealmName>: Yields {
 pub struct Typed<J: Yields> {
     pub(crate) name: Name,
     pub(crate) job: J,
-    pub(crate) place: Arc<Place<J>, Global>,
+    pub(crate) share: JobShare<J>,
 }
 
 impl<J: Yields> Model for Typed<J> {
@@ -134,13 +133,13 @@ impl<J: Yields> Answers for Typed<J> {
 
 impl<J: TypedJob<S, N>, N: RealmName, S: Spawner<N>> Job<AnyEnd, S, N> for Typed<J> {
     fn run<R: Wait>(self, rt: &R, ctx: &mut TaskCtx<AnyEnd, S, N>) -> End {
-        let Typed { name, job, place } = self;
+        let Typed { name, job, share } = self;
         match job.run_typed(rt, ctx, name) {
             Ok(value) => {
-                place.put(rt, name, value);
+                share.place.put(rt, name, value);
                 Ok(Value::Num(0))
             }
-            Err(error) => Err(place.fail(rt, name, error)),
+            Err(error) => Err(share.place.fail(rt, name, error)),
         }
     }
 }

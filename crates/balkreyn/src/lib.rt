@@ -43,7 +43,7 @@ pub use jobs::{JobError, Typed, TypedJob, Yields};
 pub use join_rules::{CompletionTest, Joiner, UntilTest};
 pub use literals::named;
 pub use realm_lock::{
-    ActorToken, BareOutcome, CloseReport, Joined, Mark, Realm, RealmName, Seed, View,
+    ActorToken, BareOutcome, Bell, CloseReport, Joined, Mark, Realm, RealmName, Seed, View,
 };
 pub use requests::{Requests, Side, Turned};
 pub use rooms::Need;

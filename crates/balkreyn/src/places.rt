@@ -2,8 +2,11 @@
 ghost use Rattle.std.specs.Prelude.{IfSome, MatchResult};
 
 use crate::jobs::{JobError, Yields};
+use cancel_marks::Bell;
 use scope_rules::{Fault, Name};
-use std::sync::{Mutex, Wait};
+use std::alloc::Global;
+use std::sync::atomic::{AtomicBool, Ordering};
+use std::sync::{Arc, Mutex, Wait};
 
 /// A value, with the name under which a job of type `J` may answer it.
 #[derive(Drop)]
@@ -18,6 +21,22 @@ struct Kept<J: Yields> {
 pub(crate) struct Place<J: Yields> {
     item: Mutex<Option<Kept<J>>>,
     error: Mutex<Option<J::Error>>,
+    /// The bell of who waits for the job's end.
+    bell: Mutex<Option<Bell>>,
+    is_left: AtomicBool,
+}
+
+/// The job's share of its place. It is dropped once the job is over, or if that never runs.
+pub(crate) struct JobShare<J: Yields> {
+    pub(crate) place: Arc<Place<J>, Global>,
+}
+
+impl<J: Yields> Drop for JobShare<J> {
+    fn drop(self) {
+        self.place.leave();
+        let JobShare { place } = self;
+        drop(place);
+    }
 }
 
 impl<J: Yields> Place<J> {
@@ -26,6 +45,34 @@ impl<J: Yields> Place<J> {
         Place {
             item: Mutex::new(None),
             error: Mutex::new(None),
+            bell: Mutex::new(None),
+            is_left: AtomicBool::new(false),
+        }
+    }
+
+    /// Has this bell rung once the job is over; false if std's count of its holders is full.
+    pub(crate) fn note<R: Wait>(&self, rt: &R, bell: &Bell) -> bool {
+        match bell.share() {
+            Ok(share) => {
+                *self.bell.lock(rt) = Some(share);
+                true
+            }
+            Err(_) => false,
+        }
+    }
+
+    /// Whether the job is over, so that its task ends next.
+    pub(crate) fn is_left(&self) -> bool {
+        self.is_left.load(Ordering::SeqCst)
+    }
+
+    /// The job is over. Who notes a bell meanwhile sees that behind it.
+    fn leave(&self) {
+        self.is_left.store(true, Ordering::SeqCst);
+        if let Some(noted) = self.bell.try_lock() {
+            if let Some(bell) = noted.as_ref() {
+                bell.ring();
+            }
         }
     }
 

@@ -5,7 +5,7 @@ ghost use Rattle.job_runner.specs.Forks.{KeepsThread};
 ghost use Rattle.balkreyn.specs.Slots.{ForksInto, Takes, label_of, task_of};
 
 use crate::jobs::{Typed, Yields};
-use crate::places::Place;
+use crate::places::{JobShare, Place};
 use job_runner::{Answers, JobWork, NamedJob, TaskCtx};
 use realm_lock::RealmName;
 use scope_rules::{AnyEnd, Catalog, ForkReply, Label, Name, Refusal, ScopeId, TaskId};
@@ -78,11 +78,7 @@ pub fn fork_typed<
     let Ok((place, share)) = place_and_share(alloc) else {
         return Err(Refusal::Memory);
     };
-    let work = W::from(Typed {
-        name,
-        job,
-        place: share,
-    });
+    let work = W::from(Typed { name, job, share });
     let label = Label { name, due: None };
     match ctx.fork_job(rt, scope, NamedJob::new(label, work)) {
         Ok(reply) => Ok(Slot { name, reply, place }),
@@ -93,10 +89,10 @@ pub fn fork_typed<
 /// A place for what a job answers, for its slot, and a share of it, for its work.
 pub(crate) fn place_and_share<J: Yields>(
     alloc: Global,
-) -> Result<(Arc<Place<J>, Global>, Arc<Place<J>, Global>), AllocError> {
+) -> Result<(Arc<Place<J>, Global>, JobShare<J>), AllocError> {
     let place = Arc::new(alloc, Place::new())?;
     let share = Arc::try_clone(&place)?;
-    Ok((place, share))
+    Ok((place, JobShare { place: share }))
 }
 
 impl<J: Yields> Slot<J> {

@@ -9,7 +9,13 @@ mod cancels;
 #[cfg(test)]
 mod channels;
 #[cfg(test)]
+mod completing;
+#[cfg(test)]
+mod counting;
+#[cfg(test)]
 mod fairness;
+#[cfg(test)]
+mod handing;
 #[cfg(test)]
 mod handled;
 #[cfg(test)]
@@ -25,7 +31,13 @@ mod shields;
 #[cfg(test)]
 mod stopping;
 #[cfg(test)]
+mod storm;
+#[cfg(test)]
 mod turns;
+#[cfg(test)]
+mod waiters;
 #[cfg(test)]
 mod watches;
 mod watching;
+#[cfg(test)]
+mod woken;

@@ -10,9 +10,10 @@ use crate::by_token::InspectByToken;
 use crate::forks::fork;
 use crate::scoped::Scopes;
 use crate::times::Times;
+use cancel_marks::Bell;
 use job_runner::{Clock, SystemClock, TaskCtx};
 use join_rules::Joiner;
-use realm_lock::{Joined, Mark, RealmName};
+use realm_lock::{BellWait, Joined, Mark, RealmName};
 use scope_rules::{
     AnyEnd, Base, Cancelling, CauseKind, ForkReply, Name, Options, Refusal, ScopeId, State, TaskId,
     Value, Verdict,
@@ -55,7 +56,7 @@ pub trait Acts<W>: Scopes + Wait {
     ghost use Rattle.cancel_marks.specs.Seats.{Seen};
     ghost use Rattle.realm_core.specs.Calls.{DoesOrMemory, Reads, RecordsOrMemory, SeesMore};
     ghost use Rattle.job_runner.specs.Marks.{Shows};
-    ghost use Rattle.balkreyn.specs.Acting.{ClosesNow, IsSoAfter, JoinsFrom, SleepsFor};
+    ghost use Rattle.balkreyn.specs.Acting.{ClosesNow, IsSoAfter, JoinsFrom, SleepsFor, WaitsRung};
     ghost use Rattle.balkreyn.specs.Bodies.{Opens};
     ghost use Rattle.balkreyn.specs.Slots.{ForksUnder};
     ghost use Rattle.balkreyn.specs.Looks.{Says};
@@ -122,6 +123,12 @@ pub trait Acts<W>: Scopes + Wait {
     fn sleep(&mut self, millis: u64) -> Result<Option<Mark>, Refusal>
         ensures sees { SeesMore (Self.token self.old) (Self.token self.new) }
         ensures answer { SleepsFor Self.reads Self.reading (Self.time self.old) (Self.token self.old) (Self.token self.new) (Self.seat self.old) (Self.seat self.new) millis result };
+
+    /// Waits until the bell has rung more often than that, or until a checkpoint would show a mark, which it then returns
+    /// (Trio, `ParkingLot.park`). Who reads how often it has rung, and then looks for what it waits for, misses no ring.
+    fn wait_rung(&mut self, bell: &Bell, heard: u64) -> Result<Option<Mark>, Refusal>
+        ensures sees { SeesMore (Self.token self.old) (Self.token self.new) }
+        ensures answer { WaitsRung Self.reads Self.reading (Self.time self.old) (Self.token self.old) (Self.token self.new) (Self.seat self.old) (Self.seat self.new) result };
 
     /// The mark of the scope that this task is in, once that is seen to be cancelled (Trio, a checkpoint).
     fn checkpoint(&mut self) -> Option<Mark>
@@ -362,6 +369,15 @@ impl<K: Handle, O: Observes, N: RealmName, W: Task, S: CanFork<AnyEnd, N, Timed<
         let mut clock = self.clock;
         let until = clock.now().saturating_add(millis);
         let found = self.ctx.sleep_by(&clock.runtime(), &mut clock, until);
+        let news = self.told.by_sleep(&found);
+        self.report_news(news);
+        found
+    }
+
+    fn wait_rung(&mut self, bell: &Bell, heard: u64) -> Result<Option<Mark>, Refusal> {
+        let mut clock = self.clock;
+        let bell = BellWait { bell, heard };
+        let found = self.ctx.wait_rung_by(&clock.runtime(), &mut clock, bell);
         let news = self.told.by_sleep(&found);
         self.report_news(news);
         found

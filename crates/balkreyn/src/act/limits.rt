@@ -1,10 +1,11 @@
 //! A limit on how many do something at a time, whatever their scopes.
-ghost use Rattle.balkreyn.specs.Acting.{Sleeps};
+ghost use Rattle.balkreyn.specs.Acting.{Pauses};
 ghost use Rattle.balkreyn.specs.Looking.{RunsLimited};
 
 use crate::act::contexts::Acts;
-use crate::act::turns::{Turn, Waiting};
+use crate::act::turns::{Turn, Waiting, ring};
 use crate::act::waits::{Looks, awaited};
+use cancel_marks::Bell;
 use scope_rules::Refusal;
 use std::alloc::Global;
 use std::sync::{Mutex, Wait};
@@ -52,49 +53,61 @@ impl Limiter {
         }
     }
 
-    /// A place behind those who wait.
-    fn ask<R: Wait>(&self, rt: &R) -> Turn {
-        self.permits.lock(rt).waiting.ask()
-    }
-
-    /// Leaves the line of those who wait.
-    fn leave<R: Wait>(&self, rt: &R, turn: Turn) {
-        self.permits.lock(rt).waiting.leave(turn);
-    }
-
-    /// A permit, if one is free and nobody asked before.
-    fn taken<R: Wait>(&self, rt: &R, turn: &Turn) -> Option<Permit> {
-        let mut permits = self.permits.lock(rt);
-        if permits.free == 0 || !permits.waiting.is_first(turn) {
-            return None;
-        }
-        permits.free -= 1;
-        Some(Permit { left: permits.free })
-    }
-
     /// Gives the permit back.
     fn give_back<R: Wait>(&self, rt: &R, permit: Permit) {
         let Permit { left: _left } = permit;
-        let mut permits = self.permits.lock(rt);
-        permits.free = permits.free.saturating_add(1);
+        let bell = self.permits.lock(rt).give_back();
+        ring(bell);
     }
 }
 
-/// Who asks for a permit.
-#[derive(Drop)]
-struct Asking<'a> {
-    limiter: &'a Limiter,
-    turn: &'a Turn,
+/// The last two also say whose bell is to be rung behind the call.
+impl Permits {
+    /// One of them, if one is free and nobody asked before.
+    fn take(&mut self, turn: Option<&Turn>) -> Option<Permit> {
+        if self.free == 0 || !self.waiting.is_first(turn) {
+            return None;
+        }
+        self.free -= 1;
+        Some(Permit { left: self.free })
+    }
+
+    /// One comes back.
+    fn give_back(&mut self) -> Option<Bell> {
+        self.free = self.free.saturating_add(1);
+        self.waiting.first()
+    }
+
+    /// Leaves the line of those who wait.
+    fn leave(&mut self, turn: Turn) -> Option<Bell> {
+        self.waiting.leave(turn);
+        if self.free > 0 {
+            self.waiting.first()
+        } else {
+            None
+        }
+    }
 }
 
-impl Looks<Permit> for Asking<'_> {
-    fn look<R: Wait>(&mut self, rt: &R) -> Option<Permit> {
-        self.limiter.taken(rt, self.turn)
+/// What is awaited of a limiter is a permit.
+impl Looks<Permit> for Limiter {
+    fn ask<R: Wait>(&self, rt: &R, bell: Option<Bell>) -> Turn {
+        self.permits.lock(rt).waiting.ask(bell)
+    }
+
+    fn look<R: Wait>(&self, rt: &R, turn: Option<&Turn>) -> Option<Permit> {
+        self.permits.lock(rt).take(turn)
+    }
+
+    fn leave<R: Wait>(&self, rt: &R, turn: Turn) {
+        let bell = self.permits.lock(rt).leave(turn);
+        ring(bell);
     }
 }
 
 /// Runs the body with a permit of the limiter, and gives that back on each way out. Permits are given in the order of asking;
-/// who waits looks each millisecond. If a cancel or a deadline comes first, the body is not called, and there is no value.
+/// who waits sleeps until one is there for it, as at a `receive`. If a cancel or a deadline comes first, the body is not
+/// called, and there is no value.
 ///
 /// # Errors
 /// What the body failed with; or what `E` makes of the refusal of the wait.
@@ -104,15 +117,9 @@ pub fn limited<W, X: Acts<W>, T: Drop, E: From<Refusal> + Drop, F: FnOnce(&mut X
     body: F,
 ) -> Result<Option<T>, E>
     requires { F.IsAlwaysCallable body }
-    ensures { RunsLimited X.token (λ old new slept. Sleeps X.reads X.reading X.time X.token X.seat 1 old new slept) E.from_gives F.FnOnce body cx.old cx.new result }
+    ensures { RunsLimited X.token (λ old new slept. Pauses X.reads X.reading X.time X.token X.seat 1 old new slept) E.from_gives F.FnOnce body cx.old cx.new result }
 {
-    let turn = limiter.ask(cx);
-    let mut asking = Asking {
-        limiter,
-        turn: &turn,
-    };
-    let waited: Result<Option<Permit>, Refusal> = awaited(cx, 1, &mut asking);
-    limiter.leave(cx, turn);
+    let waited: Result<Option<Permit>, Refusal> = awaited(cx, 1, limiter);
     let permit = match waited? {
         Some(permit) => permit,
         None => return Ok(None),

@@ -332,7 +332,7 @@ fn plain(
 
 /// Runs the service as `serve` does, until the stop is asked for: then all that it does is cancelled, but what is behind
 /// a shield. It has a scope around it all, so `retire` is refused: a service that retires has a scope of its own to stop.
-/// One thread watches, and looks each ten milliseconds.
+/// One thread watches; if a file can ask, it looks each ten milliseconds.
 ///
 /// # Errors
 /// Those of `serve`, and the refusal of the scope, of its watch, or of its close.

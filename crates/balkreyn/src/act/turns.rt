@@ -1,60 +1,150 @@
-//! Who waits for something that is had in the order of asking.
+//! Who waits for something that is had in the order of asking, each at a bell of its own.
 
+use cancel_marks::Bell;
 use std::alloc::Global;
 use std::collections::VecDeque;
 
-/// The numbers of those who wait, in the order in which they asked.
+/// Those who wait, in the order in which they asked.
 #[derive(Drop)]
 pub(crate) struct Waiting {
-    numbers: VecDeque<u64>,
+    places: VecDeque<Place>,
     next: u64,
+}
+
+/// One of them. It has no bell where memory for one was refused: then it looks again and again.
+#[derive(Drop)]
+struct Place {
+    number: u64,
+    bell: Option<Bell>,
 }
 
 /// The place of one who waits. It is not `Drop`: who forgets to leave the line does not compile.
 pub(crate) struct Turn {
-    /// None where memory was refused: such a one comes behind all others.
+    /// None where memory was refused: such a one comes behind all others, and looks again and again.
     number: Option<u64>,
+    bell: Option<Bell>,
+}
+
+impl Turn {
+    /// The bell that is rung once there may be something for who has the place, if it has one.
+    pub(crate) fn bell(&self) -> Option<&Bell> {
+        self.bell.as_ref()
+    }
+
+    /// The place of one beside whom no other waits, at this bell.
+    pub(crate) fn alone(bell: &Option<Bell>) -> Turn {
+        Turn {
+            number: None,
+            bell: share_of(bell),
+        }
+    }
+
+    /// The end of such a place; whether it had a bell.
+    pub(crate) fn end(self) -> bool {
+        let Turn {
+            number: _number,
+            bell,
+        } = self;
+        bell.is_some()
+    }
 }
 
 impl Waiting {
     /// Nobody.
     pub(crate) fn new(alloc: Global) -> Waiting {
         Waiting {
-            numbers: VecDeque::new(alloc),
+            places: VecDeque::new(alloc),
             next: 0,
         }
     }
 
-    /// A place behind those who wait.
-    pub(crate) fn ask(&mut self) -> Turn {
+    /// A place behind those who wait, with this bell.
+    pub(crate) fn ask(&mut self, bell: Option<Bell>) -> Turn {
         let number = self.next;
-        match self.numbers.push_back(number) {
+        let shared = share_of(&bell);
+        match self.places.push_back(Place { number, bell }) {
             Ok(()) => {
                 self.next = number.wrapping_add(1);
                 Turn {
                     number: Some(number),
+                    bell: shared,
                 }
             }
-            Err(_) => Turn { number: None },
+            Err(_) => Turn {
+                number: None,
+                bell: None,
+            },
         }
     }
 
-    /// Whether nobody who waits asked before.
-    pub(crate) fn is_first(&self, turn: &Turn) -> bool {
-        match (self.numbers.front(), turn.number) {
-            (Some(first), Some(number)) => *first == number,
+    /// Whether nobody who waits asked before; who has no place comes behind all who wait.
+    pub(crate) fn is_first(&self, turn: Option<&Turn>) -> bool {
+        match (self.places.front(), number_of(turn)) {
+            (Some(first), Some(number)) => first.number == number,
             (first, _) => first.is_none(),
         }
     }
 
     /// The place is free.
     pub(crate) fn leave(&mut self, turn: Turn) {
-        let Turn { number } = turn;
-        for place in 0..self.numbers.len() {
-            if self.numbers.get(place).copied() == number {
-                self.numbers.remove(place);
+        let Turn {
+            number,
+            bell: _bell,
+        } = turn;
+        for place in 0..self.places.len() {
+            if self.number_at(place) == number {
+                let _place = self.places.remove(place);
                 return;
             }
         }
+    }
+
+    /// The number of who has this place in the line.
+    fn number_at(&self, place: usize) -> Option<u64> {
+        match self.places.get(place) {
+            Some(there) => Some(there.number),
+            None => None,
+        }
+    }
+
+    /// The bell of the first, which is to be rung once the line's lock is given up. If std's count of holders is full it is
+    /// rung at once.
+    pub(crate) fn first(&self) -> Option<Bell> {
+        let bell = self.places.front()?.bell.as_ref()?;
+        match bell.share() {
+            Ok(share) => Some(share),
+            Err(_) => {
+                bell.ring();
+                None
+            }
+        }
+    }
+
+    /// Rings the bells of all. A ring takes no lock.
+    pub(crate) fn ring_all(&self) {
+        for place in 0..self.places.len() {
+            if let Some(there) = self.places.get(place) {
+                if let Some(bell) = &there.bell {
+                    bell.ring();
+                }
+            }
+        }
+    }
+}
+
+/// The number of the place, if there is one.
+fn number_of(turn: Option<&Turn>) -> Option<u64> {
+    turn?.number
+}
+
+/// The same bell for one holder more. None if std's count of holders is full.
+fn share_of(bell: &Option<Bell>) -> Option<Bell> {
+    bell.as_ref()?.share().ok()
+}
+
+/// Rings the bell, if there is one.
+pub(crate) fn ring(bell: Option<Bell>) {
+    if let Some(bell) = bell {
+        bell.ring();
     }
 }

@@ -45,13 +45,13 @@ impl<J: Yields> Typed<J> {
         J: TypedTask<W>,
         ensures { IfOk result (λ number. number ≡ value.Num (pos 0)) }
     {
-        let Typed { name, job, place } = self;
+        let Typed { name, job, share } = self;
         match job.run_typed(cx, name) {
             Ok(value) => {
-                place.put(cx, name, value);
+                share.place.put(cx, name, value);
                 Ok(Value::Num(0))
             }
-            Err(error) => Err(place.fail(cx, name, error)),
+            Err(error) => Err(share.place.fail(cx, name, error)),
         }
     }
 }
@@ -80,11 +80,7 @@ pub fn fork_value<J: Yields + Drop, W: From<Typed<J>>, X: Acts<W>>(
     let Ok((place, share)) = place_and_share(cx.alloc()) else {
         return Err(Refusal::Memory);
     };
-    let work = W::from(Typed {
-        name,
-        job,
-        place: share,
-    });
+    let work = W::from(Typed { name, job, share });
     match cx.fork(scope, name, work) {
         Ok(reply) => Ok(Slot { name, reply, place }),
         Err(refusal) => Err(refusal),

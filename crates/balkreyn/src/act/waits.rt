@@ -1,39 +1,92 @@
-//! Waits that look again and again, and sleep between two looks.
+//! Waits for what others give: one looks, sleeps at a bell until that is rung, and looks again.
 ghost use Rattle.realm_core.specs.Calls.{SeesMore};
-ghost use Rattle.balkreyn.specs.Acting.{Sleeps};
+ghost use Rattle.balkreyn.specs.Acting.{Pauses};
 ghost use Rattle.balkreyn.specs.Looking.{Awaits};
 
 use crate::act::contexts::Acts;
+use crate::act::turns::Turn;
+use cancel_marks::Bell;
+use realm_lock::Mark;
 use scope_rules::Refusal;
 use std::sync::Wait;
 
-/// What may be there at the next look.
+/// What is had in the order of asking, if it is there.
 pub(crate) trait Looks<T> {
-    /// Takes it, if it is there.
-    fn look<R: Wait>(&mut self, rt: &R) -> Option<T>;
+    /// A place behind those who wait, at this bell.
+    fn ask<R: Wait>(&self, rt: &R, bell: Option<Bell>) -> Turn;
+
+    /// Takes it, if it is there, and nobody asked before.
+    fn look<R: Wait>(&self, rt: &R, turn: Option<&Turn>) -> Option<T>;
+
+    /// Leaves the line; the next one's bell is rung, if there is something for it.
+    fn leave<R: Wait>(&self, rt: &R, turn: Turn);
 }
 
-/// Looks until it is there, and sleeps so many milliseconds between two looks. None if a cancel or a deadline ends a sleep.
+/// Looks, and if it isn't there waits for it in line. None if a cancel or a deadline ends the wait.
 ///
 /// # Errors
-/// The refusal of a sleep.
+/// The refusal of the wait.
 pub(crate) fn awaited<T, A: Looks<T>, W, X: Acts<W>>(
     cx: &mut X,
     millis: u64,
-    it: &mut A,
+    it: &A,
 ) -> Result<Option<T>, Refusal>
     ensures sees { SeesMore (X.token cx.old) (X.token cx.new) }
-    ensures answer { Awaits X.token (λ old new slept. Sleeps X.reads X.reading X.time X.token X.seat millis old new slept) cx.old cx.new result }
+    ensures answer { Awaits X.token (λ old new slept. Pauses X.reads X.reading X.time X.token X.seat millis old new slept) cx.old cx.new result }
+{
+    if let Some(found) = it.look(cx, None) {
+        return Ok(Some(found));
+    }
+    let turn = it.ask(cx, Bell::new(cx.alloc()).ok());
+    let found = in_line(cx, millis, it, &turn);
+    it.leave(cx, turn);
+    found
+}
+
+/// Looks until it is there, and pauses between two looks.
+fn in_line<T, A: Looks<T>, W, X: Acts<W>>(
+    cx: &mut X,
+    millis: u64,
+    it: &A,
+    turn: &Turn,
+) -> Result<Option<T>, Refusal>
+    ensures sees { SeesMore (X.token cx.old) (X.token cx.new) }
+    ensures answer { Awaits X.token (λ old new slept. Pauses X.reads X.reading X.time X.token X.seat millis old new slept) cx.old cx.new result }
 {
     for _ in 0..u64::MAX {
-        if let Some(found) = it.look(cx) {
+        let heard = rings_of(turn.bell());
+        if let Some(found) = it.look(cx, Some(turn)) {
             return Ok(Some(found));
         }
-        let shown = cx.sleep(millis)?;
+        let shown = paused(cx, millis, turn.bell(), heard)?;
         if shown.is_some() {
             return Ok(None);
         }
     }
     for _ in cx.forever() {}
     unreachable!()
+}
+
+/// How often the bell has rung, if there is one.
+pub(crate) fn rings_of(bell: Option<&Bell>) -> u64 {
+    match bell {
+        Some(bell) => bell.rings(),
+        None => 0,
+    }
+}
+
+/// Sleeps until the bell has rung more often than that, or, if there is none, for so many milliseconds.
+pub(crate) fn paused<W, X: Acts<W>>(
+    cx: &mut X,
+    millis: u64,
+    bell: Option<&Bell>,
+    heard: u64,
+) -> Result<Option<Mark>, Refusal>
+    ensures sees { SeesMore (X.token cx.old) (X.token cx.new) }
+    ensures answer { Pauses X.reads X.reading X.time X.token X.seat millis cx.old cx.new result }
+{
+    match bell {
+        Some(bell) => cx.wait_rung(bell, heard),
+        None => cx.sleep(millis),
+    }
 }

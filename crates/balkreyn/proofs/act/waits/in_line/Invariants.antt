@@ -1,6 +1,6 @@
 -- The token has only seen more.
 use Rattle.realm_core.specs.Calls.{SeesMore}
-use Rattle.balkreyn.proofs.act.waits.awaited.Given as goal
+use Rattle.balkreyn.proofs.act.waits.in_line.Given as goal
 
 abbrev pub invariant-loop : goal.invariant-loop
 invariant-loop g l = SeesMore (g.X.Scopes.token l.initial.cx) (g.X.Scopes.token l.cx)
