@@ -291,7 +291,7 @@ Options:
                          a deadline; repeat it for other offers
       --tree-after <MS>  After MS milliseconds, write the tree of the plan's
                          realm to standard error, if the plan is still served
-      --journal <FILE>   Write the journal of the run to FILE, as a script, as it
+      --journal <FILE>   Write the journal of the run to FILE, a script, as it
                          grows
       --page <FILE>      Write the page of the run to FILE, once it has ended
       --color <WHEN>     Color the output: auto, always or never [default: auto]
